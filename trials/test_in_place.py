@@ -169,9 +169,9 @@ class Bounds(InPlace):
 
     def test_rounds_and_reducing_in_place_exclude_each_other(self):
         two = f"{ADD} <r|Add(r,S(Z))=S(Z)>"
-        wanted = "error: the arguments '--rounds <N>' and '--workers <N>' cannot be used with '--steps <N>', '--nodes <N>' "
-        wanted += "or '--stats'\n\nUsage: icserve reduce [OPTIONS] [FILE]\n\nFor more information, try '--help'.\n"
-        for option in (["--steps", 1], ["--nodes=1"], ["--stats"], ["--partial", "--stats"]):
+        wanted = "error: the arguments '--rounds <N>' and '--workers <N>' cannot be used with '--steps <N>', '--nodes <N>', "
+        wanted += "'--limits <L>' or '--stats'\n\nUsage: icserve reduce [OPTIONS] [FILE]\n\nFor more information, try '--help'.\n"
+        for option in (["--steps", 1], ["--nodes=1"], ["--stats"], ["--partial", "--stats"], ["--limits", "wide"]):
             for rounds in (["--rounds", 1], ["--workers", 1], ["--rounds", 1, "--workers", 2]):
                 self.runs("reduce", *rounds, *option, given=two, err=wanted, status=2)
                 self.runs("reduce", *option, *rounds, given=two, err=wanted, status=2)

@@ -214,15 +214,15 @@ class Endings(Trial):
                     self.refuses(*words, given=text, line=fault, out=out, status=1)
 
     def test_a_text_of_262145_bytes_is_too_long_and_one_of_262144_is_not(self):
-        for words, out in ((["reduce"], "<|>\n"), (["reduce", "--rounds", 9], "<|>\n"), (["trace"], f"{HEAD}\n")):
+        for words, out in ((["reduce", "--limits", "served"], "<|>\n"), (["reduce", "--rounds", 9], "<|>\n"), (["trace"], f"{HEAD}\n")):
             self.runs(*words, given=" " * (262_144 - 6) + "{} <|>", out=out)
             self.refuses(*words, given=" " * (262_145 - 6) + "{} <|>", line="bad limit", status=1)
 
     def test_no_more_is_read_than_a_text_may_have(self):
         """A source without end is refused at its 262,145th byte."""
-        for word in ("reduce", "trace", "draw"):
+        for words in (["reduce", "--limits", "served"], ["trace"], ["draw"]):
             with open("/dev/zero", "rb") as zeros:
-                ran = run(word, stdin=zeros)
+                ran = run(*words, stdin=zeros)
             self.ended(ran, err=["icserve: bad limit"], status=1)
 
     def test_words_that_ask_for_nothing_have_status_2(self):

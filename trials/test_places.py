@@ -41,7 +41,7 @@ class Places(Trial):
     def tells(self, word, text):
         """Fails unless a text that this word refuses has the place of the model told, and another nothing."""
         kind = WORDS.get(word) or ("system" if text.lstrip(b" \t\r\n").startswith(b"{") else "configuration")
-        ran = run(word, given=text)
+        ran = run(word, *(["--limits", "served"] if word == "reduce" else []), given=text)
         self.agrees(ran.command, "what stands behind the first line", places.told(text, kind), ran.behind)
         if ran.behind:
             first = b" ".join(ran.err.split(b" ")[:3]).strip()

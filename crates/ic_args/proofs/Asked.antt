@@ -9,12 +9,14 @@ use Rattle.clap.proofs.OnLiterals.{clap_on_literals}
 use Rattle.clap.specs.declared.error.ErrorKind.{ErrorKind}
 use Rattle.clap.specs.declared.error.ErrorKind.TheVariants.{DisplayHelp, DisplayVersion, InvalidSubcommand, InvalidValue, OutOfMemory}
 use Rattle.ic_args.specs.Help.{help_by, help_of}
-use Rattle.ic_args.specs.Words.{AnswersWords, GivesHelp, GivesTask, GivesVersion, Names, command_line, file_met, format_word, help_mistakes, is_format, mistakes_of, most_rounds, most_steps, reduce_mistakes, value_if_met}
+use Rattle.ic_args.specs.Words.{AnswersWords, GivesHelp, GivesTask, GivesVersion, Names, command_line, file_met, format_word, help_mistakes, is_format, is_limits, limits_word, mistakes_of, most_rounds, most_steps, reduce_mistakes, value_if_met}
 use Rattle.ic_args.specs.inner.Asking.{AnswersRefused, Asks, IsMet}
 use Rattle.ic_args.specs.declared.words.Task.{Task}
 use Rattle.ic_args.specs.declared.words.Task.TheVariants.{Settle, Once, Create, Serve, Attend, Reduce, ReduceByRounds, Trace, Draw, Dump, Inspect, Check, Batch, Help, Version}
 use Rattle.ic_args.specs.declared.words.TraceFormat.{TraceFormat}
 use Rattle.ic_args.specs.declared.words.TraceFormat.TheVariants.{Tsv, Svg}
+use Rattle.ic_args.specs.declared.words.TextLimits.{TextLimits}
+use Rattle.ic_args.specs.declared.words.TextLimits.TheVariants.{Served, Wide}
 use Rattle.ic_args.specs.declared.words.WordsFault.{WordsFault}
 use Rattle.ic_args.specs.declared.words.WordsFault.TheVariants.{Words, Memory}
 use Rattle.ic_args.proofs.OptionNumbers.{attend_numbers, batch_numbers, reduce_numbers, serve_numbers, trace_numbers}
@@ -31,6 +33,10 @@ pub record IsAnswer (words : List Text) (r : Result Task WordsFault) : Type 0 wh
 format_is : (format : TraceFormat) → is_format (format_word format) ≡ true
 format_is Tsv = refl
 format_is Svg = refl
+
+limits_is : (limits : TextLimits) → is_limits (limits_word limits) ≡ true
+limits_is Served = refl
+limits_is Wide = refl
 
 -- words of which a command was met aren't another one alone
 not_settle : (words : List Text) (name : Text) → IsMet name (subcommand_of command_line words) → bytes_eq name (codes "settle") ≡ false → words ≡ codes "settle" ∷ [] → ⊥
@@ -111,11 +117,11 @@ asked words none called (Ok (Attend disk runners turns workers scripts)) asks =
       settle = λ is. absurd (not_settle words (codes "attend") asks.0 refl is);
       once = λ is. absurd (not_once words (codes "attend") asks.0 refl is);
     }
-asked words none called (Ok (Reduce steps nodes partial stats file)) asks =
+asked words none called (Ok (Reduce steps nodes partial stats limits file)) asks =
     let begins = called_as called.0 (codes "reduce") words called.1 asks.0.0 in
     let spelt = reduce_numbers words none begins in
     record {
-      answers = ap₂ or_else none (of_reduce (subcommand_of command_line words) asks.0.0 ∙ in_place_free (subcommand_of command_line words) asks.1);
+      answers = ap₂ or_else none (of_reduce (subcommand_of command_line words) asks.0.0 ∙ in_place_free (subcommand_of command_line words) asks.1 (ap is_limits asks.6 ∙ limits_is limits));
       named = record {
         begins = begins;
         alone = asks.1;
@@ -123,6 +129,7 @@ asked words none called (Ok (Reduce steps nodes partial stats file)) asks =
         nodes = ((λ given. number_named (codes "nodes") 0 most_steps nodes words _ (spelt.3 given) refl (asks.3.0 given)), asks.3.1);
         partial = asks.4;
         stats = asks.5;
+        limits = sym asks.6;
         file = asks.0.1;
       };
       settle = λ is. absurd (not_settle words (codes "reduce") asks.0.0 refl is);
@@ -270,7 +277,7 @@ not_taken words kind (Ok (Once file)) made is = absurd is
 not_taken words kind (Ok (Create disk overwrite)) made is = absurd is
 not_taken words kind (Ok (Serve disk workers every)) made is = absurd is
 not_taken words kind (Ok (Attend disk runners turns workers scripts)) made is = absurd is
-not_taken words kind (Ok (Reduce steps nodes partial stats file)) made is = absurd is
+not_taken words kind (Ok (Reduce steps nodes partial stats limits file)) made is = absurd is
 not_taken words kind (Ok (ReduceByRounds rounds workers partial file)) made is = absurd is
 not_taken words kind (Ok (Trace rounds format file)) made is = absurd is
 not_taken words kind (Ok (Draw file)) made is = absurd is

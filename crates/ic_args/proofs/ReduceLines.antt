@@ -1,5 +1,5 @@
 -- Each well-formed line of `reduce` is taken, with its values.
-use Rattle.std.proofs.Common.{◌≡◌, ◌≢◌, inl, inr, ℕ, List, [], ◌∷◌, ◌++◌, Bool, true, false, not, ◌||◌, cond, Option, None, Some, codes, fold, refl, sym, ◌∙◌, ap, ap₂, subst, arith}
+use Rattle.std.proofs.Common.{◌≡◌, ◌≢◌, ◌⊎◌, true≢false, unwrap_or, inl, inr, ℕ, List, [], ◌∷◌, ◌++◌, Bool, true, false, not, ◌||◌, cond, Option, None, Some, codes, fold, refl, sym, ◌∙◌, ap, ap₂, subst, arith}
 use Rattle.std.specs.List.{AllByRecursion}
 use Rattle.std.specs.Str.{bytes_eq}
 use Rattle.clap.specs.Words.{Kinds, Row, Rule, Text, fault_of, first_of, subcommand_of}
@@ -8,8 +8,10 @@ use Rattle.clap.specs.Walk.{Held, has_row, nothing_held, reacted, settled, walke
 use Rattle.clap.specs.Faults.{check_fault, settle_fault, turn_fault}
 use Rattle.clap.proofs.OnLiterals.{clap_on_literals}
 use Rattle.clap.specs.declared.builder.value_parser.ValueParser.{ValueParser}
-use Rattle.ic_args.specs.Words.{IsDecimal, IsNumberOf, IsNumberOr, NamesReduce, asks_in_place, asks_rounds, command_line, file_met, is_flag_met, is_given, mistakes_of, most_rounds, most_steps, value_met}
-use Rattle.ic_args.specs.Lines.{AreInPlace, AreOfRounds, AreOnce, Given, Gives, HasFlag, HasNone, HasNumber, IsReduceLine, IsReduceNumber, IsReduceOption, AreWrittenBy, IsWritten}
+use Rattle.clap.specs.declared.builder.value_parser.ValueParser.TheVariants as vp
+use Rattle.std.specs.Prelude.{is_some}
+use Rattle.ic_args.specs.Words.{IsDecimal, IsNumberOf, IsNumberOr, NamesReduce, asks_in_place, asks_rounds, command_line, file_met, is_flag_met, is_given, is_limits, limits_met, mistakes_of, most_rounds, most_steps, value_if_met, value_met}
+use Rattle.ic_args.specs.Lines.{AreInPlace, AreOfRounds, AreOnce, Given, Gives, HasFlag, HasNone, HasNumber, HasValue, IsLimitsOption, IsLimitsText, IsReduceLine, IsReduceNumber, IsReduceOption, AreWrittenBy, IsWritten}
 use Rattle.ic_args.specs.inner.Asking.{IsMet}
 use Rattle.ic_args.proofs.Accepted.{accepted}
 use Rattle.ic_args.proofs.Arguments.{HaveNoDefault, ReadsFile, file_read, found_after, none_after, none_first, none_kept}
@@ -38,6 +40,18 @@ number_read g (inr (inr (inl is))) words written h settles none =
 number_read g (inr (inr (inr is))) words written h settles none =
     given_as (below 5) reduce_options (codes "file") (codes "nodes") None bounded false refl refl refl (λ v. (refl, refl)) (refl, refl) refl
     g is.0 words written h settles none (accepted 0 most_steps g.value (omega arith) is.1)
+
+-- what limits there are
+is_limits_text : (v : Text) → IsLimitsText v → is_limits v ≡ true
+is_limits_text v (inl is) = ap is_limits is
+is_limits_text v (inr is) = ap is_limits is
+
+valued_read : (g : Given) → IsReduceNumber g ⊎ IsLimitsOption g → (words : List Text) → IsWritten g words → (h : Held) → settle_fault reduce_options false h ≡ []
+    → has_row g.name (settled reduce_options h).rows ≡ false → ReadsGiven (below 5) reduce_options (codes "file") g words h
+valued_read g (inl number) words written h settles none = number_read g number words written h settles none
+valued_read g (inr is) words written h settles none =
+    given_as (below 5) reduce_options (codes "file") (codes "limits") None vp.String false refl refl refl (λ v. (refl, refl)) (refl, refl) refl
+    g is.0 words written h settles none refl
 
 -- a flag is used at once
 abbrev flagged : Text → Held → Held
@@ -88,7 +102,7 @@ any (g ∷ gs) = (tt, any gs)
 
 reduce_read : (g : Given) → Any g → (words : List Text) → IsReduceOption g words → (h : Held) → settle_fault reduce_options false h ≡ []
     → has_row g.name (settled reduce_options h).rows ≡ false → ReadsGiven (below 5) reduce_options (codes "file") g words h
-reduce_read g is words (inl number) h settles none = number_read g number.0 words number.1 h settles none
+reduce_read g is words (inl valued) h settles none = valued_read g valued.0 words valued.1 h settles none
 reduce_read g is words (inr flag) h settles none = elim flag.0.0 [
   | inl named ↦ flag_read (codes "partial") partial_turns partial_walks g named flag.0.1 words flag.1 h settles none
   | inr named ↦ flag_read (codes "stats") stats_turns stats_walks g named flag.0.1 words flag.1 h settles none
@@ -96,7 +110,7 @@ reduce_read g is words (inr flag) h settles none = elim flag.0.0 [
 
 -- its FILE has no default
 plain : HaveNoDefault (codes "file") reduce_options
-plain = (inl refl, (inl refl, (inl refl, (inl refl, (inl refl, (inl refl, (inr refl, (inl refl, tt))))))))
+plain = (inl refl, (inl refl, (inl refl, (inl refl, (inl refl, (inl refl, (inl refl, (inr refl, (inl refl, tt)))))))))
 
 -- no option is named as the FILE is
 file_apart : (gs : List Given) → (words : List Text) → AreWrittenBy IsReduceOption gs words → AllByRecursion (λ g. g.name ≢ codes "file") gs
@@ -109,11 +123,41 @@ file_apart (g ∷ gs) words written = (apart written.3, file_apart gs written.1 
     of_number (inr (inr (inl is))) = named_apart g (codes "steps") (codes "file") is.0 refl
     of_number (inr (inr (inr is))) = named_apart g (codes "nodes") (codes "file") is.0 refl
 
+    of_valued : IsReduceNumber g ⊎ IsLimitsOption g → g.name ≢ codes "file"
+    of_valued (inl is) = of_number is
+    of_valued (inr is) = named_apart g (codes "limits") (codes "file") is.0 refl
+
     apart : IsReduceOption g written.0 → g.name ≢ codes "file"
-    apart (inl is) = of_number is.0
+    apart (inl is) = of_valued is.0
     apart (inr is) = elim is.0.0 [
       | inl named ↦ named_apart g (codes "partial") (codes "file") named refl
       | inr named ↦ named_apart g (codes "stats") (codes "file") named refl
+    ]
+
+-- limits that are given are some that there are
+given_limits : (gs : List Given) (words : List Text) → AreWrittenBy IsReduceOption gs words → (v : Text) → Gives gs (codes "limits") v → is_limits v ≡ true
+given_limits [] words written v gives = absurd gives
+given_limits (g ∷ gs) words written v (inr there) = given_limits gs written.1 written.4 v there
+given_limits (g ∷ gs) words written v (inl here) = go written.3
+  where
+    unnamed : (name : Text) → g.name ≡ name → bytes_eq name (codes "limits") ≡ false → is_limits v ≡ true
+    unnamed name is other = absurd (true≢false (sym (ap (λ (n : Text). bytes_eq n (codes "limits")) (sym is ∙ here.0)) ∙ other))
+
+    of_number : IsReduceNumber g → is_limits v ≡ true
+    of_number (inl is) = unnamed (codes "rounds") is.0 refl
+    of_number (inr (inl is)) = unnamed (codes "workers") is.0 refl
+    of_number (inr (inr (inl is))) = unnamed (codes "steps") is.0 refl
+    of_number (inr (inr (inr is))) = unnamed (codes "nodes") is.0 refl
+
+    of_valued : IsReduceNumber g ⊎ IsLimitsOption g → is_limits v ≡ true
+    of_valued (inl is) = of_number is
+    of_valued (inr is) = ap is_limits (sym here.1) ∙ is_limits_text g.value is.1
+
+    go : IsReduceOption g written.0 → is_limits v ≡ true
+    go (inl is) = of_valued is.0
+    go (inr is) = elim is.0.0 [
+      | inl named ↦ unnamed (codes "partial") named refl
+      | inr named ↦ unnamed (codes "stats") named refl
     ]
 
 harmless : AllByRecursion IsHarmless reduce_options
@@ -124,7 +168,7 @@ harmless = (
     (λ rows. either_none _ _),
     (
       (λ rows. either_none _ _),
-      ((λ rows. either_none _ _), ((λ rows. or_none _ _ refl), ((λ rows. or_none _ _ refl), ((λ rows. either_none _ _), ((λ rows. either_none _ _), tt))))),
+      ((λ rows. either_none _ _), ((λ rows. either_none _ _), ((λ rows. or_none _ _ refl), ((λ rows. or_none _ _ refl), ((λ rows. either_none _ _), ((λ rows. either_none _ _), tt)))))),
     ),
   ),
 )
@@ -138,7 +182,8 @@ abbrev flags : List Rule
 flags = built_flag (codes "partial") ∷ built_flag (codes "stats") ∷ file ∷ help ∷ []
 
 abbrev numbers : List Rule
-numbers = chosen (codes "rounds") counted ∷ chosen (codes "workers") threads ∷ chosen (codes "steps") bounded ∷ chosen (codes "nodes") bounded ∷ []
+numbers = chosen (codes "rounds") counted ∷ chosen (codes "workers") threads ∷ chosen (codes "steps") bounded ∷ chosen (codes "nodes") bounded
+    ∷ chosen (codes "limits") vp.String ∷ []
 
 abbrev last : List Row → List Row
 last rows = fold with_default rows reduce_options
@@ -191,32 +236,41 @@ module _ (words : List Text) (gs : List Given) (path : Option Text) (line : IsRe
       let found = found_after (codes "file") read.more rows named_by.argument.grew name value (given_found gs read.more name value read.of line.once gives) in
       ap (value_met name) entered.met ∙ ap text (first_value name value (last rows) found.row (found_all reduce_options name rows found.row found.found) found.values)
 
+  given_some : (name value : Text) → Gives gs name value → value_if_met name met ≡ Some value
+  given_some name value gives =
+      let found = found_after (codes "file") read.more rows named_by.argument.grew name value (given_found gs read.more name value read.of line.once gives) in
+      ap (value_if_met name) entered.met ∙ first_value name value (last rows) found.row (found_all reduce_options name rows found.row found.found) found.values
+
   missing : (name : Text) → bytes_eq (codes "file") name ≡ false → HasNone gs name → has_row name rows ≡ false
   missing name other none = none_after (codes "file") read.more rows named_by.argument.grew name other (not_given gs read.more name read.of none)
 
   no_rounds : HasNone gs (codes "rounds") → value_met (codes "rounds") met ≡ []
   no_rounds none = ap (value_met (codes "rounds")) entered.met ∙ ap text (none_value (codes "rounds") rows
-      (inr refl, (inl refl, (inl refl, (inl refl, (inl refl, (inl refl, (inl refl, (inl refl, tt)))))))) (missing (codes "rounds") refl none))
+      (inr refl, (inl refl, (inl refl, (inl refl, (inl refl, (inl refl, (inl refl, (inl refl, (inl refl, tt))))))))) (missing (codes "rounds") refl none))
 
   no_workers : HasNone gs (codes "workers") → value_met (codes "workers") met ≡ []
   no_workers none = ap (value_met (codes "workers")) entered.met ∙ ap text (none_value (codes "workers") rows
-      (inl refl, (inr refl, (inl refl, (inl refl, (inl refl, (inl refl, (inl refl, (inl refl, tt)))))))) (missing (codes "workers") refl none))
+      (inl refl, (inr refl, (inl refl, (inl refl, (inl refl, (inl refl, (inl refl, (inl refl, (inl refl, tt))))))))) (missing (codes "workers") refl none))
 
   no_steps : HasNone gs (codes "steps") → value_met (codes "steps") met ≡ []
   no_steps none = ap (value_met (codes "steps")) entered.met ∙ ap text (none_value (codes "steps") rows
-      (inl refl, (inl refl, (inr refl, (inl refl, (inl refl, (inl refl, (inl refl, (inl refl, tt)))))))) (missing (codes "steps") refl none))
+      (inl refl, (inl refl, (inr refl, (inl refl, (inl refl, (inl refl, (inl refl, (inl refl, (inl refl, tt))))))))) (missing (codes "steps") refl none))
 
   no_nodes : HasNone gs (codes "nodes") → value_met (codes "nodes") met ≡ []
   no_nodes none = ap (value_met (codes "nodes")) entered.met ∙ ap text (none_value (codes "nodes") rows
-      (inl refl, (inl refl, (inl refl, (inr refl, (inl refl, (inl refl, (inl refl, (inl refl, tt)))))))) (missing (codes "nodes") refl none))
+      (inl refl, (inl refl, (inl refl, (inr refl, (inl refl, (inl refl, (inl refl, (inl refl, (inl refl, tt))))))))) (missing (codes "nodes") refl none))
+
+  no_limits : HasNone gs (codes "limits") → value_if_met (codes "limits") met ≡ None
+  no_limits none = ap (value_if_met (codes "limits")) entered.met ∙ none_value (codes "limits") rows
+      (inl refl, (inl refl, (inl refl, (inl refl, (inr refl, (inl refl, (inl refl, (inl refl, (inl refl, tt))))))))) (missing (codes "limits") refl none)
 
   no_partial : HasNone gs (codes "partial") → value_met (codes "partial") met ≡ codes "false"
   no_partial none = ap (value_met (codes "partial")) entered.met ∙ ap text (unset_value (codes "partial") numbers (built_flag (codes "stats") ∷ file ∷ help ∷ [])
-      rows refl (refl, (refl, (refl, (refl, tt)))) (missing (codes "partial") refl none))
+      rows refl (refl, (refl, (refl, (refl, (refl, tt))))) (missing (codes "partial") refl none))
 
   no_stats : HasNone gs (codes "stats") → value_met (codes "stats") met ≡ codes "false"
   no_stats none = ap (value_met (codes "stats")) entered.met ∙ ap text (unset_value (codes "stats") (numbers ++ built_flag (codes "partial") ∷ []) (file ∷ help ∷ [])
-      rows refl (refl, (refl, (refl, (refl, (refl, tt))))) (missing (codes "stats") refl none))
+      rows refl (refl, (refl, (refl, (refl, (refl, (refl, tt)))))) (missing (codes "stats") refl none))
 
   -- ---- what is given
 
@@ -246,18 +300,29 @@ module _ (words : List Text) (gs : List Given) (path : Option Text) (line : IsRe
   alone_of_rounds : (most many : ℕ) (p : Bool) → AreOfRounds gs most many p → asks_in_place met ≡ false
   alone_of_rounds most many p of =
       ap₂ (λ (a b : Bool). a || b) (none_is (codes "steps") (no_steps of.no_steps))
-      (ap₂ (λ (a b : Bool). a || b) (none_is (codes "nodes") (no_nodes of.no_nodes)) (flag_is (codes "stats") false of.no_stats no_stats))
+      (ap₂ (λ (a b : Bool). a || b) (none_is (codes "nodes") (no_nodes of.no_nodes))
+      (ap₂ (λ (a b : Bool). a || b) (flag_is (codes "stats") false of.no_stats no_stats) (ap is_some (no_limits of.no_limits))))
 
-  pub in_place_taken : (s n : ℕ) (p t : Bool) → AreInPlace gs s n p t → mistakes_of words ≡ []
-  in_place_taken s n p t of = ap₂ or_else entered.free (of_reduce met entered.named ∙ in_place_free met (alone_in_place of.no_rounds of.no_workers))
+  limits_are : (l : Text) → HasValue gs (codes "limits") (codes "wide") l → limits_met met ≡ l
+  limits_are l (inl gives) = ap (λ (o : Option Text). unwrap_or o (codes "wide")) (given_some (codes "limits") l gives)
+  limits_are l (inr none) = ap (λ (o : Option Text). unwrap_or o (codes "wide")) (no_limits none.0) ∙ sym none.1
 
-  pub in_place_named : (s n steps nodes : ℕ) (p t partial stats : Bool) → AreInPlace gs s n p t → (f : Option Text) → NamesReduce words steps nodes partial stats f
-      → (steps ≡ s) × (nodes ≡ n) × (partial ≡ p) × (stats ≡ t) × (f ≡ path)
-  in_place_named s n steps nodes p t partial stats of f names = (
+  known : (l : Text) → HasValue gs (codes "limits") (codes "wide") l → is_limits l ≡ true
+  known l (inl gives) = given_limits gs line.front line.written l gives
+  known l (inr none) = ap is_limits none.1
+
+  pub in_place_taken : (s n : ℕ) (p t : Bool) (l : Text) → AreInPlace gs s n p t l → mistakes_of words ≡ []
+  in_place_taken s n p t l of = ap₂ or_else entered.free (of_reduce met entered.named
+      ∙ in_place_free met (alone_in_place of.no_rounds of.no_workers) (ap is_limits (limits_are l of.limits) ∙ known l of.limits))
+
+  pub in_place_named : (s n steps nodes : ℕ) (p t partial stats : Bool) (l limits : Text) → AreInPlace gs s n p t l → (f : Option Text)
+      → NamesReduce words steps nodes partial stats limits f → (steps ≡ s) × (nodes ≡ n) × (partial ≡ p) × (stats ≡ t) × (limits ≡ l) × (f ≡ path)
+  in_place_named s n steps nodes p t partial stats l limits of f names = (
     number_is (codes "steps") 0 most_steps most_steps s steps of.steps no_steps names.steps,
     number_is (codes "nodes") 0 most_steps 134217728 n nodes of.nodes no_nodes names.nodes,
     names.partial ∙ flag_is (codes "partial") p of.partial no_partial,
     names.stats ∙ flag_is (codes "stats") t of.stats no_stats,
+    names.limits ∙ limits_are l of.limits,
     names.file ∙ file_is,
   )
 

@@ -16,7 +16,7 @@ use Rattle.clap.proofs.WalkLemmas.{first_value-rows, raw_values-rows}
 use Rattle.std.specs.Str.{bytes_eq}
 use Rattle.std.proofs.lemmas.Slice.Eq.{bytes_eq-Decides}
 use Rattle.clap.specs.Kinds.{or_else}
-use Rattle.ic_args.specs.Words.{BeginsWith, asks_in_place, asks_rounds, command_line, format_mistakes, has_help, help_mistakes, is_format, is_given, is_met, own_mistakes, reduce_faults, reduce_mistakes, value_if_met, value_met, values_met}
+use Rattle.ic_args.specs.Words.{BeginsWith, asks_in_place, asks_rounds, command_line, format_mistakes, has_help, help_mistakes, is_format, is_given, is_limits, is_met, limits_met, own_mistakes, reduce_faults, reduce_mistakes, value_if_met, value_met, values_met}
 use Rattle.ic_args.specs.inner.Asking.{IsIn, IsMet, commands}
 use Rattle.ic_args.proofs.WordsExact.{IsCalled, first_met}
 
@@ -187,28 +187,29 @@ of_reduce met is =
     alone (k ∷ ks) = refl
 
 -- its faults, by what is asked
-abbrev faults_by : Bool → Bool → Bool → Kinds
-faults_by rounds in_place counted =
-    cond (not rounds) [] (cond in_place (ArgumentConflict ∷ []) (cond counted [] (MissingRequiredArgument ∷ [])))
+abbrev faults_by : Bool → Bool → Bool → Bool → Kinds
+faults_by rounds known in_place counted =
+    cond (not rounds) (cond known [] (InvalidValue ∷ [])) (cond in_place (ArgumentConflict ∷ []) (cond counted [] (MissingRequiredArgument ∷ [])))
 
-pub in_place_free : (met : Option (Text × List Row)) → asks_rounds met ≡ false → reduce_faults met ≡ []
-in_place_free met alone = ap (λ (r : Bool). faults_by r (asks_in_place met) (is_given (codes "rounds") met)) alone
+pub in_place_free : (met : Option (Text × List Row)) → asks_rounds met ≡ false → is_limits (limits_met met) ≡ true → reduce_faults met ≡ []
+in_place_free met alone known = ap₂ (λ (r k : Bool). faults_by r k (asks_in_place met) (is_given (codes "rounds") met)) alone known
 
 pub rounds_free : (met : Option (Text × List Row)) → is_given (codes "rounds") met ≡ true → asks_in_place met ≡ false → reduce_faults met ≡ []
-rounds_free met given alone = ap₂ (λ (r p : Bool). faults_by (r || is_given (codes "workers") met) p r) given alone
+rounds_free met given alone = ap₂ (λ (r p : Bool). faults_by (r || is_given (codes "workers") met) (is_limits (limits_met met)) p r) given alone
 
 -- a kind of mistake that asks for nothing
 abbrev pub IsMistake : ErrorKind → Type 0
 IsMistake kind = (kind ≢ DisplayHelp) × (kind ≢ DisplayVersion)
 
 pub reduce_wrong : (met : Option (Text × List Row)) → reduce_faults met ≢ [] → (kind : ErrorKind) × (reduce_faults met ≡ kind ∷ []) × IsMistake kind
-reduce_wrong met wrong = go (asks_rounds met) (asks_in_place met) (is_given (codes "rounds") met) wrong
+reduce_wrong met wrong = go (asks_rounds met) (is_limits (limits_met met)) (asks_in_place met) (is_given (codes "rounds") met) wrong
   where
-    go : (r p c : Bool) → faults_by r p c ≢ [] → (kind : ErrorKind) × (faults_by r p c ≡ kind ∷ []) × IsMistake kind
-    go false p c other = absurd (other refl)
-    go true true c other = (ArgumentConflict, refl, ((λ e. cc), λ e. cc))
-    go true false true other = absurd (other refl)
-    go true false false other = (MissingRequiredArgument, refl, ((λ e. cc), λ e. cc))
+    go : (r k p c : Bool) → faults_by r k p c ≢ [] → (kind : ErrorKind) × (faults_by r k p c ≡ kind ∷ []) × IsMistake kind
+    go false true p c other = absurd (other refl)
+    go false false p c other = (InvalidValue, refl, ((λ e. cc), λ e. cc))
+    go true k true c other = (ArgumentConflict, refl, ((λ e. cc), λ e. cc))
+    go true k false true other = absurd (other refl)
+    go true k false false other = (MissingRequiredArgument, refl, ((λ e. cc), λ e. cc))
 
 -- a mistake that the parser finds is one of all
 pub among_all : (k : ErrorKind) (a b : Kinds) → IsAmong k a → IsAmong k (or_else a b)

@@ -166,6 +166,8 @@ reduce_help = text_of (codes "Reduces a system until no step is possible, and pr
     ++ codes " 4611686018427387903 [default: 4611686018427387903]")
     ∷ (codes "      --nodes <N>    How many names, and agents with arguments, the net has at"
     ++ codes " most, from 0 to 4611686018427387903 [default: 134217728]")
+    ∷ (codes "      --limits <L>   The limits of the text: those of a job (served) or wide"
+    ++ codes " ones (wide) [default: wide]")
     ∷ (codes "      --partial      Print the configuration too where the net, a round or"
     ++ codes " memory ends it")
     ∷ codes "      --stats        Tell how many interactions were made, and how fast"
@@ -190,7 +192,10 @@ reduce_help = text_of (codes "Reduces a system until no step is possible, and pr
     ++ codes " is the result")
     ∷ (codes "  x=t                       t takes the place of the other x; a name that"
     ++ codes " stands once is free")
-    ∷ codes "A text has at most 262144 bytes, 64 symbols, 256 rules and 8192 nodes, and no comments."
+    ∷ (codes "A text has at most 64 symbols, 256 rules, 2147483648 nodes and 8589934592"
+    ++ codes " bytes, and no comments.")
+    ∷ (codes "That of a job or of another command has at most 8192 nodes, 64 terms before |"
+    ++ codes " and 262144 bytes.")
     ∷ []
     ∷ codes "Example:"
     ∷ codes "  $ echo '{Add(x,x)><Z; Add(S(x),y)><S(Add(x,y))} <r|Add(r,S(Z))=S(Z)>' > sum.ic"

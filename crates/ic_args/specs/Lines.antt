@@ -79,9 +79,18 @@ abbrev pub IsReduceFlag : Given → Type 0
 IsReduceFlag given = ((given.name ≡ codes "partial") ⊎ (given.name ≡ codes "stats"))
     × (given.value ≡ codes "true")
 
+-- one of the words of limits
+abbrev pub IsLimitsText : Text → Type 0
+IsLimitsText text = (text ≡ codes "served") ⊎ (text ≡ codes "wide")
+
+-- the option of `reduce` with limits
+abbrev pub IsLimitsOption : Given → Type 0
+IsLimitsOption given = (given.name ≡ codes "limits") × IsLimitsText given.value
+
 -- how an option of `reduce` is written; a flag is one word
 abbrev pub IsReduceOption : Given → List Text → Type 0
-IsReduceOption given words = (IsReduceNumber given × IsWritten given words)
+IsReduceOption given words =
+    ((IsReduceNumber given ⊎ IsLimitsOption given) × IsWritten given words)
     ⊎ (IsReduceFlag given × (words ≡ (45 ∷ 45 ∷ given.name) ∷ []))
 
 -- one of the formats
@@ -208,14 +217,15 @@ pub record IsReduceLine (words : List Text) (given : List Given) (file : Option 
   pub once : AreOnce given
   pub last : IsFileWord file rest
 
--- options by which a net is reduced in place: bounds on interactions and on places, and two flags
-pub record AreInPlace (given : List Given) (s n : ℕ) (p t : Bool) : Type 0 where
+-- options by which a net is reduced in place: bounds on interactions and on places, two flags, and limits
+pub record AreInPlace (given : List Given) (s n : ℕ) (p t : Bool) (l : Text) : Type 0 where
   pub no_rounds : HasNone given (codes "rounds")
   pub no_workers : HasNone given (codes "workers")
   pub steps : HasNumber given (codes "steps") most_steps s
   pub nodes : HasNumber given (codes "nodes") 134217728 n
   pub partial : HasFlag given (codes "partial") p
   pub stats : HasFlag given (codes "stats") t
+  pub limits : HasValue given (codes "limits") (codes "wide") l
 
 -- options by which rounds are made: how many at most, by how many threads, and a flag
 pub record AreOfRounds (given : List Given) (most threads : ℕ) (p : Bool) : Type 0 where
@@ -225,6 +235,7 @@ pub record AreOfRounds (given : List Given) (most threads : ℕ) (p : Bool) : Ty
   pub no_nodes : HasNone given (codes "nodes")
   pub partial : HasFlag given (codes "partial") p
   pub no_stats : HasNone given (codes "stats")
+  pub no_limits : HasNone given (codes "limits")
 
 -- `trace`, with `--rounds N` and `--format tsv|svg` or without, in any order, each once, and its FILE
 pub record IsTraceLine (words : List Text) (most shown : Text) (file : Option Text) : Type 0 where

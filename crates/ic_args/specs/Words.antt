@@ -21,6 +21,8 @@ use Rattle.ic_args.specs.declared.words.Task.TheVariants.{Reduce, ReduceByRounds
 use Rattle.ic_args.specs.declared.words.Task.TheVariants.{Help, Version}
 use Rattle.ic_args.specs.declared.words.TraceFormat.{TraceFormat}
 use Rattle.ic_args.specs.declared.words.TraceFormat.TheVariants.{Tsv, Svg}
+use Rattle.ic_args.specs.declared.words.TextLimits.{TextLimits}
+use Rattle.ic_args.specs.declared.words.TextLimits.TheVariants.{Served, Wide}
 use Rattle.ic_args.specs.Help.{help_by, help_of, named_help, program_help}
 use Rattle.ic_args.specs.declared.words.WordsFault.{WordsFault}
 use Rattle.ic_args.specs.declared.words.WordsFault.TheVariants.{Words, Memory}
@@ -90,6 +92,13 @@ number_option name least most defaults = record (new_rule name) {
   parser = Some (parser.Unsigned least most);
 }
 
+-- the option `--name` with a text, and no default
+abbrev pub text_option : Text → Rule
+text_option name = record (new_rule name) {
+  long = Some name;
+  value_names = 1;
+}
+
 -- the most rounds: 2 ^ 62
 abbrev pub most_rounds : ℕ
 most_rounds = 4611686018427387904
@@ -120,7 +129,7 @@ abbrev pub reduce_command : App
 reduce_command = command_with (codes "reduce") (number_option (codes "rounds") 0 most_rounds []
     ∷ number_option (codes "workers") 1 64 []
     ∷ number_option (codes "steps") 0 most_steps []
-    ∷ number_option (codes "nodes") 0 most_steps []
+    ∷ number_option (codes "nodes") 0 most_steps [] ∷ text_option (codes "limits")
     ∷ flag (codes "partial") ∷ flag (codes "stats") ∷ input_argument ∷ [])
 
 abbrev pub trace_command : App
@@ -240,17 +249,31 @@ format_mistakes met = if is_met (codes "trace") met && not (is_format (value_met
 abbrev pub is_given : Text → Option (Text × List Row) → Bool
 is_given option met = not (bytes_eq (value_met option met) [])
 
+-- the word of limits
+abbrev pub limits_word : TextLimits → Text
+limits_word Served = codes "served"
+limits_word Wide = codes "wide"
+
+abbrev pub is_limits : Text → Bool
+is_limits text = bytes_eq text (limits_word Served) || bytes_eq text (limits_word Wide)
+
+-- the word of the limits that `reduce` is given, that of wide ones where it is given none
+abbrev pub limits_met : Option (Text × List Row) → Text
+limits_met met = unwrap_or (value_if_met (codes "limits") met) (limits_word Wide)
+
 -- an option of rounds is given to `reduce`, or one of reducing in place alone
 abbrev pub asks_rounds : Option (Text × List Row) → Bool
 asks_rounds met = is_given (codes "rounds") met || is_given (codes "workers") met
 
 abbrev pub asks_in_place : Option (Text × List Row) → Bool
 asks_in_place met = is_given (codes "steps") met
-    || (is_given (codes "nodes") met || is_flag_met (codes "stats") met)
+    || (is_given (codes "nodes") met || (is_flag_met (codes "stats") met
+    || is_some (value_if_met (codes "limits") met)))
 
--- `reduce` makes rounds or reduces in place, and workers are those of rounds
+-- `reduce` makes rounds or reduces in place with limits that there are, and workers are those of rounds
 abbrev pub reduce_faults : Option (Text × List Row) → Kinds
-reduce_faults met = if not (asks_rounds met) then []
+reduce_faults met = if not (asks_rounds met)
+    then (if is_limits (limits_met met) then [] else InvalidValue ∷ [])
     else if asks_in_place met then ArgumentConflict ∷ []
     else if is_given (codes "rounds") met then [] else MissingRequiredArgument ∷ []
 
@@ -284,7 +307,7 @@ AnswersWords mistakes (Ok (Once file)) = mistakes ≡ []
 AnswersWords mistakes (Ok (Create disk overwrite)) = mistakes ≡ []
 AnswersWords mistakes (Ok (Serve disk workers every)) = mistakes ≡ []
 AnswersWords mistakes (Ok (Attend disk runners turns workers scripts)) = mistakes ≡ []
-AnswersWords mistakes (Ok (Reduce steps nodes partial stats file)) = mistakes ≡ []
+AnswersWords mistakes (Ok (Reduce steps nodes partial stats limits file)) = mistakes ≡ []
 AnswersWords mistakes (Ok (ReduceByRounds rounds workers partial file)) = mistakes ≡ []
 AnswersWords mistakes (Ok (Trace rounds format file)) = mistakes ≡ []
 AnswersWords mistakes (Ok (Draw file)) = mistakes ≡ []
@@ -314,7 +337,7 @@ GivesHelp (Ok (Once file)) = ⊥
 GivesHelp (Ok (Create disk overwrite)) = ⊥
 GivesHelp (Ok (Serve disk workers every)) = ⊥
 GivesHelp (Ok (Attend disk runners turns workers scripts)) = ⊥
-GivesHelp (Ok (Reduce steps nodes partial stats file)) = ⊥
+GivesHelp (Ok (Reduce steps nodes partial stats limits file)) = ⊥
 GivesHelp (Ok (ReduceByRounds rounds workers partial file)) = ⊥
 GivesHelp (Ok (Trace rounds format file)) = ⊥
 GivesHelp (Ok (Draw file)) = ⊥
@@ -334,7 +357,7 @@ GivesVersion (Ok (Once file)) = ⊥
 GivesVersion (Ok (Create disk overwrite)) = ⊥
 GivesVersion (Ok (Serve disk workers every)) = ⊥
 GivesVersion (Ok (Attend disk runners turns workers scripts)) = ⊥
-GivesVersion (Ok (Reduce steps nodes partial stats file)) = ⊥
+GivesVersion (Ok (Reduce steps nodes partial stats limits file)) = ⊥
 GivesVersion (Ok (ReduceByRounds rounds workers partial file)) = ⊥
 GivesVersion (Ok (Trace rounds format file)) = ⊥
 GivesVersion (Ok (Draw file)) = ⊥
@@ -386,14 +409,16 @@ abbrev pub help_asked : List Text → Text
 help_asked words = if is_empty (fault_of command_line words)
     then help_by (value_if_met (codes "word") (subcommand_of command_line words)) else help_of words
 
--- the words of `reduce` give two bounds, two flags and a file, and no option of rounds
-pub record NamesReduce (words : List Text) (s n : ℕ) (p t : Bool) (f : Option Text) : Type 0 where
+-- the words of `reduce` give two bounds, two flags, limits and a file, and no option of rounds
+pub record NamesReduce (words : List Text) (s n : ℕ) (p t : Bool) (l : Text) (f : Option Text)
+    : Type 0 where
   pub begins : BeginsWith (codes "reduce") words
   pub alone : asks_rounds (subcommand_of command_line words) ≡ false
   pub steps : IsNumberOr (codes "steps") 0 most_steps most_steps words s
   pub nodes : IsNumberOr (codes "nodes") 0 most_steps 134217728 words n
   pub partial : p ≡ is_flag_met (codes "partial") (subcommand_of command_line words)
   pub stats : t ≡ is_flag_met (codes "stats") (subcommand_of command_line words)
+  pub limits : l ≡ limits_met (subcommand_of command_line words)
   pub file : f ≡ file_met (subcommand_of command_line words)
 
 -- the words of `attend` give a disk's path, three numbers and the paths of scripts
@@ -428,8 +453,8 @@ Names words (Serve disk workers every) = BeginsWith (codes "serve") words
     × IsNumberOf (codes "every") 1 1000000 words every
 Names words (Attend disk runners turns workers scripts) =
     NamesAttend words (string_bytes disk) runners turns workers (map string_bytes scripts.items)
-Names words (Reduce steps nodes partial stats file) =
-    NamesReduce words steps nodes partial stats (option_map string_bytes file)
+Names words (Reduce steps nodes partial stats limits file) =
+    NamesReduce words steps nodes partial stats (limits_word limits) (option_map string_bytes file)
 Names words (ReduceByRounds rounds workers partial file) =
     NamesText (codes "reduce") words (option_map string_bytes file)
     × (asks_in_place (subcommand_of command_line words) ≡ false)

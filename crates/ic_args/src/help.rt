@@ -160,6 +160,7 @@ Arguments:
 Options:
       --steps <N>    How many interactions are made at most, from 0 to 4611686018427387903 [default: 4611686018427387903]
       --nodes <N>    How many names, and agents with arguments, the net has at most, from 0 to 4611686018427387903 [default: 134217728]
+      --limits <L>   The limits of the text: those of a job (served) or wide ones (wide) [default: wide]
       --partial      Print the configuration too where the net, a round or memory ends it
       --stats        Tell how many interactions were made, and how fast
       --rounds <N>   Make rounds, and at most so many, from 0 to 4611686018427387904
@@ -177,7 +178,8 @@ The language:
   Add(S(x),y)><S(Add(x,y))  what stands at the argument of S is Add(x,y)
   Add(r,n)=m                two agents fire where a rule has their symbols; r is the result
   x=t                       t takes the place of the other x; a name that stands once is free
-A text has at most 262144 bytes, 64 symbols, 256 rules and 8192 nodes, and no comments.
+A text has at most 64 symbols, 256 rules, 2147483648 nodes and 8589934592 bytes, and no comments.
+That of a job or of another command has at most 8192 nodes, 64 terms before | and 262144 bytes.
 
 Example:
   $ echo '{Add(x,x)><Z; Add(S(x),y)><S(Add(x,y))} <r|Add(r,S(Z))=S(Z)>' > sum.ic

@@ -9,8 +9,9 @@ ghost use Rattle.clap.specs.declared.error.ErrorKind.TheVariants.{ArgumentConfli
 ghost use Rattle.ic_args.specs.declared.words.Task.TheVariants.{Settle, Once, Create, Serve, Attend, Reduce, ReduceByRounds};
 ghost use Rattle.ic_args.specs.declared.words.Task.TheVariants.{Trace, Draw, Dump, Inspect, Check, Batch, Help, Version};
 ghost use Rattle.ic_args.specs.declared.words.TraceFormat.{TraceFormat};
+ghost use Rattle.ic_args.specs.declared.words.TextLimits.{TextLimits};
 ghost use Rattle.ic_args.specs.declared.words.WordsFault.TheVariants.{Words, Memory};
-ghost use Rattle.ic_args.specs.Words.{AnswersWords, format_word, help_asked, mistakes_of, words_fault_number, IsDecimal, Names};
+ghost use Rattle.ic_args.specs.Words.{AnswersWords, format_word, limits_word, help_asked, mistakes_of, words_fault_number, IsDecimal, Names};
 ghost use Rattle.ic_args.specs.Help.{help_by, help_of, Says, program_help, help_help, settle_help, once_help, create_help, serve_help, attend_help};
 ghost use Rattle.ic_args.specs.Help.{batch_help, check_help, draw_help, dump_help, inspect_help, reduce_help, trace_help};
 ghost use Rattle.ic_args.specs.Lines.{AreInPlace, AreOfRounds, Given, HasNoHyphen, IsAttendLine, IsBatchLine, IsCheckLine, IsCreateLine, IsDumpLine};
@@ -135,7 +136,8 @@ pub fn each_command_has_its_help()
     ensures in_place { AllByRecursion (Says reduce_help) (codes "--steps <N>"
         ∷ codes "from 0 to 4611686018427387903 [default: 4611686018427387903]" ∷ codes "--nodes <N>"
         ∷ codes "from 0 to 4611686018427387903 [default: 134217728]"
-        ∷ codes "--partial" ∷ codes "--stats" ∷ []) }
+        ∷ codes "--partial" ∷ codes "--stats" ∷ codes "--limits <L>" ∷ codes "(served)"
+        ∷ codes "(wide)" ∷ codes "[default: wide]" ∷ []) }
     ensures formats { AllByRecursion (Says trace_help) (codes "icserve trace" ∷ codes "--rounds <N>"
         ∷ codes "from 0 to 4611686018427387904 [default: 1000000]" ∷ codes "--format <FORMAT>"
         ∷ codes "(tsv)" ∷ codes "(svg)" ∷ codes "[default: tsv]" ∷ []) }
@@ -212,17 +214,19 @@ pub fn attend_lines_are_taken(disk: &String, paths: &Vec<String>)
 
 /// A well-formed line of `reduce` without options of rounds is taken, in whatever order its options
 /// stand, and names the bounds that it is given, or their defaults, 2^62 - 1 interactions and 2^27
-/// places, and whether it has the flags. One with rounds, and without bounds and `--stats`, is taken
+/// places, whether it has the flags, and its limits, or wide ones. One with rounds, and without bounds and `--stats`, is taken
 /// too, and names its rounds, its workers, or 2, and whether it has `--partial`. Both name the FILE that
 /// they are given, or standard input. Both kinds of options in one line are a mistake, and so are
-/// workers without rounds.
+/// workers without rounds and limits that there aren't.
 pub fn reduce_lines_are_taken(path: &Option<String>)
     ensures taken { (words : List Text) (given : List Given) (file : Option Text) (s n : ℕ) (p t : Bool)
-        → IsReduceLine words given file → AreInPlace given s n p t → mistakes_of words ≡ [] }
+        (l : Text) → IsReduceLine words given file → AreInPlace given s n p t l
+        → mistakes_of words ≡ [] }
     ensures named { (words : List Text) (given : List Given) (file : Option Text) (s n steps nodes : ℕ)
-        (p t partial stats : Bool) → IsReduceLine words given file → AreInPlace given s n p t
-        → Names words (Reduce steps nodes partial stats path.now)
-        → (steps ≡ s) × (nodes ≡ n) × (partial ≡ p) × (stats ≡ t)
+        (p t partial stats : Bool) (l : Text) (limits : TextLimits)
+        → IsReduceLine words given file → AreInPlace given s n p t l
+        → Names words (Reduce steps nodes partial stats limits path.now)
+        → (steps ≡ s) × (nodes ≡ n) × (partial ≡ p) × (stats ≡ t) × (limits_word limits ≡ l)
         × (option_map string_bytes path.now ≡ file) }
     ensures rounds { (words : List Text) (given : List Given) (file : Option Text) (most threads : ℕ)
         (p : Bool) → IsReduceLine words given file → AreOfRounds given most threads p
@@ -234,8 +238,12 @@ pub fn reduce_lines_are_taken(path: &Option<String>)
         → (rounds ≡ most) × (workers ≡ threads) × (partial ≡ p)
         × (option_map string_bytes path.now ≡ file) }
     ensures both { map (λ option. mistakes_of (codes "reduce" ∷ codes "--rounds=1" ∷ option ∷ []))
-        (codes "--steps=1" ∷ codes "--nodes=1" ∷ codes "--stats" ∷ [])
-        ≡ (ArgumentConflict ∷ []) ∷ (ArgumentConflict ∷ []) ∷ (ArgumentConflict ∷ []) ∷ [] }
+        (codes "--steps=1" ∷ codes "--nodes=1" ∷ codes "--stats" ∷ codes "--limits=wide" ∷ [])
+        ≡ (ArgumentConflict ∷ []) ∷ (ArgumentConflict ∷ []) ∷ (ArgumentConflict ∷ [])
+        ∷ (ArgumentConflict ∷ []) ∷ [] }
+    ensures other { map (λ option. mistakes_of (codes "reduce" ∷ option ∷ []))
+        (codes "--limits=none" ∷ codes "--limits=" ∷ [])
+        ≡ (InvalidValue ∷ []) ∷ (InvalidValue ∷ []) ∷ [] }
     ensures no_rounds { mistakes_of (codes "reduce" ∷ codes "--workers=1" ∷ [])
         ≡ MissingRequiredArgument ∷ [] }
 {}
@@ -320,11 +328,14 @@ pub fn common_lines_are_well_formed()
         → IsBatchLine (codes "batch" ∷ codes "--disk" ∷ path ∷ codes "--rounds=10" ∷ file ∷ [])
         path (codes "10") (codes "100") (codes "2") file }
     ensures reduce { IsReduceLine (codes "reduce" ∷ []) [] None
-        × AreInPlace [] 4611686018427387903 134217728 false false }
+        × AreInPlace [] 4611686018427387903 134217728 false false (codes "wide") }
     ensures reduced { (path : Text) → HasNoHyphen path → (given : List Given)
         × IsReduceLine (codes "reduce" ∷ codes "--stats" ∷ codes "--nodes=9" ∷ codes "--steps"
         ∷ codes "10" ∷ path ∷ []) given (Some path)
-        × AreInPlace given 10 9 false true }
+        × AreInPlace given 10 9 false true (codes "wide") }
+    ensures limited { (given : List Given)
+        × IsReduceLine (codes "reduce" ∷ codes "--limits" ∷ codes "served" ∷ []) given None
+        × AreInPlace given 4611686018427387903 134217728 false false (codes "served") }
     ensures by_rounds { (given : List Given) × IsReduceLine (codes "reduce" ∷ codes "--workers=3"
         ∷ codes "--rounds" ∷ codes "10" ∷ []) given None × AreOfRounds given 10 3 false }
     ensures trace { (path : Text) → HasNoHyphen path

@@ -1,6 +1,6 @@
 //! The words after the program's name.
 
-ghost use Rattle.std.specs.Prelude.{◌≡◌, ◌≤◌, ℕ, true, false, map, option_map, None, Ok, IfOk, codes, [], ◌∷◌, string_bytes};
+ghost use Rattle.std.specs.Prelude.{◌≡◌, ◌≤◌, ℕ, true, false, map, option_map, None, Ok, IfOk, IfSome, IfNone, codes, [], ◌∷◌, string_bytes};
 ghost use Rattle.clap.specs.Words.{App, Rule, app_of, kind_of, rule_of, subcommand_rows_of, with_rule, with_subcommand};
 ghost use Rattle.ic_args.specs.Words.{AnswersWords, GivesHelp, GivesTask, GivesVersion, Names, file_met, has_help, help_command, value_if_met};
 ghost use Rattle.ic_args.specs.Words.{attend_command, batch_command, check_command, command_line, create_command, dump_command, inspect_command};
@@ -9,7 +9,7 @@ ghost use Rattle.ic_args.specs.Words.{disk_option, file_argument, flag, name_arg
 ghost use Rattle.ic_args.specs.Words.{lines_argument, most_rounds, most_steps};
 ghost use Rattle.ic_args.specs.Words.{script_argument};
 ghost use Rattle.ic_args.specs.Words.{input_argument, optional_argument, text_command};
-ghost use Rattle.ic_args.specs.Words.{asks_in_place, asks_rounds, is_flag_met, is_given, mistakes_of, reduce_faults, value_met, values_met};
+ghost use Rattle.ic_args.specs.Words.{asks_in_place, asks_rounds, is_limits, limits_met, limits_word, text_option, is_flag_met, is_given, mistakes_of, reduce_faults, value_met, values_met};
 ghost use Rattle.clap.specs.declared.builder.value_parser.ValueParser.TheVariants.{Unsigned};
 ghost use Rattle.ic_args.specs.inner.Making.{IsMade};
 ghost use Rattle.ic_args.specs.inner.Asking.{AnswersRefused, Asks, IsCommandMet, IsIn, IsMet, IsReadFrom, IsReadOr, commands};
@@ -50,9 +50,12 @@ const WORKERS: u64 = 2;
 /// What names standard input where a file is named.
 const STANDARD: &str = "-";
 
+/// What names wide limits, which a text has that `reduce` reads where nothing else is said.
+const WIDE: &str = "wide";
+
 /// What is said where `reduce` is asked for rounds and for reducing in place.
 const BOTH_WAYS: &str = "\
-error: the arguments '--rounds <N>' and '--workers <N>' cannot be used with '--steps <N>', '--nodes <N>' or '--stats'
+error: the arguments '--rounds <N>' and '--workers <N>' cannot be used with '--steps <N>', '--nodes <N>', '--limits <L>' or '--stats'
 
 Usage: icserve reduce [OPTIONS] [FILE]
 
@@ -122,6 +125,8 @@ pub enum Task {
         partial: bool,
         /// Whether it is told how many interactions were made, and how fast.
         stats: bool,
+        /// The limits of the text.
+        limits: TextLimits,
         /// The path of the text.
         file: Option<String>,
     },
@@ -184,6 +189,15 @@ pub enum Task {
     Help(String),
     /// Show this line, which tells the version.
     Version(String),
+}
+
+/// The limits with which a text is read.
+#[derive(Clone, Copy, Debug)]
+pub enum TextLimits {
+    /// Those of what is served.
+    Served,
+    /// Much wider ones.
+    Wide,
 }
 
 /// How a trace is told.
@@ -398,7 +412,7 @@ fn reduce_task(alloc: Global, matches: &ArgMatches) -> Result<Task, WordsFault>
     rounds_task(alloc, matches)
 }
 
-/// The task of `reduce` in place.
+/// The task of `reduce` in place. Limits that there aren't are refused as the parser refuses such a value.
 fn in_place_task(alloc: Global, matches: &ArgMatches) -> Result<Task, WordsFault>
     requires met { IsMet (codes "reduce") (subcommand_rows_of matches.now) }
     requires alone { asks_rounds (subcommand_rows_of matches.now) ≡ false }
@@ -409,13 +423,40 @@ fn in_place_task(alloc: Global, matches: &ArgMatches) -> Result<Task, WordsFault
     let nodes = number_or(matches, "nodes", 0, MAX_STEPS, NODES);
     let partial = is_flag_met(matches, "partial");
     let stats = is_flag_met(matches, "stats");
-    Ok(Task::Reduce {
-        steps,
-        nodes,
-        partial,
-        stats,
-        file,
-    })
+    let word = limits_met(matches);
+    match limits_named(word) {
+        Some(limits) => Ok(Task::Reduce {
+            steps,
+            nodes,
+            partial,
+            stats,
+            limits,
+            file,
+        }),
+        None => Err(WordsFault::Words(format!(in alloc;
+            "error: invalid value '{word}' for '--limits <L>'\n  [possible values: served, wide]\n\n\
+             For more information, try '--help'.\n"
+        )?)),
+    }
+}
+
+/// The limits of this word, if it is that of some.
+fn limits_named(word: &str) -> Option<TextLimits>
+    ensures named { IfSome result (λ limits. word.now ≡ limits_word limits) }
+    ensures none { IfNone result (is_limits word.now ≡ false) }
+{
+    match word {
+        "served" => Some(TextLimits::Served),
+        "wide" => Some(TextLimits::Wide),
+        _ => None,
+    }
+}
+
+/// The word of the limits that `reduce` is given, that of wide ones where it is given none.
+fn limits_met<'a>(matches: &ArgMatches<'a>) -> &'a str
+    ensures { result.now ≡ limits_met (subcommand_rows_of matches.now) }
+{
+    value_if_met(matches, "limits").unwrap_or(WIDE)
 }
 
 /// The task of `reduce` by rounds.
@@ -448,7 +489,10 @@ fn asks_rounds(matches: &ArgMatches) -> bool
 fn asks_in_place(matches: &ArgMatches) -> bool
     ensures { result ≡ asks_in_place (subcommand_rows_of matches.now) }
 {
-    is_given(matches, "steps") || is_given(matches, "nodes") || is_flag_met(matches, "stats")
+    is_given(matches, "steps")
+        || is_given(matches, "nodes")
+        || is_flag_met(matches, "stats")
+        || value_if_met(matches, "limits").is_some()
 }
 
 /// The task of `trace`. A format that there isn't is refused as the parser refuses such a value.
@@ -661,6 +705,14 @@ fn valued_option<'a>(alloc: Global, name: &'a str, value: &'a str, default: &'a 
         .default_value(default)
 }
 
+/// An option with a text, and no default.
+fn text_option<'a>(alloc: Global, name: &'a str, value: &'a str) -> Arg<'a>
+    ensures rule { rule_of result ≡ text_option name.now }
+    ensures local { result.global ≡ false }
+{
+    Arg::new(alloc, name).long(name).value_name(value)
+}
+
 /// An option with a number that is read so, and its default.
 fn number_option<'a>(
     alloc: Global,
@@ -869,6 +921,7 @@ fn reduce_command<'a>(alloc: Global) -> Result<Command<'a>, AllocError>
     let command = with_arg(command, chosen_option(alloc, "workers", threads()));
     let command = with_arg(command, chosen_option(alloc, "steps", steps()));
     let command = with_arg(command, chosen_option(alloc, "nodes", steps()));
+    let command = with_arg(command, text_option(alloc, "limits", "L"));
     let command = with_arg(command, flag(alloc, "partial"));
     let command = with_arg(command, flag(alloc, "stats"));
     with_arg(command, input_argument(alloc))

@@ -23,6 +23,7 @@ use Rattle.ic_crew.specs.contracts.posts.Line as Line
 use Rattle.ic_crew.specs.contracts.posts.Post as Post
 use Rattle.ic_crew.specs.contracts.crews.Crew as Crew
 use Rattle.ic_flat.specs.contracts.flat.Flat as Flat
+use Rattle.ic_flat.specs.contracts.wide.WideFlat as WideFlat
 use Rattle.ic_flat.specs.contracts.system.FlatSystem as FlatSystem
 use Rattle.ic_flat_round.specs.contracts.flat_rules.FlatRules as FlatRules
 use Rattle.ic_jobs.specs.contracts.command.Command as Command
@@ -51,11 +52,17 @@ RuleSet_send = search (Rule_send, symbols.the_send, pair.the_field_send, sendabl
 pub RuleSet_sync : IsSync RuleSet.the_field.row
 RuleSet_sync = search (Rule_sync, symbols.the_sync, pair.the_field_sync, sendable, crosses, maps) depth 40
 
+WideFlat_send : IsSend WideFlat.the_field.row
+WideFlat_send = search (word.the_field_send, sendable, crosses) depth 40
+
+WideFlat_sync : IsSync WideFlat.the_field.row
+WideFlat_sync = search (word.the_field_sync, sendable, crosses) depth 40
+
 Flat_send : IsSend Flat.the_field.row
-Flat_send = search (word.the_field_send, sendable, crosses) depth 40
+Flat_send = search (WideFlat_send, sendable, crosses) depth 40
 
 Flat_sync : IsSync Flat.the_field.row
-Flat_sync = search (word.the_field_sync, sendable, crosses) depth 40
+Flat_sync = search (WideFlat_sync, sendable, crosses) depth 40
 
 FlatRules_send : IsSend FlatRules.the_field.row
 FlatRules_send = search (RuleSet_send, RuleSet_sync, word.the_field_send, sendable, crosses) depth 40

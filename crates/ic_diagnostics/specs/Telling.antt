@@ -14,8 +14,10 @@ use Rattle.ic_text.specs.WordFaults.{IsSecondUse}
 use Rattle.ic_text.specs.Source.{IsPhrase, phrase_words}
 use Rattle.ic_text.specs.SystemSource.{IsSystemPhrase, system_words}
 use Rattle.ic_text.specs.Words.{Written, all_words, written_phrase, written_system}
-use Rattle.ic_text.specs.Places.{IsPlaced, IsWordPlace}
-use Rattle.ic_streams.specs.Streams.{Answering, TakesIt}
+use Rattle.ic_text.specs.Places.{IsPlacedWithin, IsWordPlace}
+use Rattle.ic_text.specs.declared.limits.Limits.{Limits}
+use Rattle.ic_text.specs.declared.limits.Limits.TheVariants.{Served, Wide}
+use Rattle.ic_streams.specs.Streams.{Answering, TakesItWithin}
 use Rattle.ic_streams.specs.declared.fault.StreamFault.{StreamFault}
 use Rattle.ic_streams.specs.declared.fault.StreamFault.TheVariants.{Text}
 use Rattle.ic_diagnostics.specs.declared.telling.Kind.{Kind}
@@ -85,7 +87,7 @@ plain_sentence kind (Lopsided i) sight =
     codes "a rule of a symbol with itself reads the same from both sides"
 plain_sentence kind fault sight = syntax_sentence kind sight
 
--- what is amiss where a limit is passed
+-- what is amiss where a limit of what is served is passed
 abbrev pub limit_sentence : Limit → List ℕ
 limit_sentence TextBytes = codes "a text has at most 262144 bytes"
 limit_sentence SymbolBytes = codes "a symbol has at most 32 bytes"
@@ -97,6 +99,14 @@ limit_sentence RuleNodes =
     codes "the arguments of all rules together have at most 2048 nodes"
 limit_sentence Interface = codes "an interface has at most 64 terms"
 limit_sentence Nodes = codes "a configuration has at most 8192 nodes"
+
+-- the same with any limits, of which three are wider
+abbrev pub limit_sentence_within : Limits → Limit → List ℕ
+limit_sentence_within Served limit = limit_sentence limit
+limit_sentence_within Wide TextBytes = codes "a text has at most 8589934592 bytes"
+limit_sentence_within Wide Interface = codes "an interface has at most 2147483648 terms"
+limit_sentence_within Wide Nodes = codes "a configuration has at most 2147483648 nodes"
+limit_sentence_within Wide limit = limit_sentence limit
 
 -- what is amiss where a symbol has another arity than at its first use
 abbrev pub arity_sentence : (symbol : List ℕ) → (before here : ℕ) → List ℕ
@@ -114,50 +124,85 @@ IsOfArities {P} IsOne words written text at symbol before here =
     × (slice_get (all_words (written phrase)) word
     ≡ Some (record { text = symbol; arity = here }))
 
--- what is amiss at the place of a refusal, by the word there, and by whatever else stands there
-abbrev pub sight_sentence : Kind → TextFault → Detail → List ℕ → Sight → List ℕ
-sight_sentence kind fault Nothing word sight = plain_sentence kind fault sight
-sight_sentence kind fault (Passed limit) word sight = limit_sentence limit
-sight_sentence kind fault (Arities before here) word sight = arity_sentence word before here
+-- what is amiss at the place of a refusal with these limits, by the word there, and by whatever else stands there
+abbrev pub sight_sentence_within : Limits → Kind → TextFault → Detail → List ℕ → Sight → List ℕ
+sight_sentence_within limits kind fault Nothing word sight = plain_sentence kind fault sight
+sight_sentence_within limits kind fault (Passed limit) word sight =
+    limit_sentence_within limits limit
+sight_sentence_within limits kind fault (Arities before here) word sight =
+    arity_sentence word before here
 
-abbrev pub sentence : Kind → List ℕ → TextFault → ℕ → Detail → List ℕ
-sentence kind text fault at detail =
-    sight_sentence kind fault detail (first_word (drop at text)) (sight_at text at)
+abbrev pub sentence_within : Limits → Kind → List ℕ → TextFault → ℕ → Detail → List ℕ
+sentence_within limits kind text fault at detail =
+    sight_sentence_within limits kind fault detail (first_word (drop at text)) (sight_at text at)
 
 -- the lines that tell of a refusal, where its place is told
-abbrev pub told_lines : Kind → List ℕ → TextFault → Option ℕ → Detail → List ℕ
-told_lines kind text fault None detail = []
-told_lines kind text fault (Some at) detail =
-    place_lines text at (sentence kind text fault at detail)
+abbrev pub told_lines_within : Limits → Kind → List ℕ → TextFault → Option ℕ → Detail → List ℕ
+told_lines_within limits kind text fault None detail = []
+told_lines_within limits kind text fault (Some at) detail =
+    place_lines text at (sentence_within limits kind text fault at detail)
 
 -- where in a text that was to be of a kind this fault is found
-abbrev pub IsFoundAt : Kind → List ℕ → TextFault → Option ℕ → Detail → Type 0
-IsFoundAt Config text fault place detail =
-    IsPlaced IsPhrase phrase_words written_phrase text fault place detail
-IsFoundAt System text fault place detail =
-    IsPlaced IsSystemPhrase system_words written_system text fault place detail
+abbrev pub IsFoundAtWithin : Limits → Kind → List ℕ → TextFault → Option ℕ → Detail → Type 0
+IsFoundAtWithin limits Config text fault place detail =
+    IsPlacedWithin limits IsPhrase phrase_words written_phrase text fault place detail
+IsFoundAtWithin limits System text fault place detail =
+    IsPlacedWithin limits IsSystemPhrase system_words written_system text fault place detail
 
 -- what is told of a refusal of a text: the lines of its place
-abbrev pub TellsOf : Kind → List ℕ → TextFault → List ℕ → Type 0
-TellsOf kind text fault lines = (place : Option ℕ) × (detail : Detail)
-    × IsFoundAt kind text fault place detail
-    × (lines ≡ told_lines kind text fault place detail)
+abbrev pub TellsOfWithin : Limits → Kind → List ℕ → TextFault → List ℕ → Type 0
+TellsOfWithin limits kind text fault lines = (place : Option ℕ) × (detail : Detail)
+    × IsFoundAtWithin limits kind text fault place detail
+    × (lines ≡ told_lines_within limits kind text fault place detail)
 
 -- a text is answered with this fault, and the lines that tell of it are appended to what is told
-abbrev pub IsToldOf : Answering → Kind → List ℕ → TextFault → (before after : List ℕ) → Type 0
-IsToldOf Answers kind text fault before after = Answers text (Err (Text fault))
-    × ((lines : List ℕ) × TellsOf kind text fault lines × (after ≡ before ++ lines))
+abbrev pub IsToldOfWithin : Limits → Answering → Kind → List ℕ → TextFault
+    → (before after : List ℕ) → Type 0
+IsToldOfWithin limits Answers kind text fault before after = Answers text (Err (Text fault))
+    × ((lines : List ℕ) × TellsOfWithin limits kind text fault lines × (after ≡ before ++ lines))
 
 -- What a fault of a stream appends to what is told: of a text that is answered with it the lines of
 -- its place, and else nothing, so that nothing half told remains where memory ran out.
-abbrev pub AppendedAt : Answering → Kind → List ℕ → StreamFault → (before after : List ℕ) → Type 0
-AppendedAt Answers kind text (Text fault) before after =
-    IsToldOf Answers kind text fault before after
-AppendedAt Answers kind text fault before after = after ≡ before
+abbrev pub AppendedAtWithin : Limits → Answering → Kind → List ℕ → StreamFault
+    → (before after : List ℕ) → Type 0
+AppendedAtWithin limits Answers kind text (Text fault) before after =
+    IsToldOfWithin limits Answers kind text fault before after
+AppendedAtWithin limits Answers kind text fault before after = after ≡ before
 
 -- the same of the text that was taken from a reader, where one was taken
+abbrev pub AppendedWithin : Limits → Answering → Kind → (old new : Option (List ℕ)) → StreamFault
+    → (before after : List ℕ) → Type 0
+AppendedWithin limits Answers kind old new (Text fault) before after =
+    (text : List ℕ) × TakesItWithin limits text old new
+    × IsToldOfWithin limits Answers kind text fault before after
+AppendedWithin limits Answers kind old new fault before after = after ≡ before
+
+-- the same with the limits of what is served
+abbrev pub sight_sentence : Kind → TextFault → Detail → List ℕ → Sight → List ℕ
+sight_sentence kind fault detail word sight =
+    sight_sentence_within Served kind fault detail word sight
+
+abbrev pub sentence : Kind → List ℕ → TextFault → ℕ → Detail → List ℕ
+sentence kind text fault at detail = sentence_within Served kind text fault at detail
+
+abbrev pub told_lines : Kind → List ℕ → TextFault → Option ℕ → Detail → List ℕ
+told_lines kind text fault place detail = told_lines_within Served kind text fault place detail
+
+abbrev pub IsFoundAt : Kind → List ℕ → TextFault → Option ℕ → Detail → Type 0
+IsFoundAt kind text fault place detail = IsFoundAtWithin Served kind text fault place detail
+
+abbrev pub TellsOf : Kind → List ℕ → TextFault → List ℕ → Type 0
+TellsOf kind text fault lines = TellsOfWithin Served kind text fault lines
+
+abbrev pub IsToldOf : Answering → Kind → List ℕ → TextFault → (before after : List ℕ) → Type 0
+IsToldOf Answers kind text fault before after =
+    IsToldOfWithin Served Answers kind text fault before after
+
+abbrev pub AppendedAt : Answering → Kind → List ℕ → StreamFault → (before after : List ℕ) → Type 0
+AppendedAt Answers kind text fault before after =
+    AppendedAtWithin Served Answers kind text fault before after
+
 abbrev pub Appended : Answering → Kind → (old new : Option (List ℕ)) → StreamFault
     → (before after : List ℕ) → Type 0
-Appended Answers kind old new (Text fault) before after =
-    (text : List ℕ) × TakesIt text old new × IsToldOf Answers kind text fault before after
-Appended Answers kind old new fault before after = after ≡ before
+Appended Answers kind old new fault before after =
+    AppendedWithin Served Answers kind old new fault before after

@@ -5,9 +5,10 @@ ghost use Rattle.std.specs.Fmt.{decimal};
 ghost use Rattle.std.specs.List.{AllByRecursion, concat, list_any, list_all};
 ghost use Rattle.std.specs.Str.{IsUtf8, chars};
 ghost use Rattle.ic_text.specs.Token.{is_blank, is_word_byte};
-ghost use Rattle.ic_term.specs.declared.limits.TheConstants.{MAX_ARITY, MAX_INTERFACE, MAX_NODES, MAX_SYMBOLS, MAX_SYMBOL_TEXT};
+ghost use Rattle.ic_term.specs.declared.limits.TheConstants.{MAX_ARITY, MAX_INTERFACE, MAX_NODES, MAX_SYMBOLS, MAX_SYMBOL_TEXT, MAX_WIDE_NODES};
 ghost use Rattle.ic_rules.specs.declared.limits.TheConstants.{MAX_RULES, MAX_RULE_NODES};
-ghost use Rattle.ic_text.specs.declared.limits.TheConstants.{MAX_NAME, MAX_TEXT};
+ghost use Rattle.ic_text.specs.declared.limits.TheConstants.{MAX_NAME, MAX_TEXT, MAX_WIDE_TEXT};
+ghost use Rattle.ic_text.specs.declared.limits.Limits.TheVariants.{Wide};
 ghost use Rattle.ic_text.specs.declared.fault.TextFault.{TextFault};
 ghost use Rattle.ic_text.specs.declared.fault.TextFault.TheVariants.{Arity, Syntax};
 ghost use Rattle.ic_text.specs.declared.misread.Detail.{Detail};
@@ -22,7 +23,7 @@ ghost use Rattle.ic_streams.specs.declared.fault.StreamFault.TheVariants.{Text};
 ghost use Rattle.ic_diagnostics.specs.declared.telling.Kind.{Kind};
 ghost use Rattle.ic_diagnostics.specs.declared.telling.Kind.TheVariants.{Config, System};
 ghost use Rattle.ic_diagnostics.specs.Sights.{command_words};
-ghost use Rattle.ic_diagnostics.specs.Telling.{Appended, IsOfArities, IsToldOf, arity_sentence, limit_sentence, sentence};
+ghost use Rattle.ic_diagnostics.specs.Telling.{Appended, IsOfArities, IsToldOf, arity_sentence, limit_sentence, limit_sentence_within, sentence};
 ghost use Rattle.ic_diagnostics.specs.Lines.{IsMarked, begins_with_feed, column, feed, first_line, head_of, is_ascii, is_feed, is_printable, last_line, line_number, margin, picture_of, place_lines, shown, shown_before, shown_behind, told_at};
 
 /// A line feed ends a line and begins one. The last line is what follows the last line feed.
@@ -180,6 +181,12 @@ pub fn limits_are_told_with_their_numbers()
         ≡ codes "an interface has at most " ++ decimal MAX_INTERFACE ++ codes " terms" }
     ensures nodes { limit_sentence Nodes
         ≡ codes "a configuration has at most " ++ decimal MAX_NODES ++ codes " nodes" }
+    ensures wide_text { limit_sentence_within Wide TextBytes
+        ≡ codes "a text has at most " ++ decimal MAX_WIDE_TEXT ++ codes " bytes" }
+    ensures wide_interface { limit_sentence_within Wide Interface
+        ≡ codes "an interface has at most " ++ decimal MAX_WIDE_NODES ++ codes " terms" }
+    ensures wide_nodes { limit_sentence_within Wide Nodes
+        ≡ codes "a configuration has at most " ++ decimal MAX_WIDE_NODES ++ codes " nodes" }
 {}
 
 /// For a symbol with two arities the sentence tells the symbol, its arity at the place, and then the arity with which

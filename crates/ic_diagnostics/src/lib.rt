@@ -2,7 +2,7 @@
 //!
 //! `place_lines` tells a place by its line and column, shows the line with a mark under the place, and says what is
 //! amiss. `settle_telling` and `once_telling` answer streams as `ic_streams` does, and tell so of a text that is
-//! refused; `refused` does so for other answers.
+//! refused; `refused` does so for other answers, and `refused_within` with any limits.
 #![tactic(auto)]
 
 pub mod laws;
@@ -14,5 +14,5 @@ mod telling;
 
 pub use lines::{column, last_line, line_number, place_lines, told_at};
 pub use sights::Sight;
-pub use stream::{once_telling, refused, settle_telling};
+pub use stream::{once_telling, refused, refused_within, settle_telling};
 pub use telling::{Kind, sentence, told_lines};

@@ -3,13 +3,13 @@
 ghost use Rattle.std.specs.Prelude.{◌≡◌, ◌≢◌, ◌≤◌, ◌++◌, ◌⊎◌, Ok, IfOk, IfErr, IfSome, OnOk, length};
 ghost use Rattle.std.specs.Io.KnownBytes.{Keeps};
 ghost use Rattle.ic_streams.specs.Streams.{OfText, IsAnswered, FaultOf, Rounds, Settles, TakesAt, TakesText};
-ghost use Rattle.ic_diagnostics.specs.Telling.{Appended, AppendedAt, told_lines};
+ghost use Rattle.ic_diagnostics.specs.Telling.{Appended, AppendedAt, told_lines, told_lines_within};
 ghost use Rattle.ic_streams.specs.Faults.{fault_of_text};
 
-use crate::telling::{Kind, told_lines};
+use crate::telling::{Kind, told_lines_within};
 use ic_flat_round::{FlatRules, round, settle};
 use ic_streams::{StreamFault, flat_line, read_text, write_line};
-use ic_text::{Misread, TextFault, find_flat_config, find_flat_system};
+use ic_text::{Limits, Misread, TextFault, find_flat_config, find_flat_system};
 use std::alloc::Global;
 use std::io::{Read, Write};
 
@@ -86,10 +86,28 @@ pub fn refused(
         ++ told_lines kind text.now misread.fault misread.place misread.detail }
     ensures unsaid { result ≡ StreamFault.Memory → told.new.items ≡ told.old.items }
 {
+    refused_within(alloc, Limits::Served, kind, text, misread, told)
+}
+
+/// The same of a text that is refused with any limits.
+pub fn refused_within(
+    alloc: Global,
+    limits: Limits,
+    kind: Kind,
+    text: &[u8],
+    misread: Misread,
+    told: &mut Vec<u8>,
+) -> StreamFault
+    requires { IfSome misread.place (λ at. at ≤ length text.now) }
+    ensures fault { (result ≡ StreamFault.Memory) ⊎ (result ≡ fault_of_text misread.fault) }
+    ensures told { result ≢ StreamFault.Memory → told.new.items ≡ told.old.items
+        ++ told_lines_within limits kind text.now misread.fault misread.place misread.detail }
+    ensures unsaid { result ≡ StreamFault.Memory → told.new.items ≡ told.old.items }
+{
     if misread.fault == TextFault::Memory {
         return StreamFault::Memory;
     }
-    match told_lines(alloc, kind, text, misread) {
+    match told_lines_within(alloc, limits, kind, text, misread) {
         Ok(lines) => match told.extend_from_slice(&lines) {
             Ok(()) => StreamFault::from(misread.fault),
             Err(_) => StreamFault::Memory,

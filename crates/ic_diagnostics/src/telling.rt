@@ -1,11 +1,12 @@
 //! What is told of a refused text beside its refusal.
 
 ghost use Rattle.std.specs.Prelude.{◌≡◌, ◌≤◌, IfOk, IfSome, length};
-ghost use Rattle.ic_diagnostics.specs.Telling.{arity_sentence, behind_in_config, behind_in_system, behind_mark, config_sentence, limit_sentence, plain_sentence, sentence, syntax_sentence, system_sentence, told_lines};
+ghost use Rattle.ic_text.specs.declared.limits.Limits.TheVariants.{Wide};
+ghost use Rattle.ic_diagnostics.specs.Telling.{arity_sentence, behind_in_config, behind_in_system, behind_mark, config_sentence, limit_sentence, limit_sentence_within, plain_sentence, sentence, sentence_within, syntax_sentence, system_sentence, told_lines, told_lines_within};
 
 use crate::lines::place_lines;
 use crate::sights::{Sight, first_word, sight_at};
-use ic_text::{Detail, Limit, Misread, TextFault};
+use ic_text::{Detail, Limit, Limits, Misread, TextFault};
 use std::alloc::{AllocError, Global};
 
 /// What a text was to be.
@@ -114,8 +115,8 @@ fn plain_sentence(kind: Kind, fault: TextFault, sight: Sight) -> &'static [u8]
     }
 }
 
-/// What is amiss where a limit is passed.
-fn limit_sentence(limit: Limit) -> &'static [u8]
+/// What is amiss where a limit of what is served is passed.
+fn served_sentence(limit: Limit) -> &'static [u8]
     ensures { result.now ≡ limit_sentence limit }
 {
     match limit {
@@ -128,6 +129,29 @@ fn limit_sentence(limit: Limit) -> &'static [u8]
         Limit::RuleNodes => b"the arguments of all rules together have at most 2048 nodes",
         Limit::Interface => b"an interface has at most 64 terms",
         Limit::Nodes => b"a configuration has at most 8192 nodes",
+    }
+}
+
+/// What is amiss where a wide limit is passed.
+fn wide_sentence(limit: Limit) -> &'static [u8]
+    ensures { result.now ≡ limit_sentence_within Wide limit }
+{
+    match limit {
+        Limit::TextBytes => b"a text has at most 8589934592 bytes",
+        Limit::Interface => b"an interface has at most 2147483648 terms",
+        Limit::Nodes => b"a configuration has at most 2147483648 nodes",
+        Limit::SymbolBytes | Limit::Arguments | Limit::NameNumber => served_sentence(limit),
+        Limit::Symbols | Limit::Rules | Limit::RuleNodes => served_sentence(limit),
+    }
+}
+
+/// What is amiss where a limit is passed, one of these.
+fn limit_sentence(limits: Limits, limit: Limit) -> &'static [u8]
+    ensures { result.now ≡ limit_sentence_within limits limit }
+{
+    match limits {
+        Limits::Served => served_sentence(limit),
+        Limits::Wide => wide_sentence(limit),
     }
 }
 
@@ -148,7 +172,7 @@ fn arity_sentence(
     Ok(sentence)
 }
 
-/// What is amiss at a place of a text that is refused there.
+/// What is amiss at a place of a text that is refused there with the limits of what is served.
 pub fn sentence(
     alloc: Global,
     kind: Kind,
@@ -160,12 +184,28 @@ pub fn sentence(
     ensures { IfOk result (λ words. words.items
         ≡ sentence kind text.now misread.fault at misread.detail) }
 {
+    sentence_within(alloc, Limits::Served, kind, text, at, misread)
+}
+
+/// The same with any limits.
+fn sentence_within(
+    alloc: Global,
+    limits: Limits,
+    kind: Kind,
+    text: &[u8],
+    at: usize,
+    misread: Misread,
+) -> Result<Vec<u8>, AllocError>
+    requires { at ≤ length text.now }
+    ensures { IfOk result (λ words. words.items
+        ≡ sentence_within limits kind text.now misread.fault at misread.detail) }
+{
     match misread.detail {
         Detail::Nothing => {
             let sight = sight_at(text, at);
             Vec::from_slice(alloc, plain_sentence(kind, misread.fault, sight))
         }
-        Detail::Passed(limit) => Vec::from_slice(alloc, limit_sentence(limit)),
+        Detail::Passed(limit) => Vec::from_slice(alloc, limit_sentence(limits, limit)),
         Detail::Arities(before, here) => {
             arity_sentence(alloc, first_word(&text[at..]), before, here)
         }
@@ -184,9 +224,24 @@ pub fn told_lines(
         (λ lines. lines.items
         ≡ told_lines kind text.now misread.fault misread.place misread.detail) }
 {
+    told_lines_within(alloc, Limits::Served, kind, text, misread)
+}
+
+/// The same of a text that is refused with any limits.
+pub(crate) fn told_lines_within(
+    alloc: Global,
+    limits: Limits,
+    kind: Kind,
+    text: &[u8],
+    misread: Misread,
+) -> Result<Vec<u8>, AllocError>
+    requires { IfSome misread.place (λ at. at ≤ length text.now) }
+    ensures { IfOk result (λ lines. lines.items
+        ≡ told_lines_within limits kind text.now misread.fault misread.place misread.detail) }
+{
     match misread.place {
         Some(at) => {
-            let sentence = sentence(alloc, kind, text, at, misread)?;
+            let sentence = sentence_within(alloc, limits, kind, text, at, misread)?;
             place_lines(alloc, text, at, &sentence)
         }
         None => Ok(Vec::new(alloc)),

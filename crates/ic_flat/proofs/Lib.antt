@@ -1,4 +1,5 @@
 pub mod StackLemmas
 pub mod WritingLemmas
 pub mod TestingLemmas
+pub mod NarrowLemmas
 pub mod PlaceLemmas

@@ -1,7 +1,7 @@
 use Rattle.std.specs.Prelude.{◌≡◌, ℕ, ◌+◌, ◌*◌, List, [], ◌∷◌, ◌++◌, length, take, drop}
 use Rattle.std.specs.List.{flat_map}
 use Rattle.ic_term.specs.Tree.{Tree, Pair}
-use Rattle.ic_term.specs.Configuration.{Configuration, IsConfiguration}
+use Rattle.ic_term.specs.Configuration.{Configuration, IsConfiguration, IsWide}
 use Rattle.ic_flat.specs.declared.word.Word.{Word}
 use Rattle.ic_flat.specs.Words.{forest, IsWhole, tree_words}
 
@@ -32,3 +32,9 @@ pub record IsFlat (ws : List Word) (terms equations next : ℕ) : Type 0 where
   pub whole : IsWhole ws
   pub counted : length (forest ws) ≡ terms + 2 * equations
   pub sound : IsConfiguration (configuration_of ws terms next)
+
+-- What the words of a wide configuration keep.
+pub record IsWideFlat (ws : List Word) (terms equations next : ℕ) : Type 0 where
+  pub whole : IsWhole ws
+  pub counted : length (forest ws) ≡ terms + 2 * equations
+  pub sound : IsWide (configuration_of ws terms next)

@@ -6,6 +6,7 @@ ghost use Rattle.ic_term.specs.Symbol.{is_over};
 ghost use Rattle.ic_flat.specs.Words.{is_word_over};
 
 use crate::flat::Flat;
+use crate::wide::WideFlat;
 use crate::word::Word;
 use ic_term::Symbols;
 
@@ -14,6 +15,13 @@ pub fn over(symbols: &Symbols, flat: &Flat) -> bool
     ensures { result ≡ is_over symbols.now flat.now }
 {
     words_over(symbols, flat.words())
+}
+
+/// The same of a wide configuration.
+pub fn wide_over(symbols: &Symbols, wide: &WideFlat) -> bool
+    ensures { result ≡ is_over symbols.now wide.now }
+{
+    words_over(symbols, wide.words())
 }
 
 fn words_over(symbols: &Symbols, words: &[Word]) -> bool

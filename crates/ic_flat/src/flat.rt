@@ -1,40 +1,37 @@
 //! Configurations in flat form: how they are made, read and copied.
 
-ghost use Rattle.std.specs.Prelude.{◌≡◌, ◌+◌, ◌*◌, length, IfOk};
+ghost use Rattle.std.specs.Prelude.{◌≡◌, ◌+◌, ◌*◌, ◌<◌, ◌≤◌, ◌↔◌, ◌⊎◌, IsTrue, length, IfOk};
 ghost use Rattle.ic_term.specs.Configuration.{IsConfiguration, configuration_nodes, configured, restored};
+ghost use Rattle.ic_term.specs.declared.limits.TheConstants.{MAX_NODES, MAX_INTERFACE};
 ghost use Rattle.ic_term.specs.ConfigFault.{Answers};
 ghost use Rattle.ic_flat.specs.Words.{forest, IsWhole};
 ghost use Rattle.ic_flat.specs.Flat.{configuration_of, configuration_words, IsFlat};
 
 use crate::reading::{take_equations, take_terms, terms_of};
-use crate::testing::{one_above, test_words};
+use crate::wide::WideFlat;
 use crate::word::Word;
 use crate::writing::words_of;
-use ic_term::laws::restore_takes_configurations;
-use ic_term::{Config, ConfigFault};
+use ic_term::laws::wide_ones_are_configurations_but_for_their_limits;
+use ic_term::{Config, ConfigFault, MAX_INTERFACE, MAX_NODES};
 use std::alloc::{AllocError, Global};
 use std::marker::Model;
 
 /// A configuration as the list of its words, the interface before the equations, each term in prefix order.
 #[derive(Debug, Drop)]
 pub struct Flat {
-    words: Vec<Word>,
-    terms: usize,
-    equations: usize,
-    next: u64,
+    wide: WideFlat,
 }
 
 impl Model for Flat {
-    ghost use Rattle.ic_term.specs.Configuration.{Configuration, coded_configuration};
-    ghost use Rattle.ic_flat.specs.Flat.{configuration_of, IsFlat};
+    ghost use Rattle.ic_term.specs.Configuration.{Configuration, IsConfiguration, coded_configuration};
 
     ghost Value = { Configuration };
 
     ghost coded = { coded_configuration };
 
-    ghost view = { λ f. configuration_of f.words.items f.terms f.next };
+    ghost view = { λ f. f.wide };
 
-    ghost invariant = { λ f. IsFlat f.words.items f.terms f.equations f.next };
+    ghost invariant = { λ f. IsConfiguration f.wide };
 }
 
 impl Flat {
@@ -42,22 +39,20 @@ impl Flat {
     pub fn from_config(alloc: Global, config: &Config) -> Result<Flat, AllocError>
         ensures { IfOk result (λ flat. flat ≡ config.now) }
     {
-        Ok(Flat {
-            words: words_of(alloc, config)?,
-            terms: config.interface().len(),
-            equations: config.equations().len(),
-            next: config.next(),
-        })
+        let words = words_of(alloc, config)?;
+        let terms = config.interface().len();
+        let equations = config.equations().len();
+        Ok(Flat::from_parts(words, terms, equations, config.next()))
     }
 
     /// The same configuration as terms and equations. Takes time and memory in proportion to its nodes.
     pub fn to_config(&self, alloc: Global) -> Result<Config, AllocError>
         ensures { IfOk result (λ config. config ≡ self.now) }
     {
-        let mut stack = terms_of(alloc, &self.words)?;
-        let interface = take_terms(alloc, &mut stack, self.terms)?;
+        let mut stack = terms_of(alloc, self.words())?;
+        let interface = take_terms(alloc, &mut stack, self.interface_len())?;
         let equations = take_equations(alloc, stack)?;
-        Ok(Config::from_parts(interface, equations, self.next))
+        Ok(Config::from_parts(interface, equations, self.next()))
     }
 
     /// The configuration that words write with this `next`, so many of their terms in its interface, the others as the
@@ -73,14 +68,12 @@ impl Flat {
         requires counted { length (forest words.items) ≡ terms + 2 * equations }
         ensures { Answers result (restored (configuration_of words.items terms next)) }
     {
-        restore_takes_configurations();
-        test_words(alloc, &words, terms, equations, next)?;
-        Ok(Flat {
-            words,
-            terms,
-            equations,
-            next,
-        })
+        wide_ones_are_configurations_but_for_their_limits();
+        if passes_a_limit(&words, terms) {
+            return Err(ConfigFault::Limit);
+        }
+        let wide = WideFlat::restore(alloc, words, terms, equations, next)?;
+        Ok(Flat { wide })
     }
 
     /// The same, with a `next` that is one above the greatest name.
@@ -95,8 +88,12 @@ impl Flat {
         ensures { let c = configuration_of words.items terms 0
             in Answers result (restored (configured c.interface c.equations)) }
     {
-        let next = one_above(&words);
-        Flat::restore(alloc, words, terms, equations, next)
+        wide_ones_are_configurations_but_for_their_limits();
+        if passes_a_limit(&words, terms) {
+            return Err(ConfigFault::Limit);
+        }
+        let wide = WideFlat::new(alloc, words, terms, equations)?;
+        Ok(Flat { wide })
     }
 
     /// The configuration of words that are known to write one.
@@ -104,12 +101,8 @@ impl Flat {
         requires { IsFlat words.items terms equations next }
         ensures { result ≡ configuration_of words.items terms next }
     {
-        Flat {
-            words,
-            terms,
-            equations,
-            next,
-        }
+        let wide = WideFlat::from_parts(words, terms, equations, next);
+        Flat { wide }
     }
 
     /// The words, how many terms of the interface and how many equations they write, and `next`.
@@ -117,7 +110,25 @@ impl Flat {
         ensures flat { IsFlat result.0.items result.1 result.2 result.3 }
         ensures same { configuration_of result.0.items result.1 result.3 ≡ self }
     {
-        (self.words, self.terms, self.equations, self.next)
+        self.wide.into_parts()
+    }
+
+    /// The same configuration, if it keeps the limits of a configuration. Moves it.
+    pub fn from_wide(wide: WideFlat) -> Flat
+        requires few { configuration_nodes wide ≤ MAX_NODES }
+        requires interface { length wide.interface ≤ MAX_INTERFACE }
+        ensures { result ≡ wide }
+    {
+        wide_ones_are_configurations_but_for_their_limits();
+        wide.is_wide();
+        Flat { wide }
+    }
+
+    /// The same configuration as a wide one. Moves it.
+    pub fn into_wide(self) -> WideFlat
+        ensures { result ≡ self }
+    {
+        self.wide
     }
 
     /// The words in the order of the text, the interface's before the equations'.
@@ -125,7 +136,7 @@ impl Flat {
         ensures words { result.now ≡ configuration_words self.now }
         ensures sound { IsConfiguration self.now }
     {
-        self.words.as_slice()
+        self.wide.words()
     }
 
     /// How many terms the interface has.
@@ -133,7 +144,7 @@ impl Flat {
         ensures terms { result ≡ length self.now.interface }
         ensures sound { IsConfiguration self.now }
     {
-        self.terms
+        self.wide.interface_len()
     }
 
     /// How many equations there are.
@@ -141,14 +152,14 @@ impl Flat {
         ensures equations { result ≡ length self.now.equations }
         ensures sound { IsConfiguration self.now }
     {
-        self.equations
+        self.wide.equations_len()
     }
 
     pub fn next(&self) -> u64
         ensures next { result ≡ self.now.next }
         ensures sound { IsConfiguration self.now }
     {
-        self.next
+        self.wide.next()
     }
 
     /// How many names and agents there are, without counting them.
@@ -156,18 +167,21 @@ impl Flat {
         ensures nodes { result ≡ configuration_nodes self.now }
         ensures sound { IsConfiguration self.now }
     {
-        self.words.len() as u64
+        self.wide.nodes()
     }
 
     /// A copy, equal to its source.
     pub fn copy(&self, alloc: Global) -> Result<Flat, AllocError>
         ensures { IfOk result (λ copy. copy ≡ self.now) }
     {
-        Ok(Flat {
-            words: Vec::from_slice(alloc, &self.words)?,
-            terms: self.terms,
-            equations: self.equations,
-            next: self.next,
-        })
+        let wide = self.wide.copy(alloc)?;
+        Ok(Flat { wide })
     }
+}
+
+/// Whether there are too many words, or too many terms in the interface.
+fn passes_a_limit(words: &[Word], terms: usize) -> bool
+    ensures { IsTrue result ↔ ((MAX_NODES < length words.now) ⊎ (MAX_INTERFACE < terms)) }
+{
+    words.len() as u64 > MAX_NODES || terms > MAX_INTERFACE
 }

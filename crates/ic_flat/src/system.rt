@@ -1,11 +1,14 @@
 //! Systems in flat form.
 
-ghost use Rattle.std.specs.Prelude.{◌≡◌, ◌↔◌, IsTrue, IsSome, IfSome, IfOk};
+ghost use Rattle.std.specs.Prelude.{◌≡◌, ◌≤◌, ◌↔◌, IsTrue, IsSome, IfSome, IfOk, length};
 ghost use Rattle.std.specs.Arc.{arc_value};
+ghost use Rattle.ic_term.specs.Configuration.{configuration_nodes};
 ghost use Rattle.ic_term.specs.Symbol.{is_over};
+ghost use Rattle.ic_term.specs.declared.limits.TheConstants.{MAX_NODES, MAX_INTERFACE};
 
 use crate::arities::over;
 use crate::flat::Flat;
+use crate::wide_system::WideSystem;
 use ic_rules::{RuleSet, System};
 use std::alloc::{AllocError, Global};
 use std::marker::Model;
@@ -62,6 +65,24 @@ impl FlatSystem {
         let rules = self.rules.clone()?;
         let config = self.config.to_config(alloc)?;
         Ok(System::from_parts(rules, config))
+    }
+
+    /// The same system, if its configuration keeps the limits of a configuration. Moves it.
+    pub fn from_wide(system: WideSystem) -> FlatSystem
+        requires few { configuration_nodes system.config ≤ MAX_NODES }
+        requires interface { length system.config.interface ≤ MAX_INTERFACE }
+        ensures { result ≡ system }
+    {
+        let (rules, config) = system.into_parts();
+        let config = Flat::from_wide(config);
+        FlatSystem { rules, config }
+    }
+
+    /// The same system with its configuration as a wide one. Moves it.
+    pub fn into_wide(self) -> WideSystem
+        ensures { result ≡ self }
+    {
+        WideSystem::from_parts(self.rules, self.config.into_wide())
     }
 
     pub fn rules(&self) -> &Arc<RuleSet>

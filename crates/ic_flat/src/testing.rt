@@ -8,10 +8,10 @@ ghost use Rattle.ic_flat.specs.Flat.{configuration_of};
 ghost use Rattle.ic_flat.specs.inner.Testing.{Tests};
 
 use crate::word::Word;
-use ic_term::{ConfigFault, MAX_INTERFACE, MAX_NEXT, MAX_NODES, third_occurrence};
+use ic_term::{ConfigFault, MAX_NEXT, MAX_WIDE_NODES, third_occurrence};
 use std::alloc::{AllocError, Global};
 
-/// Whether words write a configuration, or why not.
+/// Whether words write a wide configuration, or why not.
 pub(crate) fn test_words(
     alloc: Global,
     words: &[Word],
@@ -22,7 +22,7 @@ pub(crate) fn test_words(
     requires { length (forest words.now) ≡ terms + 2 * equations }
     ensures { Tests result (configuration_of words.now terms next) }
 {
-    if words.len() as u64 > MAX_NODES || terms > MAX_INTERFACE || next > MAX_NEXT {
+    if words.len() as u64 > MAX_WIDE_NODES || next > MAX_NEXT {
         return Err(ConfigFault::Limit);
     }
     let names = names_of(alloc, words)?;

@@ -3,7 +3,7 @@ use Rattle.std.proofs.Common.{◌≡◌, ℕ, zero, suc, ◌<◌, ◌≤◌, ◌
 use Rattle.std.specs.List.{AllByRecursion}
 use Rattle.std.specs.Prelude.{◌↔◌, ◌+◌, Contains, IsTrue, sum}
 use Rattle.std.proofs.lemmas.List.{length-map}
-use Rattle.ic_term.specs.Configuration.{Configuration, IsConfiguration, configuration_names, occurrences}
+use Rattle.ic_term.specs.Configuration.{Configuration, IsWide, configuration_names, occurrences}
 use Rattle.ic_term.specs.Symbol.{is_over}
 use Rattle.ic_rules.specs.RuleSet.{Rules, IsRuleSet}
 use Rattle.ic_rules.specs.System.{SystemParts}
@@ -26,7 +26,7 @@ use Rattle.std.proofs.lemmas.List.Sums.{count_by-le-length}
 use Rattle.std.proofs.lemmas.Option.{slice_get_within}
 use Rattle.ic_in_place.specs.inner.Stopping.{arities_of, IsSound, IsBegun, StopsBy, HasStopped}
 
-pub names_of_configuration : (c : Configuration) → IsConfiguration c → HasNames c
+pub names_of_configuration : (c : Configuration) → IsWide c → HasNames c
 names_of_configuration c is = record { below = is.below; twice = is.twice }
 
 contained : (xs : List ℕ) (x k : ℕ) → k < length xs → slice_index_or xs k x ≡ x → slice_get xs k ≡ Some x

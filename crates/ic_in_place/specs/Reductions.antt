@@ -6,7 +6,8 @@ use Rattle.ic_term.specs.Configuration.{Configuration}
 use Rattle.ic_term.specs.Symbol.{Symbol}
 use Rattle.ic_rules.specs.System.{SystemParts}
 use Rattle.ic_naming.specs.Naming.{renumbered}
-use Rattle.ic_text.specs.SystemText.{ReadsSystem}
+use Rattle.ic_text.specs.SystemText.{ReadsSystemWithin}
+use Rattle.ic_text.specs.declared.limits.Limits.{Limits}
 use Rattle.ic_text.specs.declared.fault.TextFault.TheVariants as text
 use Rattle.ic_streams.specs.Streams.{Answering, line_of}
 use Rattle.ic_streams.specs.declared.fault.StreamFault.TheVariants.{Read, Text, Round, Memory, Write}
@@ -39,30 +40,31 @@ stuck_at end.Nodes symbols c = None
 stuck_at end.Limit symbols c = None
 stuck_at end.Memory symbols c = None
 
--- A text is read as a system, of which a configuration is reached. This is its line, and this tells of it.
-pub record EndsAs (bounds : Bounds) (partial : Bool) (input : List ℕ) (outcome : Outcome)
-    (line : List ℕ) : Type 0 where
+-- A text is read as a system with these limits, of which a configuration is reached. This is its line, and this tells of it.
+pub record EndsAs (limits : Limits) (bounds : Bounds) (partial : Bool) (input : List ℕ)
+    (outcome : Outcome) (line : List ℕ) : Type 0 where
   pub system : SystemParts
   pub answer : Configuration
-  pub reads : ReadsSystem input (Ok system)
+  pub reads : ReadsSystemWithin limits input (Ok system)
   pub reached : IsReachedBy system bounds answer outcome.end outcome.interactions outcome.places
       outcome.by_rule.items
   pub prints : line ≡ line_reached partial outcome.end system.rules.symbols answer
   pub stuck : option_map (λ text. text.items) outcome.stuck
       ≡ stuck_at outcome.end system.rules.symbols answer
 
--- the answers of reducing in place within bounds
-abbrev pub ReducesInPlace : Bounds → Bool → Answering
-ReducesInPlace bounds partial input (Ok line) =
-    (outcome : Outcome) × EndsAs bounds partial input outcome line
-ReducesInPlace bounds partial input (Err (Text fault)) =
-    ReadsSystem input (Err fault) × (fault ≢ text.Memory)
-ReducesInPlace bounds partial input (Err (Round fault)) = ⊥
-ReducesInPlace bounds partial input (Err Read) = ⊥
-ReducesInPlace bounds partial input (Err Memory) = ⊥
-ReducesInPlace bounds partial input (Err Write) = ⊥
+-- the answers of reducing in place within limits of the text and bounds of the way
+abbrev pub ReducesInPlace : Limits → Bounds → Bool → Answering
+ReducesInPlace limits bounds partial input (Ok line) =
+    (outcome : Outcome) × EndsAs limits bounds partial input outcome line
+ReducesInPlace limits bounds partial input (Err (Text fault)) =
+    ReadsSystemWithin limits input (Err fault) × (fault ≢ text.Memory)
+ReducesInPlace limits bounds partial input (Err (Round fault)) = ⊥
+ReducesInPlace limits bounds partial input (Err Read) = ⊥
+ReducesInPlace limits bounds partial input (Err Memory) = ⊥
+ReducesInPlace limits bounds partial input (Err Write) = ⊥
 
 -- what is appended for a text, and the outcome that tells of it
-abbrev pub Tells : Bounds → Bool → List ℕ → Outcome → Option (List ℕ) → Option (List ℕ) → Type 0
-Tells bounds partial input outcome old new =
-    (line : List ℕ) × EndsAs bounds partial input outcome line × Appends old new line
+abbrev pub Tells : Limits → Bounds → Bool → List ℕ → Outcome → Option (List ℕ)
+    → Option (List ℕ) → Type 0
+Tells limits bounds partial input outcome old new =
+    (line : List ℕ) × EndsAs limits bounds partial input outcome line × Appends old new line

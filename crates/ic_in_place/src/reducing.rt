@@ -11,7 +11,7 @@ ghost use Rattle.ic_in_place.specs.inner.Stopping.{HasStopped, IsBegun, IsSound,
 use crate::counting::{no_counts, sum_by_rule};
 use crate::running::{Bounds, End, Watch, run_in_pieces};
 use crate::writing::words_of;
-use ic_flat::{FlatSystem, Word};
+use ic_flat::{WideSystem, Word};
 use ic_machine::{Machine, Program};
 use ic_naming::renumbered_words;
 use ic_plans::{First, compile, first_plan};
@@ -51,7 +51,7 @@ pub(crate) struct Stopped {
 /// reached then has its names numbered anew.
 pub fn reduce_in_place<V: Watch>(
     alloc: Global,
-    system: &FlatSystem,
+    system: &WideSystem,
     bounds: Bounds,
     watch: &V,
 ) -> Result<Reduced, AllocError>
@@ -68,7 +68,7 @@ pub fn reduce_in_place<V: Watch>(
 /// Reads back what a machine holds that began with the configuration of a system, and numbers its names anew.
 pub(crate) fn read_stopped(
     alloc: Global,
-    system: &FlatSystem,
+    system: &WideSystem,
     stopped: Stopped,
 ) -> Result<Reduced, AllocError>
     ensures reached { IfOk result (λ reduced. (bounds : AnyBounds)
@@ -104,7 +104,7 @@ pub(crate) fn read_stopped(
 /// Begins a machine with the configuration of a system, and runs it until an end comes.
 pub(crate) fn run_system<V: Watch>(
     alloc: Global,
-    system: &FlatSystem,
+    system: &WideSystem,
     bounds: Bounds,
     watch: &V,
 ) -> Result<Stopped, AllocError>
@@ -131,7 +131,7 @@ pub(crate) fn run_system<V: Watch>(
 /// The machine that holds the configuration of a system.
 fn begin(
     alloc: Global,
-    system: &FlatSystem,
+    system: &WideSystem,
     program: &Program,
     first: &First,
 ) -> Result<Machine, AllocError>
@@ -151,7 +151,7 @@ fn begin(
 }
 
 /// Systems keep what their rules and their configurations do.
-fn systems_are_sound(system: &FlatSystem)
+fn systems_are_sound(system: &WideSystem)
     ensures { IsSound system.now }
 {
     let nodes = system.config().nodes();

@@ -6,18 +6,18 @@ ghost use Rattle.std.specs.Option.{option_map};
 ghost use Rattle.std.specs.Io.KnownBytes.{Keeps};
 ghost use Rattle.ic_flat.specs.Words.{forest, is_word_over, IsWhole};
 ghost use Rattle.ic_flat.specs.Flat.{configuration_of};
-ghost use Rattle.ic_diagnostics.specs.Telling.{Appended, AppendedAt};
-ghost use Rattle.ic_streams.specs.Streams.{OfText, IsAnswered, FaultOf, TakesAt, TakesText, line_of};
+ghost use Rattle.ic_diagnostics.specs.Telling.{AppendedWithin, AppendedAtWithin};
+ghost use Rattle.ic_streams.specs.Streams.{OfText, IsAnswered, FaultOf, TakesAtWithin, TakesTextWithin, line_of};
 ghost use Rattle.ic_in_place.specs.Reductions.{EndsAs, ReducesInPlace, Tells, is_written};
 ghost use Rattle.ic_in_place.specs.inner.Told.{words_stuck};
 
 use crate::reducing::{Reduced, read_stopped, run_system};
 use crate::running::{Bounds, End, Watch};
 use crate::stuck::stuck_text;
-use ic_diagnostics::{Kind, refused};
-use ic_streams::{StreamFault, read_text, write_line};
+use ic_diagnostics::{Kind, refused_within};
+use ic_streams::{StreamFault, read_text_within, write_line};
 use ic_term::Symbols;
-use ic_text::{find_flat_system, put_words};
+use ic_text::{Limits, find_wide_system, put_words};
 use std::alloc::{AllocError, Global};
 use std::io::{Read, Write};
 
@@ -39,10 +39,11 @@ pub struct Outcome {
 /// Reduces the system that the reader gives in place, and writes what was reached as a line. Where a bound of places or a
 /// limit was met, or memory ran out, that is written only if `partial` is asked for.
 ///
-/// Nothing is written before the text is read and reduced. A text of more than 262,144 bytes is `TextFault::Limit`, and at
-/// most 262,145 bytes are read. Where the text is refused, the lines that tell of it are appended to `told`.
+/// Nothing is written before the text is read and reduced. A text that passes these limits is `TextFault::Limit`, and at most
+/// one byte more is read than a text may have. Where the text is refused, the lines that tell of it are appended to `told`.
 pub fn reduce_in_place_stream<V: Watch, R: Read, W: Write>(
     alloc: Global,
+    limits: Limits,
     bounds: Bounds,
     partial: bool,
     watch: &V,
@@ -52,21 +53,23 @@ pub fn reduce_in_place_stream<V: Watch, R: Read, W: Write>(
 ) -> Result<Outcome, StreamFault>
     // There is a text of which this holds: the reader's, where it tells its bytes.
     ensures answered { OfText (R.remaining reader.old)
-        (λ text. IsAnswered (ReducesInPlace bounds partial) text result
-        (W.contents writer.old) (W.contents writer.new) × IfOk result (λ outcome.
-        Tells bounds partial text outcome (W.contents writer.old) (W.contents writer.new))) }
+        (λ text. IsAnswered (ReducesInPlace limits bounds partial) text result
+        (W.contents writer.old) (W.contents writer.new) × IfOk result (λ outcome. Tells limits
+        bounds partial text outcome (W.contents writer.old) (W.contents writer.new))) }
     ensures silent { IfErr result (λ fault. fault ≢ StreamFault.Write
         → Keeps (W.contents writer.old) (W.contents writer.new)) }
-    ensures taken { OnOk result (TakesText (R.remaining reader.old) (R.remaining reader.new)) }
+    ensures taken { OnOk result
+        (TakesTextWithin limits (R.remaining reader.old) (R.remaining reader.new)) }
     ensures taken_at_fault { IfErr result
-        (λ fault. TakesAt fault (R.remaining reader.old) (R.remaining reader.new)) }
-    ensures told { IfErr result (λ fault. Appended (ReducesInPlace bounds partial) Kind.System
+        (λ fault. TakesAtWithin limits fault (R.remaining reader.old) (R.remaining reader.new)) }
+    ensures told { IfErr result (λ fault. AppendedWithin limits
+        (ReducesInPlace limits bounds partial) Kind.System
         (R.remaining reader.old) (R.remaining reader.new) fault
         told.old.items told.new.items) }
     ensures quiet { OnOk result (told.new.items ≡ told.old.items) }
 {
-    let text = read_text(alloc, reader)?;
-    let (line, outcome) = reached_line(alloc, bounds, partial, watch, &text, told)?;
+    let text = read_text_within(alloc, limits, reader)?;
+    let (line, outcome) = reached_line(alloc, limits, bounds, partial, watch, &text, told)?;
     write_line(writer, &line)?;
     Ok(outcome)
 }
@@ -75,6 +78,7 @@ pub fn reduce_in_place_stream<V: Watch, R: Read, W: Write>(
 /// net isn't read back.
 fn reached_line<V: Watch>(
     alloc: Global,
+    limits: Limits,
     bounds: Bounds,
     partial: bool,
     watch: &V,
@@ -82,18 +86,22 @@ fn reached_line<V: Watch>(
     told: &mut Vec<u8>,
 ) -> Result<(Vec<u8>, Outcome), StreamFault>
     ensures line { IfOk result
-        (λ answer. EndsAs bounds partial text.now answer.1 answer.0.items) }
-    ensures refused { IfErr result (λ fault. FaultOf (ReducesInPlace bounds partial) text.now fault) }
-    ensures told { IfErr result (λ fault. AppendedAt (ReducesInPlace bounds partial) Kind.System
+        (λ answer. EndsAs limits bounds partial text.now answer.1 answer.0.items) }
+    ensures refused { IfErr result
+        (λ fault. FaultOf (ReducesInPlace limits bounds partial) text.now fault) }
+    ensures told { IfErr result (λ fault. AppendedAtWithin limits
+        (ReducesInPlace limits bounds partial) Kind.System
         text.now fault told.old.items told.new.items) }
     ensures quiet { OnOk result (told.new.items ≡ told.old.items) }
     ensures sort { IfErr result
         (λ fault. (fault ≢ StreamFault.Write) × (fault ≢ StreamFault.Read)) }
 {
     ic_reaching::laws::one_net_is_an_equivalence();
-    let system = match find_flat_system(alloc, text) {
+    let system = match find_wide_system(alloc, limits, text) {
         Ok(found) => found,
-        Err(misread) => return Err(refused(alloc, Kind::System, text, misread, told)),
+        Err(misread) => {
+            return Err(refused_within(alloc, limits, Kind::System, text, misread, told));
+        }
     };
     let stopped = run_system(alloc, &system, bounds, watch)?;
     if !is_written(partial, stopped.end) {

@@ -8,3 +8,4 @@ pub mod MetLemmas
 pub mod EntryLemmas
 pub mod GivenLemmas
 pub mod NetLemmas
+pub mod RoomLemmas

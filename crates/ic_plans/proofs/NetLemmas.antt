@@ -1,5 +1,5 @@
 -- The plan of a configuration: a machine can begin with it, and it stands for the configuration.
-use Rattle.std.proofs.Common.{◌≡◌, ◌↔◌, ◌⊎◌, ℕ, zero, suc, ◌+◌, ◌-◌, ◌*◌, ◌≤◌, ◌<◌, ◌==◌, List, [], ◌∷◌, ◌++◌, Bool, true, false, cond, Option, None, Some, length, map, take, drop, get_or, slice_get, nat_lt, count_by, refl, sym, ap, subst, ◌∙◌, arith, inl, inr}
+use Rattle.std.proofs.Common.{◌≡◌, ◌↔◌, ◌⊎◌, ℕ, zero, suc, ◌+◌, ◌-◌, ◌*◌, ◌^◌, ◌≤◌, ◌<◌, ◌==◌, List, [], ◌∷◌, ◌++◌, Bool, true, false, cond, Option, None, Some, length, map, take, drop, get_or, slice_get, nat_lt, count_by, refl, sym, ap, subst, ◌∙◌, arith, inl, inr}
 use Rattle.std.specs.Prelude.{unwrap_or, IsPermutation}
 use Rattle.std.proofs.lemmas.Option.{none-some, slice_get_within, slice_get-get_or, get_or_from_slice_get}
 use Rattle.std.proofs.lemmas.Bool.{ltb-true, ltb-false, lt-ltb, le-ltb}
@@ -9,7 +9,7 @@ use Rattle.std.proofs.lemmas.List.Sums.{sum_by-cons}
 use Rattle.std.specs.Cmp.{unsigned_Decides}
 use Rattle.std.specs.List.{flat_map, AllByRecursion, Contains}
 use Rattle.ic_term.specs.Tree.{Tree, name, agent, Trees, no_trees, more_trees, names, names_of}
-use Rattle.ic_term.specs.Configuration.{Configuration, IsConfiguration, configuration_nodes, configuration_names, occurrences}
+use Rattle.ic_term.specs.Configuration.{Configuration, IsWide, configuration_nodes, configuration_names, occurrences}
 use Rattle.ic_term.specs.Symbol.{Symbol, AreSymbols, is_over}
 use Rattle.ic_settle.specs.lemmas.SubstitutionLaws.{All-append, All-front, All-back}
 use Rattle.ic_flat.specs.declared.word.Word.{Word}
@@ -87,7 +87,7 @@ there-occurs x (y ∷ xs) (suc j) there =
     let rest = there-occurs x xs j there in
     omega arith
 
-occurs-there : (x : ℕ) (xs : List ℕ) → 1 ≤ occurrences x xs → (j : ℕ) × (slice_get xs j ≡ Some x)
+pub occurs-there : (x : ℕ) (xs : List ℕ) → 1 ≤ occurrences x xs → (j : ℕ) × (slice_get xs j ≡ Some x)
 occurs-there x [] some = absurd (omega arith)
 occurs-there x (y ∷ xs) some = at (y == x) refl (occurs-there x xs)
   where
@@ -103,7 +103,7 @@ all-occurs : (P : ℕ → Type 0) (xs : List ℕ) → ((x : ℕ) → 1 ≤ occur
 all-occurs P xs each = all-places P xs (λ j x there. each x (there-occurs x xs j there))
 
 -- what stands at one place at most stands once at most
-at-one-place : (x : ℕ) (xs : List ℕ) → ((i j : ℕ) → slice_get xs i ≡ Some x → slice_get xs j ≡ Some x → i ≡ j) → occurrences x xs ≤ 1
+pub at-one-place : (x : ℕ) (xs : List ℕ) → ((i j : ℕ) → slice_get xs i ≡ Some x → slice_get xs j ≡ Some x → i ≡ j) → occurrences x xs ≤ 1
 at-one-place x [] apart = omega arith
 at-one-place x (y ∷ xs) apart =
     at (y == x) refl (at-one-place x xs (λ i j a b. let places = apart (suc i) (suc j) a b in omega arith))
@@ -124,7 +124,7 @@ at-one-place x (y ∷ xs) apart =
         omega arith
 
 -- one list and then another
-there-either : (xs ys : List ℕ) (j x : ℕ) → slice_get (xs ++ ys) j ≡ Some x
+pub there-either : (xs ys : List ℕ) (j x : ℕ) → slice_get (xs ++ ys) j ≡ Some x
     → (slice_get xs j ≡ Some x) ⊎ ((i : ℕ) × (j ≡ length xs + i) × (slice_get ys i ≡ Some x))
 there-either [] ys j x there = inr (j, omega arith, there)
 there-either (z ∷ xs) ys zero x there = inl there
@@ -281,7 +281,7 @@ times-few first count k = at (nat_lt k first) (nat_lt k (first + count)) refl re
 -- ---- the plan of a configuration
 
 module _ (ss : List Symbol) (c : Configuration) (given others : List ℕ) (mid all : Registers) (made : List Made) (operands : List ℕ)
-    (sound : IsConfiguration c) (over : is_over ss c ≡ true)
+    (sound : IsWide c) (over : is_over ss c ≡ true)
     (are_given : AreGiven (flat_map word_names (configuration_words c)) (length (map (λ s. s.arity) ss)) given mid)
     (are_fresh : AreFresh (flat_map word_names (configuration_words c)) (length (map (λ s. s.arity) ss) + length given) others mid all)
     (would : WouldBeFlat (map (λ s. s.arity) ss) (register_of all) (length (map (λ s. s.arity) ss) + length given + length others) (configuration_words c) made operands)
@@ -449,10 +449,10 @@ module _ (ss : List Symbol) (c : Configuration) (given others : List ℕ) (mid a
 
 -- ---- what a function has of these
 
-pub words-few : (c : Configuration) (ss : List Symbol) (ws : List Word) (n : ℕ) → IsConfiguration c → AreSymbols ss → ws ≡ configuration_words c → n ≡ length ss
-    → (n ≤ 64) × (length ws ≤ 8192)
+pub words-few : (c : Configuration) (ss : List Symbol) (ws : List Word) (n : ℕ) → IsWide c → AreSymbols ss → ws ≡ configuration_words c → n ≡ length ss
+    → (n ≤ 64) × (length ws ≤ 2 ^ 31)
 words-few c ss ws n sound symbols words counted =
-    let nodes : configuration_nodes c ≤ 8192 = sound.nodes in
+    let nodes : configuration_nodes c ≤ 2 ^ 31 = sound.nodes in
     let few : length ss ≤ 64 = symbols.few in
     (omega arith, omega (arith, ap length words, nodes-words c, nodes))
 
@@ -479,7 +479,7 @@ given-exactly c ws start given mid words are_given x = (there, back)
 
 module _ (ss : List Symbol) (c : Configuration) (given others : List ℕ) (mid all : Registers) (made : List Made) (operands : List ℕ)
     (ws : List Word) (n g : ℕ) (words : ws ≡ configuration_words c) (symbols : n ≡ length ss) (givens : g ≡ length given)
-    (sound : IsConfiguration c) (over : is_over ss c ≡ true)
+    (sound : IsWide c) (over : is_over ss c ≡ true)
     (are_given : AreGiven (flat_map word_names ws) n given mid) (are_fresh : AreFresh (flat_map word_names ws) (n + g) others mid all)
     (would : WouldBeFlat (map (λ s. s.arity) ss) (register_of all) (n + g + length others) ws made operands)
     (counted : length operands ≡ length (forest ws)) where

@@ -8,10 +8,10 @@ ghost use Rattle.ic_machine.specs.Plan.{planned};
 ghost use Rattle.ic_machine.specs.Runs.{IsStart};
 ghost use Rattle.ic_meaning.specs.Plans.{StandsForNet};
 ghost use Rattle.ic_plans.specs.inner.Registers.{found};
-ghost use Rattle.ic_plans.specs.inner.Given.{AreGiven, AreFresh, operand_links};
+ghost use Rattle.ic_plans.specs.inner.Given.{AreGiven, AreFresh, LeavesRoom, operand_links};
 
 use crate::flattening::flatten;
-use ic_flat::{FlatSystem, Word};
+use ic_flat::{WideSystem, Word};
 use ic_machine::{Link, Plan};
 use std::alloc::{AllocError, Global};
 use std::collections::HashMap;
@@ -26,7 +26,7 @@ pub struct First {
 
 /// The plan of a configuration. It is given the names that occur once. Takes time and memory in proportion to the
 /// nodes.
-pub fn first_plan(alloc: Global, system: &FlatSystem) -> Result<First, AllocError>
+pub fn first_plan(alloc: Global, system: &WideSystem) -> Result<First, AllocError>
     ensures start { let arities = map (λ s. s.arity) system.now.rules.symbols
         in IfOk result (λ first. IsStart arities (length first.given.items) (planned first.plan)
         first.interface.items) }
@@ -110,7 +110,7 @@ fn add_others(
     start: u32,
     registers: &mut HashMap<u64, u32>,
 ) -> Result<Vec<u64>, AllocError>
-    requires { start + length words.now ≤ u32.MAX }
+    requires { LeavesRoom (flat_map word_names words.now) start registers.old }
     ensures few { IfOk result (λ names. length names.items ≤ length words.now) }
     ensures fresh { IfOk result (λ names. AreFresh (flat_map word_names words.now)
         start names.items registers.old registers.new) }

@@ -1,7 +1,8 @@
 //! Terms as agents that are made one after another, from the last word to the first.
 
 ghost use Rattle.std.specs.Prelude.{◌≡◌, ℕ, ◌+◌, ◌<◌, ◌≤◌, ◌∷◌, ◌++◌, [], List, map, length, reverse, take, drop, IfOk, OnOk};
-ghost use Rattle.ic_flat.specs.Words.{arguments, forest, IsWhole};
+ghost use Rattle.std.specs.List.{flat_map};
+ghost use Rattle.ic_flat.specs.Words.{arguments, forest, word_names, IsWhole};
 ghost use Rattle.ic_machine.specs.Plan.{made_of};
 ghost use Rattle.ic_plans.specs.inner.Registers.{register_of};
 ghost use Rattle.ic_plans.specs.inner.Flattening.{WouldBeFlat};
@@ -43,10 +44,11 @@ fn put_word(
     operands: &mut Vec<u32>,
 ) -> Result<(), AllocError>
     requires there { arguments word ≤ length operands.old.items }
-    requires room { first + length makes.old.items < u32.MAX }
+    requires room { first + length makes.old.items < u32.MAX + length (word_names word) }
     ensures count { OnOk result
         (length operands.new.items + arguments word ≡ length operands.old.items + 1) }
-    ensures few { OnOk result (length makes.new.items ≤ length makes.old.items + 1) }
+    ensures few { OnOk result
+        (length makes.new.items + length (word_names word) ≤ length makes.old.items + 1) }
     ensures flat { OnOk result
         ((arities : List ℕ) (ws : List Word)
         → WouldBeFlat arities (register_of registers.now) first ws
@@ -75,7 +77,8 @@ pub(crate) fn flatten(
     first: u32,
 ) -> Result<(Vec<Make>, Vec<u32>), AllocError>
     requires whole { IsWhole words.now }
-    requires room { first + length words.now ≤ u32.MAX }
+    requires room { first + length words.now
+        ≤ u32.MAX + length (flat_map word_names words.now) }
     ensures count { IfOk result (λ flat. length flat.1.items ≡ length (forest words.now)) }
     ensures few { IfOk result (λ flat. length flat.0.items ≤ length words.now) }
     ensures flat { IfOk result

@@ -1,6 +1,6 @@
 //! The words after the program's name.
 
-use ic_args::{Task, TraceFormat, read_words};
+use ic_args::{Task, TextLimits, TraceFormat, read_words};
 use ic_notation::Trouble;
 use std::alloc::{AllocError, Global};
 
@@ -51,9 +51,13 @@ fn asked(alloc: Global, task: &Task) -> Result<String, AllocError> {
             nodes,
             partial,
             stats,
+            limits,
             file,
         } => {
-            let asked = format!(in alloc; "in place {steps} {nodes}")?;
+            let mut asked = format!(in alloc; "in place {steps} {nodes}")?;
+            if matches!(limits, TextLimits::Served) {
+                asked.push_str(" served")?;
+            }
             with_file(with_flags(asked, *partial, *stats)?, file)
         }
         Task::ReduceByRounds {

@@ -8,7 +8,9 @@ use Rattle.ic_term.specs.Configuration.{Configuration}
 use Rattle.ic_rules.specs.System.{SystemParts}
 use Rattle.ic_text.specs.Text.{Reads, printed}
 use Rattle.ic_text.specs.SystemText.{ReadsSystem}
-use Rattle.ic_text.specs.declared.limits.TheConstants.{MAX_TEXT}
+use Rattle.ic_text.specs.Limits.{most_bytes}
+use Rattle.ic_text.specs.declared.limits.Limits.{Limits}
+use Rattle.ic_text.specs.declared.limits.Limits.TheVariants.{Served}
 use Rattle.ic_text.specs.declared.fault.TextFault.TheVariants as text
 use Rattle.ic_round.specs.Settling.{settled}
 use Rattle.ic_round.specs.Rounds.{round, fits, unless_unfit}
@@ -96,22 +98,36 @@ pub record IsAnswered {T : Type 0} (Answers : Answering) (text : List ℕ)
   pub refused : IfErr result (λ fault. FaultOf Answers text fault)
   pub cut : IfErr result (λ fault. fault ≡ Write → WritesPart Answers text old new)
 
--- these bytes are taken, which are all there are or one more than a text may have
-abbrev pub TakesIt : List ℕ → Option (List ℕ) → Option (List ℕ) → Type 0
-TakesIt input old new = Consumes old new input × (length input ≤ MAX_TEXT + 1)
-    × (length input ≤ MAX_TEXT → IsAtEnd new)
+-- these bytes are taken, which are all there are or one more than a text may have with these limits
+abbrev pub TakesItWithin : Limits → List ℕ → Option (List ℕ) → Option (List ℕ) → Type 0
+TakesItWithin limits input old new = Consumes old new input
+    × (length input ≤ most_bytes limits + 1) × (length input ≤ most_bytes limits → IsAtEnd new)
 
-abbrev pub TakesText : Option (List ℕ) → Option (List ℕ) → Type 0
-TakesText old new = (input : List ℕ) × TakesIt input old new
+abbrev pub TakesTextWithin : Limits → Option (List ℕ) → Option (List ℕ) → Type 0
+TakesTextWithin limits old new = (input : List ℕ) × TakesItWithin limits input old new
 
--- no more bytes are taken than one more than a text may have
-abbrev pub TakesSome : Option (List ℕ) → Option (List ℕ) → Type 0
-TakesSome old new = (input : List ℕ) × Consumes old new input × (length input ≤ MAX_TEXT + 1)
+-- no more bytes are taken than one more than a text may have with these limits
+abbrev pub TakesSomeWithin : Limits → Option (List ℕ) → Option (List ℕ) → Type 0
+TakesSomeWithin limits old new =
+    (input : List ℕ) × Consumes old new input × (length input ≤ most_bytes limits + 1)
 
 -- what is taken from the reader at a fault
+abbrev pub TakesAtWithin : Limits → StreamFault → Option (List ℕ) → Option (List ℕ) → Type 0
+TakesAtWithin limits (Text fault) old new = TakesTextWithin limits old new
+TakesAtWithin limits (Round fault) old new = TakesTextWithin limits old new
+TakesAtWithin limits Write old new = TakesTextWithin limits old new
+TakesAtWithin limits Read old new = TakesSomeWithin limits old new
+TakesAtWithin limits Memory old new = TakesSomeWithin limits old new
+
+-- the same with the limits of what is served
+abbrev pub TakesIt : List ℕ → Option (List ℕ) → Option (List ℕ) → Type 0
+TakesIt input old new = TakesItWithin Served input old new
+
+abbrev pub TakesText : Option (List ℕ) → Option (List ℕ) → Type 0
+TakesText old new = TakesTextWithin Served old new
+
+abbrev pub TakesSome : Option (List ℕ) → Option (List ℕ) → Type 0
+TakesSome old new = TakesSomeWithin Served old new
+
 abbrev pub TakesAt : StreamFault → Option (List ℕ) → Option (List ℕ) → Type 0
-TakesAt (Text fault) old new = TakesText old new
-TakesAt (Round fault) old new = TakesText old new
-TakesAt Write old new = TakesText old new
-TakesAt Read old new = TakesSome old new
-TakesAt Memory old new = TakesSome old new
+TakesAt fault old new = TakesAtWithin Served fault old new

@@ -4,13 +4,13 @@ ghost use Rattle.std.specs.Prelude.{◌≡◌, ◌⊎◌, IfOk, IfErr, IsTrue, O
 ghost use Rattle.std.specs.Io.KnownBytes.{Appends};
 ghost use Rattle.ic_output.specs.Output.{AppendsFront};
 ghost use Rattle.ic_term.specs.Symbol.{is_over};
-ghost use Rattle.ic_streams.specs.Streams.{TakesIt, TakesSome, line_of};
+ghost use Rattle.ic_streams.specs.Streams.{TakesIt, TakesItWithin, TakesSome, TakesSomeWithin, line_of};
 
 use crate::fault::StreamFault;
 use ic_flat::Flat;
 use ic_output::write_flushed;
 use ic_term::Symbols;
-use ic_text::{MAX_TEXT, print_flat};
+use ic_text::{Limits, print_flat};
 use std::alloc::{AllocError, Global};
 use std::io::{ErrorKind, Read, Write};
 
@@ -25,13 +25,30 @@ pub fn read_text<R: Read>(alloc: Global, reader: &mut R) -> Result<Vec<u8>, Stre
     ensures sort { IfErr result
         (λ fault. (fault ≡ StreamFault.Read) ⊎ (fault ≡ StreamFault.Memory)) }
 {
+    read_text_within(alloc, Limits::Served, reader)
+}
+
+/// All that the reader has, or its first bytes, one more than a text may have with these limits.
+pub fn read_text_within<R: Read>(
+    alloc: Global,
+    limits: Limits,
+    reader: &mut R,
+) -> Result<Vec<u8>, StreamFault>
+    ensures text { IfOk result (λ text. TakesItWithin limits text.items
+        (R.remaining reader.old) (R.remaining reader.new)) }
+    ensures some { OnErr result
+        (TakesSomeWithin limits (R.remaining reader.old) (R.remaining reader.new)) }
+    ensures sort { IfErr result
+        (λ fault. (fault ≡ StreamFault.Read) ⊎ (fault ≡ StreamFault.Memory)) }
+{
     let mut text = Vec::new(alloc);
     let mut chunk = [0u8; CHUNK];
     for _ in 0..u64::MAX {
-        if text.len() > MAX_TEXT {
+        let most = limits.text_bytes();
+        if text.len() > most {
             return Ok(text);
         }
-        let room = CHUNK.min(MAX_TEXT + 1 - text.len());
+        let room = CHUNK.min((most - text.len()).saturating_add(1));
         match reader.read(&mut chunk[..room]) {
             Ok(0) => return Ok(text),
             Ok(count) => text.extend_from_slice(&chunk[..count])?,

@@ -4,7 +4,7 @@ use Rattle.std.specs.Coded.{Coded, code_by, coded×, coded_ℕ, coded_list}
 use Rattle.std.specs.Cmp.Lexicographic.{pointwise}
 use Rattle.ic_term.specs.Tree.{Tree, Pair, nodes, names, pair_nodes, pair_names, tree_eq, pair_eq}
 use Rattle.ic_term.specs.lemmas.TreeLaws.{coded_tree, coded_pair}
-use Rattle.ic_term.specs.declared.limits.TheConstants.{MAX_NODES, MAX_INTERFACE, MAX_NEXT}
+use Rattle.ic_term.specs.declared.limits.TheConstants.{MAX_NODES, MAX_INTERFACE, MAX_NEXT, MAX_WIDE_NODES}
 use Rattle.ic_term.specs.declared.config.ConfigFault.{ConfigFault}
 use Rattle.ic_term.specs.declared.config.ConfigFault.TheVariants.{Limit, Name}
 
@@ -59,24 +59,53 @@ pub record IsConfiguration (c : Configuration) : Type 0 where
   pub below : AllByRecursion (λ n. n < c.next) (configuration_names c)
   pub twice : (n : ℕ) → occurrences n (configuration_names c) ≤ 2
 
+-- What each wide configuration keeps: the same but for the limits, of which that of the nodes is much higher
+-- and that of the interface is left out, since each of its terms is a node at least.
+pub record IsWide (c : Configuration) : Type 0 where
+  pub nodes : configuration_nodes c ≤ MAX_WIDE_NODES
+  pub next : c.next ≤ MAX_NEXT
+  pub below : AllByRecursion (λ n. n < c.next) (configuration_names c)
+  pub twice : (n : ℕ) → occurrences n (configuration_names c) ≤ 2
+
 -- neither the nodes nor the interface terms are too many
 abbrev pub is_small_enough : List Tree → List Pair → Bool
 is_small_enough ts es = nat_le (nodes_in ts es) MAX_NODES && nat_le (length ts) MAX_INTERFACE
 
+-- the nodes are not too many for a wide configuration
+abbrev pub is_wide_enough : List Tree → List Pair → Bool
+is_wide_enough ts es = nat_le (nodes_in ts es) MAX_WIDE_NODES
+
+-- the sizes pass, as told, `next` passes no limit, and each name is below it
+abbrev pub is_numbered_within : Bool → Configuration → Bool
+is_numbered_within sizes c = sizes && nat_le c.next MAX_NEXT
+    && list_all (λ n. nat_lt n c.next) (configuration_names c)
+
 -- no limit is passed, and each name is below `next`
 abbrev pub is_within : Configuration → Bool
-is_within c = is_small_enough c.interface c.equations && nat_le c.next MAX_NEXT
-    && list_all (λ n. nat_lt n c.next) (configuration_names c)
+is_within c = is_numbered_within (is_small_enough c.interface c.equations) c
+
+-- the same with the limit of a wide configuration
+abbrev pub is_within_wide : Configuration → Bool
+is_within_wide c = is_numbered_within (is_wide_enough c.interface c.equations) c
 
 -- the configuration, or its first third occurrence
 abbrev pub unless_third : Configuration → Option ℕ → Result Configuration ConfigFault
 unless_third c None = Ok c
 unless_third c (Some n) = Err (Name n)
 
+-- the configuration, or the first refusal in the order of `ConfigFault`, where it is told whether it keeps
+-- the limits
+abbrev pub restored_if : Bool → Configuration → Result Configuration ConfigFault
+restored_if within c = if within then unless_third c (third_occurrence (configuration_names c))
+    else Err Limit
+
 -- the configuration of these parts, or the first refusal in the order of `ConfigFault`
 abbrev pub restored : Configuration → Result Configuration ConfigFault
-restored c = if is_within c then unless_third c (third_occurrence (configuration_names c))
-    else Err Limit
+restored c = restored_if (is_within c) c
+
+-- the same with the limit of a wide configuration
+abbrev pub wide_restored : Configuration → Result Configuration ConfigFault
+wide_restored c = restored_if (is_within_wide c) c
 
 -- one above the greatest number of a list, or 0 for none
 abbrev pub one_above : List ℕ → ℕ

@@ -1,10 +1,11 @@
 //! Laws of the definitions that the contracts of this crate cite.
 
-ghost use Rattle.std.specs.Prelude.{◌≡◌, ℕ, ◌+◌, ◌<◌, ◌≤◌, ◌==◌, ◌^◌, ◌↔◌, List, [], ◌∷◌, ◌++◌, length, None, Some, Ok, IsTrue};
+ghost use Rattle.std.specs.Prelude.{◌≡◌, ℕ, ◌+◌, ◌<◌, ◌≤◌, ◌==◌, ◌^◌, ◌↔◌, ◌⊎◌, List, [], ◌∷◌, ◌++◌, length, None, Some, Ok, Err, IsTrue};
 ghost use Rattle.std.specs.List.{list_any, AllByRecursion};
 ghost use Rattle.ic_term.specs.Tree.{Tree, Pair, tree_eq, pair_eq};
-ghost use Rattle.ic_term.specs.declared.limits.TheConstants.{MAX_NODES, MAX_INTERFACE, MAX_NEXT, MAX_SYMBOLS, MAX_SYMBOL_TEXT, MAX_ARITY};
-ghost use Rattle.ic_term.specs.Configuration.{configuration_eq, Configuration, IsConfiguration, IsFirstThird, occurrences, one_above, restored, third_occurrence};
+ghost use Rattle.ic_term.specs.declared.limits.TheConstants.{MAX_NODES, MAX_INTERFACE, MAX_NEXT, MAX_WIDE_NODES, MAX_SYMBOLS, MAX_SYMBOL_TEXT, MAX_ARITY};
+ghost use Rattle.ic_term.specs.Configuration.{configuration_eq, Configuration, IsConfiguration, IsWide, IsFirstThird, configuration_nodes, occurrences, one_above, restored, third_occurrence, wide_restored};
+ghost use Rattle.ic_term.specs.declared.config.ConfigFault.TheVariants.{Limit};
 ghost use Rattle.ic_term.specs.Symbol.{Symbol, AreSymbols, is_symbol_text, numbered, with_symbol, symbols_eq};
 
 /// The limits of configurations and of symbols.
@@ -12,6 +13,7 @@ pub fn limits_are()
     ensures nodes { MAX_NODES ≡ 8192 }
     ensures interface { MAX_INTERFACE ≡ 64 }
     ensures next { MAX_NEXT ≡ 2 ^ 62 }
+    ensures wide { MAX_WIDE_NODES ≡ 2 ^ 31 }
     ensures symbols { MAX_SYMBOLS ≡ 64 }
     ensures text { MAX_SYMBOL_TEXT ≡ 32 }
     ensures arity { MAX_ARITY ≡ 15 }
@@ -28,6 +30,20 @@ pub fn third_occurrence_is_the_first()
 /// What `Config::restore` takes are exactly the configurations.
 pub fn restore_takes_configurations()
     ensures { (c : Configuration) → (restored c ≡ Ok c) ↔ IsConfiguration c }
+{}
+
+/// A wide configuration is what is restored with the wide limit. Each configuration is one, and the wide ones that
+/// keep the narrow limits are configurations, restored alike.
+pub fn wide_ones_are_configurations_but_for_their_limits()
+    ensures taken { (c : Configuration) → (wide_restored c ≡ Ok c) ↔ IsWide c }
+    ensures each { (c : Configuration) → IsConfiguration c → IsWide c }
+    ensures narrow { (c : Configuration) → IsWide c → configuration_nodes c ≤ MAX_NODES
+        → length c.interface ≤ MAX_INTERFACE → IsConfiguration c }
+    ensures alike { (c : Configuration) → configuration_nodes c ≤ MAX_NODES
+        → length c.interface ≤ MAX_INTERFACE → wide_restored c ≡ restored c }
+    ensures refused { (c : Configuration)
+        → (MAX_NODES < configuration_nodes c) ⊎ (MAX_INTERFACE < length c.interface)
+        → restored c ≡ Err Limit }
 {}
 
 /// The `next` of a new configuration: it is above every name, and it is 0 without names, else one above some name.

@@ -3,6 +3,9 @@
 /// Names and agents of a configuration.
 pub const MAX_NODES: u64 = 8_192;
 
+/// Names and agents of a wide configuration, so few that 32 bits count them.
+pub const MAX_WIDE_NODES: u64 = 1 << 31;
+
 /// Terms of an interface.
 pub const MAX_INTERFACE: usize = 64;
 

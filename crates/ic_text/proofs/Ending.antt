@@ -11,14 +11,15 @@ use Rattle.ic_text.specs.declared.syntax.Spot.TheVariants.{First, Due, FirstAgen
 use Rattle.ic_text.specs.declared.syntax.State.{State}
 use Rattle.ic_text.specs.declared.fault.TextFault.{TextFault}
 use Rattle.ic_text.specs.declared.fault.TextFault.TheVariants.{Syntax, Limit}
-use Rattle.ic_text.specs.declared.limits.TheConstants.{MAX_TEXT}
+use Rattle.ic_text.specs.declared.limits.Limits.{Limits}
 use Rattle.ic_text.specs.declared.misread.Detail.{Detail}
 use Rattle.ic_text.specs.declared.misread.Detail.TheVariants.{Passed}
 use Rattle.ic_text.specs.declared.misread.Limit.TheVariants.{TextBytes}
+use Rattle.ic_text.specs.Limits.{most_bytes}
 use Rattle.ic_text.specs.Token.{Token, word, mark, is_word_byte, mark_of, tokens_at, followed, tokens, words_among}
 use Rattle.ic_text.specs.Words.{Written}
-use Rattle.ic_text.specs.Reading.{IsSpelling, IsReading}
-use Rattle.ic_text.specs.Places.{IsPlaced, IsPlacedWord, IsSyntaxPlace, IsWordPlace, is_between}
+use Rattle.ic_text.specs.Reading.{IsSpelling, IsReadingWithin}
+use Rattle.ic_text.specs.Places.{IsPlacedWithin, IsPlacedWordWithin, IsSyntaxPlace, IsWordPlace, is_between}
 use Rattle.ic_text.specs.inner.Syntax.{term_step, either_step, step, is_end, at_beginning, accepts}
 use Rattle.ic_text.specs.lemmas.ReadOnce.{IsTold, reads_none, some-injective, none_is_some}
 use Rattle.ic_text.specs.lemmas.WordRuns.{tokens-parted}
@@ -199,22 +200,22 @@ module _ {P : Type 0} (IsOne : P → Type 0) (words_of : P → List Token) (writ
           last = λ later above below between goes. absurd (omega (arith, above, below, long));
         }
 
-  module _ {V : Type 0} (sense : P → Result V TextFault) (text : List ℕ) where
+  module _ (limits : Limits) {V : Type 0} (sense : P → Result V TextFault) (text : List ℕ) where
     abbrev Unfinished : ℕ → Type 0
-    Unfinished place = IsReading (IsSpelling IsOne words_of) sense (take place text) (Err Syntax) × IsSyntaxPlace IsOne words_of (take place text) place
+    Unfinished place = IsReadingWithin limits (IsSpelling IsOne words_of) sense (take place text) (Err Syntax) × IsSyntaxPlace IsOne words_of (take place text) place
 
-    unfinished_word : (fault : TextFault) (place : ℕ) (detail : Detail) → IsPlacedWord IsOne words_of written text fault place detail → Unfinished place
+    unfinished_word : (fault : TextFault) (place : ℕ) (detail : Detail) → IsPlacedWordWithin limits IsOne words_of written text fault place detail → Unfinished place
     unfinished_word fault place detail is = (
-      reads_none IsOne words_of told sense (take place text) (omega (arith, length-take place text, is.short))
+      reads_none IsOne words_of told limits sense (take place text) (omega (arith, length-take place text, is.short))
           (not_spelled text is.phrase is.spells is.word place is.place),
       wants_more text is.phrase is.spells is.word place is.place,
     )
 
     pub unfinished : (fault : TextFault) (place : ℕ) (detail : Detail) → fault ≢ Syntax → detail ≢ Passed TextBytes
-        → IsPlaced IsOne words_of written text fault (Some place) detail → Unfinished place
+        → IsPlacedWithin limits IsOne words_of written text fault (Some place) detail → Unfinished place
     unfinished Syntax place detail other kept is = absurd (other refl)
     unfinished Limit place (Passed TextBytes) other kept is = absurd (kept refl)
     unfinished fault place detail other kept is = unfinished_word fault place detail is
 
-    pub not_too_long : (place : ℕ) → IsPlaced IsOne words_of written text Limit (Some place) (Passed TextBytes) → length (take place text) ≤ MAX_TEXT
+    pub not_too_long : (place : ℕ) → IsPlacedWithin limits IsOne words_of written text Limit (Some place) (Passed TextBytes) → length (take place text) ≤ most_bytes limits
     not_too_long place is = omega (arith, is.1, length-take place text)

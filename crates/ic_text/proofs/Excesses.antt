@@ -4,11 +4,12 @@ use Rattle.std.specs.Prelude.{nat_le, nat_lt}
 use Rattle.std.proofs.lemmas.Bool.{and_from, ltb-true, ltb-false}
 use Rattle.std.proofs.lemmas.List.{length-take, length-take-le}
 use Rattle.ic_term.specs.Symbol.{Symbol}
-use Rattle.ic_term.specs.declared.limits.TheConstants.{MAX_NODES, MAX_INTERFACE}
 use Rattle.ic_rules.specs.declared.limits.TheConstants.{MAX_RULES, MAX_RULE_NODES}
 use Rattle.ic_text.specs.declared.excess.Excess.{Excess}
+use Rattle.ic_text.specs.declared.limits.Limits.{Limits}
 use Rattle.ic_text.specs.declared.misread.Limit.{Limit as Bound}
 use Rattle.ic_text.specs.declared.misread.Limit.TheVariants.{TextBytes, SymbolBytes, Arguments, NameNumber, Symbols, Rules, RuleNodes, Interface, Nodes}
+use Rattle.ic_text.specs.Limits.{most_interface, most_nodes}
 use Rattle.ic_text.specs.Words.{Written, all_words, in_a_row}
 use Rattle.ic_text.specs.WordFaults.{IsFirstWord, config_keeps, count_words, counts_keep, rank, rules_keep}
 use Rattle.ic_text.specs.inner.Counted.{IsExcess, IsExcessTest, IsFirstExcess, earlier}
@@ -83,49 +84,49 @@ rules_others Symbols = inr (inr (λ ws. refl))
 rules_others Interface = inr (inr (λ ws. refl))
 rules_others Nodes = inr (inr (λ ws. refl))
 
-pub config_others : (terms : ℕ) (c : Bound) → OneOf (config_keeps terms) Interface Nodes c
-config_others terms Interface = inl refl
-config_others terms Nodes = inr (inl refl)
-config_others terms TextBytes = inr (inr (λ ws. refl))
-config_others terms SymbolBytes = inr (inr (λ ws. refl))
-config_others terms Arguments = inr (inr (λ ws. refl))
-config_others terms NameNumber = inr (inr (λ ws. refl))
-config_others terms Symbols = inr (inr (λ ws. refl))
-config_others terms Rules = inr (inr (λ ws. refl))
-config_others terms RuleNodes = inr (inr (λ ws. refl))
+pub config_others : (limits : Limits) (terms : ℕ) (c : Bound) → OneOf (config_keeps limits terms) Interface Nodes c
+config_others limits terms Interface = inl refl
+config_others limits terms Nodes = inr (inl refl)
+config_others limits terms TextBytes = inr (inr (λ ws. refl))
+config_others limits terms SymbolBytes = inr (inr (λ ws. refl))
+config_others limits terms Arguments = inr (inr (λ ws. refl))
+config_others limits terms NameNumber = inr (inr (λ ws. refl))
+config_others limits terms Symbols = inr (inr (λ ws. refl))
+config_others limits terms Rules = inr (inr (λ ws. refl))
+config_others limits terms RuleNodes = inr (inr (λ ws. refl))
 
 -- the interface is what is tested where it has too many terms
-interface_test : (terms : ℕ) (ws : List Symbol) → MAX_INTERFACE < terms → config_keeps terms Interface ws ≡ nat_le (count_words true 0 ws) MAX_INTERFACE
-interface_test terms ws many = ap (λ b. b || nat_le (count_words true 0 ws) MAX_INTERFACE) (gt_test terms MAX_INTERFACE many)
+interface_test : (limits : Limits) (terms : ℕ) (ws : List Symbol) → most_interface limits < terms → config_keeps limits terms Interface ws ≡ nat_le (count_words true 0 ws) (most_interface limits)
+interface_test limits terms ws many = ap (λ b. b || nat_le (count_words true 0 ws) (most_interface limits)) (gt_test terms (most_interface limits) many)
 
-pub interface_excess : (terms : ℕ) (ws : List Symbol) (o : Option Excess) → MAX_INTERFACE < terms → IsExcessTest (λ us. nat_le (count_words true 0 us) MAX_INTERFACE) Interface ws o
-    → IsExcessTest (config_keeps terms Interface) Interface ws o
-interface_excess terms ws None many is = λ j. interface_test terms (take j ws) many ∙ is j
-interface_excess terms ws (Some e) many is = (
+pub interface_excess : (limits : Limits) (terms : ℕ) (ws : List Symbol) (o : Option Excess) → most_interface limits < terms → IsExcessTest (λ us. nat_le (count_words true 0 us) (most_interface limits)) Interface ws o
+    → IsExcessTest (config_keeps limits terms Interface) Interface ws o
+interface_excess limits terms ws None many is = λ j. interface_test limits terms (take j ws) many ∙ is j
+interface_excess limits terms ws (Some e) many is = (
   record {
     inside = is.0.inside;
-    innocent = λ j le. interface_test terms (take j ws) many ∙ is.0.innocent j le;
-    guilty = interface_test terms (take (e.word + 1) ws) many ∙ is.0.guilty;
+    innocent = λ j le. interface_test limits terms (take j ws) many ∙ is.0.innocent j le;
+    guilty = interface_test limits terms (take (e.word + 1) ws) many ∙ is.0.guilty;
   },
   is.1,
 )
 
-pub interface_fits : (terms : ℕ) (ws : List Symbol) → terms ≤ MAX_INTERFACE → IsExcessTest (config_keeps terms Interface) Interface ws None
-interface_fits terms ws few = λ j. ap (λ b. b || nat_le (count_words true 0 (take j ws)) MAX_INTERFACE) (le_test terms MAX_INTERFACE few)
+pub interface_fits : (limits : Limits) (terms : ℕ) (ws : List Symbol) → terms ≤ most_interface limits → IsExcessTest (config_keeps limits terms Interface) Interface ws None
+interface_fits limits terms ws few = λ j. ap (λ b. b || nat_le (count_words true 0 (take j ws)) (most_interface limits)) (le_test terms (most_interface limits) few)
 
 -- the nodes of a configuration are its words
-pub nodes_excess : (terms : ℕ) (ws : List Symbol) (e : Excess) → MAX_NODES < length ws → e.word ≡ MAX_NODES → e.limit ≡ Nodes → IsExcessTest (config_keeps terms Nodes) Nodes ws (Some e)
-nodes_excess terms ws e many at is = (
+pub nodes_excess : (limits : Limits) (terms : ℕ) (ws : List Symbol) (e : Excess) → most_nodes limits < length ws → e.word ≡ most_nodes limits → e.limit ≡ Nodes → IsExcessTest (config_keeps limits terms Nodes) Nodes ws (Some e)
+nodes_excess limits terms ws e many at is = (
   record {
     inside = omega (arith, many, at);
-    innocent = λ j le. le_test (length (take j ws)) MAX_NODES (omega (arith, length-take j ws, le, at));
-    guilty = gt_test (length (take (e.word + 1) ws)) MAX_NODES (omega (arith, length-take-le (e.word + 1) ws (omega (arith, many, at)), at));
+    innocent = λ j le. le_test (length (take j ws)) (most_nodes limits) (omega (arith, length-take j ws, le, at));
+    guilty = gt_test (length (take (e.word + 1) ws)) (most_nodes limits) (omega (arith, length-take-le (e.word + 1) ws (omega (arith, many, at)), at));
   },
   is,
 )
 
-pub nodes_fit : (terms : ℕ) (ws : List Symbol) → length ws ≤ MAX_NODES → IsExcessTest (config_keeps terms Nodes) Nodes ws None
-nodes_fit terms ws few = λ j. le_test (length (take j ws)) MAX_NODES (omega (arith, length-take j ws, few))
+pub nodes_fit : (limits : Limits) (terms : ℕ) (ws : List Symbol) → length ws ≤ most_nodes limits → IsExcessTest (config_keeps limits terms Nodes) Nodes ws None
+nodes_fit limits terms ws few = λ j. le_test (length (take j ws)) (most_nodes limits) (omega (arith, length-take j ws, few))
 
 -- rules that aren't too many
 pub rules_fit : (ws : List Symbol) (agents : ℕ) → agents ≡ count_words true 0 ws → agents ≤ 2 * MAX_RULES → IsExcessTest (rules_keep Rules) Rules ws None
@@ -135,60 +136,61 @@ pub within_fit : (ws : List Symbol) (agents size : ℕ) → agents ≡ count_wor
 within_fit ws agents size all long few = λ j. all-few ws false MAX_RULE_NODES (omega (arith, all, few, long, count-both ws 0)) j
 
 -- both parts of what is written
-nothing_kept : (terms : ℕ) (b : Bound) → config_keeps terms b [] ≡ true
-nothing_kept terms Interface = or_true (nat_le terms MAX_INTERFACE)
+nothing_kept : (limits : Limits) (terms : ℕ) (b : Bound) → config_keeps limits terms b [] ≡ true
+nothing_kept limits terms Interface =
+    ap (λ b. nat_le terms (most_interface limits) || b) (le_test 0 (most_interface limits) (omega arith)) ∙ or_true (nat_le terms (most_interface limits))
   where
     or_true : (x : Bool) → (x || true) ≡ true
     or_true true = refl
     or_true false = refl
-nothing_kept terms Nodes = refl
-nothing_kept terms TextBytes = refl
-nothing_kept terms SymbolBytes = refl
-nothing_kept terms Arguments = refl
-nothing_kept terms NameNumber = refl
-nothing_kept terms Symbols = refl
-nothing_kept terms Rules = refl
-nothing_kept terms RuleNodes = refl
+nothing_kept limits terms Nodes = le_test 0 (most_nodes limits) (omega arith)
+nothing_kept limits terms TextBytes = refl
+nothing_kept limits terms SymbolBytes = refl
+nothing_kept limits terms Arguments = refl
+nothing_kept limits terms NameNumber = refl
+nothing_kept limits terms Symbols = refl
+nothing_kept limits terms Rules = refl
+nothing_kept limits terms RuleNodes = refl
 
 and_false : (x : Bool) → (x && false) ≡ false
 and_false true = refl
 and_false false = refl
 
-module _ (w : Written) where
+module _ (limits : Limits) (w : Written) where
   abbrev the_rules : List Symbol
   the_rules = in_a_row w.rules
 
   size : length (all_words w) ≡ length the_rules + length w.config
   size = length-append the_rules w.config
 
-  pub excess_in_rules : (e : Excess) → IsExcess (λ b j. rules_keep b (take j the_rules)) (length the_rules) e → IsExcess (λ b j. counts_keep b w j) (length (all_words w)) e
+  pub excess_in_rules : (e : Excess) → IsExcess (λ b j. rules_keep b (take j the_rules)) (length the_rules) e → IsExcess (λ b j. counts_keep limits b w j) (length (all_words w)) e
   excess_in_rules e is = record {
     inside = omega (arith, is.inside, size);
     kept = λ j le b.
         let none : j - length the_rules ≡ 0 = omega (arith, le, is.inside) in
-        and_from (rules_keep b (take j the_rules)) _ (is.kept j le b) (ap (λ n. config_keeps w.terms b (take n w.config)) none ∙ nothing_kept w.terms b);
-    passed = ap (λ x. x && config_keeps w.terms e.limit (take (e.word + 1 - length the_rules) w.config)) is.passed;
+        and_from (rules_keep b (take j the_rules)) _ (is.kept j le b) (ap (λ n. config_keeps limits w.terms b (take n w.config)) none ∙ nothing_kept limits w.terms b);
+    passed = ap (λ x. x && config_keeps limits w.terms e.limit (take (e.word + 1 - length the_rules) w.config)) is.passed;
     first = λ b less.
         let none : e.word + 1 - length the_rules ≡ 0 = omega (arith, is.inside) in
-        and_from (rules_keep b (take (e.word + 1) the_rules)) _ (is.first b less) (ap (λ n. config_keeps w.terms b (take n w.config)) none ∙ nothing_kept w.terms b);
+        and_from (rules_keep b (take (e.word + 1) the_rules)) _ (is.first b less) (ap (λ n. config_keeps limits w.terms b (take n w.config)) none ∙ nothing_kept limits w.terms b);
   }
 
   module _ (rules_kept : (j : ℕ) (b : Bound) → rules_keep b (take j the_rules) ≡ true) where
-    pub excess_in_config : (e f : Excess) → IsExcess (λ b j. config_keeps w.terms b (take j w.config)) (length w.config) e → f.word ≡ length the_rules + e.word → f.limit ≡ e.limit
-        → IsExcess (λ b j. counts_keep b w j) (length (all_words w)) f
+    pub excess_in_config : (e f : Excess) → IsExcess (λ b j. config_keeps limits w.terms b (take j w.config)) (length w.config) e → f.word ≡ length the_rules + e.word → f.limit ≡ e.limit
+        → IsExcess (λ b j. counts_keep limits b w j) (length (all_words w)) f
     excess_in_config e f is at same =
         let behind : f.word + 1 - length the_rules ≡ e.word + 1 = omega (arith, at) in
         record {
           inside = omega (arith, is.inside, size, at);
           kept = λ j le b. and_from (rules_keep b (take j the_rules)) _ (rules_kept j b) (is.kept (j - length the_rules) (omega (arith, le, at)) b);
           passed =
-              (λ i. rules_keep f.limit (take (f.word + 1) the_rules) && config_keeps w.terms (same i) (take (behind i) w.config))
+              (λ i. rules_keep f.limit (take (f.word + 1) the_rules) && config_keeps limits w.terms (same i) (take (behind i) w.config))
               ∙ ap (λ x. rules_keep f.limit (take (f.word + 1) the_rules) && x) is.passed
               ∙ and_false (rules_keep f.limit (take (f.word + 1) the_rules));
           first = λ b less.
               and_from (rules_keep b (take (f.word + 1) the_rules)) _ (rules_kept (f.word + 1) b)
-              (ap (λ n. config_keeps w.terms b (take n w.config)) behind ∙ is.first b (subst (λ y. rank b < rank y) same less));
+              (ap (λ n. config_keeps limits w.terms b (take n w.config)) behind ∙ is.first b (subst (λ y. rank b < rank y) same less));
         }
 
-    pub no_excess : ((j : ℕ) (b : Bound) → config_keeps w.terms b (take j w.config) ≡ true) → IsFirstExcess (λ b j. counts_keep b w j) (length (all_words w)) None
+    pub no_excess : ((j : ℕ) (b : Bound) → config_keeps limits w.terms b (take j w.config) ≡ true) → IsFirstExcess (λ b j. counts_keep limits b w j) (length (all_words w)) None
     no_excess config_kept = λ j b. and_from (rules_keep b (take j the_rules)) _ (rules_kept j b) (config_kept (j - length the_rules) b)

@@ -5,17 +5,18 @@ use Rattle.std.proofs.lemmas.Bool.{false≢true, and_parts, and_from, leb-true}
 use Rattle.std.proofs.lemmas.List.{take_all, take_at, length-map}
 use Rattle.std.proofs.lemmas.List.Folds.{flat_map-map}
 use Rattle.ic_term.specs.Symbol.{Symbol}
-use Rattle.ic_term.specs.declared.limits.TheConstants.{MAX_NODES, MAX_INTERFACE}
 use Rattle.ic_rules.specs.declared.limits.TheConstants.{MAX_RULES, MAX_RULE_NODES}
 use Rattle.ic_text.specs.declared.excess.Excess.{Excess}
+use Rattle.ic_text.specs.declared.limits.Limits.{Limits}
 use Rattle.ic_text.specs.declared.misread.Limit.{Limit as Bound}
 use Rattle.ic_text.specs.declared.misread.Limit.TheVariants.{Rules, RuleNodes, Interface, Nodes}
 use Rattle.ic_flat.specs.declared.word.Word.{Word}
 use Rattle.ic_text.specs.declared.prefix.Node.{Node}
+use Rattle.ic_text.specs.Limits.{most_interface, most_nodes}
 use Rattle.ic_text.specs.Source.{Phrase, IsPhrase, phrase_nodes}
-use Rattle.ic_text.specs.Sense.{is_in_limits, sense}
+use Rattle.ic_text.specs.Sense.{is_in_limits_within, sense_within}
 use Rattle.ic_text.specs.SystemSource.{SystemPhrase, IsSystemPhrase, rule_nodes}
-use Rattle.ic_text.specs.SystemSense.{is_system_in_limits, system_sense}
+use Rattle.ic_text.specs.SystemSense.{is_system_in_limits_within, system_sense_within}
 use Rattle.ic_text.specs.Words.{all_words, in_a_row, phrase_prefix, rule_prefix, rules_prefix, system_prefix, written_system}
 use Rattle.ic_text.specs.WordFaults.{config_keeps, count_words, counts_keep, rules_keep}
 use Rattle.ic_text.specs.inner.Counted.{IsCounted, IsExcess, IsFirstExcess}
@@ -34,41 +35,42 @@ use Rattle.ic_text.proofs.SensingSystem.{finished_system, sense-system, system-u
 abbrev rules_fits : SystemPhrase → Bool
 rules_fits s = nat_le (length s.rules) MAX_RULES && nat_le (sum_by rule_nodes s.rules) MAX_RULE_NODES
 
-abbrev config_fits : Phrase → Bool
-config_fits p = nat_le (phrase_nodes p) MAX_NODES && nat_le (length p.interface) MAX_INTERFACE
+abbrev config_fits : Limits → Phrase → Bool
+config_fits limits p = nat_le (phrase_nodes p) (most_nodes limits) && nat_le (length p.interface) (most_interface limits)
 
 module _ (s : SystemPhrase) where
   pub rules_row : in_a_row (written_system s).rules ≡ rules_prefix s.rules
   rules_row = flat_map-map (λ (ws : List Symbol). ws) rule_prefix s.rules
 
+module _ (limits : Limits) (s : SystemPhrase) where
   abbrev pub Kept : Option Excess → Type 0
-  Kept o = IsFirstExcess (λ b j. counts_keep b (written_system s) j) (length (all_words (written_system s))) o
+  Kept o = IsFirstExcess (λ b j. counts_keep limits b (written_system s) j) (length (all_words (written_system s))) o
 
   -- where all fit, each front keeps each limit
-  all_kept : rules_fits s ≡ true → config_fits s.config ≡ true → Kept None
+  all_kept : rules_fits s ≡ true → config_fits limits s.config ≡ true → Kept None
   all_kept few small =
       let r = and_parts (nat_le (length s.rules) MAX_RULES) (nat_le (sum_by rule_nodes s.rules) MAX_RULE_NODES) few in
-      let k = and_parts (nat_le (phrase_nodes s.config) MAX_NODES) (nat_le (length s.config.interface) MAX_INTERFACE) small in
+      let k = and_parts (nat_le (phrase_nodes s.config) (most_nodes limits)) (nat_le (length s.config.interface) (most_interface limits)) small in
       let ws = rules_prefix s.rules in
       let us = phrase_prefix s.config in
       let rules : IsFirstExcess (λ b j. rules_keep b (take j ws)) (length ws) None =
       earlier-first rules_keep Rules RuleNodes rules_others (omega arith) ws None None
       (rules_fit ws (2 * length s.rules) (sym (count-rules s.rules)) (omega (arith, leb-true (length s.rules) MAX_RULES r.0)))
       (within_fit ws (2 * length s.rules) (length ws) (sym (count-rules s.rules)) refl (omega (arith, length-rules_prefix s.rules, leb-true (sum_by rule_nodes s.rules) MAX_RULE_NODES r.1))) in
-      let config : IsFirstExcess (λ b j. config_keeps (length s.config.interface) b (take j us)) (length us) None =
-      earlier-first (config_keeps (length s.config.interface)) Interface Nodes (config_others (length s.config.interface)) (omega arith) us None None
-      (interface_fits (length s.config.interface) us (leb-true (length s.config.interface) MAX_INTERFACE k.1))
-      (nodes_fit (length s.config.interface) us (omega (arith, length-phrase_prefix s.config, leb-true (phrase_nodes s.config) MAX_NODES k.0))) in
-      no_excess (written_system s) (λ j b. ap (λ vs. rules_keep b (take j vs)) rules_row ∙ rules j b) config
+      let config : IsFirstExcess (λ b j. config_keeps limits (length s.config.interface) b (take j us)) (length us) None =
+      earlier-first (config_keeps limits (length s.config.interface)) Interface Nodes (config_others limits (length s.config.interface)) (omega arith) us None None
+      (interface_fits limits (length s.config.interface) us (leb-true (length s.config.interface) (most_interface limits) k.1))
+      (nodes_fit limits (length s.config.interface) us (omega (arith, length-phrase_prefix s.config, leb-true (phrase_nodes s.config) (most_nodes limits) k.0))) in
+      no_excess limits (written_system s) (λ j b. ap (λ vs. rules_keep b (take j vs)) (rules_row s) ∙ rules j b) config
 
   -- and where a limit is passed with a word, they don't
-  pub excess_unfit : (x : Excess) → Kept (Some x) → (rules_fits s && config_fits s.config) ≡ false
-  excess_unfit x is = by_fits (rules_fits s && config_fits s.config) refl
+  pub excess_unfit : (x : Excess) → Kept (Some x) → (rules_fits s && config_fits limits s.config) ≡ false
+  excess_unfit x is = by_fits (rules_fits s && config_fits limits s.config) refl
     where
-      by_fits : (b : Bool) → (rules_fits s && config_fits s.config) ≡ b → b ≡ false
+      by_fits : (b : Bool) → (rules_fits s && config_fits limits s.config) ≡ b → b ≡ false
       by_fits false e = refl
       by_fits true e =
-          let parts = and_parts (rules_fits s) (config_fits s.config) e in
+          let parts = and_parts (rules_fits s) (config_fits limits s.config) e in
           absurd (false≢true (sym is.passed ∙ all_kept parts.0 parts.1 (x.word + 1) x.limit))
 
   -- where no limit is passed with a word, none is
@@ -82,15 +84,15 @@ module _ (s : SystemPhrase) where
     kept_rules : (b : Bound) → rules_keep b (rules_prefix s.rules) ≡ true
     kept_rules b =
         let all = take_all whole (in_a_row (written_system s).rules) rules_within in
-        ap (rules_keep b) (sym (all ∙ rules_row))
-        ∙ (and_parts (rules_keep b (take whole (in_a_row (written_system s).rules))) (config_keeps (length s.config.interface) b (take (whole - length (in_a_row (written_system s).rules)) (phrase_prefix s.config))) (kept whole b)).0
+        ap (rules_keep b) (sym (all ∙ rules_row s))
+        ∙ (and_parts (rules_keep b (take whole (in_a_row (written_system s).rules))) (config_keeps limits (length s.config.interface) b (take (whole - length (in_a_row (written_system s).rules)) (phrase_prefix s.config))) (kept whole b)).0
 
-    kept_config : (b : Bound) → config_keeps (length s.config.interface) b (phrase_prefix s.config) ≡ true
+    kept_config : (b : Bound) → config_keeps limits (length s.config.interface) b (phrase_prefix s.config) ≡ true
     kept_config b =
         let left = whole - length (in_a_row (written_system s).rules) in
         let all = take_all left (phrase_prefix s.config) (omega (arith, length-append (in_a_row (written_system s).rules) (phrase_prefix s.config))) in
-        ap (config_keeps (length s.config.interface) b) (sym all)
-        ∙ (and_parts (rules_keep b (take whole (in_a_row (written_system s).rules))) (config_keeps (length s.config.interface) b (take left (phrase_prefix s.config))) (kept whole b)).1
+        ap (config_keeps limits (length s.config.interface) b) (sym all)
+        ∙ (and_parts (rules_keep b (take whole (in_a_row (written_system s).rules))) (config_keeps limits (length s.config.interface) b (take left (phrase_prefix s.config))) (kept whole b)).1
 
     pub few_rules : nat_le (length s.rules) MAX_RULES ≡ true
     few_rules = le_test (length s.rules) MAX_RULES (omega (arith, leb-true (count_words true 0 (rules_prefix s.rules)) (2 * MAX_RULES) (kept_rules Rules), count-rules s.rules))
@@ -100,29 +102,29 @@ module _ (s : SystemPhrase) where
         le_test (sum_by rule_nodes s.rules) MAX_RULE_NODES
         (omega (arith, leb-true (count_words false 0 (rules_prefix s.rules)) MAX_RULE_NODES (kept_rules RuleNodes), count-rules s.rules, count-both (rules_prefix s.rules) 0, length-rules_prefix s.rules))
 
-    pub few_nodes : nat_le (phrase_nodes s.config) MAX_NODES ≡ true
-    few_nodes = le_test (phrase_nodes s.config) MAX_NODES (omega (arith, leb-true (length (phrase_prefix s.config)) MAX_NODES (kept_config Nodes), length-phrase_prefix s.config))
+    pub few_nodes : nat_le (phrase_nodes s.config) (most_nodes limits) ≡ true
+    few_nodes = le_test (phrase_nodes s.config) (most_nodes limits) (omega (arith, leb-true (length (phrase_prefix s.config)) (most_nodes limits) (kept_config Nodes), length-phrase_prefix s.config))
 
-    pub few_terms : nat_le (length s.config.interface) MAX_INTERFACE ≡ true
-    few_terms = by_test (nat_le (length s.config.interface) MAX_INTERFACE) refl (kept_config Interface)
+    pub few_terms : nat_le (length s.config.interface) (most_interface limits) ≡ true
+    few_terms = by_test (nat_le (length s.config.interface) (most_interface limits)) refl (kept_config Interface)
       where
-        by_test : (b : Bool) → nat_le (length s.config.interface) MAX_INTERFACE ≡ b → (b || nat_le (count_words true 0 (phrase_prefix s.config)) MAX_INTERFACE) ≡ true → b ≡ true
+        by_test : (b : Bool) → nat_le (length s.config.interface) (most_interface limits) ≡ b → (b || nat_le (count_words true 0 (phrase_prefix s.config)) (most_interface limits)) ≡ true → b ≡ true
         by_test true e kept = refl
         by_test false e kept =
-            sym e ∙ le_test (length s.config.interface) MAX_INTERFACE (omega (arith, leb-true (count_words true 0 (phrase_prefix s.config)) MAX_INTERFACE kept, count-phrase s.config))
+            sym e ∙ le_test (length s.config.interface) (most_interface limits) (omega (arith, leb-true (count_words true 0 (phrase_prefix s.config)) (most_interface limits) kept, count-phrase s.config))
 
 -- so the sense is that of the words, as far as they are counted
-pub sense-counted : (p : Phrase) → IsPhrase p → (o : Option Excess) → Kept (alone p) o → sense p ≡ finished (length p.interface) (counted_words o (phrase_prefix p))
-sense-counted p is None kept = sense-words p is (few_nodes (alone p) kept) (few_terms (alone p) kept)
-sense-counted p is (Some x) kept = sense-unfit p (excess_unfit (alone p) x kept)
+pub sense-counted : (limits : Limits) (p : Phrase) → IsPhrase p → (o : Option Excess) → Kept limits (alone p) o → sense_within limits p ≡ finished (length p.interface) (counted_words o (phrase_prefix p))
+sense-counted limits p is None kept = sense-words p is limits (few_nodes limits (alone p) kept) (few_terms limits (alone p) kept)
+sense-counted limits p is (Some x) kept = sense-unfit limits p (excess_unfit limits (alone p) x kept)
 
-pub system-counted : (s : SystemPhrase) → IsSystemPhrase s → (o : Option Excess) → Kept s o
-    → system_sense s ≡ finished_system (length (rules_prefix s.rules)) (length s.config.interface) (counted_words o (phrase_prefix (joined_phrase s)))
-system-counted s is None kept = sense-system s is (few_rules s kept) (few_rule_nodes s kept) (few_terms s kept) (few_nodes s kept)
-system-counted s is (Some x) kept = system-unfit s (excess_unfit s x kept)
+pub system-counted : (limits : Limits) (s : SystemPhrase) → IsSystemPhrase s → (o : Option Excess) → Kept limits s o
+    → system_sense_within limits s ≡ finished_system (length (rules_prefix s.rules)) (length s.config.interface) (counted_words o (phrase_prefix (joined_phrase s)))
+system-counted limits s is None kept = sense-system s is limits (few_rules limits s kept) (few_rule_nodes limits s kept) (few_terms limits s kept) (few_nodes limits s kept)
+system-counted limits s is (Some x) kept = system-unfit limits s (excess_unfit limits s x kept)
 
 -- the words of rules and of the configuration as they are read
-module _ (s : SystemPhrase) (nodes : List Node) (rules agents terms : ℕ) (counted : IsCounted s (nodes_of nodes) rules agents terms) where
+module _ (limits : Limits) (s : SystemPhrase) (nodes : List Node) (rules agents terms : ℕ) (counted : IsCounted s (nodes_of nodes) rules agents terms) where
   pub rules_front : nodes_of (take rules nodes) ≡ rules_prefix s.rules
   rules_front = front_of nodes rules ∙ ap (take rules) counted.words ∙ take_at (rules_prefix s.rules) (phrase_prefix s.config) rules (sym counted.before)
 
@@ -142,29 +144,29 @@ module _ (s : SystemPhrase) (nodes : List Node) (rules agents terms : ℕ) (coun
   rules_are : nodes_of (take rules nodes) ≡ in_a_row (written_system s).rules
   rules_are = rules_front ∙ sym (rules_row s)
 
-  pub in_rules : (x : Excess) → IsExcess (λ b j. rules_keep b (take j (nodes_of (take rules nodes)))) (length (nodes_of (take rules nodes))) x → Kept s (Some x)
-  in_rules x is = excess_in_rules (written_system s) x (subst (λ ws. IsExcess (λ b j. rules_keep b (take j ws)) (length ws) x) rules_are is)
+  pub in_rules : (x : Excess) → IsExcess (λ b j. rules_keep b (take j (nodes_of (take rules nodes)))) (length (nodes_of (take rules nodes))) x → Kept limits s (Some x)
+  in_rules x is = excess_in_rules limits (written_system s) x (subst (λ ws. IsExcess (λ b j. rules_keep b (take j ws)) (length ws) x) rules_are is)
 
   module _ (rules_kept : (j : ℕ) (b : Bound) → rules_keep b (take j (nodes_of (take rules nodes))) ≡ true) where
     kept_here : (j : ℕ) (b : Bound) → rules_keep b (take j (in_a_row (written_system s).rules)) ≡ true
     kept_here j b = ap (λ ws. rules_keep b (take j ws)) (sym rules_are) ∙ rules_kept j b
 
     pub in_config : (x y : Excess)
-        → IsExcess (λ b j. config_keeps terms b (take j (nodes_of (take (length nodes - rules) (drop rules nodes))))) (length (nodes_of (take (length nodes - rules) (drop rules nodes)))) x
-        → y.word ≡ rules + x.word → y.limit ≡ x.limit → Kept s (Some y)
+        → IsExcess (λ b j. config_keeps limits terms b (take j (nodes_of (take (length nodes - rules) (drop rules nodes))))) (length (nodes_of (take (length nodes - rules) (drop rules nodes)))) x
+        → y.word ≡ rules + x.word → y.limit ≡ x.limit → Kept limits s (Some y)
     in_config x y is at same =
-        excess_in_config (written_system s) kept_here x y
-        (subst (λ n. IsExcess (λ b j. config_keeps n b (take j (phrase_prefix s.config))) (length (phrase_prefix s.config)) x) counted.interface
-        (subst (λ ws. IsExcess (λ b j. config_keeps terms b (take j ws)) (length ws) x) config_rest is))
+        excess_in_config limits (written_system s) kept_here x y
+        (subst (λ n. IsExcess (λ b j. config_keeps limits n b (take j (phrase_prefix s.config))) (length (phrase_prefix s.config)) x) counted.interface
+        (subst (λ ws. IsExcess (λ b j. config_keeps limits terms b (take j ws)) (length ws) x) config_rest is))
         (at ∙ ap (λ n. n + x.word) (counted.before ∙ ap length (sym (rules_row s)))) same
 
-    pub in_none : ((j : ℕ) (b : Bound) → config_keeps terms b (take j (nodes_of (take (length nodes - rules) (drop rules nodes)))) ≡ true) → Kept s None
-    in_none is = no_excess (written_system s) kept_here (λ j b. (λ i. config_keeps (sym counted.interface i) b (take j (sym config_rest i))) ∙ is j b)
+    pub in_none : ((j : ℕ) (b : Bound) → config_keeps limits terms b (take j (nodes_of (take (length nodes - rules) (drop rules nodes)))) ≡ true) → Kept limits s None
+    in_none is = no_excess limits (written_system s) kept_here (λ j b. (λ i. config_keeps limits (sym counted.interface i) b (take j (sym config_rest i))) ∙ is j b)
 
 -- the word with which a limit is passed is one of the words
-pub one_of_words : (s : SystemPhrase) (nodes : List Node) (o : Option Excess) → Kept s o → nodes_of nodes ≡ system_prefix s → IfSome o (λ x. x.word < length nodes)
-one_of_words s nodes None kept are = tt
-one_of_words s nodes (Some x) kept are = omega (arith, kept.inside, ap length (written-system s), ap length are, length-map nodes node_of)
+pub one_of_words : (limits : Limits) (s : SystemPhrase) (nodes : List Node) (o : Option Excess) → Kept limits s o → nodes_of nodes ≡ system_prefix s → IfSome o (λ x. x.word < length nodes)
+one_of_words limits s nodes None kept are = tt
+one_of_words limits s nodes (Some x) kept are = omega (arith, kept.inside, ap length (written-system s), ap length are, length-map nodes node_of)
 
 -- words that are numbered are all counted
 pub counted-numbered : (ws : List Symbol) (o : Option Excess) (v : List Symbol × List Word) → Ok v ≡ counted_words o ws → Ok v ≡ numbered_words ws
@@ -172,11 +174,11 @@ counted-numbered ws None v e = e
 counted-numbered ws (Some x) v e = cc
 
 -- and a limit isn't passed
-pub config_in_limits : (p : Phrase) → IsPhrase p → (o : Option Excess) → Kept (alone p) o → (v : List Symbol × List Word) → Ok v ≡ counted_words o (phrase_prefix p) → is_in_limits p ≡ true
-config_in_limits p is None kept v e = and_from _ _ (and_from _ _ (phrase_within p is v e) (few_terms (alone p) kept)) (few_nodes (alone p) kept)
-config_in_limits p is (Some x) kept v e = cc
+pub config_in_limits : (limits : Limits) (p : Phrase) → IsPhrase p → (o : Option Excess) → Kept limits (alone p) o → (v : List Symbol × List Word) → Ok v ≡ counted_words o (phrase_prefix p) → is_in_limits_within limits p ≡ true
+config_in_limits limits p is None kept v e = and_from _ _ (and_from _ _ (phrase_within p is v e) (few_terms limits (alone p) kept)) (few_nodes limits (alone p) kept)
+config_in_limits limits p is (Some x) kept v e = cc
 
-pub system_in_limits : (s : SystemPhrase) → IsSystemPhrase s → (o : Option Excess) → Kept s o → (v : List Symbol × List Word) → Ok v ≡ counted_words o (phrase_prefix (joined_phrase s)) → is_system_in_limits s ≡ true
-system_in_limits s is None kept v e =
-    and_from _ _ (and_from _ _ (and_from _ _ (and_from _ _ (system_within s is v e) (few_rules s kept)) (few_rule_nodes s kept)) (few_terms s kept)) (few_nodes s kept)
-system_in_limits s is (Some x) kept v e = cc
+pub system_in_limits : (limits : Limits) (s : SystemPhrase) → IsSystemPhrase s → (o : Option Excess) → Kept limits s o → (v : List Symbol × List Word) → Ok v ≡ counted_words o (phrase_prefix (joined_phrase s)) → is_system_in_limits_within limits s ≡ true
+system_in_limits limits s is None kept v e =
+    and_from _ _ (and_from _ _ (and_from _ _ (and_from _ _ (system_within s is v e) (few_rules limits s kept)) (few_rule_nodes limits s kept)) (few_terms limits s kept)) (few_nodes limits s kept)
+system_in_limits limits s is (Some x) kept v e = cc

@@ -6,10 +6,10 @@ use Rattle.std.proofs.lemmas.Bool.{leb-true}
 use Rattle.std.proofs.lemmas.List.{take_all, take-take, length-take-le, get_or-take, length-map}
 use Rattle.std.proofs.lemmas.Option.{slice_get-get_or}
 use Rattle.ic_term.specs.Symbol.{Symbol}
-use Rattle.ic_term.specs.declared.limits.TheConstants.{MAX_NODES}
 use Rattle.ic_text.specs.declared.excess.Excess.{Excess}
 use Rattle.ic_text.specs.declared.fault.TextFault.{TextFault}
 use Rattle.ic_text.specs.declared.fault.TextFault.TheVariants.{Limit, Arity, Memory}
+use Rattle.ic_text.specs.declared.limits.Limits.{Limits}
 use Rattle.ic_text.specs.declared.misread.Detail.{Detail}
 use Rattle.ic_text.specs.declared.misread.Detail.TheVariants.{Nothing, Passed, Arities}
 use Rattle.ic_text.specs.declared.misread.Limit.{Limit as Bound}
@@ -18,6 +18,7 @@ use Rattle.ic_flat.specs.declared.word.Word.{Word}
 use Rattle.ic_text.specs.declared.refusal.Refusal.{Refusal}
 use Rattle.ic_text.specs.Sense.{has_its_arity}
 use Rattle.ic_text.specs.Source.{Phrase, phrase_words}
+use Rattle.ic_text.specs.Limits.{most_nodes}
 use Rattle.ic_text.specs.Token.{words_among}
 use Rattle.ic_text.specs.Words.{phrase_prefix, written_system}
 use Rattle.ic_text.specs.WordFaults.{IsFirstWord, IsSecondUse, agree, config_keeps, keeps, rules_keep, word_table}
@@ -33,7 +34,7 @@ use Rattle.ic_text.proofs.InTextOrder.{among-phrase}
 use Rattle.ic_text.proofs.Scanning.{scan-phrase_words}
 
 -- Of a configuration of so many words these are the first ones.
-module _ (terms : ℕ) (ws : List Symbol) (k : ℕ) (enough : IsEnough k (length ws)) where
+module _ (limits : Limits) (terms : ℕ) (ws : List Symbol) (k : ℕ) (enough : IsEnough limits k (length ws)) where
   abbrev front : List Symbol
   front = take k ws
 
@@ -41,13 +42,13 @@ module _ (terms : ℕ) (ws : List Symbol) (k : ℕ) (enough : IsEnough k (length
   length-front = length-take-le k ws enough.0
 
   abbrev pub InFront : Option Excess → Type 0
-  InFront o = IsFirstExcess (λ b j. config_keeps terms b (take j front)) (length front) o
+  InFront o = IsFirstExcess (λ b j. config_keeps limits terms b (take j front)) (length front) o
 
   -- where no limit is passed with a word, these are all
   pub all_words_here : InFront None → front ≡ ws
   all_words_here kept = elim enough.1 [
     | inl all ↦ take_all k ws (omega (arith, all))
-    | inr many ↦ absurd (omega (arith, many, leb-true (length (take k front)) MAX_NODES (kept k Nodes), ap length (take-take k k ws (omega arith)), length-front))
+    | inr many ↦ absurd (omega (arith, many, leb-true (length (take k front)) (most_nodes limits) (kept k Nodes), ap length (take-take k k ws (omega arith)), length-front))
   ]
 
   pub numbered-whole : (o : Option Excess) → InFront o → (v : List Symbol × List Word) → Ok v ≡ counted_words o front → front ≡ ws
@@ -59,18 +60,18 @@ module _ (terms : ℕ) (ws : List Symbol) (k : ℕ) (enough : IsEnough k (length
   counted-front (Some x) is = refl
 
   -- the word with which one is passed is the same
-  in_whole : (x : Excess) → IsExcess (λ b j. config_keeps terms b (take j front)) (length front) x → IsExcess (λ b j. config_keeps terms b (take j ws)) (length ws) x
+  in_whole : (x : Excess) → IsExcess (λ b j. config_keeps limits terms b (take j front)) (length front) x → IsExcess (λ b j. config_keeps limits terms b (take j ws)) (length ws) x
   in_whole x is =
       let low : x.word + 1 ≤ k = omega (arith, is.inside, length-front) in
       record {
         inside = omega (arith, low, enough.0);
-        kept = λ j le b. ap (config_keeps terms b) (sym (take-take j k ws (omega (arith, le, low)))) ∙ is.kept j le b;
-        passed = ap (config_keeps terms x.limit) (sym (take-take (x.word + 1) k ws low)) ∙ is.passed;
-        first = λ b less. ap (config_keeps terms b) (sym (take-take (x.word + 1) k ws low)) ∙ is.first b less;
+        kept = λ j le b. ap (config_keeps limits terms b) (sym (take-take j k ws (omega (arith, le, low)))) ∙ is.kept j le b;
+        passed = ap (config_keeps limits terms x.limit) (sym (take-take (x.word + 1) k ws low)) ∙ is.passed;
+        first = λ b less. ap (config_keeps limits terms b) (sym (take-take (x.word + 1) k ws low)) ∙ is.first b less;
       }
 
-  pub of_whole : (o : Option Excess) → InFront o → IsFirstExcess (λ b j. config_keeps terms b (take j ws)) (length ws) o
-  of_whole None kept = λ j b. ap (λ us. config_keeps terms b (take j us)) (sym (all_words_here kept)) ∙ kept j b
+  pub of_whole : (o : Option Excess) → InFront o → IsFirstExcess (λ b j. config_keeps limits terms b (take j ws)) (length ws) o
+  of_whole None kept = λ j b. ap (λ us. config_keeps limits terms b (take j us)) (sym (all_words_here kept)) ∙ kept j b
   of_whole (Some x) is = in_whole x is
 
   -- so is the first word that is refused for another reason
@@ -140,12 +141,12 @@ words-take (suc k) [] are = tt
 words-take (suc k) (w ∷ ws) are = (are.0, words-take k ws are.1)
 
 -- the words of a configuration by itself
-module _ (p : Phrase) (words k skip : ℕ) (many : words ≡ length (words_among (phrase_words p))) (enough : IsEnough k words) (left : skip ≡ words - k) where
+module _ (limits : Limits) (p : Phrase) (words k skip : ℕ) (many : words ≡ length (words_among (phrase_words p))) (enough : IsEnough limits k words) (left : skip ≡ words - k) where
   pub length-words : words ≡ length (phrase_prefix p)
   length-words = many ∙ ap length (among-phrase p) ∙ length-map (phrase_prefix p) (λ (w : Symbol). w.text)
 
-  pub enough_words : IsEnough k (length (phrase_prefix p))
-  enough_words = subst (IsEnough k) length-words enough
+  pub enough_words : IsEnough limits k (length (phrase_prefix p))
+  enough_words = subst (IsEnough limits k) length-words enough
 
   pub first_words : take (length (phrase_prefix p) - skip) (phrase_prefix p) ≡ take k (phrase_prefix p)
   first_words =
@@ -158,8 +159,8 @@ module _ (p : Phrase) (words k skip : ℕ) (many : words ≡ length (words_among
   pub front_arities : words < 2 ^ 64 → arities (take k (phrase_prefix p)) < 2 ^ 64
   front_arities low = omega (arith, arities-take k (phrase_prefix p), arities-phrase p, length-words, low)
 
-pub kept_alone : (p : Phrase) (terms : ℕ) → terms ≡ length p.interface → (o : Option Excess) → IsFirstExcess (λ b j. config_keeps terms b (take j (phrase_prefix p))) (length (phrase_prefix p)) o
-    → Kept (alone p) o
-kept_alone p terms same None kept = no_excess (written_system (alone p)) no_rules_yet (λ j b. ap (λ n. config_keeps n b (take j (phrase_prefix p))) (sym same) ∙ kept j b)
-kept_alone p terms same (Some x) is =
-    excess_in_config (written_system (alone p)) no_rules_yet x x (subst (λ n. IsExcess (λ b j. config_keeps n b (take j (phrase_prefix p))) (length (phrase_prefix p)) x) same is) (omega arith) refl
+pub kept_alone : (limits : Limits) (p : Phrase) (terms : ℕ) → terms ≡ length p.interface → (o : Option Excess) → IsFirstExcess (λ b j. config_keeps limits terms b (take j (phrase_prefix p))) (length (phrase_prefix p)) o
+    → Kept limits (alone p) o
+kept_alone limits p terms same None kept = no_excess limits (written_system (alone p)) no_rules_yet (λ j b. ap (λ n. config_keeps limits n b (take j (phrase_prefix p))) (sym same) ∙ kept j b)
+kept_alone limits p terms same (Some x) is =
+    excess_in_config limits (written_system (alone p)) no_rules_yet x x (subst (λ n. IsExcess (λ b j. config_keeps limits n b (take j (phrase_prefix p))) (length (phrase_prefix p)) x) same is) (omega arith) refl

@@ -15,14 +15,15 @@ use Rattle.ic_rules.specs.Renaming.{are_paired}
 use Rattle.ic_rules.specs.Rule.{Rule, rule_names as names_of_rule, numbered, is_lopsided, same_pair}
 use Rattle.ic_rules.specs.RuleSet.{first_uncounted, repeated_behind, first_repeated, first_lopsided}
 use Rattle.ic_rules.specs.System.{SystemParts}
+use Rattle.ic_text.specs.declared.limits.Limits.{Limits}
 use Rattle.ic_text.specs.declared.fault.TextFault.{TextFault}
 use Rattle.ic_text.specs.declared.fault.TextFault.TheVariants.{Syntax, Limit, Arity, NameCount, Name, Twice, Lopsided, Memory}
 use Rattle.ic_text.specs.declared.limits.TheConstants.{MAX_NAME}
 use Rattle.ic_text.specs.Name.{name_text}
 use Rattle.ic_text.specs.Source.{Phrase, IsPhrase, phrase_names, phrase_symbols}
-use Rattle.ic_text.specs.Sense.{is_in_limits, symbol_table, has_its_arity, numbered_trees, numbered_phrase, unless_third_name, sense}
+use Rattle.ic_text.specs.Sense.{is_in_limits_within, symbol_table, has_its_arity, numbered_trees, numbered_phrase, unless_third_name, sense_within}
 use Rattle.ic_text.specs.SystemSource.{RulePhrase, SystemPhrase, IsRulePhrase, IsSystemPhrase, agent_source, rule_names, system_symbols, system_names}
-use Rattle.ic_text.specs.SystemSense.{system_table, is_system_in_limits, rule_over, rules_over, system_parts, system_sense}
+use Rattle.ic_text.specs.SystemSense.{system_table, is_system_in_limits_within, rule_over, rules_over, system_parts, system_sense_within}
 use Rattle.ic_text.specs.Words.{prefix, phrase_prefix, rule_prefix, names_among}
 use Rattle.ic_text.specs.WordFaults.{uses}
 use Rattle.ic_text.specs.inner.Numbered.{Refuses, as_text_answer}
@@ -163,19 +164,19 @@ by_lopsided None None (Some j) d v i e = cc
 by_lopsided None None None (Some j) v i e = let same : j ≡ i = cc in ap Some same
 by_lopsided None None None None v i e = cc
 
-module _ (s : SystemPhrase) (is : IsSystemPhrase s) where
+module _ (limits : Limits) (s : SystemPhrase) (is : IsSystemPhrase s) where
   abbrev found : Result SystemParts TextFault
   found = found_behind (first_uncounted (rules_over s)) (third_occurrence (phrase_names s.config)) (first_repeated (rules_over s)) (first_lopsided (rules_over s)) (system_parts s)
 
-  behind : (f : TextFault) → (f ≡ Limit → ⊥) → (f ≡ Arity → ⊥) → Err f ≡ system_sense s → (is_system_in_limits s ≡ true) × (Err f ≡ found)
-  behind f no_limit no_arity = by_cases (is_system_in_limits s) (list_all (has_its_arity (system_table s)) (system_symbols s)) refl
+  behind : (f : TextFault) → (f ≡ Limit → ⊥) → (f ≡ Arity → ⊥) → Err f ≡ system_sense_within limits s → (is_system_in_limits_within limits s ≡ true) × (Err f ≡ found)
+  behind f no_limit no_arity = by_cases (is_system_in_limits_within limits s) (list_all (has_its_arity (system_table s)) (system_symbols s)) refl
     where
-      by_cases : (l o : Bool) → is_system_in_limits s ≡ l → Err f ≡ cond l (cond o found (Err Arity)) (Err Limit) → (is_system_in_limits s ≡ true) × (Err f ≡ found)
+      by_cases : (l o : Bool) → is_system_in_limits_within limits s ≡ l → Err f ≡ cond l (cond o found (Err Arity)) (Err Limit) → (is_system_in_limits_within limits s ≡ true) × (Err f ≡ found)
       by_cases false o low e = let same : f ≡ Limit = cc in absurd (no_limit same)
       by_cases true false low e = let same : f ≡ Arity = cc in absurd (no_arity same)
       by_cases true true low e = (low, e)
 
-  low_names : is_system_in_limits s ≡ true → list_all (λ n. nat_le n MAX_NAME) (phrase_names s.config) ≡ true
+  low_names : is_system_in_limits_within limits s ≡ true → list_all (λ n. nat_le n MAX_NAME) (phrase_names s.config) ≡ true
   low_names low =
       let names : list_all (λ n. nat_le n MAX_NAME) (system_names s) ≡ true = (and_parts _ _ (and_parts _ _ (and_parts _ _ (and_parts _ _ (and_parts _ _ (and_parts _ _ low).0).0).0).0).0).1 in
       (and_parts (list_all (λ n. nat_le n MAX_NAME) (flat_map rule_names s.rules)) (list_all (λ n. nat_le n MAX_NAME) (phrase_names s.config)) (sym (list_all-append (λ n. nat_le n MAX_NAME) (flat_map rule_names s.rules) (phrase_names s.config)) ∙ names)).1
@@ -183,10 +184,10 @@ module _ (s : SystemPhrase) (is : IsSystemPhrase s) where
   size : length (rules_over s) ≡ length s.rules
   size = length-map s.rules (rule_over (system_table s))
 
-  pub has_fault : is_system_in_limits s ≡ true → list_all (has_its_arity (system_table s)) (system_symbols s) ≡ true → (f : TextFault) → Refuses f (system_sense s) → HasFault s f
-  has_fault low agreed Syntax e = system_syntax s e
-  has_fault low agreed Limit e = system_limit s low e
-  has_fault low agreed Arity e = system_arity s agreed e
+  pub has_fault : is_system_in_limits_within limits s ≡ true → list_all (has_its_arity (system_table s)) (system_symbols s) ≡ true → (f : TextFault) → Refuses f (system_sense_within limits s) → HasFault s f
+  has_fault low agreed Syntax e = system_syntax limits s e
+  has_fault low agreed Limit e = system_limit limits s low e
+  has_fault low agreed Arity e = system_arity limits s agreed e
   has_fault low agreed (NameCount i) e =
       let e = behind (NameCount i) (λ x. cc) (λ x. cc) e in
       uncounted s is i (by_count _ _ _ _ _ i e.1)
@@ -223,23 +224,23 @@ config_lopsided (Err TooMuch) i e = cc
 config_lopsided (Err (Third n)) i e = cc
 config_lopsided (Err NoRoom) i e = cc
 
-module _ (p : Phrase) (is : IsPhrase p) where
-  third-config : (n : ℕ) → Err (Name n) ≡ sense p → (is_in_limits p ≡ true) × (third_occurrence (phrase_names p) ≡ Some n)
-  third-config n = by_cases (is_in_limits p) (list_all (has_its_arity (symbol_table p)) (phrase_symbols p)) (third_occurrence (phrase_names p)) refl refl
+module _ (limits : Limits) (p : Phrase) (is : IsPhrase p) where
+  third-config : (n : ℕ) → Err (Name n) ≡ sense_within limits p → (is_in_limits_within limits p ≡ true) × (third_occurrence (phrase_names p) ≡ Some n)
+  third-config n = by_cases (is_in_limits_within limits p) (list_all (has_its_arity (symbol_table p)) (phrase_symbols p)) (third_occurrence (phrase_names p)) refl refl
     where
-      by_cases : (l o : Bool) (t : Option ℕ) → is_in_limits p ≡ l → third_occurrence (phrase_names p) ≡ t
+      by_cases : (l o : Bool) (t : Option ℕ) → is_in_limits_within limits p ≡ l → third_occurrence (phrase_names p) ≡ t
           → Err (Name n) ≡ cond l (cond o (unless_third_name {A = List Symbol × Configuration} (symbol_table p, numbered_phrase (symbol_table p) p) t) (Err Arity)) (Err Limit)
-          → (is_in_limits p ≡ true) × (third_occurrence (phrase_names p) ≡ Some n)
+          → (is_in_limits_within limits p ≡ true) × (third_occurrence (phrase_names p) ≡ Some n)
       by_cases false o t low found e = cc
       by_cases true false t low found e = cc
       by_cases true true None low found e = cc
       by_cases true true (Some m) low found e = let same : m ≡ n = cc in (low, found ∙ ap Some same)
 
-  low-config : is_in_limits p ≡ true → list_all (λ n. nat_le n MAX_NAME) (phrase_names p) ≡ true
+  low-config : is_in_limits_within limits p ≡ true → list_all (λ n. nat_le n MAX_NAME) (phrase_names p) ≡ true
   low-config low = (and_parts _ _ (and_parts _ _ (and_parts _ _ (and_parts _ _ low).0).0).0).1
 
-  config_limit : is_in_limits p ≡ true → Err Limit ≡ sense p → ⊥
-  config_limit low = by_cases (is_in_limits p) (list_all (has_its_arity (symbol_table p)) (phrase_symbols p)) (third_occurrence (phrase_names p)) low
+  config_limit : is_in_limits_within limits p ≡ true → Err Limit ≡ sense_within limits p → ⊥
+  config_limit low = by_cases (is_in_limits_within limits p) (list_all (has_its_arity (symbol_table p)) (phrase_symbols p)) (third_occurrence (phrase_names p)) low
     where
       by_cases : (l o : Bool) (t : Option ℕ) → l ≡ true
           → Err Limit ≡ cond l (cond o (unless_third_name {A = List Symbol × Configuration} (symbol_table p, numbered_phrase (symbol_table p) p) t) (Err Arity)) (Err Limit) → ⊥
@@ -248,7 +249,7 @@ module _ (p : Phrase) (is : IsPhrase p) where
       by_cases true true None is e = cc
       by_cases true true (Some m) is e = cc
 
-  pub has_fault-config : is_in_limits p ≡ true → (a : Result Configuration ConfigFault) (f : TextFault) → Refuses f (as_text_answer a) → Refuses f (sense p) → HasFault (alone p) f
+  pub has_fault-config : is_in_limits_within limits p ≡ true → (a : Result Configuration ConfigFault) (f : TextFault) → Refuses f (as_text_answer a) → Refuses f (sense_within limits p) → HasFault (alone p) f
   has_fault-config low a Syntax built e = config_syntax a built
   has_fault-config low a Limit built e = config_limit low e
   has_fault-config low a Arity built e = config_arity a built

@@ -16,6 +16,7 @@ pub mod PrefixWords
 pub mod BuiltTrees
 pub mod JoinedPhrase
 pub mod BuiltRules
+pub mod LimitLemmas
 pub mod Over
 pub mod Sensing
 pub mod SensingSystem
@@ -31,6 +32,8 @@ pub mod SymbolOrder
 pub mod ByteKinds
 pub mod InTextOrder
 pub mod NextAbove
+pub mod WithinLimits
+pub mod WiderLimits
 pub mod Surveying
 pub mod Going
 pub mod Placing

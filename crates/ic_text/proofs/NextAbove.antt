@@ -5,14 +5,15 @@ use Rattle.ic_term.specs.Symbol.{Symbol}
 use Rattle.ic_term.specs.Configuration.{Configuration, configuration_names, one_above, third_occurrence}
 use Rattle.ic_rules.specs.RuleSet.{first_uncounted, first_repeated, first_lopsided}
 use Rattle.ic_rules.specs.System.{SystemParts}
+use Rattle.ic_text.specs.declared.limits.Limits.{Limits}
 use Rattle.ic_text.specs.declared.fault.TextFault.{TextFault}
 use Rattle.ic_text.specs.declared.fault.TextFault.TheVariants.{Limit, Arity, NameCount, Name, Twice, Lopsided}
 use Rattle.ic_text.specs.Source.{IsPhrase, phrase_words, phrase_names}
 use Rattle.ic_text.specs.SystemSource.{SystemPhrase, IsSystemPhrase, system_words, system_symbols}
-use Rattle.ic_text.specs.Sense.{has_its_arity, numbered_phrase, sense}
-use Rattle.ic_text.specs.SystemSense.{system_table, is_system_in_limits, rules_over, system_parts, unless_found, system_sense}
-use Rattle.ic_text.specs.Text.{Reads}
-use Rattle.ic_text.specs.SystemText.{ReadsSystem}
+use Rattle.ic_text.specs.Sense.{has_its_arity, numbered_phrase, sense_within}
+use Rattle.ic_text.specs.SystemSense.{system_table, is_system_in_limits_within, rules_over, system_parts, unless_found, system_sense_within}
+use Rattle.ic_text.specs.Text.{ReadsWithin}
+use Rattle.ic_text.specs.SystemText.{ReadsSystemWithin}
 use Rattle.ic_text.proofs.Over.{has_sense}
 use Rattle.ic_text.proofs.OneReading.{told}
 use Rattle.ic_text.proofs.OneSystem.{told_systems}
@@ -21,18 +22,18 @@ use Rattle.ic_text.specs.lemmas.ReadOnce.{meant}
 abbrev IsNext : Configuration → Type 0
 IsNext c = c.next ≡ one_above (configuration_names c)
 
-pub next_of_reading : (text : List ℕ) (table : List Symbol) (c : Configuration) → Reads text (Ok (table, c)) → IsNext c
-next_of_reading text table c reads =
-    let m = meant IsPhrase phrase_words told sense text (table, c) reads in
-    subst IsNext (has_sense m.phrase (table, c) m.means).config refl
+pub next_of_reading : (limits : Limits) (text : List ℕ) (table : List Symbol) (c : Configuration) → ReadsWithin limits text (Ok (table, c)) → IsNext c
+next_of_reading limits text table c reads =
+    let m = meant IsPhrase phrase_words told limits (sense_within limits) text (table, c) reads in
+    subst IsNext (has_sense limits m.phrase (table, c) m.means).config refl
 
 abbrev parts_or : SystemParts → Result SystemParts TextFault → SystemParts
 parts_or d (Ok v) = v
 parts_or d (Err e) = d
 
-config_of_sense : (s : SystemPhrase) (v : SystemParts) → system_sense s ≡ Ok v → numbered_phrase (system_table s) s.config ≡ v.config
-config_of_sense s v =
-    by_cases (is_system_in_limits s) (list_all (has_its_arity (system_table s)) (system_symbols s))
+pub config_of_sense : (limits : Limits) (s : SystemPhrase) (v : SystemParts) → system_sense_within limits s ≡ Ok v → numbered_phrase (system_table s) s.config ≡ v.config
+config_of_sense limits s v =
+    by_cases (is_system_in_limits_within limits s) (list_all (has_its_arity (system_table s)) (system_symbols s))
     (first_uncounted (rules_over s)) (third_occurrence (phrase_names s.config)) (first_repeated (rules_over s)) (first_lopsided (rules_over s))
   where
     by_cases : (a b : Bool) (counted third repeated uneven : Option ℕ)
@@ -46,7 +47,7 @@ config_of_sense s v =
     by_cases true true None None None (Some n) e = cc
     by_cases true true None None None None e = ap (λ r. (parts_or (system_parts s) r).config) e
 
-pub next_of_system : (text : List ℕ) (v : SystemParts) → ReadsSystem text (Ok v) → IsNext v.config
-next_of_system text v reads =
-    let m = meant IsSystemPhrase system_words told_systems system_sense text v reads in
-    subst IsNext (config_of_sense m.phrase v m.means) refl
+pub next_of_system : (limits : Limits) (text : List ℕ) (v : SystemParts) → ReadsSystemWithin limits text (Ok v) → IsNext v.config
+next_of_system limits text v reads =
+    let m = meant IsSystemPhrase system_words told_systems limits (system_sense_within limits) text v reads in
+    subst IsNext (config_of_sense limits m.phrase v m.means) refl

@@ -7,14 +7,15 @@ use Rattle.std.proofs.lemmas.List.{take_more, take-take, take-append-drop}
 use Rattle.ic_term.specs.Symbol.{Symbol}
 use Rattle.ic_text.specs.declared.fault.TextFault.{TextFault}
 use Rattle.ic_text.specs.declared.fault.TextFault.TheVariants.{Syntax, Limit, Arity, NameCount, Name, Twice, Lopsided}
+use Rattle.ic_text.specs.declared.limits.Limits.{Limits}
 use Rattle.ic_text.specs.declared.misread.Detail.{Detail}
 use Rattle.ic_text.specs.declared.misread.Detail.TheVariants.{Nothing, Passed, Arities}
 use Rattle.ic_text.specs.declared.misread.Limit.{Limit as Bound}
 use Rattle.ic_text.specs.declared.misread.Limit.TheVariants.{TextBytes, SymbolBytes, Arguments, NameNumber, Symbols, Rules, RuleNodes, Interface, Nodes}
 use Rattle.ic_text.specs.Token.{Token, is_word_byte}
 use Rattle.ic_text.specs.Words.{Written, all_words}
-use Rattle.ic_text.specs.WordFaults.{IsFaultWord, IsLimitWord, IsMiscount, IsThirdWord, agree, at_most_twice, is_miscounted, keeps_so_far, rank}
-use Rattle.ic_text.specs.Places.{IsPlaced, IsPlacedWord, IsWordPlace, is_between}
+use Rattle.ic_text.specs.WordFaults.{IsFaultWordWithin, IsLimitWordWithin, IsMiscount, IsThirdWord, agree, at_most_twice, is_miscounted, keeps_so_far, rank}
+use Rattle.ic_text.specs.Places.{IsPlacedWithin, IsPlacedWordWithin, IsWordPlace, is_between}
 use Rattle.ic_text.specs.lemmas.ReadOnce.{IsTold, one_phrase}
 use Rattle.ic_text.proofs.FirstWords.{one_first}
 use Rattle.ic_text.proofs.PlaceLaws.{one_place}
@@ -25,11 +26,11 @@ neither_less : (j k : ℕ) → (j < k → ⊥) → (k < j → ⊥) → j ≡ k
 neither_less j k a b = ⊎_elim (λ less. absurd (a less)) (λ le. ⊎_elim (λ less. absurd (b less)) (λ ge. omega (arith, le, ge)) (cases_lt k j)) (cases_lt j k)
 
 -- a limit is passed with one word first
-limit_before : (a b : Bound) (w : Written) (j k : ℕ) → IsLimitWord a w j → IsLimitWord b w k → j < k → ⊥
-limit_before a b w j k is_j is_k less = false≢true (sym is_j.passed ∙ is_k.innocent (j + 1) (omega (arith, less)) a)
+limit_before : (limits : Limits) (a b : Bound) (w : Written) (j k : ℕ) → IsLimitWordWithin limits a w j → IsLimitWordWithin limits b w k → j < k → ⊥
+limit_before limits a b w j k is_j is_k less = false≢true (sym is_j.passed ∙ is_k.innocent (j + 1) (omega (arith, less)) a)
 
-pub one_limit : (a b : Bound) (w : Written) (j k : ℕ) → IsLimitWord a w j → IsLimitWord b w k → j ≡ k
-one_limit a b w j k is_j is_k = neither_less j k (limit_before a b w j k is_j is_k) (limit_before b a w k j is_k is_j)
+pub one_limit : (limits : Limits) (a b : Bound) (w : Written) (j k : ℕ) → IsLimitWordWithin limits a w j → IsLimitWordWithin limits b w k → j ≡ k
+one_limit limits a b w j k is_j is_k = neither_less j k (limit_before limits a b w j k is_j is_k) (limit_before limits b a w k j is_k is_j)
 
 -- and it is one limit that is told
 abbrev limit_of_rank : ℕ → Bound
@@ -54,14 +55,14 @@ of_its_rank Arguments = refl
 of_its_rank NameNumber = refl
 of_its_rank Symbols = refl
 
-rank_before : (a b : Bound) (w : Written) (j k : ℕ) → IsLimitWord a w j → IsLimitWord b w k → rank a < rank b → ⊥
-rank_before a b w j k is_j is_k less =
-    let same = one_limit a b w j k is_j is_k in
-    false≢true (sym is_j.passed ∙ ap (λ n. keeps_so_far a w (n + 1)) same ∙ is_k.first a less)
+rank_before : (limits : Limits) (a b : Bound) (w : Written) (j k : ℕ) → IsLimitWordWithin limits a w j → IsLimitWordWithin limits b w k → rank a < rank b → ⊥
+rank_before limits a b w j k is_j is_k less =
+    let same = one_limit limits a b w j k is_j is_k in
+    false≢true (sym is_j.passed ∙ ap (λ n. keeps_so_far limits a w (n + 1)) same ∙ is_k.first a less)
 
-pub one_bound : (a b : Bound) (w : Written) (j k : ℕ) → IsLimitWord a w j → IsLimitWord b w k → a ≡ b
-one_bound a b w j k is_j is_k =
-    sym (of_its_rank a) ∙ ap limit_of_rank (neither_less (rank a) (rank b) (rank_before a b w j k is_j is_k) (rank_before b a w k j is_k is_j)) ∙ of_its_rank b
+pub one_bound : (limits : Limits) (a b : Bound) (w : Written) (j k : ℕ) → IsLimitWordWithin limits a w j → IsLimitWordWithin limits b w k → a ≡ b
+one_bound limits a b w j k is_j is_k =
+    sym (of_its_rank a) ∙ ap limit_of_rank (neither_less (rank a) (rank b) (rank_before limits a b w j k is_j is_k) (rank_before limits b a w k j is_k is_j)) ∙ of_its_rank b
 
 one_third : (n : ℕ) (w : Written) (j k : ℕ) → IsThirdWord n w j → IsThirdWord n w k → j ≡ k
 one_third n w j k is_j is_k = omega (arith, is_j.place, is_k.place, one_first (at_most_twice n) w.config is_j.before is_k.before is_j.first is_k.first)
@@ -80,20 +81,20 @@ one_miscount i w j k is_j is_k =
     omega (arith, is_j.place, is_k.place, neither_less is_j.before is_k.before (miscount_before i w j k is_j is_k) (miscount_before i w k j is_k is_j))
 
 -- a refusal is found at one word
-pub one_word : (w : Written) (f : TextFault) (j k : ℕ) (d e : Detail) → IsFaultWord w f j d → IsFaultWord w f k e → j ≡ k
-one_word w Limit j k (Passed a) (Passed b) is_j is_k = one_limit a b w j k is_j is_k
-one_word w Limit j k (Passed a) e is_j is_k = absurd is_k
-one_word w Arity j k (Arities m n) (Arities p q) is_j is_k = one_first agree (all_words w) j k is_j.first is_k.first
-one_word w Arity j k (Arities m n) e is_j is_k = absurd is_k
-one_word w (NameCount i) j k Nothing Nothing is_j is_k = one_miscount i w j k is_j is_k
-one_word w (NameCount i) j k Nothing e is_j is_k = absurd is_k
-one_word w (Name n) j k Nothing Nothing is_j is_k = one_third n w j k is_j is_k
-one_word w (Name n) j k Nothing e is_j is_k = absurd is_k
-one_word w (Twice i) j k Nothing Nothing is_j is_k = is_j.place ∙ sym is_k.place
-one_word w (Twice i) j k Nothing e is_j is_k = absurd is_k
-one_word w (Lopsided i) j k Nothing Nothing is_j is_k = is_j.place ∙ sym is_k.place
-one_word w (Lopsided i) j k Nothing e is_j is_k = absurd is_k
-one_word w f j k d e is_j is_k = absurd is_j
+pub one_word : (limits : Limits) (w : Written) (f : TextFault) (j k : ℕ) (d e : Detail) → IsFaultWordWithin limits w f j d → IsFaultWordWithin limits w f k e → j ≡ k
+one_word limits w Limit j k (Passed a) (Passed b) is_j is_k = one_limit limits a b w j k is_j is_k
+one_word limits w Limit j k (Passed a) e is_j is_k = absurd is_k
+one_word limits w Arity j k (Arities m n) (Arities p q) is_j is_k = one_first agree (all_words w) j k is_j.first is_k.first
+one_word limits w Arity j k (Arities m n) e is_j is_k = absurd is_k
+one_word limits w (NameCount i) j k Nothing Nothing is_j is_k = one_miscount i w j k is_j is_k
+one_word limits w (NameCount i) j k Nothing e is_j is_k = absurd is_k
+one_word limits w (Name n) j k Nothing Nothing is_j is_k = one_third n w j k is_j is_k
+one_word limits w (Name n) j k Nothing e is_j is_k = absurd is_k
+one_word limits w (Twice i) j k Nothing Nothing is_j is_k = is_j.place ∙ sym is_k.place
+one_word limits w (Twice i) j k Nothing e is_j is_k = absurd is_k
+one_word limits w (Lopsided i) j k Nothing Nothing is_j is_k = is_j.place ∙ sym is_k.place
+one_word limits w (Lopsided i) j k Nothing e is_j is_k = absurd is_k
+one_word limits w f j k d e is_j is_k = absurd is_j
 
 -- no fewer words begin in more bytes
 pub begun-append : (xs ys : List ℕ) (within : Bool) → begun_words within xs ≤ begun_words within (xs ++ ys)
@@ -143,14 +144,14 @@ place_before text k a b is_a is_b less =
 pub one_word_place : (text : List ℕ) (k a b : ℕ) → IsWordPlace text k a → IsWordPlace text k b → a ≡ b
 one_word_place text k a b is_a is_b = neither_less a b (place_before text k a b is_a is_b) (place_before text k b a is_b is_a)
 
-module _ {P : Type 0} (IsOne : P → Type 0) (words_of : P → List Token) (written : P → Written) (told : IsTold IsOne words_of) (text : List ℕ) where
-  one_placed : (f : TextFault) (a b : ℕ) (d e : Detail) → IsPlacedWord IsOne words_of written text f a d → IsPlacedWord IsOne words_of written text f b e → a ≡ b
+module _ (limits : Limits) {P : Type 0} (IsOne : P → Type 0) (words_of : P → List Token) (written : P → Written) (told : IsTold IsOne words_of) (text : List ℕ) where
+  one_placed : (f : TextFault) (a b : ℕ) (d e : Detail) → IsPlacedWordWithin limits IsOne words_of written text f a d → IsPlacedWordWithin limits IsOne words_of written text f b e → a ≡ b
   one_placed f a b d e is_a is_b =
       let same = one_phrase IsOne words_of told text is_b.phrase is_a.phrase is_b.spells is_a.spells in
-      let word = one_word (written is_a.phrase) f is_a.word is_b.word d e is_a.refused (subst (λ p. IsFaultWord (written p) f is_b.word e) same is_b.refused) in
+      let word = one_word limits (written is_a.phrase) f is_a.word is_b.word d e is_a.refused (subst (λ p. IsFaultWordWithin limits (written p) f is_b.word e) same is_b.refused) in
       one_word_place text is_a.word a b is_a.place (subst (λ k. IsWordPlace text k b) (sym word) is_b.place)
 
-  pub one_place_told : (f : TextFault) (a b : ℕ) (d e : Detail) → IsPlaced IsOne words_of written text f (Some a) d → IsPlaced IsOne words_of written text f (Some b) e → a ≡ b
+  pub one_place_told : (f : TextFault) (a b : ℕ) (d e : Detail) → IsPlacedWithin limits IsOne words_of written text f (Some a) d → IsPlacedWithin limits IsOne words_of written text f (Some b) e → a ≡ b
   one_place_told Syntax a b Nothing Nothing is_a is_b = one_place _ text a b is_a is_b
   one_place_told Syntax a b Nothing e is_a is_b = absurd is_b.refused
   one_place_told Syntax a b d e is_a is_b = absurd is_a.refused

@@ -8,8 +8,9 @@ use Rattle.ic_term.specs.Symbol.{Symbol, number_of_text, has_arity, is_tree_over
 use Rattle.ic_term.specs.Configuration.{Configuration, third_occurrence}
 use Rattle.ic_text.specs.declared.fault.TextFault.{TextFault}
 use Rattle.ic_text.specs.declared.fault.TextFault.TheVariants.{Limit, Arity}
+use Rattle.ic_text.specs.declared.limits.Limits.{Limits}
 use Rattle.ic_text.specs.Source.{Source, leaf, node, Sources, no_sources, more_sources, Sides, Phrase, source_symbols, symbols_of_sources, phrase_names, phrase_symbols, count_of}
-use Rattle.ic_text.specs.Sense.{symbol_table, has_its_arity, is_in_limits, numbered_tree, numbered_trees, numbered_pair, numbered_phrase, unless_third_name, sense}
+use Rattle.ic_text.specs.Sense.{symbol_table, has_its_arity, is_in_limits_within, numbered_tree, numbered_trees, numbered_pair, numbered_phrase, unless_third_name, sense_within}
 use Rattle.ic_text.proofs.BuiltTrees.{length-numbered_trees}
 
 module _ (table : List Symbol) where
@@ -59,8 +60,8 @@ pub record HasSense (p : Phrase) (v : List Symbol × Configuration) : Type 0 whe
   pub table : symbol_table p ≡ v.0
   pub config : numbered_phrase (symbol_table p) p ≡ v.1
 
-pub has_sense : (p : Phrase) (v : List Symbol × Configuration) → sense p ≡ Ok v → HasSense p v
-has_sense p v = by_cases (is_in_limits p) (list_all (has_its_arity (symbol_table p)) (phrase_symbols p)) (third_occurrence (phrase_names p)) refl
+pub has_sense : (limits : Limits) (p : Phrase) (v : List Symbol × Configuration) → sense_within limits p ≡ Ok v → HasSense p v
+has_sense limits p v = by_cases (is_in_limits_within limits p) (list_all (has_its_arity (symbol_table p)) (phrase_symbols p)) (third_occurrence (phrase_names p)) refl
   where
     by_cases : (a b : Bool) (o : Option ℕ) → list_all (has_its_arity (symbol_table p)) (phrase_symbols p) ≡ b
         → cond a (cond b (unless_third_name {A = List Symbol × Configuration} (symbol_table p, numbered_phrase (symbol_table p) p) o) (Err Arity)) (Err Limit) ≡ Ok v → HasSense p v
@@ -74,7 +75,7 @@ has_sense p v = by_cases (is_in_limits p) (list_all (has_its_arity (symbol_table
     }
 
 -- a sense has a table over which its configuration is
-pub sense-over : (p : Phrase) (v : List Symbol × Configuration) → sense p ≡ Ok v → IsTrue (is_over v.0 v.1)
-sense-over p v e =
-    let s = has_sense p v e in
+pub sense-over : (limits : Limits) (p : Phrase) (v : List Symbol × Configuration) → sense_within limits p ≡ Ok v → IsTrue (is_over v.0 v.1)
+sense-over limits p v e =
+    let s = has_sense limits p v e in
     (λ i. is_over (sym s.table i) (sym s.config i)) ∙ over-numbered_phrase (symbol_table p) p s.agree

@@ -11,18 +11,20 @@ use Rattle.std.proofs.lemmas.List.Folds.{list_all-append}
 use Rattle.std.proofs.lemmas.List.Sums.{sum_by-cons}
 use Rattle.ic_rules.specs.declared.limits.TheConstants.{MAX_RULES, MAX_RULE_NODES}
 use Rattle.ic_term.specs.Symbol.{Symbol, texts}
-use Rattle.ic_term.specs.declared.limits.TheConstants.{MAX_SYMBOLS, MAX_SYMBOL_TEXT, MAX_ARITY, MAX_INTERFACE, MAX_NODES}
+use Rattle.ic_term.specs.declared.limits.TheConstants.{MAX_SYMBOLS, MAX_SYMBOL_TEXT, MAX_ARITY}
 use Rattle.ic_text.specs.declared.limits.TheConstants.{MAX_NAME}
+use Rattle.ic_text.specs.declared.limits.Limits.{Limits}
 use Rattle.ic_text.specs.declared.misread.Limit.{Limit as Bound}
 use Rattle.ic_text.specs.declared.misread.Limit.TheVariants.{SymbolBytes, Arguments, NameNumber, Symbols, Rules, RuleNodes, Interface, Nodes}
 use Rattle.ic_text.specs.Agents.{agents, nodes_within}
+use Rattle.ic_text.specs.Limits.{most_interface, most_nodes}
 use Rattle.ic_text.specs.Name.{is_name, name_number, name_text}
 use Rattle.ic_text.specs.Sense.{symbols_after}
 use Rattle.ic_text.specs.Source.{Sides, phrase_nodes, nodes_of_sources}
 use Rattle.ic_text.specs.SystemSource.{AgentPhrase, RulePhrase, SystemPhrase, IsSystemPhrase, agent_source, rule_nodes, system_names, system_symbols}
 use Rattle.ic_text.specs.SystemSense.{system_table}
 use Rattle.ic_text.specs.Words.{all_words, in_a_row, names_among, phrase_prefix, prefix, rules_prefix, symbols_among, system_prefix, written_system}
-use Rattle.ic_text.specs.WordFaults.{IsLimitWord, count_words, counts_keep, keeps, keeps_so_far}
+use Rattle.ic_text.specs.WordFaults.{IsLimitWordWithin, count_words, counts_keep, keeps, keeps_so_far}
 use Rattle.ic_text.specs.lemmas.NameLemmas.{name_text-name_number}
 use Rattle.ic_text.proofs.Blaming.{Standing}
 use Rattle.ic_text.proofs.Counting.{count-both, count-rules, count-take}
@@ -141,7 +143,7 @@ module _ (rs : List RulePhrase) where
     pub nodes_are_more : most < sum_by rule_nodes rs
     nodes_are_more = omega (arith, passed, count-take (k + 1) row false 0, count-both row 0, count-rules rs, length-rules_prefix rs)
 
-module _ (s : SystemPhrase) (k : ℕ) where
+module _ (limits : Limits) (s : SystemPhrase) (k : ℕ) where
   abbrev row_of : List Symbol
   row_of = in_a_row (written_system s).rules
 
@@ -154,13 +156,13 @@ module _ (s : SystemPhrase) (k : ℕ) where
   same_count : (outer : Bool) (j : ℕ) → count_words outer 0 (take j row_of) ≡ count_words outer 0 (take j (rules_prefix s.rules))
   same_count outer j = ap (λ l. count_words outer 0 (take j l)) (rules_row s)
 
-  pub rules_passed : IsLimitWord Rules (written_system s) k → (MAX_RULES < length s.rules) × (k ≡ length (rules_prefix (take MAX_RULES s.rules)))
+  pub rules_passed : IsLimitWordWithin limits Rules (written_system s) k → (MAX_RULES < length s.rules) × (k ≡ length (rules_prefix (take MAX_RULES s.rules)))
   rules_passed is =
       let over = leb-false (count_words true 0 (take (k + 1) row_of)) (2 * MAX_RULES) (and_first _ is.passed) in
       let within = leb-true (count_words true 0 (take k row_of)) (2 * MAX_RULES) (and_parts _ true (is.innocent k (omega arith) Rules)).0 in
       rule_too_many s.rules MAX_RULES k (omega (arith, within, same_count true k)) (omega (arith, over, same_count true (k + 1)))
 
-  pub rule_nodes_passed : IsLimitWord RuleNodes (written_system s) k
+  pub rule_nodes_passed : IsLimitWordWithin limits RuleNodes (written_system s) k
       → (n : ℕ) × (k ≡ MAX_RULE_NODES + n + 1) × (nodes_within (take n (agents s.rules)) ≤ MAX_RULE_NODES) × (MAX_RULE_NODES < nodes_within (take (n + 1) (agents s.rules))) × (MAX_RULE_NODES < sum_by rule_nodes s.rules)
   rule_nodes_passed is =
       let over = leb-false (count_words false 0 (take (k + 1) row_of)) MAX_RULE_NODES (and_first _ is.passed) in
@@ -174,19 +176,19 @@ module _ (s : SystemPhrase) (k : ℕ) where
   behind_rules : (j : ℕ) → length row_of < j → j ≡ length row_of + (j - length row_of)
   behind_rules j less = omega (arith, less)
 
-  pub interface_passed : IsLimitWord Interface (written_system s) k → (MAX_INTERFACE < length s.config.interface) × (k ≡ length (rules_prefix s.rules) + length (flat_map prefix (take MAX_INTERFACE s.config.interface)))
+  pub interface_passed : IsLimitWordWithin limits Interface (written_system s) k → (most_interface limits < length s.config.interface) × (k ≡ length (rules_prefix s.rules) + length (flat_map prefix (take (most_interface limits) s.config.interface)))
   interface_passed is =
       let us = flat_map (λ (e : Sides). prefix e.left ++ prefix e.right) s.config.equations in
-      let over = or_parts (nat_le terms MAX_INTERFACE) (nat_le (count_words true 0 (behind (k + 1))) MAX_INTERFACE) is.passed in
-      let many = leb-false terms MAX_INTERFACE over.0 in
-      let passed = leb-false (count_words true 0 (behind (k + 1))) MAX_INTERFACE over.1 in
-      let kept = leb-true (count_words true 0 (behind k)) MAX_INTERFACE (or_kept (nat_le terms MAX_INTERFACE) _ over.0 (is.innocent k (omega arith) Interface)) in
+      let over = or_parts (nat_le terms (most_interface limits)) (nat_le (count_words true 0 (behind (k + 1))) (most_interface limits)) is.passed in
+      let many = leb-false terms (most_interface limits) over.0 in
+      let passed = leb-false (count_words true 0 (behind (k + 1))) (most_interface limits) over.1 in
+      let kept = leb-true (count_words true 0 (behind k)) (most_interface limits) (or_kept (nat_le terms (most_interface limits)) _ over.0 (is.innocent k (omega arith) Interface)) in
       let there = past passed in
       let next : k + 1 - length row_of ≡ k - length row_of + 1 = omega (arith, there) in
-      let at = one_too_many s.config.interface us MAX_INTERFACE (k - length row_of) many kept (omega (arith, passed, ap (λ j. count_words true 0 (take j (phrase_prefix s.config))) next)) in
+      let at = one_too_many s.config.interface us (most_interface limits) (k - length row_of) many kept (omega (arith, passed, ap (λ j. count_words true 0 (take j (phrase_prefix s.config))) next)) in
       (many, omega (arith, at, there, ap length (rules_row s)))
     where
-      past : MAX_INTERFACE < count_words true 0 (behind (k + 1)) → length row_of ≤ k
+      past : most_interface limits < count_words true 0 (behind (k + 1)) → length row_of ≤ k
       past passed = ⊎_elim none (λ le. le) (cases_lt k (length row_of))
         where
           none : k < length row_of → length row_of ≤ k
@@ -194,10 +196,10 @@ module _ (s : SystemPhrase) (k : ℕ) where
               let empty : k + 1 - length row_of ≡ 0 = omega (arith, less) in
               omega (arith, passed, ap (λ j. count_words true 0 (take j (phrase_prefix s.config))) empty)
 
-  pub nodes_passed : IsLimitWord Nodes (written_system s) k → (MAX_NODES < phrase_nodes s.config) × (k ≡ length (rules_prefix s.rules) + MAX_NODES)
+  pub nodes_passed : IsLimitWordWithin limits Nodes (written_system s) k → (most_nodes limits < phrase_nodes s.config) × (k ≡ length (rules_prefix s.rules) + most_nodes limits)
   nodes_passed is =
-      let over = leb-false (length (behind (k + 1))) MAX_NODES is.passed in
-      let within = leb-true (length (behind k)) MAX_NODES (is.innocent k (omega arith) Nodes) in
+      let over = leb-false (length (behind (k + 1))) (most_nodes limits) is.passed in
+      let within = leb-true (length (behind k)) (most_nodes limits) (is.innocent k (omega arith) Nodes) in
       let long : length (all_words (written_system s)) ≡ length row_of + length (phrase_prefix s.config) = length-append row_of (phrase_prefix s.config) in
       let inside = is.inside in (
         omega (arith, over, length-take (k + 1 - length row_of) (phrase_prefix s.config), length-phrase_prefix s.config),
@@ -271,7 +273,7 @@ symbols_of_system s is = ap symbols_among (sym (prefix-joined s)) ∙ symbols_am
 pub names_of_system : (s : SystemPhrase) → IsSystemPhrase s → names_among (system_prefix s) ≡ system_names s
 names_of_system s is = ap names_among (sym (prefix-joined s)) ∙ names_among-phrase (joined_phrase s) (is-joined s is) ∙ names-joined s
 
-module _ (s : SystemPhrase) (is : IsSystemPhrase s) (k : ℕ) where
+module _ (limits : Limits) (s : SystemPhrase) (is : IsSystemPhrase s) (k : ℕ) where
   same_words : all_words (written_system s) ≡ system_prefix s
   same_words = written-system s
 
@@ -282,31 +284,31 @@ module _ (s : SystemPhrase) (is : IsSystemPhrase s) (k : ℕ) where
   inside_of inside = omega (arith, inside, ap length same_words)
 
   -- a limit of words is passed by the words themselves
-  passed_at : (bound : Bound) → counts_keep bound (written_system s) (k + 1) ≡ true → keeps_so_far bound (written_system s) (k + 1) ≡ false → keeps bound (take (k + 1) words_are) ≡ false
-  passed_at bound none e = ap (λ l. keeps bound (take (k + 1) l)) (sym same_words) ∙ first (keeps bound (take (k + 1) (all_words (written_system s)))) (counts_keep bound (written_system s) (k + 1)) none e
+  passed_at : (bound : Bound) → counts_keep limits bound (written_system s) (k + 1) ≡ true → keeps_so_far limits bound (written_system s) (k + 1) ≡ false → keeps bound (take (k + 1) words_are) ≡ false
+  passed_at bound none e = ap (λ l. keeps bound (take (k + 1) l)) (sym same_words) ∙ first (keeps bound (take (k + 1) (all_words (written_system s)))) (counts_keep limits bound (written_system s) (k + 1)) none e
     where
       first : (x y : Bool) → y ≡ true → (x && y) ≡ false → x ≡ false
       first true y is e = absurd (false≢true (sym e ∙ is))
       first false y is e = refl
 
-  kept_at : (bound : Bound) → keeps_so_far bound (written_system s) k ≡ true → keeps bound (take k words_are) ≡ true
-  kept_at bound e = ap (λ l. keeps bound (take k l)) (sym same_words) ∙ (and_parts (keeps bound (take k (all_words (written_system s)))) (counts_keep bound (written_system s) k) e).0
+  kept_at : (bound : Bound) → keeps_so_far limits bound (written_system s) k ≡ true → keeps bound (take k words_are) ≡ true
+  kept_at bound e = ap (λ l. keeps bound (take k l)) (sym same_words) ∙ (and_parts (keeps bound (take k (all_words (written_system s)))) (counts_keep limits bound (written_system s) k) e).0
 
-  pub symbol_bytes_passed : IsLimitWord SymbolBytes (written_system s) k → (x : Symbol) × (slice_get words_are k ≡ Some x) × Contains (system_symbols s) x × (MAX_SYMBOL_TEXT < length x.text)
+  pub symbol_bytes_passed : IsLimitWordWithin limits SymbolBytes (written_system s) k → (x : Symbol) × (slice_get words_are k ≡ Some x) × Contains (system_symbols s) x × (MAX_SYMBOL_TEXT < length x.text)
   symbol_bytes_passed passed =
       let inside = inside_of passed.inside in
       let at = symbol_at words_are k inside (λ x. nat_le (length x.text) MAX_SYMBOL_TEXT) (kept_at SymbolBytes (passed.innocent k (omega arith) SymbolBytes)) (passed_at SymbolBytes refl passed.passed) in
       let x = the_word words_are k inside in
       (x, (stands_here words_are k inside).here, subst (λ l. Contains l x) (symbols_of_system s is) (has_symbol words_are k inside at.0), leb-false (length x.text) MAX_SYMBOL_TEXT at.1)
 
-  pub arguments_passed : IsLimitWord Arguments (written_system s) k → (x : Symbol) × (slice_get words_are k ≡ Some x) × Contains (system_symbols s) x × (MAX_ARITY < x.arity)
+  pub arguments_passed : IsLimitWordWithin limits Arguments (written_system s) k → (x : Symbol) × (slice_get words_are k ≡ Some x) × Contains (system_symbols s) x × (MAX_ARITY < x.arity)
   arguments_passed passed =
       let inside = inside_of passed.inside in
       let at = symbol_at words_are k inside (λ x. nat_le x.arity MAX_ARITY) (kept_at Arguments (passed.innocent k (omega arith) Arguments)) (passed_at Arguments refl passed.passed) in
       let x = the_word words_are k inside in
       (x, (stands_here words_are k inside).here, subst (λ l. Contains l x) (symbols_of_system s is) (has_symbol words_are k inside at.0), leb-false x.arity MAX_ARITY at.1)
 
-  pub name_number_passed : IsLimitWord NameNumber (written_system s) k → (n : ℕ) × (slice_get (texts words_are) k ≡ Some (name_text n)) × Contains (system_names s) n × (MAX_NAME < n)
+  pub name_number_passed : IsLimitWordWithin limits NameNumber (written_system s) k → (n : ℕ) × (slice_get (texts words_are) k ≡ Some (name_text n)) × Contains (system_names s) n × (MAX_NAME < n)
   name_number_passed passed =
       let inside = inside_of passed.inside in
       let at = name_at words_are k inside (λ n. nat_le n MAX_NAME) (kept_at NameNumber (passed.innocent k (omega arith) NameNumber)) (passed_at NameNumber refl passed.passed) in
@@ -318,7 +320,7 @@ module _ (s : SystemPhrase) (is : IsSystemPhrase s) (k : ℕ) where
         leb-false n MAX_NAME at.1,
       )
 
-  pub symbols_passed : IsLimitWord Symbols (written_system s) k → MAX_SYMBOLS < length (system_table s)
+  pub symbols_passed : IsLimitWordWithin limits Symbols (written_system s) k → MAX_SYMBOLS < length (system_table s)
   symbols_passed passed =
       let inside = inside_of passed.inside in
       let over = leb-false (length (symbols_after [] (symbols_among (take (k + 1) words_are)))) MAX_SYMBOLS (passed_at Symbols refl passed.passed) in

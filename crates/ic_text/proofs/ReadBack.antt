@@ -10,10 +10,11 @@ use Rattle.std.proofs.lemmas.List.Sums.{length-filter, count_by-le-length}
 use Rattle.std.proofs.lemmas.Slice.Eq.{bytes_eq-Decides}
 use Rattle.ic_term.specs.Symbol.{Symbol, texts, number_of_text, has_arity}
 use Rattle.ic_term.specs.Configuration.{Configuration}
+use Rattle.ic_text.specs.declared.limits.Limits.{Limits}
 use Rattle.ic_text.specs.Token.{is_blank}
 use Rattle.ic_text.specs.Source.{Source, leaf, node, Sources, no_sources, more_sources, Sides, Phrase, IsPhrase, source_symbols, symbols_of_sources, phrase_symbols, phrase_words, count_of}
-use Rattle.ic_text.specs.Sense.{symbol_table, has_its_arity, number_in_table, numbered_tree, numbered_trees, numbered_pair, numbered_phrase, sense}
-use Rattle.ic_text.specs.Text.{Spells, Reads, text_or_none, source_of, sources_of, sides_of, phrase_of, printed, text_of}
+use Rattle.ic_text.specs.Sense.{symbol_table, has_its_arity, number_in_table, numbered_tree, numbered_trees, numbered_pair, numbered_phrase, sense_within}
+use Rattle.ic_text.specs.Text.{Spells, ReadsWithin, text_or_none, source_of, sources_of, sides_of, phrase_of, printed, text_of}
 use Rattle.ic_text.proofs.KeptBytes.{text_of-tokens}
 use Rattle.ic_text.proofs.Over.{has_sense}
 use Rattle.ic_text.proofs.WrittenTokens.{tokens-phrase_words}
@@ -72,22 +73,22 @@ module _ (table : List Symbol) where
       λ i. record { interface = interface_back p.interface parts.0 i; equations = equations_back p.equations parts.1 i }
 
 -- what a phrase means is written as that phrase
-sense_back : (p : Phrase) (v : List Symbol × Configuration) → sense p ≡ Ok v → phrase_of v.0 v.1 ≡ p
-sense_back p v e =
-    let s = has_sense p v e in
+sense_back : (limits : Limits) (p : Phrase) (v : List Symbol × Configuration) → sense_within limits p ≡ Ok v → phrase_of v.0 v.1 ≡ p
+sense_back limits p v e =
+    let s = has_sense limits p v e in
     (λ i. phrase_of (sym s.table i) (sym s.config i)) ∙ phrase_back (symbol_table p) p s.agree
 
-pub read_back : (text : List ℕ) (table : List Symbol) (c : Configuration) → Reads text (Ok (table, c)) → Reads (printed table c) (Ok (table, c)) × (length (printed table c) ≤ length text)
-read_back text table c reads =
-    let m = meant IsPhrase phrase_words told sense text (table, c) reads in
-    let back : phrase_of table c ≡ m.phrase = sense_back m.phrase (table, c) m.means in
+pub read_back : (limits : Limits) (text : List ℕ) (table : List Symbol) (c : Configuration) → ReadsWithin limits text (Ok (table, c)) → ReadsWithin limits (printed table c) (Ok (table, c)) × (length (printed table c) ≤ length text)
+read_back limits text table c reads =
+    let m = meant IsPhrase phrase_words told limits (sense_within limits) text (table, c) reads in
+    let back : phrase_of table c ≡ m.phrase = sense_back limits m.phrase (table, c) m.means in
     let is : IsPhrase (phrase_of table c) = subst IsPhrase (sym back) m.spells.phrase in
     let spells : Spells (printed table c) (phrase_of table c) = record { phrase = is; tokens = tokens-phrase_words (phrase_of table c) is } in
     let bytes : printed table c ≡ filter (λ b. not (is_blank b)) text = ap (λ q. text_of (phrase_words q)) back ∙ text_of-tokens text (phrase_words m.phrase) m.spells.tokens in
     let no_longer : length (printed table c) ≤ length text = omega (arith, ap length bytes, length-filter (λ b. not (is_blank b)) text, count_by-le-length (λ b. not (is_blank b)) text) in (
       record {
         long = λ long. absurd (omega (arith, m.short));
-        spelled = λ _ q other. sym m.means ∙ ap sense (sym back) ∙ ap sense (one_phrase IsPhrase phrase_words told (printed table c) (phrase_of table c) q spells other);
+        spelled = λ _ q other. sym m.means ∙ ap (sense_within limits) (sym back) ∙ ap (sense_within limits) (one_phrase IsPhrase phrase_words told (printed table c) (phrase_of table c) q spells other);
         malformed = λ _ none. absurd (none (phrase_of table c) spells);
       },
       no_longer,

@@ -7,15 +7,17 @@ use Rattle.std.proofs.lemmas.List.Sums.{sum_by-cons}
 use Rattle.std.proofs.lemmas.Bool.{false≢true, and_parts, le-leb, leb-true, lt-ltb}
 use Rattle.ic_term.specs.Symbol.{Symbol, fits_limits}
 use Rattle.ic_term.specs.Tree.{names, names_of, nodes, nodes_of, pair_names, pair_nodes}
-use Rattle.ic_term.specs.Configuration.{Configuration, configuration_names, configuration_nodes, one_above, third_occurrence, is_within, unless_third, restored}
+use Rattle.ic_term.specs.Configuration.{Configuration, configuration_names, configuration_nodes, one_above, third_occurrence, is_within_wide, unless_third, wide_restored}
 use Rattle.ic_term.specs.declared.config.ConfigFault.TheVariants.{Limit as TooMuch}
-use Rattle.ic_term.specs.declared.limits.TheConstants.{MAX_NODES, MAX_INTERFACE, MAX_SYMBOLS, MAX_NEXT}
+use Rattle.ic_term.specs.declared.limits.TheConstants.{MAX_SYMBOLS, MAX_NEXT, MAX_WIDE_NODES}
 use Rattle.ic_flat.specs.declared.word.Word.{Word}
+use Rattle.ic_text.specs.declared.limits.Limits.{Limits}
 use Rattle.ic_text.specs.declared.limits.TheConstants.{MAX_NAME}
 use Rattle.ic_text.specs.declared.fault.TextFault.{TextFault}
 use Rattle.ic_text.specs.declared.fault.TextFault.TheVariants.{Syntax, Limit, Arity, NameCount, Name, Twice, Lopsided, Memory}
+use Rattle.ic_text.specs.Limits.{most_interface, most_nodes}
 use Rattle.ic_text.specs.Source.{Source, leaf, node, Sources, no_sources, more_sources, Sides, Phrase, IsPhrase, source_names, names_of_sources, source_nodes, nodes_of_sources, phrase_names, phrase_symbols, phrase_nodes}
-use Rattle.ic_text.specs.Sense.{symbols_after, symbol_table, has_its_arity, numbered_tree, numbered_trees, numbered_pair, numbered_phrase, unless_third_name, sense}
+use Rattle.ic_text.specs.Sense.{symbols_after, symbol_table, has_its_arity, numbered_tree, numbered_trees, numbered_pair, numbered_phrase, unless_third_name, sense_within}
 use Rattle.ic_text.specs.declared.prefix.Node.{Node}
 use Rattle.ic_text.specs.inner.Prefix.{node_of, nodes_of as words_of}
 use Rattle.ic_text.specs.Words.{phrase_prefix}
@@ -23,6 +25,7 @@ use Rattle.ic_text.specs.inner.Numbered.{table_over, is_word_in_limits, is_word_
 use Rattle.ic_flat.specs.Words.{forest}
 use Rattle.ic_text.specs.inner.Built.{IsPaired, configuration_from}
 use Rattle.ic_text.proofs.PrefixWords.{symbols_among-phrase, names_among-phrase, limits-words, table-words, arities-words, length-phrase_prefix}
+use Rattle.ic_text.proofs.LimitLemmas.{nodes-low}
 use Rattle.ic_text.proofs.BuiltTrees.{configuration_from-built, paired-phrase}
 
 flat_map-map : {A B C : Type 0} (f : B → List C) (g : A → B) (xs : List A) → flat_map f (map g xs) ≡ flat_map (λ x. f (g x)) xs
@@ -59,7 +62,7 @@ module _ (table : List Symbol) where
       let second = flat_map-map pair_names (numbered_pair table) p.equations ∙ (λ i. flat_map (λ (e : Sides). names-numbered_tree e.left i ++ names-numbered_tree e.right i) p.equations) in
       λ i. first i ++ second i
 
-  nodes-numbered_phrase : (p : Phrase) → configuration_nodes (numbered_phrase table p) ≡ phrase_nodes p
+  pub nodes-numbered_phrase : (p : Phrase) → configuration_nodes (numbered_phrase table p) ≡ phrase_nodes p
   nodes-numbered_phrase p =
       let first = sum_by-map nodes (numbered_tree table) p.interface ∙ (λ i. sum_by (λ t. nodes-numbered_tree t i) p.interface) in
       let second = sum_by-map pair_nodes (numbered_pair table) p.equations ∙ (λ i. sum_by (λ (e : Sides). nodes-numbered_tree e.left i + nodes-numbered_tree e.right i) p.equations) in
@@ -76,21 +79,21 @@ one_above_low (n ∷ ns) low =
     let parts = and_parts (nat_le n MAX_NAME) _ low in
     omega (arith, leb-true n MAX_NAME parts.0, one_above_low ns parts.1)
 
-and4 : (a b c d : Bool) → a ≡ true → b ≡ true → c ≡ true → d ≡ true → (a && b && c && d) ≡ true
-and4 a b c d x y z w = rw (x, y, z, w) refl
+and3 : (a b c : Bool) → a ≡ true → b ≡ true → c ≡ true → (a && b && c) ≡ true
+and3 a b c x y z = rw (x, y, z) refl
 
 -- within the limits of a text, only a third occurrence refuses a configuration
-pub restored-numbered : (table : List Symbol) (p : Phrase) → nat_le (phrase_nodes p) MAX_NODES ≡ true → nat_le (length p.interface) MAX_INTERFACE ≡ true → list_all (λ n. nat_le n MAX_NAME) (phrase_names p) ≡ true
-    → restored (numbered_phrase table p) ≡ unless_third (numbered_phrase table p) (third_occurrence (phrase_names p))
-restored-numbered table p few short low =
+pub restored-numbered : (limits : Limits) (table : List Symbol) (p : Phrase) → nat_le (phrase_nodes p) (most_nodes limits) ≡ true → list_all (λ n. nat_le n MAX_NAME) (phrase_names p) ≡ true
+    → wide_restored (numbered_phrase table p) ≡ unless_third (numbered_phrase table p) (third_occurrence (phrase_names p))
+restored-numbered limits table p few low =
     let c = numbered_phrase table p in
     let names_are : configuration_names c ≡ phrase_names p = names-numbered_phrase table p in
     let low_names : list_all (λ n. nat_le n MAX_NAME) (configuration_names c) ≡ true = ap (list_all (λ n. nat_le n MAX_NAME)) names_are ∙ low in
-    let nodes_fit : nat_le (configuration_nodes c) MAX_NODES ≡ true = ap (λ n. nat_le n MAX_NODES) (nodes-numbered_phrase table p) ∙ few in
-    let terms_fit : nat_le (length c.interface) MAX_INTERFACE ≡ true = ap (λ n. nat_le n MAX_INTERFACE) (length-map p.interface (numbered_tree table)) ∙ short in
+    let nodes_fit : nat_le (configuration_nodes c) MAX_WIDE_NODES ≡ true =
+    le-leb (configuration_nodes c) MAX_WIDE_NODES (omega (arith, nodes-numbered_phrase table p, leb-true (phrase_nodes p) (most_nodes limits) few, nodes-low limits)) in
     let next_fits : nat_le c.next MAX_NEXT ≡ true = le-leb c.next MAX_NEXT (omega (arith, one_above_low (configuration_names c) low_names)) in
     let below : list_all (λ n. nat_lt n c.next) (configuration_names c) ≡ true = below_above (configuration_names c) c.next (omega arith) in
-    let within : is_within c ≡ true = and4 _ _ _ _ nodes_fit terms_fit next_fits below in
+    let within : is_within_wide c ≡ true = and3 _ _ _ nodes_fit next_fits below in
     ap (λ b. cond b (unless_third c (third_occurrence (configuration_names c))) (Err TooMuch)) within ∙ ap (λ ns. unless_third c (third_occurrence ns)) names_are
 
 -- a configuration beside its table
@@ -100,7 +103,7 @@ beside_table table (Err e) = Err e
 
 -- numbered words as a configuration with so many terms in its interface
 abbrev pub finished : ℕ → Result (List Symbol × List Word) TextFault → Result (List Symbol × Configuration) TextFault
-finished terms (Ok v) = beside_table v.0 (as_text_answer (restored (configuration_from terms (forest v.1))))
+finished terms (Ok v) = beside_table v.0 (as_text_answer (wide_restored (configuration_from terms (forest v.1))))
 finished terms (Err e) = Err e
 
 third_beside : (table : List Symbol) (c : Configuration) (o : Option ℕ) → unless_third_name (table, c) o ≡ beside_table table (as_text_answer (unless_third c o))
@@ -155,10 +158,10 @@ module _ (p : Phrase) (is : IsPhrase p) where
       rw same (paired-phrase table p is)
 
   -- where neither nodes nor terms of the interface are too many, the sense is that of the words
-  pub sense-words : nat_le (phrase_nodes p) MAX_NODES ≡ true → nat_le (length p.interface) MAX_INTERFACE ≡ true → sense p ≡ finished (length p.interface) (numbered_words (phrase_prefix p))
-  sense-words few short = whole ∙ by_cases in_limits agree refl ∙ ap (finished (length p.interface)) (sym numbered_words-phrase)
+  pub sense-words : (limits : Limits) → nat_le (phrase_nodes p) (most_nodes limits) ≡ true → nat_le (length p.interface) (most_interface limits) ≡ true → sense_within limits p ≡ finished (length p.interface) (numbered_words (phrase_prefix p))
+  sense-words limits few short = whole ∙ by_cases in_limits agree refl ∙ ap (finished (length p.interface)) (sym numbered_words-phrase)
     where
-      whole : sense p ≡ cond in_limits (cond agree value (Err Arity)) (Err Limit)
+      whole : sense_within limits p ≡ cond in_limits (cond agree value (Err Arity)) (Err Limit)
       whole = rw (few, short) (by_limits in_limits)
         where
           by_limits : (a : Bool) → cond ((a && true) && true) (cond agree value (Err Arity)) (Err Limit) ≡ cond a (cond agree value (Err Arity)) (Err Limit)
@@ -171,13 +174,13 @@ module _ (p : Phrase) (is : IsPhrase p) where
       by_cases : (a o : Bool) → in_limits ≡ a → cond a (cond o value (Err Arity)) (Err Limit) ≡ finished (length p.interface) (unless_refused {A = List Symbol × List Word} a o (table, items))
       by_cases true true all =
           third_beside table (numbered_phrase table p) (third_occurrence (phrase_names p))
-          ∙ ap (λ r. beside_table table (as_text_answer r)) (sym (restored-numbered table p few short (low all)) ∙ ap restored (sym (configuration_from-built table p is)))
+          ∙ ap (λ r. beside_table table (as_text_answer r)) (sym (restored-numbered limits table p few (low all)) ∙ ap wide_restored (sym (configuration_from-built table p is)))
       by_cases true false all = refl
       by_cases false o all = refl
 
 -- a configuration of too many nodes, or of too many terms in its interface, is beyond the limits
-pub sense-unfit : (p : Phrase) → (nat_le (phrase_nodes p) MAX_NODES && nat_le (length p.interface) MAX_INTERFACE) ≡ false → sense p ≡ Err Limit
-sense-unfit p = by_cases _ (nat_le (length p.interface) MAX_INTERFACE) (nat_le (phrase_nodes p) MAX_NODES) _
+pub sense-unfit : (limits : Limits) (p : Phrase) → (nat_le (phrase_nodes p) (most_nodes limits) && nat_le (length p.interface) (most_interface limits)) ≡ false → sense_within limits p ≡ Err Limit
+sense-unfit limits p = by_cases _ (nat_le (length p.interface) (most_interface limits)) (nat_le (phrase_nodes p) (most_nodes limits)) _
   where
     by_cases : (a i k : Bool) (v : Result (List Symbol × Configuration) TextFault) → (k && i) ≡ false → cond ((a && i) && k) v (Err Limit) ≡ Err Limit
     by_cases true true true v unfit = absurd (false≢true (sym unfit))

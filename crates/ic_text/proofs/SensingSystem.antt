@@ -6,22 +6,24 @@ use Rattle.std.proofs.lemmas.List.{length-map, map-append, take_at, drop_at}
 use Rattle.std.proofs.lemmas.List.Folds.{list_all-append}
 use Rattle.std.proofs.lemmas.Bool.{false≢true, and_parts}
 use Rattle.ic_term.specs.Symbol.{Symbol, fits_limits, is_over}
-use Rattle.ic_term.specs.Configuration.{Configuration, third_occurrence, unless_third, restored}
-use Rattle.ic_term.specs.declared.limits.TheConstants.{MAX_NODES, MAX_INTERFACE, MAX_SYMBOLS}
+use Rattle.ic_term.specs.Configuration.{Configuration, third_occurrence, unless_third, wide_restored}
+use Rattle.ic_term.specs.declared.limits.TheConstants.{MAX_SYMBOLS}
 use Rattle.ic_rules.specs.Rule.{numbered}
 use Rattle.ic_rules.specs.RuleSet.{Rules, first_uncounted, first_repeated, first_lopsided, unless, built as built_rules}
 use Rattle.ic_rules.specs.System.{SystemParts}
 use Rattle.ic_rules.specs.declared.limits.TheConstants.{MAX_RULES, MAX_RULE_NODES}
 use Rattle.ic_rules.specs.declared.rule_set.RuleFault.{RuleFault}
 use Rattle.ic_rules.specs.declared.rule_set.RuleFault.TheVariants.{NameCount as Uncounted, Twice as Repeated, Lopsided as Uneven}
+use Rattle.ic_text.specs.declared.limits.Limits.{Limits}
 use Rattle.ic_text.specs.declared.limits.TheConstants.{MAX_NAME}
 use Rattle.ic_flat.specs.declared.word.Word.{Word}
 use Rattle.ic_text.specs.declared.fault.TextFault.{TextFault}
 use Rattle.ic_text.specs.declared.fault.TextFault.TheVariants.{Limit, Arity, NameCount, Name, Twice, Lopsided}
+use Rattle.ic_text.specs.Limits.{most_interface, most_nodes}
 use Rattle.ic_text.specs.Source.{phrase_names, phrase_symbols, phrase_nodes}
 use Rattle.ic_text.specs.Sense.{symbols_after, has_its_arity, numbered_phrase}
 use Rattle.ic_text.specs.SystemSource.{SystemPhrase, IsSystemPhrase, rule_symbols, rule_names, rule_nodes, system_symbols, system_names}
-use Rattle.ic_text.specs.SystemSense.{system_table, rules_over, system_parts, unless_found, system_sense}
+use Rattle.ic_text.specs.SystemSense.{system_table, rules_over, system_parts, unless_found, system_sense_within}
 use Rattle.ic_text.specs.Words.{prefix, phrase_prefix, rules_prefix}
 use Rattle.ic_text.specs.inner.Numbered.{word_from, unless_refused, numbered_words, as_text_answer}
 use Rattle.ic_flat.specs.Words.{forest}
@@ -35,7 +37,7 @@ use Rattle.ic_text.proofs.Sensing.{numbered_is, numbered_within, numbered_words-
 -- numbered words as a system, so many of them those of rules
 abbrev pub finished_system : ℕ → ℕ → Result (List Symbol × List Word) TextFault → Result SystemParts TextFault
 finished_system before terms (Ok v) =
-    joined (built_rules v.0 (rules_in (forest (take before v.1)))) (as_text_answer (restored (configuration_from terms (forest (drop before v.1)))))
+    joined (built_rules v.0 (rules_in (forest (take before v.1)))) (as_text_answer (wide_restored (configuration_from terms (forest (drop before v.1)))))
 finished_system before terms (Err e) = Err e
 
 module _ (s : SystemPhrase) (is : IsSystemPhrase s) where
@@ -136,11 +138,11 @@ module _ (s : SystemPhrase) (is : IsSystemPhrase s) where
       rw (few-rules_over table s.rules ∙ limits, fit-rules_over table s.rules parts.0) refl
 
   -- where neither rules, their nodes, terms of the interface nor nodes are too many, the sense is that of the words
-  pub sense-system : nat_le (length s.rules) MAX_RULES ≡ true → nat_le (sum_by rule_nodes s.rules) MAX_RULE_NODES ≡ true → nat_le (length s.config.interface) MAX_INTERFACE ≡ true → nat_le (phrase_nodes s.config) MAX_NODES ≡ true
-      → system_sense s ≡ finished_system before (length s.config.interface) (numbered_words words)
-  sense-system few small short low = whole ∙ by_cases in_limits agree refl refl ∙ ap (finished_system before (length s.config.interface)) (sym numbered_words-system)
+  pub sense-system : (limits : Limits) → nat_le (length s.rules) MAX_RULES ≡ true → nat_le (sum_by rule_nodes s.rules) MAX_RULE_NODES ≡ true → nat_le (length s.config.interface) (most_interface limits) ≡ true
+      → nat_le (phrase_nodes s.config) (most_nodes limits) ≡ true → system_sense_within limits s ≡ finished_system before (length s.config.interface) (numbered_words words)
+  sense-system limits few small short low = whole ∙ by_cases in_limits agree refl refl ∙ ap (finished_system before (length s.config.interface)) (sym numbered_words-system)
     where
-      whole : system_sense s ≡ cond in_limits (cond agree value (Err Arity)) (Err Limit)
+      whole : system_sense_within limits s ≡ cond in_limits (cond agree value (Err Arity)) (Err Limit)
       whole = rw (few, small, short, low) (by_limits in_limits)
         where
           by_limits : (a : Bool) → cond ((((a && true) && true) && true) && true) (cond agree value (Err Arity)) (Err Limit) ≡ cond a (cond agree value (Err Arity)) (Err Limit)
@@ -158,15 +160,18 @@ module _ (s : SystemPhrase) (is : IsSystemPhrase s) where
       by_cases : (a o : Bool) → in_limits ≡ a → agree ≡ o → cond a (cond o value (Err Arity)) (Err Limit) ≡ finished_system before (length s.config.interface) (unless_refused {A = List Symbol × List Word} a o (table, items))
       by_cases true true all agreed =
           let rules = ap (built_rules table) rules-built ∙ rules-are few small agreed in
-          let restored_is = ap restored config-built ∙ restored-numbered table s.config low short (low_names all) in
+          let restored_is = ap wide_restored config-built ∙ restored-numbered limits table s.config low (low_names all) in
           joined-is (over agreed) (first_uncounted (rules_over s)) (third_occurrence (phrase_names s.config)) (first_repeated (rules_over s)) (first_lopsided (rules_over s))
           ∙ (λ i. joined (sym rules i) (as_text_answer (sym restored_is i)))
       by_cases true false all agreed = refl
       by_cases false o all agreed = refl
 
 -- a system with too many rules, nodes of their arguments, terms of the interface or nodes is beyond the limits
-pub system-unfit : (s : SystemPhrase) → ((nat_le (length s.rules) MAX_RULES && nat_le (sum_by rule_nodes s.rules) MAX_RULE_NODES) && (nat_le (phrase_nodes s.config) MAX_NODES && nat_le (length s.config.interface) MAX_INTERFACE)) ≡ false → system_sense s ≡ Err Limit
-system-unfit s = by_cases _ (nat_le (length s.rules) MAX_RULES) (nat_le (sum_by rule_nodes s.rules) MAX_RULE_NODES) (nat_le (length s.config.interface) MAX_INTERFACE) (nat_le (phrase_nodes s.config) MAX_NODES) _
+pub system-unfit : (limits : Limits) (s : SystemPhrase)
+    → ((nat_le (length s.rules) MAX_RULES && nat_le (sum_by rule_nodes s.rules) MAX_RULE_NODES) && (nat_le (phrase_nodes s.config) (most_nodes limits) && nat_le (length s.config.interface) (most_interface limits))) ≡ false
+    → system_sense_within limits s ≡ Err Limit
+system-unfit limits s =
+    by_cases _ (nat_le (length s.rules) MAX_RULES) (nat_le (sum_by rule_nodes s.rules) MAX_RULE_NODES) (nat_le (length s.config.interface) (most_interface limits)) (nat_le (phrase_nodes s.config) (most_nodes limits)) _
   where
     by_cases : (a r m i k : Bool) (v : Result SystemParts TextFault) → ((r && m) && (k && i)) ≡ false → cond ((((a && r) && m) && i) && k) v (Err Limit) ≡ Err Limit
     by_cases true true true true true v unfit = absurd (false≢true (sym unfit))

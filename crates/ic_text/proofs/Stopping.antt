@@ -8,6 +8,7 @@ use Rattle.ic_term.specs.declared.symbols.SymbolFault.{SymbolFault}
 use Rattle.ic_text.specs.declared.excess.Excess.{Excess}
 use Rattle.ic_text.specs.declared.fault.TextFault.{TextFault}
 use Rattle.ic_text.specs.declared.fault.TextFault.TheVariants.{Limit, Arity, Memory}
+use Rattle.ic_text.specs.declared.limits.Limits.{Limits}
 use Rattle.ic_text.specs.declared.misread.Detail.{Detail}
 use Rattle.ic_text.specs.declared.misread.Detail.TheVariants.{Nothing, Passed, Arities}
 use Rattle.ic_text.specs.declared.misread.Limit.{Limit as Bound}
@@ -16,7 +17,7 @@ use Rattle.ic_flat.specs.declared.word.Word.{Word}
 use Rattle.ic_text.specs.declared.prefix.Node.{Node}
 use Rattle.ic_text.specs.declared.refusal.Refusal.{Refusal}
 use Rattle.ic_text.specs.Words.{Written, all_words}
-use Rattle.ic_text.specs.WordFaults.{IsLimitWord, counts_keep, keeps, rank}
+use Rattle.ic_text.specs.WordFaults.{IsLimitWordWithin, counts_keep, keeps, rank}
 use Rattle.ic_text.specs.inner.Counted.{IsExcess, IsFirstExcess, limit_at}
 use Rattle.ic_text.specs.inner.Numbered.{Refuses, counted_words, numbered_words}
 use Rattle.ic_text.specs.inner.Prefix.{node_of, nodes_of}
@@ -104,57 +105,57 @@ no_word_limit Arguments ws less = absurd (omega (arith, less))
 no_word_limit NameNumber ws less = absurd (omega (arith, less))
 no_word_limit Symbols ws less = absurd (omega (arith, less))
 
-of_counts : (w : Written) (j : ℕ) (b : Bound) → counts_keep b w j ≡ false → rank b ≤ 4
-of_counts w j TextBytes e = omega arith
-of_counts w j Rules e = omega arith
-of_counts w j RuleNodes e = omega arith
-of_counts w j Interface e = omega arith
-of_counts w j Nodes e = omega arith
-of_counts w j SymbolBytes e = absurd (false≢true (sym e))
-of_counts w j Arguments e = absurd (false≢true (sym e))
-of_counts w j NameNumber e = absurd (false≢true (sym e))
-of_counts w j Symbols e = absurd (false≢true (sym e))
+of_counts : (limits : Limits) (w : Written) (j : ℕ) (b : Bound) → counts_keep limits b w j ≡ false → rank b ≤ 4
+of_counts limits w j TextBytes e = omega arith
+of_counts limits w j Rules e = omega arith
+of_counts limits w j RuleNodes e = omega arith
+of_counts limits w j Interface e = omega arith
+of_counts limits w j Nodes e = omega arith
+of_counts limits w j SymbolBytes e = absurd (false≢true (sym e))
+of_counts limits w j Arguments e = absurd (false≢true (sym e))
+of_counts limits w j NameNumber e = absurd (false≢true (sym e))
+of_counts limits w j Symbols e = absurd (false≢true (sym e))
 
 -- a refusal of words is one of what is written
-module _ (w : Written) where
+module _ (limits : Limits) (w : Written) where
   abbrev Counts : Option Excess → Type 0
-  Counts o = IsFirstExcess (λ b j. counts_keep b w j) (length (all_words w)) o
+  Counts o = IsFirstExcess (λ b j. counts_keep limits b w j) (length (all_words w)) o
 
-  counts_kept : (o : Option Excess) → Counts o → (k : ℕ) → IsBefore o (Some k) → (j : ℕ) → j ≤ k → (b : Bound) → counts_keep b w j ≡ true
+  counts_kept : (o : Option Excess) → Counts o → (k : ℕ) → IsBefore o (Some k) → (j : ℕ) → j ≤ k → (b : Bound) → counts_keep limits b w j ≡ true
   counts_kept None first k before j le b = first j b
   counts_kept (Some x) first k before j le b = first.kept j (omega (arith, le, before)) b
 
-  counts_on : (o : Option Excess) → Counts o → (k : ℕ) → IsBefore o (Some k) → (b : Bound) → counts_keep b w (k + 1) ≡ true
+  counts_on : (o : Option Excess) → Counts o → (k : ℕ) → IsBefore o (Some k) → (b : Bound) → counts_keep limits b w (k + 1) ≡ true
   counts_on None first k before b = first (k + 1) b
   counts_on (Some x) first k before b = first.kept (k + 1) (omega (arith, before)) b
 
-  word_limit : (o : Option Excess) → Counts o → (bound : Bound) (k : ℕ) → IsWordLimit bound (all_words w) k → IsBefore o (Some k) → IsLimitWord bound w k
+  word_limit : (o : Option Excess) → Counts o → (bound : Bound) (k : ℕ) → IsWordLimit bound (all_words w) k → IsBefore o (Some k) → IsLimitWordWithin limits bound w k
   word_limit o first bound k is before = record {
     inside = is.first.inside;
     innocent = λ j le b. and_from (keeps b (take j (all_words w))) _ (keeps_each (take j (all_words w)) (is.first.innocent j le) b) (counts_kept o first k before j le b);
-    passed = ap (λ x. x && counts_keep bound w (k + 1)) is.passed;
+    passed = ap (λ x. x && counts_keep limits bound w (k + 1)) is.passed;
     first = λ b less. and_from (keeps b (take (k + 1) (all_words w))) _ (is.before b less) (counts_on o first k before b);
   }
 
-  count_limit : (x : Excess) → IsExcess (λ b j. counts_keep b w j) (length (all_words w)) x → ((j : ℕ) → j ≤ x.word → are_within (take j (all_words w)) ≡ true) → IsLimitWord x.limit w x.word
+  count_limit : (x : Excess) → IsExcess (λ b j. counts_keep limits b w j) (length (all_words w)) x → ((j : ℕ) → j ≤ x.word → are_within (take j (all_words w)) ≡ true) → IsLimitWordWithin limits x.limit w x.word
   count_limit x is within = record {
     inside = is.inside;
     innocent = λ j le b. and_from (keeps b (take j (all_words w))) _ (keeps_each (take j (all_words w)) (within j le) b) (is.kept j le b);
     passed = ap (λ y. keeps x.limit (take (x.word + 1) (all_words w)) && y) is.passed ∙ and_false (keeps x.limit (take (x.word + 1) (all_words w)));
     first = λ b less.
-        and_from (keeps b (take (x.word + 1) (all_words w))) _ (no_word_limit b (take (x.word + 1) (all_words w)) (omega (arith, less, of_counts w (x.word + 1) x.limit is.passed))) (is.first b less);
+        and_from (keeps b (take (x.word + 1) (all_words w))) _ (no_word_limit b (take (x.word + 1) (all_words w)) (omega (arith, less, of_counts limits w (x.word + 1) x.limit is.passed))) (is.first b less);
   }
 
-  told_word : (o : Option Excess) → Counts o → (f : TextFault) (k : Option ℕ) (d : Detail) → IsWordIn (all_words w) f k d → IsBefore o k → IsToldWord w f k d
+  told_word : (o : Option Excess) → Counts o → (f : TextFault) (k : Option ℕ) (d : Detail) → IsWordIn (all_words w) f k d → IsBefore o k → IsToldWord limits w f k d
   told_word o first Limit (Some k) (Passed bound) is before = word_limit o first bound k is before
   told_word o first Arity (Some k) (Arities first_arity here) is before = is
   told_word o first Memory None Nothing is before = tt
   told_word o first f k d is before = absurd is
 
-  told_excess : (o : Option Excess) → Counts o → (r : Refusal) → IsExcessAt (all_words w) o r → IsToldIn w r
+  told_excess : (o : Option Excess) → Counts o → (r : Refusal) → IsExcessAt (all_words w) o r → IsToldIn limits w r
   told_excess None first r is = absurd is
-  told_excess (Some x) first r is = subst (IsToldIn w) (sym is.0) (count_limit x first is.1)
+  told_excess (Some x) first r is = subst (IsToldIn limits w) (sym is.0) (count_limit x first is.1)
 
-  pub told_in : (o : Option Excess) → Counts o → (r : Refusal) → IsStoppedIn (all_words w) o r → IsToldIn w r
+  pub told_in : (o : Option Excess) → Counts o → (r : Refusal) → IsStoppedIn (all_words w) o r → IsToldIn limits w r
   told_in o first r (inl is) = told_word o first r.fault r.word r.detail is.0 is.1
   told_in o first r (inr is) = told_excess o first r is

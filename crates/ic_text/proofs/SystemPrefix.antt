@@ -2,12 +2,13 @@
 use Rattle.std.proofs.Common.{◌≡◌, ℕ, ◌*◌, List, [], ◌∷◌, ◌++◌, Option, Some, length, sym, ap, ◌∙◌, subst}
 use Rattle.std.specs.List.{AllByRecursion}
 use Rattle.std.proofs.lemmas.List.{map-append, length-map}
+use Rattle.ic_text.specs.declared.limits.Limits.{Limits}
 use Rattle.ic_text.specs.declared.prefix.Prefix.{Prefix}
 use Rattle.ic_text.specs.declared.token.Mark.TheVariants.{LeftBrace}
 use Rattle.ic_text.specs.Token.{mark, tokens}
 use Rattle.ic_text.specs.Source.{phrase_words}
 use Rattle.ic_text.specs.SystemSource.{SystemPhrase, IsSystemPhrase, rules_words, system_words}
-use Rattle.ic_text.specs.SystemSense.{system_sense}
+use Rattle.ic_text.specs.SystemSense.{system_sense_within}
 use Rattle.ic_text.specs.inner.Braces.{split_at_brace}
 use Rattle.ic_text.specs.inner.Prefix.{node_of, nodes_of}
 use Rattle.ic_text.specs.Words.{rules_prefix, phrase_prefix, system_prefix}
@@ -55,6 +56,6 @@ module _ (s : SystemPhrase) (rules config : Prefix) (known : Known s rules confi
   counted = record { words = system_words_are; before = rules_before; sides = known.agents_are; interface = known.terms_are }
 
   -- the sense is that of the words as far as they are counted
-  pub sense-known : IsSystemPhrase s → (o : Option Excess) → Kept s o → system_sense s ≡ finished_system (length rules.nodes.items) config.terms (counted_words o (nodes_of (rules.nodes.items ++ config.nodes.items)))
-  sense-known is o kept =
-      system-counted s is o kept ∙ (λ i. finished_system (sym rules_before i) (sym known.terms_are i) (counted_words o (sym all_words i)))
+  pub sense-known : (limits : Limits) → IsSystemPhrase s → (o : Option Excess) → Kept limits s o → system_sense_within limits s ≡ finished_system (length rules.nodes.items) config.terms (counted_words o (nodes_of (rules.nodes.items ++ config.nodes.items)))
+  sense-known limits is o kept =
+      system-counted limits s is o kept ∙ (λ i. finished_system (sym rules_before i) (sym known.terms_are i) (counted_words o (sym all_words i)))

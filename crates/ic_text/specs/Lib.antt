@@ -1,5 +1,6 @@
 -- What a reader of the public contracts must believe; `lemmas`, which is proved; and `inner`, which
 -- is for private functions.
+pub mod Limits
 pub mod Token
 pub mod Name
 pub mod Source

@@ -1,14 +1,16 @@
 -- To be believed: where in a text its refusal is found.
 use Rattle.std.specs.Prelude.{◌≡◌, ℕ, ◌-◌, ◌==◌, ◌<◌, ◌≤◌, List, ◌++◌, Bool, ◌&&◌, ◌||◌, not, Option, None, Some, IsTrue, length, get_or, take}
-use Rattle.ic_text.specs.declared.limits.TheConstants.{MAX_TEXT}
+use Rattle.ic_text.specs.declared.limits.Limits.{Limits}
+use Rattle.ic_text.specs.declared.limits.Limits.TheVariants.{Served}
 use Rattle.ic_text.specs.declared.fault.TextFault.{TextFault}
 use Rattle.ic_text.specs.declared.fault.TextFault.TheVariants.{Syntax, Limit, Memory}
 use Rattle.ic_text.specs.declared.misread.Detail.{Detail}
 use Rattle.ic_text.specs.declared.misread.Detail.TheVariants.{Nothing, Passed}
 use Rattle.ic_text.specs.declared.misread.Limit.TheVariants.{TextBytes}
+use Rattle.ic_text.specs.Limits.{most_bytes}
 use Rattle.ic_text.specs.Reading.{IsSpelling}
 use Rattle.ic_text.specs.Token.{Token, is_word_byte, tokens, words_among}
-use Rattle.ic_text.specs.WordFaults.{IsFaultWord}
+use Rattle.ic_text.specs.WordFaults.{IsFaultWordWithin}
 use Rattle.ic_text.specs.Words.{Written}
 
 -- A place of a text, counted in bytes, that isn't within a word: of the bytes on its two sides one is
@@ -51,25 +53,37 @@ pub record IsWordPlace (text : List ℕ) (k at : ℕ) : Type 0 where
 
 -- the place of a refusal of what a text spells, where it isn't too long: that of the word at which
 -- it is found
-pub record IsPlacedWord {P : Type 0} (IsOne : P → Type 0) (words : P → List Token)
-    (written : P → Written) (text : List ℕ) (fault : TextFault) (at : ℕ) (detail : Detail)
-    : Type 0 where
-  pub short : length text ≤ MAX_TEXT
+pub record IsPlacedWordWithin (limits : Limits) {P : Type 0} (IsOne : P → Type 0)
+    (words : P → List Token) (written : P → Written) (text : List ℕ) (fault : TextFault) (at : ℕ)
+    (detail : Detail) : Type 0 where
+  pub short : length text ≤ most_bytes limits
   pub phrase : P
   pub spells : IsSpelling IsOne words text phrase
   pub word : ℕ
-  pub refused : IsFaultWord (written phrase) fault word detail
+  pub refused : IsFaultWordWithin limits (written phrase) fault word detail
   pub place : IsWordPlace text word at
 
 -- The place that is told of a refusal, and what more is known. A fault of syntax has its place, a
 -- text that is too long its first byte too many, and any other fault that of the word at which it is
 -- found. Where memory ran out none is told.
+abbrev pub IsPlacedWithin : Limits → {P : Type 0} → (P → Type 0) → (P → List Token)
+    → (P → Written) → List ℕ → TextFault → Option ℕ → Detail → Type 0
+IsPlacedWithin limits IsOne words written text Syntax (Some at) Nothing =
+    IsSyntaxPlace IsOne words text at
+IsPlacedWithin limits IsOne words written text Limit (Some at) (Passed TextBytes) =
+    (most_bytes limits < length text) × (at ≡ most_bytes limits)
+IsPlacedWithin limits IsOne words written text fault (Some at) detail =
+    IsPlacedWordWithin limits IsOne words written text fault at detail
+IsPlacedWithin limits IsOne words written text Memory None Nothing = Unit {0}
+IsPlacedWithin limits IsOne words written text fault None detail = ⊥
+
+-- both with the limits of what is served
+abbrev pub IsPlacedWord : {P : Type 0} → (P → Type 0) → (P → List Token) → (P → Written) → List ℕ
+    → TextFault → ℕ → Detail → Type 0
+IsPlacedWord IsOne words written text fault at detail =
+    IsPlacedWordWithin Served IsOne words written text fault at detail
+
 abbrev pub IsPlaced : {P : Type 0} → (P → Type 0) → (P → List Token) → (P → Written) → List ℕ
     → TextFault → Option ℕ → Detail → Type 0
-IsPlaced IsOne words written text Syntax (Some at) Nothing = IsSyntaxPlace IsOne words text at
-IsPlaced IsOne words written text Limit (Some at) (Passed TextBytes) =
-    (MAX_TEXT < length text) × (at ≡ MAX_TEXT)
-IsPlaced IsOne words written text fault (Some at) detail =
-    IsPlacedWord IsOne words written text fault at detail
-IsPlaced IsOne words written text Memory None Nothing = Unit {0}
-IsPlaced IsOne words written text fault None detail = ⊥
+IsPlaced IsOne words written text fault place detail =
+    IsPlacedWithin Served IsOne words written text fault place detail

@@ -4,10 +4,13 @@ use Rattle.std.specs.List.{list_all}
 use Rattle.ic_term.specs.Tree.{Tree, name, agent, Trees, no_trees, more_trees, Pair}
 use Rattle.ic_term.specs.Symbol.{Symbol, fits_limits, number_of_text, has_arity, with_symbol}
 use Rattle.ic_term.specs.Configuration.{Configuration, configured, third_occurrence}
-use Rattle.ic_term.specs.declared.limits.TheConstants.{MAX_NODES, MAX_INTERFACE, MAX_SYMBOLS}
+use Rattle.ic_term.specs.declared.limits.TheConstants.{MAX_SYMBOLS}
+use Rattle.ic_text.specs.declared.limits.Limits.{Limits}
+use Rattle.ic_text.specs.declared.limits.Limits.TheVariants.{Served}
 use Rattle.ic_text.specs.declared.limits.TheConstants.{MAX_NAME}
 use Rattle.ic_text.specs.declared.fault.TextFault.{TextFault}
 use Rattle.ic_text.specs.declared.fault.TextFault.TheVariants.{Limit, Arity, Name}
+use Rattle.ic_text.specs.Limits.{most_interface, most_nodes}
 use Rattle.ic_text.specs.Source.{Source, leaf, node, Sources, no_sources, more_sources, Sides, Phrase, phrase_names, phrase_symbols, phrase_nodes}
 
 -- Symbols in the order in which their texts first occur, after those seen. A symbol has the arity
@@ -26,13 +29,13 @@ has_its_arity table s =
     has_arity s.arity (option_and_then (slice_get table) (number_of_text table s.text))
 
 -- no limit is passed (the limits are this project's choice)
-abbrev pub is_in_limits : Phrase → Bool
-is_in_limits p =
+abbrev pub is_in_limits_within : Limits → Phrase → Bool
+is_in_limits_within limits p =
     list_all (λ s. fits_limits s.text s.arity) (phrase_symbols p)
     && list_all (λ n. nat_le n MAX_NAME) (phrase_names p)
     && nat_le (length (symbol_table p)) MAX_SYMBOLS
-    && nat_le (length p.interface) MAX_INTERFACE
-    && nat_le (phrase_nodes p) MAX_NODES
+    && nat_le (length p.interface) (most_interface limits)
+    && nat_le (phrase_nodes p) (most_nodes limits)
 
 -- the number of a text in a table of symbols that has it
 abbrev pub number_in_table : List Symbol → List ℕ → ℕ
@@ -65,11 +68,15 @@ unless_third_name v (Some n) = Err (Name n)
 
 -- What a configuration that is written means, or the first refusal: a limit that is passed, a
 -- symbol with two arities, the first third occurrence of a name (the order is this project's choice).
-abbrev pub sense : Phrase → Result (List Symbol × Configuration) TextFault
-sense p =
-    if is_in_limits p then
+abbrev pub sense_within : Limits → Phrase → Result (List Symbol × Configuration) TextFault
+sense_within limits p =
+    if is_in_limits_within limits p then
     (if list_all (has_its_arity (symbol_table p)) (phrase_symbols p)
     then unless_third_name (symbol_table p, numbered_phrase (symbol_table p) p)
     (third_occurrence (phrase_names p))
     else Err Arity)
     else Err Limit
+
+-- the same with the limits of what is served
+abbrev pub sense : Phrase → Result (List Symbol × Configuration) TextFault
+sense p = sense_within Served p

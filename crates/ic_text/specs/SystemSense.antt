@@ -4,15 +4,18 @@ use Rattle.std.specs.List.{list_all}
 use Rattle.ic_term.specs.Tree.{list_of}
 use Rattle.ic_term.specs.Symbol.{Symbol, fits_limits}
 use Rattle.ic_term.specs.Configuration.{third_occurrence}
-use Rattle.ic_term.specs.declared.limits.TheConstants.{MAX_NODES, MAX_INTERFACE, MAX_SYMBOLS}
+use Rattle.ic_term.specs.declared.limits.TheConstants.{MAX_SYMBOLS}
 use Rattle.ic_rules.specs.Renaming.{first_occurrences}
 use Rattle.ic_rules.specs.Rule.{Rule, numbered}
 use Rattle.ic_rules.specs.RuleSet.{first_uncounted, first_repeated, first_lopsided}
 use Rattle.ic_rules.specs.System.{SystemParts}
 use Rattle.ic_rules.specs.declared.limits.TheConstants.{MAX_RULES, MAX_RULE_NODES}
+use Rattle.ic_text.specs.declared.limits.Limits.{Limits}
+use Rattle.ic_text.specs.declared.limits.Limits.TheVariants.{Served}
 use Rattle.ic_text.specs.declared.limits.TheConstants.{MAX_NAME}
 use Rattle.ic_text.specs.declared.fault.TextFault.{TextFault}
 use Rattle.ic_text.specs.declared.fault.TextFault.TheVariants.{Limit, Arity, NameCount, Name, Twice, Lopsided}
+use Rattle.ic_text.specs.Limits.{most_interface, most_nodes}
 use Rattle.ic_text.specs.Source.{phrase_names, phrase_nodes}
 use Rattle.ic_text.specs.Sense.{symbols_after, has_its_arity, number_in_table, numbered_trees, numbered_phrase}
 use Rattle.ic_text.specs.SystemSource.{RulePhrase, SystemPhrase, system_symbols, rule_names, system_names, rule_nodes}
@@ -22,15 +25,19 @@ abbrev pub system_table : SystemPhrase → List Symbol
 system_table s = symbols_after [] (system_symbols s)
 
 -- no limit is passed (the limits are this project's choice)
-abbrev pub is_system_in_limits : SystemPhrase → Bool
-is_system_in_limits s =
+abbrev pub is_system_in_limits_within : Limits → SystemPhrase → Bool
+is_system_in_limits_within limits s =
     list_all (λ s. fits_limits s.text s.arity) (system_symbols s)
     && list_all (λ n. nat_le n MAX_NAME) (system_names s)
     && nat_le (length (system_table s)) MAX_SYMBOLS
     && nat_le (length s.rules) MAX_RULES
     && nat_le (sum_by rule_nodes s.rules) MAX_RULE_NODES
-    && nat_le (length s.config.interface) MAX_INTERFACE
-    && nat_le (phrase_nodes s.config) MAX_NODES
+    && nat_le (length s.config.interface) (most_interface limits)
+    && nat_le (phrase_nodes s.config) (most_nodes limits)
+
+-- none of those of what is served
+abbrev pub is_system_in_limits : SystemPhrase → Bool
+is_system_in_limits s = is_system_in_limits_within Served s
 
 -- the rule that is written, over the symbols of a table, its names as they are written
 abbrev pub rule_over : List Symbol → RulePhrase → Rule
@@ -64,9 +71,9 @@ unless_found (Some n) fault answer = Err (fault n)
 -- it. Then come the first third occurrence of a name in the configuration, the first rule whose
 -- pair of symbols an earlier one has, and the first lopsided rule (the order is this project's
 -- choice).
-abbrev pub system_sense : SystemPhrase → Result SystemParts TextFault
-system_sense s =
-    if is_system_in_limits s then
+abbrev pub system_sense_within : Limits → SystemPhrase → Result SystemParts TextFault
+system_sense_within limits s =
+    if is_system_in_limits_within limits s then
     (if list_all (has_its_arity (system_table s)) (system_symbols s) then
     unless_found (first_uncounted (rules_over s)) NameCount
     (unless_found (third_occurrence (phrase_names s.config)) Name
@@ -74,3 +81,7 @@ system_sense s =
     (unless_found (first_lopsided (rules_over s)) Lopsided (Ok (system_parts s)))))
     else Err Arity)
     else Err Limit
+
+-- the same with the limits of what is served
+abbrev pub system_sense : SystemPhrase → Result SystemParts TextFault
+system_sense s = system_sense_within Served s

@@ -6,25 +6,34 @@ use Rattle.ic_term.specs.Tree.{Tree, name, agent, Trees, no_trees, more_trees, P
 use Rattle.ic_term.specs.Symbol.{Symbol}
 use Rattle.ic_term.specs.Configuration.{Configuration}
 use Rattle.ic_text.specs.declared.fault.TextFault.{TextFault}
-use Rattle.ic_text.specs.declared.limits.TheConstants.{MAX_TEXT}
+use Rattle.ic_text.specs.declared.limits.Limits.{Limits}
+use Rattle.ic_text.specs.declared.limits.Limits.TheVariants.{Served}
 use Rattle.ic_text.specs.declared.fault.TextFault.TheVariants.{Syntax, Limit, Arity, NameCount, Name, Twice, Lopsided, Memory}
+use Rattle.ic_text.specs.Limits.{most_bytes}
 use Rattle.ic_text.specs.Token.{Token, token_text}
 use Rattle.ic_text.specs.Name.{name_text}
 use Rattle.ic_text.specs.Source.{Source, leaf, node, Sources, no_sources, more_sources, Sides, Phrase, IsPhrase, phrase_words}
-use Rattle.ic_text.specs.Sense.{sense}
-use Rattle.ic_text.specs.Reading.{IsSpelling, IsReading}
+use Rattle.ic_text.specs.Sense.{sense_within}
+use Rattle.ic_text.specs.Reading.{IsSpelling, IsReadingWithin}
 
 -- a text spells a configuration
 abbrev pub Spells : List ℕ → Phrase → Type 0
 Spells text p = IsSpelling IsPhrase phrase_words text p
 
 -- a text that isn't too long spells some configuration
-abbrev pub IsConfigText : List ℕ → Type 0
-IsConfigText text = (length text ≤ MAX_TEXT) × ((p : Phrase) × Spells text p)
+abbrev pub IsConfigTextWithin : Limits → List ℕ → Type 0
+IsConfigTextWithin limits text = (length text ≤ most_bytes limits) × ((p : Phrase) × Spells text p)
 
 -- what a text of a configuration is read as
+abbrev pub ReadsWithin : Limits → List ℕ → Result (List Symbol × Configuration) TextFault → Type 0
+ReadsWithin limits text answer = IsReadingWithin limits Spells (sense_within limits) text answer
+
+-- the same with the limits of what is served
+abbrev pub IsConfigText : List ℕ → Type 0
+IsConfigText text = IsConfigTextWithin Served text
+
 abbrev pub Reads : List ℕ → Result (List Symbol × Configuration) TextFault → Type 0
-Reads text answer = IsReading Spells sense text answer
+Reads text answer = ReadsWithin Served text answer
 
 -- the text of the symbol with a number
 abbrev pub text_or_none : Option Symbol → List ℕ

@@ -4,7 +4,9 @@ use Rattle.std.specs.List.{list_all}
 use Rattle.std.specs.Str.{bytes_eq}
 use Rattle.ic_rules.specs.declared.limits.TheConstants.{MAX_RULES, MAX_RULE_NODES}
 use Rattle.ic_term.specs.Symbol.{Symbol}
-use Rattle.ic_term.specs.declared.limits.TheConstants.{MAX_SYMBOLS, MAX_SYMBOL_TEXT, MAX_ARITY, MAX_INTERFACE, MAX_NODES}
+use Rattle.ic_term.specs.declared.limits.TheConstants.{MAX_SYMBOLS, MAX_SYMBOL_TEXT, MAX_ARITY}
+use Rattle.ic_text.specs.declared.limits.Limits.{Limits}
+use Rattle.ic_text.specs.declared.limits.Limits.TheVariants.{Served}
 use Rattle.ic_text.specs.declared.limits.TheConstants.{MAX_NAME}
 use Rattle.ic_text.specs.declared.fault.TextFault.{TextFault}
 use Rattle.ic_text.specs.declared.fault.TextFault.TheVariants.{Limit, Arity, NameCount, Name, Twice, Lopsided}
@@ -12,6 +14,7 @@ use Rattle.ic_text.specs.declared.misread.Detail.{Detail}
 use Rattle.ic_text.specs.declared.misread.Detail.TheVariants.{Nothing, Passed, Arities}
 use Rattle.ic_text.specs.declared.misread.Limit.{Limit as Bound}
 use Rattle.ic_text.specs.declared.misread.Limit.TheVariants.{TextBytes, SymbolBytes, Arguments, NameNumber, Symbols, Rules, RuleNodes, Interface, Nodes}
+use Rattle.ic_text.specs.Limits.{most_interface, most_nodes}
 use Rattle.ic_text.specs.Name.{is_name, name_text}
 use Rattle.ic_text.specs.Sense.{symbols_after, has_its_arity}
 use Rattle.ic_text.specs.Words.{Written, all_words, in_a_row, symbols_among, names_among}
@@ -57,21 +60,23 @@ rules_keep bound ws = true
 
 -- Words of a configuration keep one limit of those, where so many terms are its interface, which
 -- stands first.
-abbrev pub config_keeps : ℕ → Bound → List Symbol → Bool
-config_keeps terms Interface ws =
-    nat_le terms MAX_INTERFACE || nat_le (count_words true 0 ws) MAX_INTERFACE
-config_keeps terms Nodes ws = nat_le (length ws) MAX_NODES
-config_keeps terms bound ws = true
+abbrev pub config_keeps : Limits → ℕ → Bound → List Symbol → Bool
+config_keeps limits terms Interface ws =
+    nat_le terms (most_interface limits)
+    || nat_le (count_words true 0 ws) (most_interface limits)
+config_keeps limits terms Nodes ws = nat_le (length ws) (most_nodes limits)
+config_keeps limits terms bound ws = true
 
 -- what is written keeps one limit of how much it is as far as so many words
-abbrev pub counts_keep : Bound → Written → ℕ → Bool
-counts_keep bound w k =
+abbrev pub counts_keep : Limits → Bound → Written → ℕ → Bool
+counts_keep limits bound w k =
     rules_keep bound (take k (in_a_row w.rules))
-    && config_keeps w.terms bound (take (k - length (in_a_row w.rules)) w.config)
+    && config_keeps limits w.terms bound (take (k - length (in_a_row w.rules)) w.config)
 
 -- what is written keeps one limit as far as so many words
-abbrev pub keeps_so_far : Bound → Written → ℕ → Bool
-keeps_so_far bound w k = keeps bound (take k (all_words w)) && counts_keep bound w k
+abbrev pub keeps_so_far : Limits → Bound → Written → ℕ → Bool
+keeps_so_far limits bound w k =
+    keeps bound (take k (all_words w)) && counts_keep limits bound w k
 
 -- each symbol among words has the arity of its first use
 abbrev pub agree : List Symbol → Bool
@@ -98,11 +103,16 @@ rank Symbols = 8
 
 -- The first word with which a limit is passed, and the first limit that it passes: so many words stand
 -- before it, and as far as these every limit is kept.
-pub record IsLimitWord (bound : Bound) (w : Written) (k : ℕ) : Type 0 where
+pub record IsLimitWordWithin (limits : Limits) (bound : Bound) (w : Written) (k : ℕ)
+    : Type 0 where
   pub inside : k < length (all_words w)
-  pub innocent : (j : ℕ) → j ≤ k → (b : Bound) → IsTrue (keeps_so_far b w j)
-  pub passed : keeps_so_far bound w (k + 1) ≡ false
-  pub first : (b : Bound) → rank b < rank bound → IsTrue (keeps_so_far b w (k + 1))
+  pub innocent : (j : ℕ) → j ≤ k → (b : Bound) → IsTrue (keeps_so_far limits b w j)
+  pub passed : keeps_so_far limits bound w (k + 1) ≡ false
+  pub first : (b : Bound) → rank b < rank bound → IsTrue (keeps_so_far limits b w (k + 1))
+
+-- the same with the limits of what is served
+abbrev pub IsLimitWord : Bound → Written → ℕ → Type 0
+IsLimitWord bound w k = IsLimitWordWithin Served bound w k
 
 -- the first word that is a symbol with another arity than before: the arity of its first use, and of this one
 pub record IsSecondUse (before here : ℕ) (ws : List Symbol) (k : ℕ) : Type 0 where
@@ -158,11 +168,15 @@ pub record IsRuleWord (i : ℕ) (w : Written) (k : ℕ) : Type 0 where
 
 -- The word of any refusal that has one: that of a limit or of two arities, a name's third one in the
 -- configuration, its only or third one in a rule, or the first one of the rule.
+abbrev pub IsFaultWordWithin : Limits → Written → TextFault → ℕ → Detail → Type 0
+IsFaultWordWithin limits w Limit k (Passed bound) = IsLimitWordWithin limits bound w k
+IsFaultWordWithin limits w Arity k (Arities before here) = IsSecondUse before here (all_words w) k
+IsFaultWordWithin limits w (NameCount i) k Nothing = IsMiscount i w k
+IsFaultWordWithin limits w (Name n) k Nothing = IsThirdWord n w k
+IsFaultWordWithin limits w (Twice i) k Nothing = IsRuleWord i w k
+IsFaultWordWithin limits w (Lopsided i) k Nothing = IsRuleWord i w k
+IsFaultWordWithin limits w fault k detail = ⊥
+
+-- the same with the limits of what is served
 abbrev pub IsFaultWord : Written → TextFault → ℕ → Detail → Type 0
-IsFaultWord w Limit k (Passed bound) = IsLimitWord bound w k
-IsFaultWord w Arity k (Arities before here) = IsSecondUse before here (all_words w) k
-IsFaultWord w (NameCount i) k Nothing = IsMiscount i w k
-IsFaultWord w (Name n) k Nothing = IsThirdWord n w k
-IsFaultWord w (Twice i) k Nothing = IsRuleWord i w k
-IsFaultWord w (Lopsided i) k Nothing = IsRuleWord i w k
-IsFaultWord w fault k detail = ⊥
+IsFaultWord w fault k detail = IsFaultWordWithin Served w fault k detail

@@ -3,6 +3,7 @@
 ghost use Rattle.std.specs.Prelude.{◌≡◌, ◌<◌, ◌≤◌, ◌+◌, ◌^◌, List, length, take, false};
 ghost use Rattle.std.specs.Str.{bytes_eq};
 ghost use Rattle.ic_rules.specs.Renaming.{are_paired};
+ghost use Rattle.ic_text.specs.declared.limits.Limits.{Limits};
 ghost use Rattle.ic_text.specs.declared.limits.TheConstants.{MAX_NAME};
 ghost use Rattle.ic_text.specs.Name.{name_text};
 ghost use Rattle.ic_text.specs.SystemSource.{RulePhrase, SystemPhrase};
@@ -131,8 +132,8 @@ fn miscounted_word(nodes: &[Node], rule: u32) -> usize
 pub(crate) fn refusal_of(fault: TextFault, nodes: &[Node], rules: usize) -> Refusal
     requires { (s : SystemPhrase) × IsFaultyIn s fault (nodes_of nodes.now) rules }
     ensures fault { result.fault ≡ fault }
-    ensures word { (s : SystemPhrase) → IsFaultyIn s fault (nodes_of nodes.now) rules →
-        IsToldIn (written_system s) result }
+    ensures word { (limits : Limits) (s : SystemPhrase) →
+        IsFaultyIn s fault (nodes_of nodes.now) rules → IsToldIn limits (written_system s) result }
 {
     match fault {
         TextFault::NameCount(rule) => Refusal::at(fault, miscounted_word(nodes, rule)),

@@ -3,7 +3,7 @@
 ghost use Rattle.std.specs.Prelude.{◌≡◌, ◌≤◌, IfOk, length, map, take, drop};
 ghost use Rattle.std.specs.Option.{option_to_list};
 ghost use Rattle.ic_term.specs.Term.{tree};
-ghost use Rattle.ic_term.specs.Configuration.{restored};
+ghost use Rattle.ic_term.specs.Configuration.{wide_restored};
 ghost use Rattle.ic_flat.specs.Words.{forest};
 ghost use Rattle.ic_rules.specs.RuleSet.{built};
 ghost use Rattle.ic_rules.specs.Written.{written};
@@ -11,23 +11,23 @@ ghost use Rattle.ic_text.specs.inner.Built.{IsPaired, configuration_from, rule_i
 ghost use Rattle.ic_text.specs.inner.Numbered.{Gives, as_text_answer};
 
 use crate::fault::TextFault;
-use ic_flat::{Flat, FlatSystem, Word, terms_in, terms_of};
+use ic_flat::{WideFlat, WideSystem, Word, terms_in, terms_of};
 use ic_rules::{RuleFault, RuleSet};
 use ic_term::{Cell, ConfigFault, Symbols, Term};
 use std::alloc::{AllocError, Global};
 use std::sync::Arc;
 
 /// The configuration of words in prefix order, with so many terms in its interface.
-pub(crate) fn flat_of(alloc: Global, words: Vec<Word>, terms: usize) -> Result<Flat, TextFault>
+pub(crate) fn wide_of(alloc: Global, words: Vec<Word>, terms: usize) -> Result<WideFlat, TextFault>
     requires { IsPaired words.items terms }
     ensures { Gives (λ config. config) result
-        (as_text_answer (restored (configuration_from terms (forest words.items)))) }
+        (as_text_answer (wide_restored (configuration_from terms (forest words.items)))) }
 {
     let equations = match terms_in(&words) {
         Some(all) => (all - terms) / 2,
         None => 0,
     };
-    match Flat::new(alloc, words, terms, equations) {
+    match WideFlat::new(alloc, words, terms, equations) {
         Ok(config) => Ok(config),
         Err(ConfigFault::Limit) => Err(TextFault::Limit),
         Err(ConfigFault::Name(name)) => Err(TextFault::Name(name)),
@@ -83,12 +83,12 @@ fn refusal(rules: RuleFault, config: Option<TextFault>) -> TextFault
 fn join(
     alloc: Global,
     rules: Result<RuleSet, RuleFault>,
-    config: Result<Flat, TextFault>,
-) -> Result<FlatSystem, TextFault>
+    config: Result<WideFlat, TextFault>,
+) -> Result<WideSystem, TextFault>
     ensures { Gives (λ system. system) result (joined rules config) }
 {
     match rules {
-        Ok(rules) => match FlatSystem::new(Arc::new(alloc, rules)?, config?) {
+        Ok(rules) => match WideSystem::new(Arc::new(alloc, rules)?, config?) {
             Some(system) => Ok(system),
             None => Err(TextFault::Arity),
         },
@@ -96,25 +96,35 @@ fn join(
     }
 }
 
+/// The words after so many others, in the same memory.
+fn words_from(mut words: Vec<Word>, before: usize) -> Vec<Word>
+    requires { before ≤ length words.items }
+    ensures { result.items ≡ drop before words.items }
+{
+    let left = words.len() - before;
+    words.rotate_left(before);
+    words.truncate(left);
+    words
+}
+
 /// The system of words in prefix order, so many of them those of rules, and so many terms in the interface of the
 /// configuration that the others write; or the first refusal of both.
 pub(crate) fn system_of(
     alloc: Global,
     symbols: Symbols,
-    mut words: Vec<Word>,
+    words: Vec<Word>,
     before: usize,
     terms: usize,
-) -> Result<FlatSystem, TextFault>
+) -> Result<WideSystem, TextFault>
     requires inside { before ≤ length words.items }
     requires paired { IsPaired (drop before words.items) terms }
     ensures { Gives (λ system. system) result (joined
         (built symbols (rules_in (forest (take before words.items))))
-        (as_text_answer (restored
+        (as_text_answer (wide_restored
         (configuration_from terms (forest (drop before words.items)))))) }
 {
-    let config = words.split_off(before)?;
-    let rules = rules_of(alloc, &words)?;
+    let rules = rules_of(alloc, &words[..before])?;
     let rules = RuleSet::build(alloc, symbols, rules);
-    let config = flat_of(alloc, config, terms);
+    let config = wide_of(alloc, words_from(words, before), terms);
     join(alloc, rules, config)
 }

@@ -7,10 +7,10 @@ ghost use Rattle.ic_text.specs.WordFaults.{config_keeps, count_words, counts_kee
 ghost use Rattle.ic_text.specs.inner.Counted.{IsCounted, IsFirstExcess, IsExcessTest, earlier, limit_at};
 ghost use Rattle.ic_text.specs.inner.Prefix.{nodes_of};
 
+use crate::limits::Limits;
 use crate::misread::Limit;
 use crate::prefix::Node;
 use ic_rules::{MAX_RULE_NODES, MAX_RULES};
-use ic_term::{MAX_INTERFACE, MAX_NODES};
 
 /// A limit that is passed, and how many words stand before the one that passes it.
 #[derive(Clone, Copy)]
@@ -120,51 +120,63 @@ fn rules_excess(nodes: &[Node], agents: usize) -> Option<Excess>
 }
 
 /// The first word of the first term too many, where an interface of so many terms stands first.
-fn too_many_terms(nodes: &[Node], terms: usize) -> Option<Excess>
+fn too_many_terms(limits: Limits, nodes: &[Node], terms: usize) -> Option<Excess>
     requires { sum_by (λ w. w.arity) (nodes_of nodes.now) < 2 ^ 64 }
-    ensures { IsExcessTest (config_keeps terms Limit.Interface) Limit.Interface (nodes_of nodes.now)
-        result }
+    ensures { IsExcessTest (config_keeps limits terms Limit.Interface) Limit.Interface
+        (nodes_of nodes.now) result }
 {
-    if terms <= MAX_INTERFACE {
+    let most = limits.interface_terms();
+    if terms <= most {
         return None;
     }
-    first_excess(nodes, true, MAX_INTERFACE, Limit::Interface)
+    first_excess(nodes, true, most, Limit::Interface)
 }
 
 /// The first node too many of a configuration.
-fn too_many_nodes(nodes: &[Node]) -> Option<Excess>
-    ensures { (terms : ℕ) → IsExcessTest (config_keeps terms Limit.Nodes) Limit.Nodes
+fn too_many_nodes(limits: Limits, nodes: &[Node]) -> Option<Excess>
+    ensures { (terms : ℕ) → IsExcessTest (config_keeps limits terms Limit.Nodes) Limit.Nodes
         (nodes_of nodes.now) result }
 {
-    if nodes.len() as u64 <= MAX_NODES {
+    let most = limits.nodes();
+    if nodes.len() as u64 <= most {
         return None;
     }
     Some(Excess {
-        word: MAX_NODES as usize,
+        word: most as usize,
         limit: Limit::Nodes,
     })
 }
 
 /// The word with which a configuration passes a limit, the first one if there is one.
-pub(crate) fn config_excess(nodes: &[Node], terms: usize) -> Option<Excess>
+pub(crate) fn config_excess(limits: Limits, nodes: &[Node], terms: usize) -> Option<Excess>
     requires { sum_by (λ w. w.arity) (nodes_of nodes.now) < 2 ^ 64 }
-    ensures { IsFirstExcess (λ bound j. config_keeps terms bound (take j (nodes_of nodes.now)))
+    ensures { IsFirstExcess
+        (λ bound j. config_keeps limits terms bound (take j (nodes_of nodes.now)))
         (length (nodes_of nodes.now)) result }
 {
-    earlier(too_many_terms(nodes, terms), too_many_nodes(nodes))
+    earlier(
+        too_many_terms(limits, nodes, terms),
+        too_many_nodes(limits, nodes),
+    )
 }
 
 /// The limit of how much is written that is passed first, if one is, and with which word. So many words are those of
 /// the rules, so many agents are their sides, and the interface has so many terms.
-pub(crate) fn excess_of(nodes: &[Node], rules: usize, agents: usize, terms: usize) -> Option<Excess>
+pub(crate) fn excess_of(
+    limits: Limits,
+    nodes: &[Node],
+    rules: usize,
+    agents: usize,
+    terms: usize,
+) -> Option<Excess>
     requires { (s : SystemPhrase) × IsCounted s (nodes_of nodes.now) rules agents terms }
     ensures { (s : SystemPhrase) → IsCounted s (nodes_of nodes.now) rules agents terms →
-        IsFirstExcess (λ bound j. counts_keep bound (written_system s) j)
+        IsFirstExcess (λ bound j. counts_keep limits bound (written_system s) j)
         (length (all_words (written_system s))) result }
 {
     match rules_excess(&nodes[..rules], agents) {
         Some(excess) => Some(excess),
-        None => match config_excess(&nodes[rules..], terms) {
+        None => match config_excess(limits, &nodes[rules..], terms) {
             Some(excess) => Some(Excess {
                 word: rules + excess.word,
                 limit: excess.limit,

@@ -17,16 +17,19 @@ ghost use Rattle.ic_text.specs.Name.{is_name, name_number, name_text, number_in}
 ghost use Rattle.ic_text.specs.Source.{Phrase, IsPhrase, count_of, phrase_nodes, phrase_words, phrase_symbols, phrase_names, source_symbols};
 ghost use Rattle.ic_text.specs.SystemSource.{RulePhrase, SystemPhrase, IsSystemPhrase, system_words, system_symbols, system_names, rule_symbols, rule_nodes};
 ghost use Rattle.ic_text.specs.SystemSense.{system_table};
-ghost use Rattle.ic_text.specs.SystemText.{SpellsSystem, ReadsSystem};
-ghost use Rattle.ic_text.specs.Text.{Spells, Reads, phrase_of, printed, text_of, fault_text};
+ghost use Rattle.ic_text.specs.SystemText.{SpellsSystem, ReadsSystemWithin};
+ghost use Rattle.ic_text.specs.Text.{Spells, ReadsWithin, phrase_of, printed, text_of, fault_text};
 ghost use Rattle.ic_text.specs.FaultNumber.{all_faults, fault_number};
-ghost use Rattle.ic_text.specs.Places.{GoesOn, IsPlaced, IsSyntaxPlace, IsWordPlace};
+ghost use Rattle.ic_text.specs.Places.{GoesOn, IsPlacedWithin, IsSyntaxPlace, IsWordPlace};
 ghost use Rattle.ic_text.specs.Sense.{symbols_after};
-ghost use Rattle.ic_text.specs.WordFaults.{IsFirstWord, IsLimitWord, IsMiscount, IsRuleWord, IsSecondUse, IsThirdWord, keeps_so_far, rank, uses};
+ghost use Rattle.ic_text.specs.WordFaults.{IsFirstWord, IsLimitWordWithin, IsMiscount, IsRuleWord, IsSecondUse, IsThirdWord, keeps_so_far, rank, uses};
 ghost use Rattle.ic_text.specs.Words.{Written, all_words, names_among, phrase_prefix, prefix, rules_prefix, symbols_among, system_prefix, written_phrase, written_system};
 ghost use Rattle.ic_text.specs.Token.{Token, word, mark, is_blank, is_word_byte, mark_byte, mark_of, tokens_at, followed, tokens, words_among};
 ghost use Rattle.ic_text.specs.declared.token.Mark.{Mark};
 ghost use Rattle.ic_text.specs.declared.token.Mark.TheVariants.{LeftBrace, RightBrace, Less, Greater, Bar, Equals, Comma, Semicolon, Open, Close};
+ghost use Rattle.ic_text.specs.Limits.{most_bytes, most_interface, most_nodes};
+ghost use Rattle.ic_text.specs.declared.limits.Limits.{Limits};
+ghost use Rattle.ic_text.specs.declared.limits.Limits.TheVariants.{Served, Wide};
 ghost use Rattle.ic_text.specs.declared.limits.TheConstants.{MAX_TEXT, MAX_NAME};
 ghost use Rattle.ic_text.specs.declared.fault.TextFault.{TextFault};
 ghost use Rattle.ic_text.specs.declared.misread.Detail.{Detail};
@@ -38,19 +41,21 @@ ghost use Rattle.ic_text.specs.declared.fault.TextFault.TheVariants.{Syntax, Lim
 /// A text spells at most one configuration, and it is read in just one way.
 pub fn one_reading()
     ensures source { (text : List ℕ) (p q : Phrase) → Spells text p → Spells text q → p ≡ q }
-    ensures answer { (text : List ℕ) (a b : Result (List Symbol × Configuration) TextFault) →
-        Reads text a → Reads text b → a ≡ b }
-    ensures total { (text : List ℕ) →
-        (a : Result (List Symbol × Configuration) TextFault) × Reads text a }
+    ensures answer { (limits : Limits) (text : List ℕ)
+        (a b : Result (List Symbol × Configuration) TextFault) →
+        ReadsWithin limits text a → ReadsWithin limits text b → a ≡ b }
+    ensures total { (limits : Limits) (text : List ℕ) →
+        (a : Result (List Symbol × Configuration) TextFault) × ReadsWithin limits text a }
 {}
 
 /// A text spells at most one system, and it is read in just one way.
 pub fn one_system_reading()
     ensures source { (text : List ℕ) (s t : SystemPhrase) →
         SpellsSystem text s → SpellsSystem text t → s ≡ t }
-    ensures answer { (text : List ℕ) (a b : Result SystemParts TextFault) →
-        ReadsSystem text a → ReadsSystem text b → a ≡ b }
-    ensures total { (text : List ℕ) → (a : Result SystemParts TextFault) × ReadsSystem text a }
+    ensures answer { (limits : Limits) (text : List ℕ) (a b : Result SystemParts TextFault) →
+        ReadsSystemWithin limits text a → ReadsSystemWithin limits text b → a ≡ b }
+    ensures total { (limits : Limits) (text : List ℕ) →
+        (a : Result SystemParts TextFault) × ReadsSystemWithin limits text a }
 {}
 
 /// A text has at most one place of a fault of syntax.
@@ -72,83 +77,94 @@ pub fn the_text_before_a_fault_is_innocent()
 
 /// The places that are told of one refusal of a text are the same.
 pub fn a_refusal_is_found_at_one_place()
-    ensures config { (text : List ℕ) (fault : TextFault) (a b : ℕ) (d e : Detail) →
-        IsPlaced IsPhrase phrase_words written_phrase text fault (Some a) d →
-        IsPlaced IsPhrase phrase_words written_phrase text fault (Some b) e → a ≡ b }
-    ensures system { (text : List ℕ) (fault : TextFault) (a b : ℕ) (d e : Detail) →
-        IsPlaced IsSystemPhrase system_words written_system text fault (Some a) d →
-        IsPlaced IsSystemPhrase system_words written_system text fault (Some b) e → a ≡ b }
+    ensures config { (limits : Limits) (text : List ℕ) (fault : TextFault) (a b : ℕ)
+        (d e : Detail) →
+        IsPlacedWithin limits IsPhrase phrase_words written_phrase text fault (Some a) d →
+        IsPlacedWithin limits IsPhrase phrase_words written_phrase text fault (Some b) e → a ≡ b }
+    ensures system { (limits : Limits) (text : List ℕ) (fault : TextFault) (a b : ℕ)
+        (d e : Detail) →
+        IsPlacedWithin limits IsSystemPhrase system_words written_system text fault (Some a) d →
+        IsPlacedWithin limits IsSystemPhrase system_words written_system text fault (Some b) e →
+        a ≡ b }
 {}
 
 /// A text that is cut before the place of a refusal wants more, and has a fault of syntax at its end: it ends no
 /// phrase, so it has none of the other faults. One that is cut where it gets too long isn't too long.
 pub fn the_text_before_a_refusal_wants_more()
-    ensures config { (text : List ℕ) (fault : TextFault) (at : ℕ) (detail : Detail) →
-        fault ≢ Syntax → detail ≢ Passed TextBytes →
-        IsPlaced IsPhrase phrase_words written_phrase text fault (Some at) detail →
-        Reads (take at text) (Err Syntax) × IsSyntaxPlace IsPhrase phrase_words (take at text) at }
-    ensures system { (text : List ℕ) (fault : TextFault) (at : ℕ) (detail : Detail) →
-        fault ≢ Syntax → detail ≢ Passed TextBytes →
-        IsPlaced IsSystemPhrase system_words written_system text fault (Some at) detail →
-        ReadsSystem (take at text) (Err Syntax)
+    ensures config { (limits : Limits) (text : List ℕ) (fault : TextFault) (at : ℕ)
+        (detail : Detail) → fault ≢ Syntax → detail ≢ Passed TextBytes →
+        IsPlacedWithin limits IsPhrase phrase_words written_phrase text fault (Some at) detail →
+        ReadsWithin limits (take at text) (Err Syntax)
+        × IsSyntaxPlace IsPhrase phrase_words (take at text) at }
+    ensures system { (limits : Limits) (text : List ℕ) (fault : TextFault) (at : ℕ)
+        (detail : Detail) → fault ≢ Syntax → detail ≢ Passed TextBytes →
+        IsPlacedWithin limits IsSystemPhrase system_words written_system text fault (Some at)
+        detail →
+        ReadsSystemWithin limits (take at text) (Err Syntax)
         × IsSyntaxPlace IsSystemPhrase system_words (take at text) at }
-    ensures long_config { (text : List ℕ) (at : ℕ) →
-        IsPlaced IsPhrase phrase_words written_phrase text Limit (Some at) (Passed TextBytes) →
-        length (take at text) ≤ MAX_TEXT }
-    ensures long_system { (text : List ℕ) (at : ℕ) →
-        IsPlaced IsSystemPhrase system_words written_system text Limit (Some at) (Passed TextBytes) →
-        length (take at text) ≤ MAX_TEXT }
+    ensures long_config { (limits : Limits) (text : List ℕ) (at : ℕ) →
+        IsPlacedWithin limits IsPhrase phrase_words written_phrase text Limit (Some at)
+        (Passed TextBytes) → length (take at text) ≤ most_bytes limits }
+    ensures long_system { (limits : Limits) (text : List ℕ) (at : ℕ) →
+        IsPlacedWithin limits IsSystemPhrase system_words written_system text Limit (Some at)
+        (Passed TextBytes) → length (take at text) ≤ most_bytes limits }
 {}
 
 /// What is written passes limits first with one word, and one limit of it is told; as far as any word before it, all
 /// limits are kept. Where the word passes several, the limit of rules, of their nodes, of the interface or of nodes is
 /// told, else that of a symbol's bytes, of its arguments, of a name's number or of symbols.
 pub fn words_before_a_passed_limit_are_innocent()
-    ensures one { (a b : Bound) (w : Written) (j k : ℕ) →
-        IsLimitWord a w j → IsLimitWord b w k → j ≡ k }
-    ensures told { (a b : Bound) (w : Written) (j k : ℕ) →
-        IsLimitWord a w j → IsLimitWord b w k → a ≡ b }
-    ensures kept { (a b : Bound) (w : Written) (j k : ℕ) →
-        IsLimitWord a w k → j ≤ k → IsTrue (keeps_so_far b w j) }
+    ensures one { (limits : Limits) (a b : Bound) (w : Written) (j k : ℕ) →
+        IsLimitWordWithin limits a w j → IsLimitWordWithin limits b w k → j ≡ k }
+    ensures told { (limits : Limits) (a b : Bound) (w : Written) (j k : ℕ) →
+        IsLimitWordWithin limits a w j → IsLimitWordWithin limits b w k → a ≡ b }
+    ensures kept { (limits : Limits) (a b : Bound) (w : Written) (j k : ℕ) →
+        IsLimitWordWithin limits a w k → j ≤ k → IsTrue (keeps_so_far limits b w j) }
     ensures order { map rank (Rules ∷ RuleNodes ∷ Interface ∷ Nodes
         ∷ SymbolBytes ∷ Arguments ∷ NameNumber ∷ Symbols ∷ [])
         ≡ 1 ∷ 2 ∷ 3 ∷ 4 ∷ 5 ∷ 6 ∷ 7 ∷ 8 ∷ [] }
-    ensures first { (a b : Bound) (w : Written) (k : ℕ) → IsLimitWord a w k → rank b < rank a →
-        IsTrue (keeps_so_far b w (k + 1)) }
+    ensures first { (limits : Limits) (a b : Bound) (w : Written) (k : ℕ) →
+        IsLimitWordWithin limits a w k → rank b < rank a →
+        IsTrue (keeps_so_far limits b w (k + 1)) }
 {}
 
 /// A limit that is told is one that is passed, and its word the first one too many. That of rules is the first word of
 /// the first rule too many; that of nodes in rules stands within an agent, after so many nodes and the symbols of this
 /// agent and of those before. A configuration is written as a system without rules.
 pub fn a_limit_that_is_told_is_passed()
-    ensures rules { (s : SystemPhrase) (k : ℕ) → IsLimitWord Rules (written_system s) k →
+    ensures rules { (limits : Limits) (s : SystemPhrase) (k : ℕ) →
+        IsLimitWordWithin limits Rules (written_system s) k →
         (MAX_RULES < length s.rules) × (k ≡ length (rules_prefix (take MAX_RULES s.rules))) }
-    ensures rule_nodes { (s : SystemPhrase) (k : ℕ) → IsLimitWord RuleNodes (written_system s) k →
+    ensures rule_nodes { (limits : Limits) (s : SystemPhrase) (k : ℕ) →
+        IsLimitWordWithin limits RuleNodes (written_system s) k →
         (before : ℕ) × (k ≡ MAX_RULE_NODES + before + 1)
         × (nodes_within (take before (agents s.rules)) ≤ MAX_RULE_NODES)
         × (MAX_RULE_NODES < nodes_within (take (before + 1) (agents s.rules)))
         × (MAX_RULE_NODES < sum_by rule_nodes s.rules) }
-    ensures interface { (s : SystemPhrase) (k : ℕ) → IsLimitWord Interface (written_system s) k →
-        (MAX_INTERFACE < length s.config.interface)
+    ensures interface { (limits : Limits) (s : SystemPhrase) (k : ℕ) →
+        IsLimitWordWithin limits Interface (written_system s) k →
+        (most_interface limits < length s.config.interface)
         × (k ≡ length (rules_prefix s.rules)
-        + length (flat_map prefix (take MAX_INTERFACE s.config.interface))) }
-    ensures nodes { (s : SystemPhrase) (k : ℕ) → IsLimitWord Nodes (written_system s) k →
-        (MAX_NODES < phrase_nodes s.config)
-        × (k ≡ length (rules_prefix s.rules) + MAX_NODES) }
-    ensures symbol_bytes { (s : SystemPhrase) (k : ℕ) → IsSystemPhrase s →
-        IsLimitWord SymbolBytes (written_system s) k →
+        + length (flat_map prefix (take (most_interface limits) s.config.interface))) }
+    ensures nodes { (limits : Limits) (s : SystemPhrase) (k : ℕ) →
+        IsLimitWordWithin limits Nodes (written_system s) k →
+        (most_nodes limits < phrase_nodes s.config)
+        × (k ≡ length (rules_prefix s.rules) + most_nodes limits) }
+    ensures symbol_bytes { (limits : Limits) (s : SystemPhrase) (k : ℕ) → IsSystemPhrase s →
+        IsLimitWordWithin limits SymbolBytes (written_system s) k →
         (x : Symbol) × (slice_get (system_prefix s) k ≡ Some x)
         × Contains (system_symbols s) x × (MAX_SYMBOL_TEXT < length x.text) }
-    ensures arguments { (s : SystemPhrase) (k : ℕ) → IsSystemPhrase s →
-        IsLimitWord Arguments (written_system s) k →
+    ensures arguments { (limits : Limits) (s : SystemPhrase) (k : ℕ) → IsSystemPhrase s →
+        IsLimitWordWithin limits Arguments (written_system s) k →
         (x : Symbol) × (slice_get (system_prefix s) k ≡ Some x)
         × Contains (system_symbols s) x × (MAX_ARITY < x.arity) }
-    ensures name_number { (s : SystemPhrase) (k : ℕ) → IsSystemPhrase s →
-        IsLimitWord NameNumber (written_system s) k →
+    ensures name_number { (limits : Limits) (s : SystemPhrase) (k : ℕ) → IsSystemPhrase s →
+        IsLimitWordWithin limits NameNumber (written_system s) k →
         (n : ℕ) × (slice_get (texts (system_prefix s)) k ≡ Some (name_text n))
         × Contains (system_names s) n × (MAX_NAME < n) }
-    ensures symbols { (s : SystemPhrase) (k : ℕ) → IsSystemPhrase s →
-        IsLimitWord Symbols (written_system s) k → MAX_SYMBOLS < length (system_table s) }
+    ensures symbols { (limits : Limits) (s : SystemPhrase) (k : ℕ) → IsSystemPhrase s →
+        IsLimitWordWithin limits Symbols (written_system s) k →
+        MAX_SYMBOLS < length (system_table s) }
     ensures alone { (p : Phrase) →
         written_phrase p ≡ written_system (record { rules = []; config = p }) }
 {}
@@ -252,6 +268,19 @@ pub fn systems_are_told_by_their_tokens()
 pub fn limits_are()
     ensures text { MAX_TEXT ≡ 262144 }
     ensures name { MAX_NAME ≡ 4294967295 }
+    ensures served { (most_bytes Served ≡ MAX_TEXT) × (most_nodes Served ≡ MAX_NODES)
+        × (most_interface Served ≡ MAX_INTERFACE) }
+    ensures wide { (most_bytes Wide ≡ 2 ^ 33) × (most_nodes Wide ≡ 2 ^ 31)
+        × (most_interface Wide ≡ 2 ^ 31) }
+{}
+
+/// What a text is read as with the limits of what is served, it is read as with wide limits, unless it passes a limit.
+pub fn wide_limits_change_limits_alone()
+    ensures config { (text : List ℕ) (answer : Result (List Symbol × Configuration) TextFault) →
+        answer ≢ Err Limit → ReadsWithin Served text answer → ReadsWithin Wide text answer }
+    ensures system { (text : List ℕ) (answer : Result SystemParts TextFault) →
+        answer ≢ Err Limit → ReadsSystemWithin Served text answer →
+        ReadsSystemWithin Wide text answer }
 {}
 
 /// The lasting numbers of the refusals, which are all that there are.
@@ -337,10 +366,12 @@ pub fn symbols_and_names_stand_as_in_the_text()
 
 /// `next` of a configuration that was read is one above its greatest name, or 0 where it has none.
 pub fn next_is_one_above_the_names()
-    ensures config { (text : List ℕ) (table : List Symbol) (c : Configuration) →
-        Reads text (Ok (table, c)) → c.next ≡ one_above (configuration_names c) }
-    ensures system { (text : List ℕ) (v : SystemParts) →
-        ReadsSystem text (Ok v) → v.config.next ≡ one_above (configuration_names v.config) }
+    ensures config { (limits : Limits) (text : List ℕ) (table : List Symbol)
+        (c : Configuration) →
+        ReadsWithin limits text (Ok (table, c)) → c.next ≡ one_above (configuration_names c) }
+    ensures system { (limits : Limits) (text : List ℕ) (v : SystemParts) →
+        ReadsSystemWithin limits text (Ok v) →
+        v.config.next ≡ one_above (configuration_names v.config) }
 {}
 
 /// The tokens of a text are its bytes in order, except for the blanks.
@@ -357,8 +388,10 @@ pub fn printed_spells()
 
 /// What is printed of a configuration that was read is read as the same symbols and configuration, and is no longer.
 pub fn read_back_law()
-    ensures same { (text : List ℕ) (table : List Symbol) (c : Configuration) →
-        Reads text (Ok (table, c)) → Reads (printed table c) (Ok (table, c)) }
-    ensures no_longer { (text : List ℕ) (table : List Symbol) (c : Configuration) →
-        Reads text (Ok (table, c)) → length (printed table c) ≤ length text }
+    ensures same { (limits : Limits) (text : List ℕ) (table : List Symbol) (c : Configuration) →
+        ReadsWithin limits text (Ok (table, c)) →
+        ReadsWithin limits (printed table c) (Ok (table, c)) }
+    ensures no_longer { (limits : Limits) (text : List ℕ) (table : List Symbol)
+        (c : Configuration) →
+        ReadsWithin limits text (Ok (table, c)) → length (printed table c) ≤ length text }
 {}

@@ -11,9 +11,9 @@ ghost use Rattle.ic_text.specs.inner.Tail.{passed};
 ghost use Rattle.ic_text.specs.inner.TailScan.{cut_behind_mark};
 ghost use Rattle.ic_text.specs.Words.{phrase_prefix, rules_prefix};
 
+use crate::limits::Limits;
 use crate::tail::{Tail, tail_behind};
 use crate::token::{Mark, is_word_byte, mark_of};
-use ic_term::MAX_NODES;
 use std::alloc::{AllocError, Global};
 
 /// A word, and how many arguments follow it.
@@ -217,11 +217,12 @@ pub(crate) fn front_of(
 }
 
 /// How many words are kept of a configuration that has so many: with the first one too many it is refused.
-pub(crate) fn enough_of(words: usize) -> usize
-    ensures { IsEnough result words }
+pub(crate) fn enough_of(limits: Limits, words: usize) -> usize
+    ensures { IsEnough limits result words }
 {
-    if words as u64 > MAX_NODES {
-        MAX_NODES as usize + 1
+    let most = limits.nodes();
+    if words as u64 > most {
+        most as usize + 1
     } else {
         words
     }

@@ -2,59 +2,77 @@
 
 ghost use Rattle.std.specs.Prelude.{◌≡◌, ◌≢◌, ◌≤◌, length, IfOk, IfErr, IsTrue, Ok, Err, Some};
 ghost use Rattle.ic_term.specs.Symbol.{is_over};
+ghost use Rattle.ic_term.specs.Configuration.{configuration_nodes};
 ghost use Rattle.ic_text.specs.inner.Numbered.{Gives};
 ghost use Rattle.ic_text.specs.inner.Refused.{IsToldIn, bare, faulted};
 ghost use Rattle.ic_text.specs.inner.Survey.{Tells};
-ghost use Rattle.ic_text.specs.Places.{IsPlaced};
-ghost use Rattle.ic_text.specs.Sense.{sense};
+ghost use Rattle.ic_text.specs.Limits.{most_bytes, most_interface, most_nodes};
+ghost use Rattle.ic_text.specs.Places.{IsPlaced, IsPlacedWithin};
+ghost use Rattle.ic_text.specs.Sense.{sense_within};
 ghost use Rattle.ic_text.specs.Source.{Phrase, IsPhrase, phrase_words};
-ghost use Rattle.ic_text.specs.Text.{Reads, Spells, IsConfigText};
+ghost use Rattle.ic_text.specs.Text.{IsConfigText, IsConfigTextWithin, Reads, ReadsWithin, Spells};
 ghost use Rattle.ic_text.specs.Words.{written_phrase};
 
 use crate::blame::refusal_of;
-use crate::build::flat_of;
+use crate::build::wide_of;
 use crate::excess::config_excess;
 use crate::fault::TextFault;
-use crate::limits::MAX_TEXT;
+use crate::limits::Limits;
 use crate::misread::{Detail, Limit, Misread};
 use crate::number::number_words;
 use crate::prefix::{enough_of, front_of};
 use crate::refusal::Refusal;
 use crate::survey::{Counts, survey_config};
-use ic_flat::Flat;
+use ic_flat::{Flat, WideFlat};
 use ic_term::{Config, Symbols};
 use std::alloc::Global;
 
 /// The sense of a text that spells a configuration of so many words. Every limit is tested before they are numbered. Of
 /// too many words only the first ones are kept: no later one can be refused.
-fn sense_of(alloc: Global, text: &[u8], counts: Counts) -> Result<(Symbols, Flat), Refusal>
+fn sense_of(
+    alloc: Global,
+    limits: Limits,
+    text: &[u8],
+    counts: Counts,
+) -> Result<(Symbols, WideFlat), Refusal>
     requires { Tells IsPhrase phrase_words text.now (Some counts) }
-    ensures sense { (p : Phrase) → Spells text.now p → Gives (λ v. v) (bare result) (sense p) }
+    ensures sense { (p : Phrase) → Spells text.now p →
+        Gives (λ v. v) (bare result) (sense_within limits p) }
     ensures over { IfOk result (λ v. IsTrue (is_over v.0 v.1)) }
+    ensures nodes { IfOk result (λ v. configuration_nodes v.1 ≤ most_nodes limits) }
+    ensures interface { IfOk result (λ v. length v.1.interface ≤ most_interface limits) }
     ensures word { (p : Phrase) → Spells text.now p →
-        IfErr result (IsToldIn (written_phrase p)) }
+        IfErr result (IsToldIn limits (written_phrase p)) }
 {
-    let kept = enough_of(counts.words);
+    let kept = enough_of(limits, counts.words);
     let prefix = front_of(alloc, text, kept, counts.words - kept)?;
-    let excess = config_excess(&prefix.nodes, prefix.terms);
+    let excess = config_excess(limits, &prefix.nodes, prefix.terms);
     let (symbols, words) = number_words(alloc, &prefix.nodes, excess)?;
-    match flat_of(alloc, words, prefix.terms) {
+    match wide_of(alloc, words, prefix.terms) {
         Ok(config) => Ok((symbols, config)),
         Err(fault) => Err(refusal_of(fault, &prefix.nodes, 0)),
     }
 }
 
 /// The same, with the place of the refusal in the text.
-fn config_at(alloc: Global, text: &[u8], counts: Counts) -> Result<(Symbols, Flat), Misread>
-    requires short { length text.now ≤ MAX_TEXT }
+fn config_at(
+    alloc: Global,
+    limits: Limits,
+    text: &[u8],
+    counts: Counts,
+) -> Result<(Symbols, WideFlat), Misread>
+    requires short { length text.now ≤ most_bytes limits }
     requires spelled { Tells IsPhrase phrase_words text.now (Some counts) }
-    ensures sense { (p : Phrase) → Spells text.now p → Gives (λ v. v) (faulted result) (sense p) }
+    ensures sense { (p : Phrase) → Spells text.now p →
+        Gives (λ v. v) (faulted result) (sense_within limits p) }
     ensures over { IfOk result (λ v. IsTrue (is_over v.0 v.1)) }
+    ensures nodes { IfOk result (λ v. configuration_nodes v.1 ≤ most_nodes limits) }
+    ensures interface { IfOk result (λ v. length v.1.interface ≤ most_interface limits) }
     ensures placed { IfErr result
-        (λ misread. IsPlaced IsPhrase phrase_words written_phrase text.now misread.fault
-        misread.place misread.detail) }
+        (λ misread. IsPlacedWithin limits IsPhrase phrase_words written_phrase text.now
+        misread.fault misread.place misread.detail) }
 {
-    match sense_of(alloc, text, counts) {
+    match sense_of(alloc, limits, text, counts) {
         Ok(found) => Ok(found),
         Err(refusal) => Err(refusal.in_text(text)),
     }
@@ -62,6 +80,43 @@ fn config_at(alloc: Global, text: &[u8], counts: Counts) -> Result<(Symbols, Fla
 
 /// The configuration that a text means in flat form, with its symbols numbered by first occurrence and `next` one above
 /// its greatest name, or the first refusal and its place. Takes n log n steps. Nothing recurses on nesting.
+pub fn find_wide_config(
+    alloc: Global,
+    limits: Limits,
+    text: &[u8],
+) -> Result<(Symbols, WideFlat), Misread>
+    ensures read { IfOk result (λ v. ReadsWithin limits text.now (Ok v)) }
+    ensures spelled { IfOk result (λ _. IsConfigTextWithin limits text.now) }
+    ensures over { IfOk result (λ v. IsTrue (is_over v.0 v.1)) }
+    ensures few { IfOk result (λ v. configuration_nodes v.1 ≤ most_nodes limits) }
+    ensures interface { IfOk result (λ v. length v.1.interface ≤ most_interface limits) }
+    ensures refused { IfErr result (λ misread. misread.fault ≢ TextFault.Memory →
+        ReadsWithin limits text.now (Err misread.fault)) }
+    ensures placed { IfErr result
+        (λ misread. IsPlacedWithin limits IsPhrase phrase_words written_phrase text.now
+        misread.fault misread.place misread.detail) }
+    ensures memory { IfErr result (λ misread. misread.fault ≡ TextFault.Memory →
+        IsConfigTextWithin limits text.now) }
+{
+    let most = limits.text_bytes();
+    if text.len() > most {
+        return Err(Misread {
+            fault: TextFault::Limit,
+            place: Some(most),
+            detail: Detail::Passed(Limit::TextBytes),
+        });
+    }
+    match survey_config(text) {
+        Ok(counts) => Ok(config_at(alloc, limits, text, counts)?),
+        Err(place) => Err(Misread {
+            fault: TextFault::Syntax,
+            place: Some(place),
+            detail: Detail::Nothing,
+        }),
+    }
+}
+
+/// The configuration that `find_wide_config` answers with the limits of what is served, or its refusal.
 pub fn find_flat_config(alloc: Global, text: &[u8]) -> Result<(Symbols, Flat), Misread>
     ensures read { IfOk result (λ v. Reads text.now (Ok v)) }
     ensures spelled { IfOk result (λ _. IsConfigText text.now) }
@@ -74,21 +129,8 @@ pub fn find_flat_config(alloc: Global, text: &[u8]) -> Result<(Symbols, Flat), M
     ensures memory { IfErr result
         (λ misread. misread.fault ≡ TextFault.Memory → IsConfigText text.now) }
 {
-    if text.len() > MAX_TEXT {
-        return Err(Misread {
-            fault: TextFault::Limit,
-            place: Some(MAX_TEXT),
-            detail: Detail::Passed(Limit::TextBytes),
-        });
-    }
-    match survey_config(text) {
-        Ok(counts) => Ok(config_at(alloc, text, counts)?),
-        Err(place) => Err(Misread {
-            fault: TextFault::Syntax,
-            place: Some(place),
-            detail: Detail::Nothing,
-        }),
-    }
+    let (symbols, config) = find_wide_config(alloc, Limits::Served, text)?;
+    Ok((symbols, Flat::from_wide(config)))
 }
 
 /// The configuration that `find_flat_config` answers, as terms and equations, or its refusal. Limits are settled before

@@ -11,7 +11,6 @@ ghost use Rattle.ic_text.specs.SystemSource.{SystemPhrase, IsSystemPhrase, syste
 ghost use Rattle.ic_text.specs.SystemText.{SpellsSystem};
 ghost use Rattle.ic_text.specs.Token.{word, word_of, tokens};
 
-use crate::limits::MAX_TEXT;
 use crate::syntax::{Part, State};
 use crate::token::{Mark, is_blank, is_word_byte, mark_of};
 
@@ -97,7 +96,6 @@ impl Progress {
 /// grammar has no such text. Takes one pass, and no memory.
 #[inline(never)]
 fn survey(part: Part, text: &[u8]) -> Result<Counts, usize>
-    requires { length text.now ≤ MAX_TEXT }
     ensures counts { counts_in result ≡ surveyed part (tokens text.now) }
     ensures place { IfErr result (λ at. IsLastPlace (Leads part) text.now at) }
 {
@@ -128,7 +126,6 @@ fn survey(part: Part, text: &[u8]) -> Result<Counts, usize>
 
 /// How many words a configuration has, or where a text that spells none has its fault.
 pub(crate) fn survey_config(text: &[u8]) -> Result<Counts, usize>
-    requires { length text.now ≤ MAX_TEXT }
     ensures counts { Tells IsPhrase phrase_words text.now (counts_in result) }
     ensures place { IfErr result (λ at. IsSyntaxPlace IsPhrase phrase_words text.now at) }
 {
@@ -137,7 +134,6 @@ pub(crate) fn survey_config(text: &[u8]) -> Result<Counts, usize>
 
 /// How many words a system has, or where a text that spells none has its fault.
 pub(crate) fn survey_system(text: &[u8]) -> Result<Counts, usize>
-    requires { length text.now ≤ MAX_TEXT }
     ensures counts { Tells IsSystemPhrase system_words text.now (counts_in result) }
     ensures place { IfErr result (λ at. IsSyntaxPlace IsSystemPhrase system_words text.now at) }
 {
@@ -146,7 +142,6 @@ pub(crate) fn survey_system(text: &[u8]) -> Result<Counts, usize>
 
 /// Whether a text spells a system, whatever it means. Takes one pass, and no memory.
 pub fn is_system(text: &[u8]) -> bool
-    requires { length text.now ≤ MAX_TEXT }
     ensures spelled { OnTrue result ((s : SystemPhrase) × SpellsSystem text.now s) }
     ensures none { OnFalse result ((s : SystemPhrase) → ¬ SpellsSystem text.now s) }
 {

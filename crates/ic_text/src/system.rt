@@ -1,62 +1,81 @@
 //! Reading a system.
 
 ghost use Rattle.std.specs.Prelude.{◌≡◌, ◌≢◌, ◌≤◌, length, IfOk, IfErr, Ok, Err, Some};
+ghost use Rattle.ic_term.specs.Configuration.{configuration_nodes};
 ghost use Rattle.ic_text.specs.inner.Numbered.{Gives};
 ghost use Rattle.ic_text.specs.inner.Refused.{IsToldIn, bare, faulted};
 ghost use Rattle.ic_text.specs.inner.Survey.{Tells};
-ghost use Rattle.ic_text.specs.Places.{IsPlaced};
-ghost use Rattle.ic_text.specs.SystemSense.{system_sense};
+ghost use Rattle.ic_text.specs.Limits.{most_bytes, most_interface, most_nodes};
+ghost use Rattle.ic_text.specs.Places.{IsPlaced, IsPlacedWithin};
+ghost use Rattle.ic_text.specs.SystemSense.{system_sense_within};
 ghost use Rattle.ic_text.specs.SystemSource.{SystemPhrase, IsSystemPhrase, system_words};
-ghost use Rattle.ic_text.specs.SystemText.{SpellsSystem, ReadsSystem, IsSystemText};
+ghost use Rattle.ic_text.specs.SystemText.{SpellsSystem, ReadsSystem, ReadsSystemWithin};
+ghost use Rattle.ic_text.specs.SystemText.{IsSystemText, IsSystemTextWithin};
 ghost use Rattle.ic_text.specs.Words.{written_system};
 
 use crate::blame::refusal_of;
 use crate::build::system_of;
 use crate::excess::excess_of;
 use crate::fault::TextFault;
-use crate::limits::MAX_TEXT;
+use crate::limits::Limits;
 use crate::misread::{Detail, Limit, Misread};
 use crate::number::number_words;
 use crate::prefix::prefix_of;
 use crate::refusal::Refusal;
 use crate::survey::{Counts, survey_system};
 use crate::syntax::split_at_brace;
-use ic_flat::FlatSystem;
+use ic_flat::{FlatSystem, WideSystem};
 use ic_rules::System;
 use std::alloc::Global;
 
 /// The sense of a text that spells a system of so many words. Every limit is tested before a term is built.
-fn sense_of(alloc: Global, text: &[u8], counts: Counts) -> Result<FlatSystem, Refusal>
+fn sense_of(
+    alloc: Global,
+    limits: Limits,
+    text: &[u8],
+    counts: Counts,
+) -> Result<WideSystem, Refusal>
     requires { Tells IsSystemPhrase system_words text.now (Some counts) }
     ensures sense { (s : SystemPhrase) → SpellsSystem text.now s →
-        Gives (λ system. system) (bare result) (system_sense s) }
+        Gives (λ system. system) (bare result) (system_sense_within limits s) }
+    ensures nodes { IfOk result (λ s. configuration_nodes s.config ≤ most_nodes limits) }
+    ensures interface { IfOk result (λ s. length s.config.interface ≤ most_interface limits) }
     ensures word { (s : SystemPhrase) → SpellsSystem text.now s →
-        IfErr result (IsToldIn (written_system s)) }
+        IfErr result (IsToldIn limits (written_system s)) }
 {
     let (rules, config) = split_at_brace(text);
     let mut rules = prefix_of(alloc, rules, counts.words)?;
     let mut config = prefix_of(alloc, config, counts.words)?;
     let before = rules.words();
+    let terms = config.terms;
     rules.nodes.append(&mut config.nodes)?;
-    let excess = excess_of(&rules.nodes, before, rules.terms, config.terms);
+    drop(config);
+    let excess = excess_of(limits, &rules.nodes, before, rules.terms, terms);
     let (symbols, words) = number_words(alloc, &rules.nodes, excess)?;
-    match system_of(alloc, symbols, words, before, config.terms) {
+    match system_of(alloc, symbols, words, before, terms) {
         Ok(system) => Ok(system),
         Err(fault) => Err(refusal_of(fault, &rules.nodes, before)),
     }
 }
 
 /// The same, with the place of the refusal in the text.
-fn system_at(alloc: Global, text: &[u8], counts: Counts) -> Result<FlatSystem, Misread>
-    requires short { length text.now ≤ MAX_TEXT }
+fn system_at(
+    alloc: Global,
+    limits: Limits,
+    text: &[u8],
+    counts: Counts,
+) -> Result<WideSystem, Misread>
+    requires short { length text.now ≤ most_bytes limits }
     requires spelled { Tells IsSystemPhrase system_words text.now (Some counts) }
     ensures sense { (s : SystemPhrase) → SpellsSystem text.now s →
-        Gives (λ system. system) (faulted result) (system_sense s) }
+        Gives (λ system. system) (faulted result) (system_sense_within limits s) }
+    ensures nodes { IfOk result (λ s. configuration_nodes s.config ≤ most_nodes limits) }
+    ensures interface { IfOk result (λ s. length s.config.interface ≤ most_interface limits) }
     ensures placed { IfErr result
-        (λ misread. IsPlaced IsSystemPhrase system_words written_system text.now misread.fault
-        misread.place misread.detail) }
+        (λ misread. IsPlacedWithin limits IsSystemPhrase system_words written_system text.now
+        misread.fault misread.place misread.detail) }
 {
-    match sense_of(alloc, text, counts) {
+    match sense_of(alloc, limits, text, counts) {
         Ok(found) => Ok(found),
         Err(refusal) => Err(refusal.in_text(text)),
     }
@@ -65,6 +84,40 @@ fn system_at(alloc: Global, text: &[u8], counts: Counts) -> Result<FlatSystem, M
 /// The system that a text means in flat form, or the first refusal and its place. Symbols are numbered by first
 /// occurrence, rules first, and so are the names of each rule; `next` is one above the greatest name of the
 /// configuration. Takes n log n steps. Nothing recurses on the nesting of the configuration.
+pub fn find_wide_system(alloc: Global, limits: Limits, text: &[u8]) -> Result<WideSystem, Misread>
+    ensures read { IfOk result (λ system. ReadsSystemWithin limits text.now (Ok system)) }
+    ensures spelled { IfOk result (λ _. (s : SystemPhrase) × SpellsSystem text.now s) }
+    ensures few { IfOk result
+        (λ system. configuration_nodes system.config ≤ most_nodes limits) }
+    ensures interface { IfOk result
+        (λ system. length system.config.interface ≤ most_interface limits) }
+    ensures refused { IfErr result (λ misread. misread.fault ≢ TextFault.Memory →
+        ReadsSystemWithin limits text.now (Err misread.fault)) }
+    ensures placed { IfErr result
+        (λ misread. IsPlacedWithin limits IsSystemPhrase system_words written_system text.now
+        misread.fault misread.place misread.detail) }
+    ensures memory { IfErr result (λ misread. misread.fault ≡ TextFault.Memory →
+        IsSystemTextWithin limits text.now) }
+{
+    let most = limits.text_bytes();
+    if text.len() > most {
+        return Err(Misread {
+            fault: TextFault::Limit,
+            place: Some(most),
+            detail: Detail::Passed(Limit::TextBytes),
+        });
+    }
+    match survey_system(text) {
+        Ok(counts) => Ok(system_at(alloc, limits, text, counts)?),
+        Err(place) => Err(Misread {
+            fault: TextFault::Syntax,
+            place: Some(place),
+            detail: Detail::Nothing,
+        }),
+    }
+}
+
+/// The system that `find_wide_system` answers with the limits of what is served, or its refusal.
 pub fn find_flat_system(alloc: Global, text: &[u8]) -> Result<FlatSystem, Misread>
     ensures read { IfOk result (λ system. ReadsSystem text.now (Ok system)) }
     ensures spelled { IfOk result (λ _. (s : SystemPhrase) × SpellsSystem text.now s) }
@@ -76,21 +129,8 @@ pub fn find_flat_system(alloc: Global, text: &[u8]) -> Result<FlatSystem, Misrea
     ensures memory { IfErr result
         (λ misread. misread.fault ≡ TextFault.Memory → IsSystemText text.now) }
 {
-    if text.len() > MAX_TEXT {
-        return Err(Misread {
-            fault: TextFault::Limit,
-            place: Some(MAX_TEXT),
-            detail: Detail::Passed(Limit::TextBytes),
-        });
-    }
-    match survey_system(text) {
-        Ok(counts) => Ok(system_at(alloc, text, counts)?),
-        Err(place) => Err(Misread {
-            fault: TextFault::Syntax,
-            place: Some(place),
-            detail: Detail::Nothing,
-        }),
-    }
+    let system = find_wide_system(alloc, Limits::Served, text)?;
+    Ok(FlatSystem::from_wide(system))
 }
 
 /// The system that `find_flat_system` answers, with its configuration as terms and equations, or its refusal.

@@ -16,7 +16,7 @@ mod texts;
 use crate::input::{Input, open_file, told_of};
 use crate::progress::{Progress, WipedFirst};
 use crate::standing::stand_ins;
-use ic_args::{Task, WordsFault, read_words};
+use ic_args::{Task, TextLimits, WordsFault, read_words};
 use ic_book::Book;
 use ic_causes::{NotedFile, NotedFiles, NotedInput, NotedOutput, Notes};
 use ic_diagnostics::{once_telling, settle_telling};
@@ -28,6 +28,7 @@ use ic_scripts::{ScriptsFault, attend_scripts};
 use ic_serving::{ServeFault, serve_watched};
 use ic_slots::is_unused;
 use ic_streams::StreamFault;
+use ic_text::Limits;
 use std::env;
 use std::io::{self, BufWriter, ErrorKind, Read, Write};
 use std::process::ExitCode;
@@ -160,13 +161,18 @@ fn run<T: Threads + Wait + Copy + Send + Sync + 'static, R: Read>(
             nodes,
             partial,
             stats,
+            limits,
             ..
         } => {
             let bounds = Bounds {
                 steps: *steps,
                 nodes: *nodes,
             };
-            reducing::reduce(rt, bounds, [*partial, *stats], input, notes, told)
+            let limits = match limits {
+                TextLimits::Served => Limits::Served,
+                TextLimits::Wide => Limits::Wide,
+            };
+            reducing::reduce(rt, limits, bounds, [*partial, *stats], input, notes, told)
         }
         Task::ReduceByRounds {
             rounds,

@@ -5,15 +5,17 @@ use crate::progress::{Watching, WipedFirst, a_second};
 use ic_causes::{NotedOutput, Notes};
 use ic_exits::{Failure, Reached, reduce_ending};
 use ic_in_place::{Bounds, Outcome, reduce_in_place_stream};
+use ic_text::Limits;
 use std::alloc::{AllocError, Global};
 use std::io::{self, Read, Write};
 use std::time::{Duration, Instant};
 
-/// Reduces the system on standard input in place, within these bounds, and prints what is reached. Where the net grew too
+/// Reduces the system on standard input in place, within these limits of its text and these bounds, and prints what is reached. Where the net grew too
 /// large or memory ran out, that is printed only if the first flag asks for a part. With the second it is told how many
 /// interactions were made, in all and by each rule. A stuck pair is told on standard error, and how far a long reduction has come.
 pub(crate) fn reduce<R: Read>(
     rt: &HostRuntime,
+    limits: Limits,
     bounds: Bounds,
     flags: [bool; 2],
     input: &mut R,
@@ -26,6 +28,7 @@ pub(crate) fn reduce<R: Read>(
     let mut output = WipedFirst::watching(&watching, NotedOutput::new(io::writer(rt), notes));
     let reduced = reduce_in_place_stream(
         rt.alloc(),
+        limits,
         bounds,
         partial,
         &watching,

@@ -3,7 +3,7 @@ use Rattle.std.specs.Prelude.{◌≡◌, ℕ, ◌+◌, ◌^◌, ◌<◌, ◌≤�
 use Rattle.std.specs.List.{AllByRecursion}
 use Rattle.ic_term.specs.Configuration.{configuration_nodes}
 use Rattle.ic_term.specs.Symbol.{is_over}
-use Rattle.ic_term.specs.declared.limits.TheConstants.{MAX_NODES}
+use Rattle.ic_term.specs.declared.limits.TheConstants.{MAX_WIDE_NODES}
 use Rattle.ic_rules.specs.RuleSet.{IsRuleSet}
 use Rattle.ic_rules.specs.System.{SystemParts}
 use Rattle.ic_round.specs.Naming.{HasNames}
@@ -30,7 +30,7 @@ pub record IsSound (s : SystemParts) : Type 0 where
   pub over : IsTrue (is_over s.rules.symbols s.config)
   pub names : HasNames s.config
   pub next : s.config.next ≤ 2 ^ 62
-  pub nodes : configuration_nodes s.config ≤ MAX_NODES
+  pub nodes : configuration_nodes s.config ≤ MAX_WIDE_NODES
   pub few : length s.rules.symbols < GIVEN
 
 -- A machine begins with what a plan makes, and has fired no pair.

@@ -6,40 +6,55 @@ use Rattle.std.proofs.KnownBytes.{Consumes-trans}
 use Rattle.std.proofs.lemmas.Bool.{cases_lt}
 use Rattle.std.specs.Io.KnownBytes.{Appends, Consumes}
 use Rattle.ic_output.specs.Output.{AppendsFront}
-use Rattle.ic_text.specs.Reading.{IsReading}
+use Rattle.ic_text.specs.Limits.{most_bytes}
+use Rattle.ic_text.specs.Reading.{IsReading, IsReadingWithin}
 use Rattle.ic_text.specs.declared.fault.TextFault.{TextFault}
+use Rattle.ic_text.specs.declared.limits.Limits.{Limits}
+use Rattle.ic_text.specs.declared.limits.Limits.TheVariants.{Served}
 use Rattle.ic_text.specs.declared.limits.TheConstants.{MAX_TEXT}
 use Rattle.ic_streams.specs.Faults.{stream_fault_number}
-use Rattle.ic_streams.specs.Streams.{Answering, FaultOf, IsAnswered, OfText, Rounds, Settles, TakesIt, TakesSome, WritesPart}
+use Rattle.ic_streams.specs.Streams.{Answering, FaultOf, IsAnswered, OfText, Rounds, Settles, TakesIt, TakesItWithin, TakesSomeWithin, WritesPart}
 use Rattle.ic_streams.specs.declared.fault.StreamFault.{StreamFault}
 use Rattle.ic_streams.specs.declared.fault.StreamFault.TheVariants.{Read, Text, Round, Memory, Write}
 
 -- two reads, one after the other
-pub taken_more : {T E : Type 0} (r : Result T E) (a b c : Option (List ℕ)) (xs ys : List ℕ) → Consumes a b xs → Consumes b c ys → length xs + length ys ≤ MAX_TEXT + 1
-    → OnErr r (TakesSome a c)
-taken_more (Ok v) a b c xs ys p q bound = tt
-taken_more (Err e) a b c xs ys p q bound = (xs ++ ys, Consumes-trans a b c xs ys p q, rw length-append bound)
+pub taken_more : (limits : Limits) {T E : Type 0} (r : Result T E) (a b c : Option (List ℕ)) (xs ys : List ℕ) → Consumes a b xs → Consumes b c ys
+    → length xs + length ys ≤ most_bytes limits + 1 → OnErr r (TakesSomeWithin limits a c)
+taken_more limits (Ok v) a b c xs ys p q bound = tt
+taken_more limits (Err e) a b c xs ys p q bound = (xs ++ ys, Consumes-trans a b c xs ys p q, rw length-append bound)
 
 -- ---- what is so of a front that was taken is so of the text
 
 -- a text is read as this front of it is, where the front is too long, or the whole text
-module _ {P V : Type 0} (SpellsOne : List ℕ → P → Type 0) (sense : P → Result V TextFault) where
-  pub read_as : (front rest : List ℕ) → (length front ≤ MAX_TEXT → rest ≡ []) → (answer : Result V TextFault)
-      → IsReading SpellsOne sense front answer → IsReading SpellsOne sense (front ++ rest) answer
-  read_as front rest end answer reads = elim (cases_lt MAX_TEXT (length front)) [
-    | inl long ↦ (let more : MAX_TEXT < length (front ++ rest) = rw length-append (omega arith) in
+module _ (limits : Limits) {P V : Type 0} (SpellsOne : List ℕ → P → Type 0) (sense : P → Result V TextFault) where
+  pub read_as_within : (front rest : List ℕ) → (length front ≤ most_bytes limits → rest ≡ []) → (answer : Result V TextFault)
+      → IsReadingWithin limits SpellsOne sense front answer → IsReadingWithin limits SpellsOne sense (front ++ rest) answer
+  read_as_within front rest end answer reads = elim (cases_lt (most_bytes limits) (length front)) [
+    | inl long ↦ (let more : most_bytes limits < length (front ++ rest) = rw length-append (omega arith) in
         record { long = λ _. reads.long long; spelled = λ fits. absurd (omega arith); malformed = λ fits. absurd (omega arith) })
     | inr fits ↦ (let whole : front ++ rest ≡ front = ap (λ r. front ++ r) (end fits) ∙ append-nil front in rw whole reads)
   ]
 
+-- the same with the limits of what is served
+pub read_as : {P V : Type 0} (SpellsOne : List ℕ → P → Type 0) (sense : P → Result V TextFault) (front rest : List ℕ)
+    → (length front ≤ MAX_TEXT → rest ≡ []) → (answer : Result V TextFault) → IsReading SpellsOne sense front answer → IsReading SpellsOne sense (front ++ rest) answer
+read_as SpellsOne sense = read_as_within Served SpellsOne sense
+
 -- what is so of a front that was taken is so of the text that it is a front of
+abbrev pub OfFrontsWithin : Limits → (List ℕ → Type 0) → Type 0
+OfFrontsWithin limits Holds = (front rest : List ℕ) → (length front ≤ most_bytes limits → rest ≡ []) → Holds front → Holds (front ++ rest)
+
 abbrev pub OfFronts : (List ℕ → Type 0) → Type 0
-OfFronts Holds = (front rest : List ℕ) → (length front ≤ MAX_TEXT → rest ≡ []) → Holds front → Holds (front ++ rest)
+OfFronts Holds = OfFrontsWithin Served Holds
+
+pub of_front_within : (limits : Limits) (Holds : List ℕ → Type 0) → OfFrontsWithin limits Holds → (old new : Option (List ℕ)) (front : List ℕ)
+    → TakesItWithin limits front old new → Holds front → OfText old Holds
+of_front_within limits Holds law None new front takes h = (front, h)
+of_front_within limits Holds law (Some text) None front takes h = absurd takes.0
+of_front_within limits Holds law (Some text) (Some rest) front takes h = rw takes.0 (law front rest takes.2 h)
 
 pub of_front : (Holds : List ℕ → Type 0) → OfFronts Holds → (old new : Option (List ℕ)) (front : List ℕ) → TakesIt front old new → Holds front → OfText old Holds
-of_front Holds law None new front takes h = (front, h)
-of_front Holds law (Some text) None front takes h = absurd takes.0
-of_front Holds law (Some text) (Some rest) front takes h = rw takes.0 (law front rest takes.2 h)
+of_front = of_front_within Served
 
 -- what is so of each text
 pub of_each : (Holds : List ℕ → Type 0) → ((text : List ℕ) → Holds text) → (old : Option (List ℕ)) → OfText old Holds
@@ -50,8 +65,11 @@ of_each Holds all (Some text) = all text
 abbrev Carries : Answering → List ℕ → List ℕ → Type 0
 Carries Answers front text = (answer : Result (List ℕ) StreamFault) → Answers front answer → Answers text answer
 
+abbrev pub CarriedWithin : Limits → Answering → Type 0
+CarriedWithin limits Answers = (front rest : List ℕ) → (length front ≤ most_bytes limits → rest ≡ []) → Carries Answers front (front ++ rest)
+
 abbrev pub Carried : Answering → Type 0
-Carried Answers = (front rest : List ℕ) → (length front ≤ MAX_TEXT → rest ≡ []) → Carries Answers front (front ++ rest)
+Carried Answers = CarriedWithin Served Answers
 
 pub settles_carried : Carried Settles
 settles_carried front rest end (Ok line) s =

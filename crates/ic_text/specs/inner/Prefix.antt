@@ -1,11 +1,12 @@
 -- For private functions: how words are found in tokens that are scanned from their end.
 use Rattle.std.specs.Prelude.{ℕ, ◌+◌, ◌-◌, ◌==◌, ◌⊎◌, ◌≡◌, ◌<◌, ◌≤◌, List, [], ◌∷◌, Option, None, Some, drop, false, get_or, length, map, reverse, take, if◌then◌else◌}
 use Rattle.ic_term.specs.Symbol.{Symbol}
-use Rattle.ic_term.specs.declared.limits.TheConstants.{MAX_NODES}
+use Rattle.ic_text.specs.declared.limits.Limits.{Limits}
 use Rattle.ic_text.specs.declared.token.Mark.{Mark}
 use Rattle.ic_text.specs.declared.token.Mark.TheVariants.{Bar, Comma, Open, Close}
 use Rattle.ic_text.specs.declared.prefix.Node.{Node}
 use Rattle.ic_text.specs.declared.prefix.Scan.{Scan}
+use Rattle.ic_text.specs.Limits.{most_nodes}
 use Rattle.ic_text.specs.Token.{Token, is_word_byte, mark, tokens, word}
 
 -- What is known of tokens that were scanned from their end: the words, the arguments so far of each
@@ -116,8 +117,8 @@ IsBegunAt text skip place c =
     × ((ts : List Token) → tokens (drop place text) ≡ Some ts → c ≡ cut_from skip (scan ts)))
 
 -- so many of the words of a configuration are all of them, or more than one may have
-abbrev pub IsEnough : ℕ → ℕ → Type 0
-IsEnough kept words = (kept ≤ words) × ((kept ≡ words) ⊎ (MAX_NODES < kept))
+abbrev pub IsEnough : Limits → ℕ → ℕ → Type 0
+IsEnough limits kept words = (kept ≤ words) × ((kept ≡ words) ⊎ (most_nodes limits < kept))
 
 -- a word without where it lies in memory
 abbrev pub node_of : Node → Symbol

@@ -9,6 +9,7 @@ use Rattle.ic_term.specs.declared.symbols.SymbolFault.TheVariants.{Limit as Over
 use Rattle.ic_term.specs.declared.limits.TheConstants.{MAX_SYMBOL_TEXT, MAX_ARITY, MAX_SYMBOLS}
 use Rattle.ic_text.specs.declared.fault.TextFault.{TextFault}
 use Rattle.ic_text.specs.declared.fault.TextFault.TheVariants.{Limit as TooMuch, Arity, NameCount, Name, Twice, Lopsided, Memory}
+use Rattle.ic_text.specs.declared.limits.Limits.{Limits}
 use Rattle.ic_text.specs.declared.misread.Detail.{Detail}
 use Rattle.ic_text.specs.declared.misread.Detail.TheVariants.{Nothing, Passed, Arities}
 use Rattle.ic_text.specs.declared.misread.Limit.{Limit}
@@ -25,7 +26,7 @@ use Rattle.ic_text.specs.Places.{IsWordPlace}
 use Rattle.ic_text.specs.Token.{Token, tokens, words_among}
 use Rattle.ic_text.specs.SystemSource.{RulePhrase, SystemPhrase}
 use Rattle.ic_text.specs.Words.{Written, names_among, phrase_prefix, rule_prefix, rules_prefix, symbols_among, system_prefix}
-use Rattle.ic_text.specs.WordFaults.{IsFaultWord, IsFirstWord, IsSecondUse, is_miscounted, keeps, rank, uses, word_table}
+use Rattle.ic_text.specs.WordFaults.{IsFaultWordWithin, IsFirstWord, IsSecondUse, is_miscounted, keeps, rank, uses, word_table}
 
 -- a text has a word after so many others
 abbrev pub HasWord : List ℕ → ℕ → Type 0
@@ -79,14 +80,14 @@ IsStoppedIn ws excess refusal =
     (IsRefusedIn ws refusal × IsBefore excess refusal.word) ⊎ IsExcessAt ws excess refusal
 
 -- the word of any refusal, where one is told, as it is of all but memory
-abbrev pub IsToldWord : Written → TextFault → Option ℕ → Detail → Type 0
-IsToldWord w fault (Some k) detail = IsFaultWord w fault k detail
-IsToldWord w Memory None Nothing = Unit {0}
-IsToldWord w fault None detail = ⊥
+abbrev pub IsToldWord : Limits → Written → TextFault → Option ℕ → Detail → Type 0
+IsToldWord limits w fault (Some k) detail = IsFaultWordWithin limits w fault k detail
+IsToldWord limits w Memory None Nothing = Unit {0}
+IsToldWord limits w fault None detail = ⊥
 
 -- the same of a whole refusal
-abbrev pub IsToldIn : Written → Refusal → Type 0
-IsToldIn w refusal = IsToldWord w refusal.fault refusal.word refusal.detail
+abbrev pub IsToldIn : Limits → Written → Refusal → Type 0
+IsToldIn limits w refusal = IsToldWord limits w refusal.fault refusal.word refusal.detail
 
 -- words begin with those of rules
 abbrev pub BeginsWith : List Symbol → List RulePhrase → Type 0

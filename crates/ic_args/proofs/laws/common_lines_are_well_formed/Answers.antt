@@ -135,6 +135,7 @@ returns-clause-reduce c = (
     nodes = inr (tt, refl);
     partial = tt;
     stats = tt;
+    limits = inr (tt, refl);
   },
 )
 
@@ -154,8 +155,8 @@ returns-clause-reduced c = λ path plain. (
         (codes "--nodes=9" ∷ []),
         (codes "--steps" ∷ codes "10" ∷ []),
         refl,
-        inl (inr (inr (inr (refl, nine_places))), inl refl),
-        ((codes "--steps" ∷ codes "10" ∷ []), [], refl, inl (inr (inr (inl (refl, ten_steps))), inr (refl, λ same. cc)), refl),
+        inl (inl (inr (inr (inr (refl, nine_places)))), inl refl),
+        ((codes "--steps" ∷ codes "10" ∷ []), [], refl, inl (inl (inr (inr (inl (refl, ten_steps)))), inr (refl, λ same. cc)), refl),
       ),
     );
     once = ((other (codes "stats") (codes "nodes") refl, (other (codes "stats") (codes "steps") refl, tt)), ((other (codes "nodes") (codes "steps") refl, tt), (tt, tt)));
@@ -168,6 +169,29 @@ returns-clause-reduced c = λ path plain. (
     nodes = inl (codes "9", inr (inl (refl, refl)), is_nine);
     partial = (other (codes "stats") (codes "partial") refl, (other (codes "nodes") (codes "partial") refl, (other (codes "steps") (codes "partial") refl, tt)));
     stats = inl (refl, refl);
+    limits = inr ((other (codes "stats") (codes "limits") refl, (other (codes "nodes") (codes "limits") refl, (other (codes "steps") (codes "limits") refl, tt))), refl);
+  },
+)
+
+pub returns-clause-limited : goal.returns-clause-limited
+returns-clause-limited c = (
+  given_as (codes "limits") (codes "served") ∷ [],
+  record {
+    front = codes "--limits" ∷ codes "served" ∷ [];
+    rest = [];
+    begins = refl;
+    written = ((codes "--limits" ∷ codes "served" ∷ []), [], refl, inl (inr (refl, inl refl), inr (refl, λ same. cc)), refl);
+    once = (tt, tt);
+    last = inl refl;
+  },
+  record {
+    no_rounds = (other (codes "limits") (codes "rounds") refl, tt);
+    no_workers = (other (codes "limits") (codes "workers") refl, tt);
+    steps = inr ((other (codes "limits") (codes "steps") refl, tt), refl);
+    nodes = inr ((other (codes "limits") (codes "nodes") refl, tt), refl);
+    partial = (other (codes "limits") (codes "partial") refl, tt);
+    stats = (other (codes "limits") (codes "stats") refl, tt);
+    limits = inl (inl (refl, refl));
   },
 )
 
@@ -182,8 +206,8 @@ returns-clause-by_rounds c = (
       (codes "--workers=3" ∷ []),
       (codes "--rounds" ∷ codes "10" ∷ []),
       refl,
-      inl (inr (inl (refl, three)), inl refl),
-      ((codes "--rounds" ∷ codes "10" ∷ []), [], refl, inl (inl (refl, ten), inr (refl, λ same. cc)), refl),
+      inl (inl (inr (inl (refl, three))), inl refl),
+      ((codes "--rounds" ∷ codes "10" ∷ []), [], refl, inl (inl (inl (refl, ten)), inr (refl, λ same. cc)), refl),
     );
     once = (((λ same. cc), tt), (tt, tt));
     last = inl refl;
@@ -195,6 +219,7 @@ returns-clause-by_rounds c = (
     no_nodes = (other (codes "workers") (codes "nodes") refl, (other (codes "rounds") (codes "nodes") refl, tt));
     partial = (other (codes "workers") (codes "partial") refl, (other (codes "rounds") (codes "partial") refl, tt));
     no_stats = (other (codes "workers") (codes "stats") refl, (other (codes "rounds") (codes "stats") refl, tt));
+    no_limits = (other (codes "workers") (codes "limits") refl, (other (codes "rounds") (codes "limits") refl, tt));
   },
 )
 

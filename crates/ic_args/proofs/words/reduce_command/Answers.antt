@@ -1,6 +1,6 @@
 use Rattle.std.proofs.Common.{[], ◌∷◌, codes, refl}
 use Rattle.clap.specs.Words.{new_app}
-use Rattle.ic_args.specs.Words.{flag, input_argument, most_rounds, most_steps, number_option}
+use Rattle.ic_args.specs.Words.{flag, input_argument, most_rounds, most_steps, number_option, text_option}
 use Rattle.ic_args.specs.inner.Making.{IsMade}
 use Rattle.ic_args.proofs.words.reduce_command.Goals as goal
 
@@ -11,6 +11,7 @@ returns c =
     let second = c.with_arg-command-2.ensures _ (number_option (codes "workers") 1 64 ([])) first (c.chosen_option-2.ensures.rule 1 64 c.threads.ensures) c.chosen_option-2.ensures.local in
     let third = c.with_arg-command-3.ensures _ (number_option (codes "steps") 0 most_steps ([])) second (c.chosen_option-3.ensures.rule 0 most_steps c.steps.ensures) c.chosen_option-3.ensures.local in
     let fourth = c.with_arg-command-4.ensures _ (number_option (codes "nodes") 0 most_steps ([])) third (c.chosen_option-4.ensures.rule 0 most_steps c.steps-2.ensures) c.chosen_option-4.ensures.local in
-    let fifth = c.with_arg-command-5.ensures _ (flag (codes "partial")) fourth c.flag.ensures.rule c.flag.ensures.local in
-    let sixth = c.with_arg-command-6.ensures _ (flag (codes "stats")) fifth c.flag-2.ensures.rule c.flag-2.ensures.local in
+    let limits = c.with_arg-command-5.ensures _ (text_option (codes "limits")) fourth c.text_option.ensures.rule c.text_option.ensures.local in
+    let fifth = c.with_arg-command-6.ensures _ (flag (codes "partial")) limits c.flag.ensures.rule c.flag.ensures.local in
+    let sixth = c.with_arg-command-7.ensures _ (flag (codes "stats")) fifth c.flag-2.ensures.rule c.flag-2.ensures.local in
     c.with_arg.ensures _ input_argument sixth c.input_argument.ensures.rule c.input_argument.ensures.local

@@ -1,4 +1,5 @@
 use Rattle.ic_text.specs.SystemSource.{IsSystemPhrase, system_words}
+use Rattle.ic_text.specs.declared.limits.Limits.TheVariants.{Served}
 use Rattle.ic_text.specs.lemmas.ReadOnce.{IsTold, one_phrase, one_answer, some_answer}
 use Rattle.ic_commands.specs.LineSource.{IsLine, line_words}
 use Rattle.ic_commands.specs.LineSense.{line_sense}
@@ -18,7 +19,7 @@ returns c =
     let lines = told_lines systems in
     record {
       source = one_phrase IsLine line_words lines;
-      answer = one_answer IsLine line_words lines line_sense;
-      total = some_answer IsLine line_words lines line_sense;
+      answer = one_answer IsLine line_words lines Served line_sense;
+      total = some_answer IsLine line_words lines Served line_sense;
       no_memory = no_memory;
     }

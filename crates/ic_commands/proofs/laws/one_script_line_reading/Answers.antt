@@ -1,4 +1,5 @@
 use Rattle.ic_text.specs.SystemSource.{IsSystemPhrase, system_words}
+use Rattle.ic_text.specs.declared.limits.Limits.TheVariants.{Served}
 use Rattle.ic_text.specs.lemmas.ReadOnce.{IsTold, one_answer, some_answer}
 use Rattle.ic_commands.specs.LineSource.{IsLine, line_words}
 use Rattle.ic_commands.specs.ScriptSense.{script_sense}
@@ -18,7 +19,7 @@ returns c =
     } in
     let lines = told_lines systems in
     record {
-      answer = one_answer IsLine line_words lines script_sense;
-      total = some_answer IsLine line_words lines script_sense;
+      answer = one_answer IsLine line_words lines Served script_sense;
+      total = some_answer IsLine line_words lines Served script_sense;
       no_memory = λ text reads. no_memory text (memory_reads text reads);
     }

@@ -37,3 +37,15 @@ returns-clause-interface c = refl
 pub returns-clause-nodes : goal.returns-clause-nodes
 unfolding digits
 returns-clause-nodes c = refl
+
+pub returns-clause-wide_text : goal.returns-clause-wide_text
+unfolding digits
+returns-clause-wide_text c = refl
+
+pub returns-clause-wide_interface : goal.returns-clause-wide_interface
+unfolding digits
+returns-clause-wide_interface c = refl
+
+pub returns-clause-wide_nodes : goal.returns-clause-wide_nodes
+unfolding digits
+returns-clause-wide_nodes c = refl

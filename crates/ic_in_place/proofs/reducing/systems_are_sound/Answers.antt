@@ -1,5 +1,5 @@
 use Rattle.std.proofs.Common.{◌≡◌, ap, ◌∙◌, arith, length, subst}
-use Rattle.ic_term.specs.Configuration.{Configuration, IsConfiguration}
+use Rattle.ic_term.specs.Configuration.{Configuration, IsWide}
 use Rattle.ic_rules.specs.RuleSet.{Rules, IsRuleSet}
 use Rattle.ic_in_place.proofs.Stopping.{names_of_configuration}
 use Rattle.ic_in_place.proofs.reducing.systems_are_sound.Goals as goal
@@ -7,7 +7,7 @@ use Rattle.ic_in_place.proofs.reducing.systems_are_sound.Goals as goal
 pub returns : goal.returns
 returns c =
     let rules : c.deref.result.now ≡ c.args.system.now.rules = c.deref.ensures ∙ c.rules.ensures.rules in
-    let sound = subst (λ (d : Configuration). IsConfiguration d) c.config.ensures.config c.nodes-nodes.ensures.sound in
+    let sound = subst (λ (d : Configuration). IsWide d) c.config.ensures.config c.nodes-nodes.ensures.sound in
     record {
       rules = subst (λ (r : Rules). IsRuleSet r) rules c.symbols.ensures.sound;
       over = c.rules.ensures.sound;

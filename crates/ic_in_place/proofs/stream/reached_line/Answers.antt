@@ -10,8 +10,8 @@ use Rattle.ic_in_place.proofs.Answering.{unread_so}
 use Rattle.ic_in_place.proofs.Written.{line_so, stuck_so}
 use Rattle.ic_in_place.proofs.stream.reached_line.Goals as goal
 
-pub refused-requires : goal.refused-requires
-refused-requires g c = placed-within IsSystemPhrase system_words written_system c.args.text.now _ _ _ c.in-Err.ensures.placed
+pub refused_within-requires : goal.refused_within-requires
+refused_within-requires g c = placed-within c.args.limits IsSystemPhrase system_words written_system c.args.text.now _ _ _ c.in-Err.ensures.placed
 
 pub line_reached-requires-clause-over : goal.line_reached-requires-clause-over
 line_reached-requires-clause-over g c =

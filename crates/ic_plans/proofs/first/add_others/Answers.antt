@@ -6,8 +6,21 @@ use Rattle.ic_flat.specs.Words.{word_names}
 use Rattle.ic_plans.specs.inner.Registers.{found}
 use Rattle.ic_plans.specs.inner.Given.{AreFresh}
 use Rattle.ic_plans.proofs.GivenLemmas.{names-more, names-same, none-is, there-is, fresh-kept, fresh-more}
+use Rattle.ic_plans.proofs.RoomLemmas.{room-for}
 use Rattle.ic_plans.proofs.first.add_others.Goals as goal
 use Rattle.ic_plans.proofs.first.add_others.Goals.{in-Name+then-not-contains_key+in_ok-insert+in_ok-push, in-Name+else-not-contains_key, in_default}
+
+pub overflow_cast-len : goal.overflow_cast-len
+overflow_cast-len c =
+    let room = room-for c.args.words.now c.loop-word.word-index c.args.start c.loop-word.names.items c.args.registers.now c.loop-word.registers c.requires
+    c.loop-word.invariant.fresh in
+    omega (arith, c.len.ensures, room)
+
+pub overflow_add-start : goal.overflow_add-start
+overflow_add-start c =
+    let room = room-for c.args.words.now c.loop-word.word-index c.args.start c.loop-word.names.items c.args.registers.now c.loop-word.registers c.requires
+    c.loop-word.invariant.fresh in
+    omega (arith, c.len.ensures, room)
 
 pub loop-word-preserved : goal.loop-word-preserved
 loop-word-preserved c =

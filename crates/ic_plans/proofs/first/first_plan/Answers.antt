@@ -1,7 +1,8 @@
 use Rattle.std.proofs.Common.{◌≡◌, ◌+◌, length, map, take, drop, subst, sym, ap, ◌∙◌, arith}
-use Rattle.ic_term.specs.Configuration.{Configuration, IsConfiguration}
+use Rattle.ic_term.specs.Configuration.{Configuration, IsWide}
 use Rattle.ic_term.specs.Symbol.{Symbol}
-use Rattle.ic_flat.specs.Words.{IsWhole}
+use Rattle.std.specs.List.{flat_map}
+use Rattle.ic_flat.specs.Words.{word_names, IsWhole}
 use Rattle.ic_flat.specs.Flat.{configuration_words}
 use Rattle.ic_flat.specs.lemmas.FlatLaws.{all_terms, nodes-words}
 use Rattle.ic_flat.specs.lemmas.WordLaws.{whole-words}
@@ -10,9 +11,10 @@ use Rattle.ic_machine.specs.Plan.{made_of}
 use Rattle.ic_machine.specs.Runs.{IsStart}
 use Rattle.ic_meaning.specs.Plans.{StandsForNet}
 use Rattle.ic_plans.specs.inner.Registers.{register_of}
-use Rattle.ic_plans.specs.inner.Given.{operand_links}
+use Rattle.ic_plans.specs.inner.Given.{AreFresh, operand_links}
 use Rattle.ic_plans.specs.inner.Flattening.{WouldBeFlat}
 use Rattle.ic_plans.proofs.NetLemmas.{words-few, enough-operands, given-exactly, first_starts, first_stands}
+use Rattle.ic_plans.proofs.RoomLemmas.{names-length, registers-few}
 use Rattle.ic_plans.proofs.first.first_plan.Goals as goal
 
 pub read_given-requires-clause-room : goal.read_given-requires-clause-room
@@ -33,7 +35,13 @@ overflow_add-start c =
 pub add_others-requires : goal.add_others-requires
 add_others-requires c =
     let few = words-few c.config-config.result.now c.symbols.result.now c.words-words.result.now c.len-count.result c.words-words.ensures.sound c.len-count.ensures.sound c.words-words.ensures.words c.len-count.ensures.len in
-    omega (arith, few.0, few.1, c.len.ensures, c.in_ok-given.ensures.few)
+    record {
+      start = c.len-count.result;
+      given = c.in_ok-given.given.items;
+      are_given = c.in_ok-given.ensures.given;
+      next_is = omega (arith, c.len.ensures);
+      room = omega (arith, few.0, few.1, names-length c.words-words.result.now);
+    }
 
 pub overflow_cast-names : goal.overflow_cast-names
 overflow_cast-names c =
@@ -43,7 +51,12 @@ overflow_cast-names c =
 pub overflow_add-start-2 : goal.overflow_add-start-2
 overflow_add-start-2 c =
     let few = words-few c.config-config.result.now c.symbols.result.now c.words-words.result.now c.len-count.result c.words-words.ensures.sound c.len-count.ensures.sound c.words-words.ensures.words c.len-count.ensures.len in
-    omega (arith, few.0, few.1, c.len.ensures, c.in_ok-given.ensures.few, c.len-names.ensures, c.in_ok-others.ensures.few)
+    let ns = flat_map word_names c.words-words.result.now in
+    let counted : c.len-count.result + c.len.result ≡ c.len-count.result + length c.in_ok-given.given.items = omega (arith, c.len.ensures) in
+    let fresh = subst (λ k. AreFresh ns k c.in_ok-others.others.items c.read_given.new.registers c.add_others.new.registers) counted c.in_ok-others.ensures.fresh in
+    let together = registers-few ns ns c.len-count.result c.in_ok-given.given.items c.in_ok-others.others.items c.read_given.new.registers c.add_others.new.registers
+    c.in_ok-given.ensures.given fresh (λ x. omega arith) in
+    omega (arith, few.0, few.1, c.len.ensures, c.len-names.ensures, together, names-length c.words-words.result.now)
 
 pub flatten-requires-clause-whole : goal.flatten-requires-clause-whole
 flatten-requires-clause-whole c =
@@ -52,7 +65,12 @@ flatten-requires-clause-whole c =
 pub flatten-requires-clause-room : goal.flatten-requires-clause-room
 flatten-requires-clause-room c =
     let few = words-few c.config-config.result.now c.symbols.result.now c.words-words.result.now c.len-count.result c.words-words.ensures.sound c.len-count.ensures.sound c.words-words.ensures.words c.len-count.ensures.len in
-    omega (arith, few.0, few.1, c.len.ensures, c.in_ok-given.ensures.few, c.len-names.ensures, c.in_ok-others.ensures.few)
+    let ns = flat_map word_names c.words-words.result.now in
+    let counted : c.len-count.result + c.len.result ≡ c.len-count.result + length c.in_ok-given.given.items = omega (arith, c.len.ensures) in
+    let fresh = subst (λ k. AreFresh ns k c.in_ok-others.others.items c.read_given.new.registers c.add_others.new.registers) counted c.in_ok-others.ensures.fresh in
+    let together = registers-few ns ns c.len-count.result c.in_ok-given.given.items c.in_ok-others.others.items c.read_given.new.registers c.add_others.new.registers
+    c.in_ok-given.ensures.given fresh (λ x. omega arith) in
+    omega (arith, few.0, few.1, c.len.ensures, c.len-names.ensures, together)
 
 pub split_operands-requires : goal.split_operands-requires
 split_operands-requires c =
@@ -82,7 +100,7 @@ begins c =
     let symbols = c.len-count.ensures.len ∙ ap length (c.symbols.ensures.symbols ∙ ap (λ (r : Rules). r.symbols) (c.deref.ensures ∙ c.rules.ensures.rules)) in
     let givens : g ≡ length given = omega (arith, c.len.ensures) in
     let names : c.len-names.result ≡ length others = omega (arith, c.len-names.ensures) in
-    let sound = subst (λ (k : Configuration). IsConfiguration k) same c.words-words.ensures.sound in
+    let sound = subst (λ (k : Configuration). IsWide k) same c.words-words.ensures.sound in
     let would = subst (λ m. WouldBeFlat (map (λ (s : Symbol). s.arity) ss) (register_of all) (n + g + m) ws made operands) names
     (c.in_ok-makes.ensures.flat (map (λ (s : Symbol). s.arity) ss)) in
     let terms = c.interface_len.ensures.terms ∙ ap (λ (k : Configuration). length k.interface) same in

@@ -8,4 +8,4 @@ use Rattle.ic_text.proofs.excess.config_excess.Goals as goal
 pub returns : goal.returns
 returns c =
     rw c.earlier.ensures
-    (earlier-first (config_keeps c.args.terms) Interface Nodes (config_others c.args.terms) (omega arith) (nodes_of c.args.nodes.now) _ _ c.too_many_terms.ensures (c.too_many_nodes.ensures c.args.terms))
+    (earlier-first (config_keeps c.args.limits c.args.terms) Interface Nodes (config_others c.args.limits c.args.terms) (omega arith) (nodes_of c.args.nodes.now) _ _ c.too_many_terms.ensures (c.too_many_nodes.ensures c.args.terms))

@@ -1,9 +1,8 @@
 use Rattle.std.specs.Prelude.{OnOk}
 use Rattle.std.proofs.Common.{◌≡◌, ◌++◌, length, sym, ap, subst, ◌∙◌, arith}
 use Rattle.std.specs.List.{list_all}
-use Rattle.ic_term.specs.Configuration.{Configuration}
 use Rattle.ic_flat.specs.Words.{forest, IsWhole, is_word_over}
-use Rattle.ic_flat.specs.Flat.{configuration_of, pairs_of}
+use Rattle.ic_flat.specs.Flat.{pairs_of}
 use Rattle.ic_flat.specs.lemmas.WordLaws.{whole-words}
 use Rattle.ic_flat.specs.lemmas.FlatLaws.{all_terms, pairs_of-sides, counted-configuration_words, over-words}
 use Rattle.ic_text.specs.Text.{printed}

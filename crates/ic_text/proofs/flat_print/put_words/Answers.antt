@@ -1,7 +1,7 @@
-use Rattle.std.proofs.Common.{◌++◌, length, sym, ap, ◌∙◌, arith, drop, length-drop}
+use Rattle.std.proofs.Common.{◌++◌, length, ap, ◌∙◌, arith, length-drop}
 use Rattle.ic_flat.specs.Words.{forest}
 use Rattle.ic_flat.specs.Flat.{pairs_of, configuration_of}
-use Rattle.ic_text.specs.inner.Printing.{terms_text, equations_text}
+use Rattle.ic_text.specs.inner.Printing.{equations_text}
 use Rattle.ic_text.proofs.WordTextLemmas.{printed-written}
 use Rattle.ic_text.proofs.flat_print.put_words.Goals as goal
 

@@ -8,9 +8,9 @@ returns c = record {
   rule_nodes = rule_nodes_passed;
   interface = interface_passed;
   nodes = nodes_passed;
-  symbol_bytes = λ s k is. symbol_bytes_passed s is k;
-  arguments = λ s k is. arguments_passed s is k;
-  name_number = λ s k is. name_number_passed s is k;
-  symbols = λ s k is. symbols_passed s is k;
+  symbol_bytes = λ limits s k is. symbol_bytes_passed limits s is k;
+  arguments = λ limits s k is. arguments_passed limits s is k;
+  name_number = λ limits s k is. name_number_passed limits s is k;
+  symbols = λ limits s k is. symbols_passed limits s is k;
   alone = λ p. refl;
 }

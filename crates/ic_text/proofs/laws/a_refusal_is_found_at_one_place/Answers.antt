@@ -8,6 +8,6 @@ use Rattle.ic_text.proofs.laws.a_refusal_is_found_at_one_place.Goals as goal
 
 pub returns : goal.returns
 returns c = record {
-  config = one_place_told IsPhrase phrase_words written_phrase told;
-  system = one_place_told IsSystemPhrase system_words written_system told_systems;
+  config = λ limits. one_place_told limits IsPhrase phrase_words written_phrase told;
+  system = λ limits. one_place_told limits IsSystemPhrase system_words written_system told_systems;
 }

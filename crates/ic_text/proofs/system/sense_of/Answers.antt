@@ -1,7 +1,9 @@
 use Rattle.std.proofs.Common.{◌≡◌, ℕ, ◌≤◌, true, List, ◌∷◌, Option, Some, Result, Ok, length, drop, refl, sym, ap, ◌∙◌, subst}
 use Rattle.std.proofs.lemmas.Result.{err_from_is_err_and}
 use Rattle.ic_term.specs.Symbol.{Symbol}
+use Rattle.ic_rules.specs.System.{SystemParts}
 use Rattle.ic_text.specs.declared.excess.Excess.{Excess}
+use Rattle.ic_text.specs.declared.limits.Limits.{Limits}
 use Rattle.ic_text.specs.declared.fault.TextFault.{TextFault}
 use Rattle.ic_flat.specs.declared.word.Word.{Word}
 use Rattle.ic_text.specs.declared.token.Mark.TheVariants.{LeftBrace}
@@ -9,7 +11,7 @@ use Rattle.ic_text.specs.Token.{mark, tokens}
 use Rattle.ic_text.specs.inner.Braces.{split_at_brace}
 use Rattle.ic_text.specs.Source.{phrase_words}
 use Rattle.ic_text.specs.SystemSource.{SystemPhrase, IsSystemPhrase, rules_words, system_words}
-use Rattle.ic_text.specs.SystemSense.{is_system_in_limits, system_sense}
+use Rattle.ic_text.specs.SystemSense.{is_system_in_limits_within, system_sense_within}
 use Rattle.ic_text.specs.Words.{phrase_prefix, system_prefix, written_system}
 use Rattle.ic_text.specs.inner.Built.{IsPaired}
 use Rattle.ic_text.specs.inner.Prefix.{nodes_of}
@@ -23,6 +25,7 @@ use Rattle.ic_text.proofs.JoinedPhrase.{joined_phrase, prefix-joined}
 use Rattle.ic_text.proofs.Refusing.{system_agrees, written-system}
 use Rattle.ic_text.proofs.Fitting.{Kept, counted-numbered, one_of_words, system_in_limits}
 use Rattle.ic_text.proofs.Stopping.{told_in}
+use Rattle.ic_text.proofs.WithinLimits.{few_system_nodes, few_system_terms}
 use Rattle.ic_text.proofs.system.sense_of.Goals as goal
 use Rattle.ic_text.proofs.system.sense_of.Goals.{After-words-before, After-deref-2}
 
@@ -68,7 +71,7 @@ excess_of-excess-requires c =
       },
     )
 
-kept_here : (c : After-deref-2) (s : SystemPhrase) → Known s c.in_ok-rules.rules c.in_ok-config.config → Kept s c.excess_of-excess.result
+kept_here : (c : After-deref-2) (s : SystemPhrase) → Known s c.in_ok-rules.rules c.in_ok-config.config → Kept c.args.limits s c.excess_of-excess.result
 kept_here c s known =
     let counts = counted s c.in_ok-rules.rules c.in_ok-config.config known in
     c.excess_of-excess.ensures s (record {
@@ -93,13 +96,13 @@ number_words-requires-clause-inside c =
     let s = c.requires.0 in
     let known = known_here (goal.at.number_words-requires-clause-inside c).After-words-before s c.requires.1.tokens in
     let here = (goal.at.number_words-requires-clause-inside c).After-deref-2 in
-    one_of_words s c.deref-2.result.now c.excess_of-excess.result (kept_here here s known) (words_here here s known)
+    one_of_words c.args.limits s c.deref-2.result.now c.excess_of-excess.result (kept_here here s known) (words_here here s known)
 
 -- the sense is that of the words, as far as they are counted
 sense_here : (c : After-deref-2) (s : SystemPhrase) → IsSystemPhrase s → Known s c.in_ok-rules.rules c.in_ok-config.config
-    → system_sense s ≡ finished_system c.words-before.result c.in_ok-config.config.terms (counted_words c.excess_of-excess.result (nodes_of c.deref-2.result.now))
+    → system_sense_within c.args.limits s ≡ finished_system c.words-before.result c.in_ok-config.config.terms (counted_words c.excess_of-excess.result (nodes_of c.deref-2.result.now))
 sense_here c s is known =
-    sense-known s c.in_ok-rules.rules c.in_ok-config.config known is c.excess_of-excess.result (kept_here c s known)
+    sense-known s c.in_ok-rules.rules c.in_ok-config.config known c.args.limits is c.excess_of-excess.result (kept_here c s known)
     ∙ (λ i. finished_system (sym c.words-before.ensures i) c.in_ok-config.config.terms (counted_words c.excess_of-excess.result (nodes_of (sym (c.deref-2.ensures.value ∙ c.in_ok-append.ensures.items) i))))
 
 pub returns-in_err-symbols-clause-sense : goal.returns-in_err-symbols-clause-sense
@@ -116,13 +119,13 @@ returns-in_err-symbols-clause-word c = λ s spells.
     let here = (goal.at.returns-in_err-symbols-clause-word c).After-deref-2 in
     let same = words_here here s known ∙ sym (written-system s) in
     rw (e.1, e.2)
-    (told_in (written_system s) c.excess_of-excess.result (kept_here here s known) c.in_err-symbols.field-0.0
+    (told_in c.args.limits (written_system s) c.excess_of-excess.result (kept_here here s known) c.in_err-symbols.field-0.0
     (subst (λ ws. IsStoppedIn ws c.excess_of-excess.result c.in_err-symbols.field-0.0) same c.in_err-symbols.ensures.word))
 
 limits_here : (c : After-deref-2) (s : SystemPhrase) → IsSystemPhrase s → Known s c.in_ok-rules.rules c.in_ok-config.config
-    → (v : List Symbol × List Word) → Ok v ≡ counted_words c.excess_of-excess.result (nodes_of c.deref-2.result.now) → is_system_in_limits s ≡ true
+    → (v : List Symbol × List Word) → Ok v ≡ counted_words c.excess_of-excess.result (nodes_of c.deref-2.result.now) → is_system_in_limits_within c.args.limits s ≡ true
 limits_here c s is known v number =
-    system_in_limits s is c.excess_of-excess.result (kept_here c s known) v (number ∙ ap (counted_words c.excess_of-excess.result) (words_here c s known ∙ sym (prefix-joined s)))
+    system_in_limits c.args.limits s is c.excess_of-excess.result (kept_here c s known) v (number ∙ ap (counted_words c.excess_of-excess.result) (words_here c s known ∙ sym (prefix-joined s)))
 
 -- and those of the configuration write it
 paired_here : (c : After-deref-2) (s : SystemPhrase) → IsSystemPhrase s → Known s c.in_ok-rules.rules c.in_ok-config.config
@@ -146,17 +149,17 @@ system_of-requires-clause-paired c =
     (paired_here (goal.at.system_of-requires-clause-paired c).After-deref-2 s c.requires.1.phrase known _ c.in_ok-symbols.ensures.numbers).1
 
 -- what is refused behind the numbering is so by the sense
-refused_here : (s : SystemPhrase) (before terms : ℕ) (r : Result (List Symbol × List Word) TextFault) (v : List Symbol × List Word) (f : TextFault)
-    → system_sense s ≡ finished_system before terms r → Ok v ≡ r
-    → Refuses f (finished_system before terms (Ok v)) → Refuses f (system_sense s)
-refused_here s before terms r v f sense_is number refused = rw (sense_is ∙ ap (finished_system before terms) (sym number)) refused
+refused_here : (limits : Limits) (s : SystemPhrase) (before terms : ℕ) (r : Result (List Symbol × List Word) TextFault) (v : List Symbol × List Word) (f : TextFault)
+    → system_sense_within limits s ≡ finished_system before terms r → Ok v ≡ r
+    → Refuses f (finished_system before terms (Ok v)) → Refuses f (system_sense_within limits s)
+refused_here limits s before terms r v f sense_is number refused = rw (sense_is ∙ ap (finished_system before terms) (sym number)) refused
 
 -- and so the system has what it is refused for
-faulty_here : (s : SystemPhrase) → IsSystemPhrase s → (before terms : ℕ) (o : Option Excess) (words : List Symbol) (v : List Symbol × List Word) (f : TextFault)
-    → system_sense s ≡ finished_system before terms (counted_words o words) → Ok v ≡ counted_words o words → words ≡ system_prefix s → is_system_in_limits s ≡ true
+faulty_here : (limits : Limits) (s : SystemPhrase) → IsSystemPhrase s → (before terms : ℕ) (o : Option Excess) (words : List Symbol) (v : List Symbol × List Word) (f : TextFault)
+    → system_sense_within limits s ≡ finished_system before terms (counted_words o words) → Ok v ≡ counted_words o words → words ≡ system_prefix s → is_system_in_limits_within limits s ≡ true
     → Refuses f (finished_system before terms (Ok v)) → HasFault s f
-faulty_here s is before terms o words v f sense_is number same low refused =
-    has_fault s is low (system_agrees s is v (counted-numbered words o v number ∙ ap numbered_words (same ∙ sym (prefix-joined s)))) f (refused_here s before terms (counted_words o words) v f sense_is number refused)
+faulty_here limits s is before terms o words v f sense_is number same low refused =
+    has_fault limits s is low (system_agrees s is v (counted-numbered words o v number ∙ ap numbered_words (same ∙ sym (prefix-joined s)))) f (refused_here limits s before terms (counted_words o words) v f sense_is number refused)
 
 pub refusal_of-requires : goal.refusal_of-requires
 refusal_of-requires c =
@@ -169,7 +172,7 @@ refusal_of-requires c =
       record {
         words = ap nodes_of (c.deref-in-Err.ensures.value ∙ c.in_ok-append.ensures.items) ∙ system_words_are s c.in_ok-rules.rules c.in_ok-config.config known;
         before = c.words-before.ensures ∙ rules_before s c.in_ok-rules.rules c.in_ok-config.config known;
-        has = faulty_here s c.requires.1.phrase c.words-before.result c.in_ok-config.config.terms c.excess_of-excess.result (nodes_of c.deref-2.result.now) (c.in_ok-symbols.symbols, c.in_ok-symbols.words.items) c.in-Err.fault sense_is c.in_ok-symbols.ensures.numbers same low c.in-Err.ensures;
+        has = faulty_here c.args.limits s c.requires.1.phrase c.words-before.result c.in_ok-config.config.terms c.excess_of-excess.result (nodes_of c.deref-2.result.now) (c.in_ok-symbols.symbols, c.in_ok-symbols.words.items) c.in-Err.fault sense_is c.in_ok-symbols.ensures.numbers same low c.in-Err.ensures;
       },
     )
 
@@ -177,7 +180,7 @@ pub returns-clause-sense : goal.returns-clause-sense
 returns-clause-sense c = λ s spells.
     let known = known_here (goal.at.returns-clause-sense c).After-words-before s spells.tokens in
     let sense_is = sense_here (goal.at.returns-clause-sense c).After-deref-2 s spells.phrase known in
-    rw c.refusal_of.ensures.fault (refused_here s c.words-before.result c.in_ok-config.config.terms (counted_words c.excess_of-excess.result (nodes_of c.deref-2.result.now)) (c.in_ok-symbols.symbols, c.in_ok-symbols.words.items) c.in-Err.fault sense_is c.in_ok-symbols.ensures.numbers c.in-Err.ensures)
+    rw c.refusal_of.ensures.fault (refused_here c.args.limits s c.words-before.result c.in_ok-config.config.terms (counted_words c.excess_of-excess.result (nodes_of c.deref-2.result.now)) (c.in_ok-symbols.symbols, c.in_ok-symbols.words.items) c.in-Err.fault sense_is c.in_ok-symbols.ensures.numbers c.in-Err.ensures)
 
 pub returns-clause-word : goal.returns-clause-word
 returns-clause-word c = λ s spells.
@@ -185,14 +188,36 @@ returns-clause-word c = λ s spells.
     let sense_is = sense_here (goal.at.returns-clause-word c).After-deref-2 s spells.phrase known in
     let same = words_here (goal.at.returns-clause-word c).After-deref-2 s known in
     let low = limits_here (goal.at.returns-clause-word c).After-deref-2 s spells.phrase known _ c.in_ok-symbols.ensures.numbers in
-    c.refusal_of.ensures.word s (record {
+    c.refusal_of.ensures.word c.args.limits s (record {
       words = ap nodes_of (c.deref-in-Err.ensures.value ∙ c.in_ok-append.ensures.items) ∙ system_words_are s c.in_ok-rules.rules c.in_ok-config.config known;
       before = c.words-before.ensures ∙ rules_before s c.in_ok-rules.rules c.in_ok-config.config known;
-      has = faulty_here s spells.phrase c.words-before.result c.in_ok-config.config.terms c.excess_of-excess.result (nodes_of c.deref-2.result.now) (c.in_ok-symbols.symbols, c.in_ok-symbols.words.items) c.in-Err.fault sense_is c.in_ok-symbols.ensures.numbers same low c.in-Err.ensures;
+      has = faulty_here c.args.limits s spells.phrase c.words-before.result c.in_ok-config.config.terms c.excess_of-excess.result (nodes_of c.deref-2.result.now) (c.in_ok-symbols.symbols, c.in_ok-symbols.words.items) c.in-Err.fault sense_is c.in_ok-symbols.ensures.numbers same low c.in-Err.ensures;
     })
+
+-- what is answered is the sense
+ok_is_sense : (limits : Limits) (s : SystemPhrase) (before terms : ℕ) (r : Result (List Symbol × List Word) TextFault) (v : List Symbol × List Word) (system : SystemParts)
+    → system_sense_within limits s ≡ finished_system before terms r → Ok v ≡ r
+    → Ok system ≡ finished_system before terms (Ok v) → Ok system ≡ system_sense_within limits s
+ok_is_sense limits s before terms r v system sense_is number built = built ∙ ap (finished_system before terms) number ∙ sym sense_is
 
 pub returns-in-Ok-clause-sense : goal.returns-in-Ok-clause-sense
 returns-in-Ok-clause-sense c = λ s spells.
     let known = known_here (goal.at.returns-in-Ok-clause-sense c).After-words-before s spells.tokens in
-    let number : Ok (c.in_ok-symbols.symbols, c.in_ok-symbols.words.items) ≡ counted_words c.excess_of-excess.result (nodes_of c.deref-2.result.now) = c.in_ok-symbols.ensures.numbers in
-    rw (sense_here (goal.at.returns-in-Ok-clause-sense c).After-deref-2 s spells.phrase known ∙ ap (finished_system c.words-before.result c.in_ok-config.config.terms) (sym number)) c.in-Ok.ensures
+    ok_is_sense c.args.limits s c.words-before.result c.in_ok-config.config.terms (counted_words c.excess_of-excess.result (nodes_of c.deref-2.result.now)) (c.in_ok-symbols.symbols, c.in_ok-symbols.words.items) _
+    (sense_here (goal.at.returns-in-Ok-clause-sense c).After-deref-2 s spells.phrase known) c.in_ok-symbols.ensures.numbers c.in-Ok.ensures
+
+pub returns-in-Ok-clause-nodes : goal.returns-in-Ok-clause-nodes
+returns-in-Ok-clause-nodes c =
+    let s = c.requires.0 in
+    let known = known_here (goal.at.returns-in-Ok-clause-nodes c).After-words-before s c.requires.1.tokens in
+    few_system_nodes c.args.limits s _
+    (sym (ok_is_sense c.args.limits s c.words-before.result c.in_ok-config.config.terms (counted_words c.excess_of-excess.result (nodes_of c.deref-2.result.now)) (c.in_ok-symbols.symbols, c.in_ok-symbols.words.items) _
+    (sense_here (goal.at.returns-in-Ok-clause-nodes c).After-deref-2 s c.requires.1.phrase known) c.in_ok-symbols.ensures.numbers c.in-Ok.ensures))
+
+pub returns-in-Ok-clause-interface : goal.returns-in-Ok-clause-interface
+returns-in-Ok-clause-interface c =
+    let s = c.requires.0 in
+    let known = known_here (goal.at.returns-in-Ok-clause-interface c).After-words-before s c.requires.1.tokens in
+    few_system_terms c.args.limits s _
+    (sym (ok_is_sense c.args.limits s c.words-before.result c.in_ok-config.config.terms (counted_words c.excess_of-excess.result (nodes_of c.deref-2.result.now)) (c.in_ok-symbols.symbols, c.in_ok-symbols.words.items) _
+    (sense_here (goal.at.returns-in-Ok-clause-interface c).After-deref-2 s c.requires.1.phrase known) c.in_ok-symbols.ensures.numbers c.in-Ok.ensures))

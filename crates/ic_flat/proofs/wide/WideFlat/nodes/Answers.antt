@@ -1,6 +1,6 @@
 use Rattle.std.proofs.Common.{sym, ◌∙◌}
 use Rattle.ic_flat.specs.lemmas.FlatLaws.{nodes-configuration_of}
-use Rattle.ic_flat.proofs.flat.Flat.nodes.Goals as goal
+use Rattle.ic_flat.proofs.wide.WideFlat.nodes.Goals as goal
 
 pub returns-clause-nodes : goal.returns-clause-nodes
 returns-clause-nodes c =

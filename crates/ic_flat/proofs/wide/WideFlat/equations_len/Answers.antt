@@ -1,6 +1,6 @@
 use Rattle.std.proofs.Common.{sym}
 use Rattle.ic_flat.specs.lemmas.FlatLaws.{length-equations}
-use Rattle.ic_flat.proofs.flat.Flat.equations_len.Goals as goal
+use Rattle.ic_flat.proofs.wide.WideFlat.equations_len.Goals as goal
 
 pub returns-clause-equations : goal.returns-clause-equations
 returns-clause-equations c =

@@ -1,6 +1,6 @@
 use Rattle.std.proofs.Common.{sym, ◌∙◌}
 use Rattle.ic_flat.specs.lemmas.FlatLaws.{words-configuration_of}
-use Rattle.ic_flat.proofs.flat.Flat.words.Goals as goal
+use Rattle.ic_flat.proofs.wide.WideFlat.words.Goals as goal
 
 pub returns-clause-words : goal.returns-clause-words
 returns-clause-words c =

@@ -1,8 +1,0 @@
-use Rattle.std.proofs.Common.{◌≤◌, ◌+◌, length}
-use Rattle.std.specs.Io.KnownBytes.{Consumes}
-use Rattle.ic_text.specs.declared.limits.TheConstants.{MAX_TEXT}
-use Rattle.ic_streams.proofs.stream.read_text.Given as goal
-
--- the text so far was taken from the reader, and is no longer than it may be
-abbrev pub invariant-loop : goal.invariant-loop
-invariant-loop g l = Consumes (g.R.Read.remaining l.fn.reader) (g.R.Read.remaining l.reader) l.text.items × (length l.text.items ≤ MAX_TEXT + 1)

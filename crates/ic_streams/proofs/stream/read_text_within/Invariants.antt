@@ -1,0 +1,9 @@
+use Rattle.std.proofs.Common.{◌≤◌, ◌+◌, length}
+use Rattle.std.specs.Io.KnownBytes.{Consumes}
+use Rattle.ic_text.specs.Limits.{most_bytes}
+use Rattle.ic_streams.proofs.stream.read_text_within.Given as goal
+
+-- the text so far was taken from the reader, and is no longer than it may be
+abbrev pub invariant-loop : goal.invariant-loop
+invariant-loop g l = Consumes (g.R.Read.remaining l.fn.reader) (g.R.Read.remaining l.reader) l.text.items
+    × (length l.text.items ≤ most_bytes l.limits + 1)

@@ -1,0 +1,138 @@
+"""Texts that pass what is served: `reduce` takes them, of a hundred thousand nodes, of a million, on one line or on a million
+lines, as deep as they are long, and other commands and `--limits served` refuse them with the sentence of the limit."""
+
+import re
+
+import model
+from known import ADD
+from program import IN_MEMORY, Trial, run
+
+# The limits of what is served.
+NODES, TERMS, BYTES = 8_192, 64, 262_144
+
+TOO_MANY_NODES = f"a configuration has at most {NODES} nodes"
+TOO_MANY_TERMS = f"an interface has at most {TERMS} terms"
+TOO_MANY_BYTES = f"a text has at most {BYTES} bytes"
+
+# Where a fault is and what it is, behind the first line of a refusal.
+PLACE = re.compile(rb"line (\d+), column (\d+)\n(?:.*\n){2}(.*)\n")
+
+
+def numeral(number):
+    return "S(" * number + "Z" + ")" * number
+
+
+def sums(drawn, nodes, parted=","):
+    """A system of additions of some so many nodes in all, its answer, and how many interactions it takes."""
+    terms, equations, answers, made, count = [], [], [], 0, 0
+    while count < nodes:
+        name, left, right = model.name_text(len(terms)), drawn.randint(0, 6), drawn.randint(0, 6)
+        terms.append(name)
+        equations.append(f"Add({name},{numeral(left)})={numeral(right)}")
+        answers.append(numeral(left + right))
+        made += right + 1
+        count += 5 + left + right
+    return f"{ADD}{parted}<{parted.join([',' * bool(it) + term for it, term in enumerate(terms)])}|" + \
+        parted.join([',' * bool(it) + text for it, text in enumerate(equations)]) + ">", f"<{','.join(answers)}|>", made
+
+
+class Large(Trial):
+    rooms = IN_MEMORY
+    seconds = 60
+
+    def reduces(self, text, out, made, *words):
+        ran = run("reduce", "--stats", *words, given=text)
+        told, _, rest = ran.err.partition(b", ")
+        self.equals(ran.command, "status and interactions", (0, f"icserve: interactions {made}".encode()), (ran.status, told))
+        self.agrees(ran.command, "standard output", out.encode() + b"\n", ran.out)
+
+    def refused(self, words, text, sentence, line=1, column=None):
+        """Fails unless a text is refused at a limit, and the sentence of the limit is told at this place."""
+        ran = run(*words, given=text)
+        self.equals(ran.command, "status and first line", (1, b"icserve: bad limit\n", b""), (ran.status, ran.err, ran.out))
+        told = PLACE.fullmatch(ran.behind)
+        self.equals(ran.command, "line and sentence", (line, sentence.encode()), (int(told[1]), told[3]))
+        if column is not None:
+            self.equals(ran.command, "column", column, int(told[2]))
+
+    def test_a_hundred_thousand_nodes_and_a_million(self):
+        drawn = self.draws()
+        for nodes in (100_000, 1_000_000):
+            text, answer, made = sums(drawn, nodes, "")
+            self.reduces(text, answer, made)
+            self.reduces(text, answer, made, "--limits", "wide")
+            self.refused(["reduce", "--limits", "served"], text, TOO_MANY_BYTES if len(text) > BYTES else TOO_MANY_TERMS)
+
+    def test_the_answer_is_a_text_that_is_read_again(self):
+        text, answer, _ = sums(self.draws(), 100_000, "")
+        rules = text[: text.index("}") + 1]
+        self.reduces(rules + answer, answer, 0)
+
+    def test_one_line_and_a_million_lines(self):
+        drawn = self.draws()
+        text, answer, made = sums(drawn, 200_000, "\n")
+        lines = text.replace("(", "\n(\n").replace(")", "\n)\n")
+        self.equals("the text", f"a million lines: {lines.count(chr(10))}", True, lines.count("\n") > 900_000)
+        self.reduces(lines, answer, made)
+        self.reduces("".join(text.split()), answer, made)
+        spoilt = lines + "\n;"
+        ran = run("reduce", given=spoilt)
+        self.equals(ran.command, "status and first line", (1, b"icserve: bad syntax\n"), (ran.status, ran.err))
+        told = PLACE.fullmatch(ran.behind)
+        self.equals(ran.command, "where it is", (spoilt.count("\n") + 1, 1), (int(told[1]), int(told[2])))
+        ran = run("reduce", given="".join(text.split()) + ";")
+        self.equals(ran.command, "where it is", (1, len("".join(text.split())) + 1), tuple(map(int, PLACE.fullmatch(ran.behind).groups()[:2])))
+
+    def test_a_million_agents_one_in_the_other(self):
+        for deep in (numeral(1_000_000), "P(" * 500_000 + "Z" + ",Z)" * 500_000):
+            self.reduces(f"{{}} <{deep}|>", f"<{deep}|>", 0)
+        half = numeral(500_000)
+        self.reduces(f"{ADD} <r|Add(r,{half})={half}>", f"<{numeral(1_000_000)}|>", 500_001)
+
+    def test_one_node_more_than_is_served(self):
+        for nodes in (NODES, NODES + 1):
+            config = f"<{numeral(nodes - 1)}|>"
+            self.reduces(f"{{A><B}} {config}", config, 0)
+            for words in (["reduce", "--limits", "served"], ["reduce", "--rounds", 1], ["once"], ["trace"], ["settle"], ["draw"]):
+                text = config if words in (["settle"], ["draw"]) else f"{{A><B}} {config}"
+                if nodes == NODES:
+                    self.equals(words, "status", 0, run(*words, given=text).status)
+                else:
+                    self.refused(words, text, TOO_MANY_NODES, column=text.index("Z") + 1)
+        self.serves(self.disk(), [f"submit large {{A><B}} {config}"], ["bad limit"])
+
+    def test_one_term_more_than_is_served(self):
+        for count in (TERMS, TERMS + 1, 50_000):
+            config = f"<{','.join(['Z'] * count)}|>"
+            self.reduces(f"{{}} {config}", config, 0)
+            for words in (["reduce", "--limits", "served"], ["once"]):
+                if count <= TERMS:
+                    self.equals(words, "status", 0, run(*words, given=f"{{}} {config}").status)
+                else:
+                    self.refused(words, f"{{}} {config}", TOO_MANY_TERMS, column=5 + 2 * TERMS)
+
+    def test_other_limits_stay_as_they_are(self):
+        many = ",".join(["Z"] * 10_000)
+        for faulty, sentence in (
+            ("A" * 33, "a symbol has at most 32 bytes"),
+            (f"B({','.join(['C'] * 16)})", "a symbol has at most 15 arguments"),
+            ("v165191050", "the number of a name is at most 4294967295"),
+        ):
+            self.refused(["reduce"], f"{{}} <{many},{faulty}|>", sentence, column=5 + 2 * 10_000)
+        symbols = ",".join(f"S{it}" for it in range(65))
+        self.refused(["reduce"], f"{{}} <{many},{symbols}|>", "a text has at most 64 different symbols")
+
+    def test_a_name_that_stands_three_times_is_found(self):
+        names = [model.name_text(it) for it in range(100_000)]
+        text = "{} <" + ",".join(names + names) + ",a|>"
+        ran = run("reduce", given=text)
+        self.equals(ran.command, "status and first line", (1, b"icserve: bad name a\n"), (ran.status, ran.err))
+        self.equals(ran.command, "the column", len(text) - 2, int(PLACE.fullmatch(ran.behind)[2]))
+
+    def test_a_text_of_more_bytes_than_are_served(self):
+        for count in (BYTES, BYTES + 1, 10 * BYTES):
+            text = " " * (count - 6) + "{} <|>"
+            self.reduces(text, "<|>", 0)
+            if count > BYTES:
+                self.refused(["reduce", "--limits", "served"], text, TOO_MANY_BYTES)
+                self.refused(["trace"], text, TOO_MANY_BYTES)
