@@ -105,14 +105,11 @@ def bash(top, words):
         flags = " ".join(it for option in one.options for it in (option.short, option.long) if it)
         files, others = ("yes" if one.takes_files() else ""), ("$words" if word == "help" else "")
         cases.append(f'    {word}) flags="{flags}" files={files} others={others} ;;')
-    valued = {option.long: option for one in words.values() for option in one.options if option.value}
     before = []
-    for long, option in sorted(valued.items()):
-        if option.choices:
-            before.append(f'    {long}) COMPREPLY=($(compgen -W "{" ".join(option.choices)}" -- "$this")); return ;;')
-        else:
-            files = 'COMPREPLY=($(compgen -f -- "$this")); ' if option.value in FILES else ""
-            before.append(f"    {long}) {files}return ;;")
+    for word, option in ((word, it) for word, one in words.items() for it in one.options if it.value):
+        offers = f'COMPREPLY=($(compgen -W "{" ".join(option.choices)}" -- "$this")); ' if option.choices else ""
+        files = 'COMPREPLY=($(compgen -f -- "$this")); ' if option.value in FILES else ""
+        before.append(f'    "{word} {option.long}") {offers or files}return ;;')
     of_words, of_values = "\n".join(cases), "\n".join(before)
     flags = " ".join(it for option in top.options for it in (option.short, option.long) if it)
     return f"""# Completes the words of icserve in bash. Made by share/pages.py from what `icserve --help` prints.
@@ -124,7 +121,7 @@ _icserve() {{
         COMPREPLY=($(compgen -W "$words {flags}" -- "$this"))
         return
     fi
-    case $before in
+    case "${{COMP_WORDS[1]}} $before" in
 {of_values}
     esac
     case ${{COMP_WORDS[1]}} in

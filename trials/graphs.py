@@ -7,8 +7,8 @@ from typing import NamedTuple
 from known import name_text
 
 HEAD = ["graph net {", "node [shape=plaintext, width=0, height=0]", "edge [arrowsize=0.7]"]
-AGENT = re.compile(r'A(\d+) \[shape=record, label="\{<0>([A-Z0-9]\w*)((?:\|\{<1>(?:\|<\d+>)*\})?)\}"\]')
-JOINT = re.compile(r"J(\d+) \[shape=point\]")
+AGENT = re.compile(r'A(\d+) \[shape=record, label="\{<0>([A-Z0-9]\w*)((?:\|\{<1>1?(?:\|<\d+>\d*)*\})?)\}"\]')
+JOINT = re.compile(r"J(\d+) \[shape=point, width=0.05, height=0.05\]")
 EDGE = re.compile(r"(\S+) -- (\S+?)(?: \[dir=(\w+)(, penwidth=3)?\])?")
 HEADS = {None: (False, False), "forward": (False, True), "back": (True, False), "both": (True, True)}
 
@@ -39,9 +39,12 @@ def graph_of(text):
     graph = Graph([], 0, [])
     for line in lines[3:-2]:
         if found := AGENT.fullmatch(line):
-            ports = re.findall(r"<(\d+)>", found[3])
-            if graph.joints or graph.edges or int(found[1]) != len(graph.agents) or ports != [str(i + 1) for i in range(len(ports))]:
+            ports = [str(i + 1) for i in range(found[3].count("<"))]
+            told = ports if len(ports) > 2 else [""] * len(ports)
+            if graph.joints or graph.edges or int(found[1]) != len(graph.agents):
                 raise ValueError(f"no agent: {line}")
+            if re.findall(r"<(\d+)>(\d*)", found[3]) != list(zip(ports, told)):
+                raise ValueError(f"no ports: {line}")
             graph.agents.append((found[2], len(ports)))
         elif found := JOINT.fullmatch(line):
             if graph.edges or int(found[1]) != graph.joints:

@@ -1,6 +1,7 @@
 """`check`: the faults of texts in files, each with its place, and warnings of what is legal and mostly a mistake. What is told
 is compared with the model of `checked.py`."""
 
+import json
 import os
 import re
 
@@ -14,6 +15,18 @@ from worked_rows import expanded, rows
 
 CONFIGS = ("config", "settle", "config_place", "settle_told")
 SYSTEMS = ("system", "once", "system_place", "once_told")
+
+
+# A finding, after the path of its file.
+FINDING = re.compile(r"(?::(?P<line>\d+))?(?::(?P<column>\d+))?: (?:warning: (?P<warning>.*)|(?P<fault>bad [^:]*)(?:: (?P<sentence>.*))?)")
+
+
+def fields_of(path, finding):
+    """The fields of the object of a finding, which is told in a line."""
+    shown = re.sub(rb"[^ -~]", b"?", os.fsencode(path)).decode()
+    found = FINDING.fullmatch(finding.removeprefix(shown)).groupdict()
+    told = [(name, found[name]) for name in ("line", "column", "fault", "sentence", "warning") if found[name] is not None]
+    return [("file", str(path))] + [(name, int(it) if name in ("line", "column") else it) for name, it in told]
 
 
 class Check(Trial):
@@ -37,7 +50,16 @@ class Check(Trial):
         faulty = any(it for _, it in told)
         ends = (1, b"icserve: faults\n") if faulty else (0, b"")
         self.equals(ran.command, "how it ends", ends, (ran.status, ran.err))
+        wanted = [fields_of(path, it) for (path, _), (lines, _) in zip(files, told) for it in lines]
+        self.objects(wanted, ends, *(path for path, _ in files))
         return ran.out.decode()
+
+    def objects(self, wanted, ends, *paths):
+        """Fails unless `--format json` has objects with these fields, one a line, and ends so."""
+        ran = run("check", "--format", "json", *paths)
+        came = [json.loads(it, object_pairs_hook=list) for it in ran.out.decode().split("\n")[:-1]]
+        self.equals(ran.command, "the objects", wanted, came)
+        self.equals(ran.command, "how it ends", ends, (ran.status, ran.err))
 
     def test_each_row(self):
         texts = [expanded(text) for _, _, text, _ in rows("texts", *CONFIGS, *SYSTEMS)]
@@ -203,6 +225,25 @@ class Check(Trial):
         path.write_text("<|")
         told = f"{self.room}/a?b?????.ic:1:3: bad syntax: the text ends before its configuration does"
         self.refuses("check", path, out=[told], line="faults", status=1)
+
+    def test_objects_have_paths_with_quotation_marks_backslashes_and_other_bytes_as_they_are(self):
+        for name in ('a"b\\c.ic', "a\nb\t\x01\x1f\x7f\u00e9\U0001f600.ic", "a: b: 1:2.ic", "warning"):
+            path = self.room / name
+            path.write_text("<|")
+            sentence = "the text ends before its configuration does"
+            wanted = [("file", str(path)), ("line", 1), ("column", 3), ("fault", "bad syntax"), ("sentence", sentence)]
+            self.objects([wanted], (1, b"icserve: faults\n"), path)
+
+    def test_objects_of_standard_input_of_several_files_and_of_no_finding(self):
+        (fine, _), (warns, _) = self.put("<|>", "{} <A|>")
+        warning = [("file", str(warns)), ("warning", "A stands only once")]
+        self.objects([], (0, b""), fine)
+        self.objects([warning], (0, b""), warns, fine)
+        line = {"file": "-", "line": 2, "warning": "A stands only once"}
+        self.runs("check", "--format=json", "-", given="list\nsubmit a {} <A|>", out=[json.dumps(line, separators=(",", ":"))])
+        missing = self.room / "missing"
+        cause = f"icserve: read\n{missing}: open: no such file or folder\n".encode()
+        self.objects([warning], (4, cause), warns, missing)
 
     def test_files_stay_as_they_are(self):
         files = self.put("<|", "{} <A|>", "submit\n")

@@ -152,7 +152,8 @@ class Pictures(Trial):
         self.equals(text[:200], "the edges of the picture", sorted("--".join(it.ends) for it in graph.edges), sorted(edges))
         words = [it.text.strip() for it in xml.fromstring(picture).iter(f"{SVG}text")]
         symbols = sorted(it for it in words if re.fullmatch(r"[A-Z0-9]\w*", it) and not re.fullmatch(r"I\d+", it))
-        wanted = sorted(symbol for symbol, _ in graph.agents if not re.fullmatch(r"I\d+", symbol))
+        ports = [str(i + 1) for _, arity in graph.agents for i in range(arity if arity > 2 else 0)]
+        wanted = sorted(ports + [symbol for symbol, _ in graph.agents if not re.fullmatch(r"I\d+", symbol)])
         self.equals(text[:200], "the symbols of the picture", wanted, symbols)
 
     def test_graphviz_takes_the_graph_of_each_example(self):

@@ -18,6 +18,7 @@ WORDS = [
     (["reduce", "--rounds=9", "--workers", "3"], ADD),
     (["trace"], ADD),
     (["trace", "--format", "svg"], ADD),
+    (["trace", "--format", "json"], ADD),
 ]
 
 

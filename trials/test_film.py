@@ -47,6 +47,8 @@ class Page(HTMLParser):
     """A page as a browser reads it: its frames, each with its text, the classes of the parts of its net and its agents, and
     what is wrong with the page."""
 
+    is_port = False
+
     def __init__(self, text):
         super().__init__()
         self.open, self.faults, self.ids, self.frames = [], [], [], []
@@ -69,7 +71,11 @@ class Page(HTMLParser):
         elif tag == "g" and classes:
             self.frames[-1]["parts"].append(classes)
             if "agent" in classes:
-                self.frames[-1]["agents"].append([words["data-agent"], words.get("data-place"), ""])
+                self.frames[-1]["agents"].append([words["data-agent"], words.get("data-place"), "", []])
+        elif tag == "text":
+            self.is_port = classes == ["port"]
+            if self.is_port:
+                self.frames[-1]["agents"][-1][3].append("")
         elif "bar" in classes:
             next(it for it in self.frames if "bar" not in it)["bar"] = words["href"]
 
@@ -90,7 +96,11 @@ class Page(HTMLParser):
         elif "figcaption" in tags:
             frame["told"] += data
         elif tags[-1:] == ["text"] and "figure" in tags and "agent" in frame["parts"][-1]:
-            frame["agents"][-1][2] += data
+            agent = frame["agents"][-1]
+            if self.is_port:
+                agent[3][-1] += data
+            else:
+                agent[2] += data
 
 
 def systems():
@@ -144,16 +154,18 @@ class Films(Trial):
         kinds = [sum(word in it for it in frame["parts"]) for word in ("agent", "point", "end", "wire")]
         fires = sum({"wire", "fires"} <= {*it} for it in frame["parts"])
         self.equals(text, "agents, points, outer ends, wires and pairs that fire", wanted, (*kinds, fires))
-        self.equals(text, "the symbols", sorted(it for it, _ in graph.agents), sorted(it[2] for it in frame["agents"]))
+        told = [(sign, [str(k + 1) for k in range(arity)] if arity > 2 else []) for sign, arity in graph.agents]
+        shown = [(sign, sorted(ports, key=int)) for _, _, sign, ports in frame["agents"]]
+        self.equals(text, "the symbols, with the numbers of more than two ports", sorted(told), sorted(shown))
 
     def agents_stay(self, text, pairs, before, after):
         """Fails unless each agent but two of each pair keeps its number and symbol, and each new one has the number of an agent
         that is gone as its place."""
-        old, new = ({number: sign for number, _, sign in it["agents"]} for it in (before, after))
+        old, new = ({number: sign for number, _, sign, _ in it["agents"]} for it in (before, after))
         stay = old.keys() & new.keys()
         self.equals(text, "how many stay", len(old) - 2 * pairs, len(stay))
         self.equals(text, "those with another symbol", [], [it for it in stay if old[it] != new[it]])
-        places = {place for number, place, _ in after["agents"] if number not in old}
+        places = {place for number, place, *_ in after["agents"] if number not in old}
         self.equals(text, "places that are none of agents that are gone", set(), places - (old.keys() - new.keys()))
 
     def test_films_show_what_reduce_trace_and_draw_tell(self):

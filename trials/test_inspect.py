@@ -1,6 +1,8 @@
 """`inspect`: what a disk's file holds, with nothing changed and without a server's lock."""
 
+import json
 import os
+import re
 
 import model
 import model_disk
@@ -56,6 +58,22 @@ def report(data):
     return [*(f"slot {place}: {text}" for place, (text, _, _) in enumerate(slots, 1)), *held(slots)]
 
 
+# The lines that tell what a file holds, with the fields of their objects.
+SLOT = re.compile(r"slot (?P<slot>[12]): (?:(?P<cut>cut off)|(?P<state>open|closed), number (?P<number>\d+), body (?P<size>\d+), (?P<body>.*))")
+JOB = re.compile(r"(?P<job>\S+): (?P<state>\w+), rounds (?P<rounds>\d+), nodes (?P<nodes>\d+), active pairs (?P<active_pairs>\d+)")
+
+
+def fields_of(line):
+    """The fields of the object of a line."""
+    if line.startswith("held: "):
+        return [("held", line.removeprefix("held: "))]
+    found = (SLOT.fullmatch(line) or JOB.fullmatch(line)).groupdict()
+    if found.get("cut"):
+        return [("slot", int(found["slot"])), ("state", "cut off")]
+    numbers = ("slot", "number", "size", "rounds", "nodes", "active_pairs")
+    return [(name, int(it) if name in numbers else it) for name, it in found.items() if name != "cut"]
+
+
 class Inspect(ModelTrial):
     seconds = 6
 
@@ -63,6 +81,10 @@ class Inspect(ModelTrial):
         """Fails unless the file is told in these lines, and stays as it is."""
         before = self.path.read_bytes(), self.path.stat().st_mtime_ns
         self.runs("inspect", "--disk", self.path, out=lines)
+        ran = run("inspect", "--disk", self.path, "--format", "json")
+        objects = [json.loads(it, object_pairs_hook=list) for it in ran.out.decode().split("\n")[:-1]]
+        self.equals(ran.command, "status and standard error", (0, b""), (ran.status, ran.err))
+        self.equals(ran.command, "the objects", [fields_of(it) for it in lines], objects)
         after = self.path.read_bytes(), self.path.stat().st_mtime_ns
         self.equals("inspect", "whether the file stayed as it was", True, before == after)
 

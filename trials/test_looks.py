@@ -1,6 +1,7 @@
 """The words `reduce` by rounds, `trace` and `draw`: the rows of trials/rows through the built program, each exit status and each line of
 standard error, and what goes wrong on the way."""
 
+import json
 import re
 import xml.etree.ElementTree as xml
 
@@ -28,6 +29,9 @@ TOLD = re.compile(r"\| `(\w+\.ic)` \| [^|]+ \| (none: the next round is )?`(.+)`
 # What a row tells of a refused round, after what is printed: why, and which one it is.
 REFUSED = re.compile(rb"(.*)(overgrown|names out): (round \d+, nodes \d+(?:, at most 8192)?)", re.DOTALL)
 
+# The formats of a trace, by the kinds of rows.
+SHOWN = {"trace": "tsv", "picture": "svg", "objects": "json"}
+
 # What a row tells behind the line of a reduced system.
 ENDS = re.compile(rb"(<.*>)\n(?:done \d+(?: stuck (?P<pair>.*))?|(?P<rest>not done))")
 
@@ -37,6 +41,11 @@ def asked(kinds):
     for name, kind, text, answer in rows("texts", *kinds):
         count, _, text = text.partition(" ")
         yield name, kind, count, expanded(text), answer
+
+
+def nodes_of(text):
+    """How many nodes the configuration of a system has: its symbols and names, each as often as it stands."""
+    return len(re.findall(rb"\w+", text.rpartition(b"}")[2]))
 
 
 def is_one_net(text, one, two):
@@ -69,17 +78,17 @@ class Rows(Trial):
                 seen.add(err.split(b" ")[1] if err else status)
         self.equals("reduce", "ends that no row has", set(), {0, b"stuck", b"not", b"bad", b"overgrown\n"} - seen)
 
-    def test_each_row_that_is_traced_has_its_table_or_picture(self):
+    def test_each_row_that_is_traced_has_its_table_its_picture_or_its_objects(self):
         tried = 0
-        for name, kind, count, text, answer in asked(["trace", "picture"]):
-            shown = "svg" if kind == "picture" else "tsv"
+        for name, kind, count, text, answer in asked(list(SHOWN)):
+            shown = SHOWN[kind]
             with self.subTest(name=name, kind=kind, rounds=count):
                 ran = run("trace", "--rounds", count, "--format", shown, given=text)
                 told = REFUSED.fullmatch(answer)
                 if told:
                     self.ended(ran, out=told[1], err=b"icserve: " + told[2] + b"\n", status=1)
                     self.equals(ran.command, "which round is refused", told[3] + b"\n", ran.behind)
-                elif answer.startswith((b"round\t", b"<svg")):
+                elif answer.startswith((b"round\t", b"<svg", b"{")):
                     self.ended(ran, out=answer)
                 else:
                     self.ended(ran, err=b"icserve: " + answer + b"\n", status=1)
@@ -107,10 +116,10 @@ class Rows(Trial):
         self.equals("reduce --partial", "how many rounds are refused", 2, refused)
 
     def test_what_is_shown_before_a_refused_round_is_the_trace_of_the_rounds_before_it(self):
-        """A table, a picture, and the line of `--partial`, of a system that grows without end."""
+        """A table, a picture, objects, and the line of `--partial`, of a system that grows without end."""
         unending = (TOP / "examples/unending.ic").read_text()
         for text, made in ((DOUBLES, 10), (unending, 11)):
-            for words in (["trace"], ["trace", "--format", "svg"], ["reduce", "--partial"]):
+            for words in (["trace"], ["trace", "--format", "svg"], ["trace", "--format", "json"], ["reduce", "--partial"]):
                 word, *options = words
                 ran = run(word, "--rounds", 10**6, *options, given=text)
                 before = run(word, "--rounds", made, *options, given=text)
@@ -129,6 +138,7 @@ class Rows(Trial):
     def test_as_many_rounds_as_there_may_be_are_taken(self):
         self.runs("reduce", "--rounds", MOST, given=TWO, out=["<S(S(Z))|>"])
         self.runs("trace", "--rounds", MOST, given="{} <|>", out=[HEAD])
+        self.runs("trace", "--rounds", MOST, "--format", "json", given="{} <|>")
         for word in ("reduce", "trace"):
             ran = run(word, "--rounds", MOST + 1, given=TWO)
             self.equals(ran.command, "status and standard output", (2, b""), (ran.status, ran.out))
@@ -205,7 +215,7 @@ class Endings(Trial):
 
     def test_refused_texts_are_told_and_nothing_is_printed(self):
         for text, fault in SYSTEMS:
-            for words in (["reduce"], ["reduce", "--rounds", 9], ["trace"], ["trace", "--format", "svg"]):
+            for words in (["reduce"], ["reduce", "--rounds", 9], ["trace"], ["trace", "--format", "svg"], ["trace", "--format", "json"]):
                 if words == ["reduce"] and fault == "overgrown":
                     continue
                 with self.subTest(text=text[:60], words=words):
@@ -229,7 +239,7 @@ class Endings(Trial):
         for words in (["reduce", "F", "G"], ["reduce", "--format", "svg"], ["trace", "--rounds"], ["trace", "--rounds", "-1"]):
             ran = run(*words, given=TWO)
             self.equals(ran.command, "how it ends", (2, b"", b"error:"), (ran.status, ran.out, ran.err[:6]))
-        wanted = "error: invalid value 'png' for '--format <FORMAT>'\n  [possible values: tsv, svg]\n\n"
+        wanted = "error: invalid value 'png' for '--format <FORMAT>'\n  [possible values: tsv, svg, json]\n\n"
         wanted += "For more information, try '--help'.\n"
         self.runs("trace", "--format", "png", given=TWO, err=wanted, status=2)
 
@@ -243,10 +253,25 @@ class Endings(Trial):
         self.runs("-c", 'exec "$0" reduce --stats 2>&-', PROGRAM, program="/bin/sh", given=text, out=in_place.out)
 
     def test_streams_that_are_closed_or_full_have_their_line(self):
-        for words in (["reduce"], ["reduce", "--stats"], ["reduce", "--rounds", "9"], ["trace"], ["trace", "--format", "svg"], ["draw"]):
+        for words in (["reduce"], ["reduce", "--stats"], ["reduce", "--rounds", "9"], ["trace"], ["trace", "--format", "svg"], ["trace", "--format", "json"], ["draw"]):
             for closing, line in (("<&-", "read"), (">&-", "write"), (">/dev/full", "write")):
                 shell = ["-c", f'exec "$0" "$@" {closing}', PROGRAM, *words]
                 self.refuses(*shell, program="/bin/sh", given=TWO, line=line, status=4)
+
+
+class Objects(Trial):
+    rooms = IN_MEMORY
+
+    def test_the_objects_of_each_example_have_the_names_and_the_numbers_of_its_table(self):
+        for path in sorted(TOP.glob("examples/*.ic")):
+            text = path.read_bytes()
+            head, *lines = run("trace", given=text).out.decode().splitlines() or [HEAD]
+            with self.subTest(example=path.name):
+                wanted = [list(zip(head.split("\t"), map(int, line.split("\t")))) for line in lines]
+                told = run("trace", "--format", "json", given=text).out.decode()
+                came = [json.loads(line, object_pairs_hook=list) for line in told.splitlines()]
+                self.equals(path.name, "the objects", wanted, came)
+                self.equals(path.name, "how many lines", len(wanted), told.count("\n"))
 
 
 class Pictures(Trial):
@@ -274,8 +299,8 @@ class Pictures(Trial):
                 title, bars, points = self.drawn(text)
                 came = [(int(it.get("x")), int(it.get("height"))) for it in bars]
                 self.equals(path.name, "the bars of the picture", [(it[0], it[1]) for it in told], came)
-                most = max(it[2] for it in told)
-                wanted = [f"{(2 * it[0] - 1) * 3200 // len(told)},{it[2] * 3500 // most}" for it in told]
+                nodes = [nodes_of(text), *(it[2] for it in told)]
+                wanted = [f"{k * 6400 // len(told)},{count * 3500 // max(nodes)}" for k, count in enumerate(nodes)]
                 self.equals(path.name, "the points of the picture", wanted, points)
                 fired = sum(it[1] for it in told)
                 wanted = f"{len(told)} round{'s' * (len(told) != 1)}, {fired} interaction"
@@ -300,7 +325,10 @@ class Pictures(Trial):
             (TWO, 0, "0 rounds, 0 interactions, at most 0 and on average 0.0 in a round"),
             (TWO, 2, "2 rounds, 2 interactions, at most 1 and on average 1.0 in a round"),
         ):
-            self.equals(f"trace --rounds {rounds}", "the title", title, self.drawn(text, ["--rounds", rounds])[0])
+            came, bars, points = self.drawn(text, ["--rounds", rounds])
+            self.equals(f"trace --rounds {rounds}", "the title", title, came)
+            wanted = rounds, [["0,3500"], ["0,3500", "6400,3500"], ["0,3500", "3200,3500", "6400,1500"]][rounds]
+            self.equals(f"trace --rounds {rounds}", "bars, and points, the first of them before the rounds", wanted, (len(bars), points))
 
     def test_the_pictures_in_docs_are_what_the_program_prints(self):
         """docs/NAME.svg is the trace of examples/NAME.ic, and docs/NAME-N.svg that of its first N rounds. The picture of the
@@ -338,7 +366,7 @@ class Faults(Trial):
         (["reduce"], "{A><B} <|A=C>", b"<|A=C>\n", b"icserve: stuck A><C\n", 0),
         (["reduce", "--rounds", "9"], "{A><B} <|A=C>", b"<|A=C>\n", b"icserve: stuck A><C\n", 0),
         (["reduce"], "{A(B,x)><A(x,C)} <|>", b"", b"icserve: bad lopsided 1\n", 1),
-        (["draw"], "<a|a=b>", as_lines([*GRAPH, "J0 [shape=point]", "I1 -- J0", "J0 -- b", "}"]), b"", 0),
+        (["draw"], "<a|a=b>", as_lines([*GRAPH, "J0 [shape=point, width=0.05, height=0.05]", "I1 -- J0", "J0 -- b", "}"]), b"", 0),
         (["draw"], "{} <a1,a1|a1=A>", b"", b"icserve: bad name a1\n", 1),
         (["trace"], TWO, f"{HEAD}\n1\t1\t7\t1\t2\n2\t1\t3\t0\t0\n".encode(), b"", 0),
     ]
@@ -362,8 +390,7 @@ class Faults(Trial):
         self.equals("reduce, trace and draw", "the faults that came", {(4, "memory")}, self.came)
 
     def test_each_read_and_write_fails_in_turn(self):
-        svg = run("trace", "--format", "svg", given=TWO).out
-        shown = [(["trace", "--format", "svg"], TWO, svg, b"", 0)]
+        shown = [(it, TWO, run(*it, given=TWO).out, b"", 0) for it in (["trace", "--format", "svg"], ["trace", "--format", "json"])]
         for words in (["trace"], ["reduce", "--partial"]):
             before = run(words[0], "--rounds", 10, given=DOUBLES).out
             shown.append(([*words, "--rounds", "11"], DOUBLES, before, b"icserve: overgrown\n", 1))

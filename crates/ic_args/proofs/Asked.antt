@@ -9,12 +9,14 @@ use Rattle.clap.proofs.OnLiterals.{clap_on_literals}
 use Rattle.clap.specs.declared.error.ErrorKind.{ErrorKind}
 use Rattle.clap.specs.declared.error.ErrorKind.TheVariants.{DisplayHelp, DisplayVersion, InvalidSubcommand, InvalidValue, OutOfMemory}
 use Rattle.ic_args.specs.Help.{help_by, help_of}
-use Rattle.ic_args.specs.Words.{AnswersWords, GivesHelp, GivesTask, GivesVersion, Names, command_line, file_met, format_word, help_mistakes, is_format, is_limits, limits_word, mistakes_of, most_rounds, most_steps, reduce_mistakes, value_if_met}
-use Rattle.ic_args.specs.inner.Asking.{AnswersRefused, Asks, IsMet}
+use Rattle.ic_args.specs.Words.{AnswersWords, GivesHelp, GivesTask, GivesVersion, Names, command_line, file_met, format_word, help_mistakes, is_format, is_limits, limits_word, mistakes_of, most_rounds, most_steps, reduce_mistakes, value_if_met, is_report_format, report_mistakes, report_word}
+use Rattle.ic_args.specs.inner.Asking.{AnswersRefused, Asks, IsMet, TellsReport}
 use Rattle.ic_args.specs.declared.words.Task.{Task}
 use Rattle.ic_args.specs.declared.words.Task.TheVariants.{Settle, Once, Create, Serve, Attend, Reduce, ReduceByRounds, Trace, Draw, Dump, Inspect, Check, Batch, Help, Version}
+use Rattle.ic_args.specs.declared.words.ReportFormat.{ReportFormat}
+use Rattle.ic_args.specs.declared.words.ReportFormat.TheVariants as check
 use Rattle.ic_args.specs.declared.words.TraceFormat.{TraceFormat}
-use Rattle.ic_args.specs.declared.words.TraceFormat.TheVariants.{Tsv, Svg}
+use Rattle.ic_args.specs.declared.words.TraceFormat.TheVariants.{Tsv, Svg, Json}
 use Rattle.ic_args.specs.declared.words.TextLimits.{TextLimits}
 use Rattle.ic_args.specs.declared.words.TextLimits.TheVariants.{Served, Wide}
 use Rattle.ic_args.specs.declared.words.WordsFault.{WordsFault}
@@ -22,7 +24,7 @@ use Rattle.ic_args.specs.declared.words.WordsFault.TheVariants.{Words, Memory}
 use Rattle.ic_args.proofs.OptionNumbers.{attend_numbers, batch_numbers, reduce_numbers, serve_numbers, trace_numbers}
 use Rattle.ic_args.proofs.Spelt.{number_named}
 use Rattle.ic_args.proofs.WordsExact.{IsCalled}
-use Rattle.ic_args.proofs.WordsLaws.{a_format, among_all, another_format, asked_alone, called_as, help_asked, in_place_free, is_help, no_help, no_other_alone, no_own, no_reduce, of_reduce, once_met, once_taken, reduce_wrong, rounds_free, settle_met, settle_taken, taken_alone, version_asked}
+use Rattle.ic_args.proofs.WordsLaws.{among_all, another_format, asked_alone, called_as, check_free, help_asked, in_place_free, inspect_free, is_help, no_other_alone, no_own, of_reduce, once_met, once_taken, reduce_wrong, report_wrong, rounds_free, settle_met, settle_taken, taken_alone, trace_free, version_asked}
 
 pub record IsAnswer (words : List Text) (r : Result Task WordsFault) : Type 0 where
   pub answers : AnswersWords (mistakes_of words) r
@@ -33,10 +35,15 @@ pub record IsAnswer (words : List Text) (r : Result Task WordsFault) : Type 0 wh
 format_is : (format : TraceFormat) → is_format (format_word format) ≡ true
 format_is Tsv = refl
 format_is Svg = refl
+format_is Json = refl
 
 limits_is : (limits : TextLimits) → is_limits (limits_word limits) ≡ true
 limits_is Served = refl
 limits_is Wide = refl
+
+report_is : (format : ReportFormat) → is_report_format (report_word format) ≡ true
+report_is check.Text = refl
+report_is check.Json = refl
 
 -- words of which a command was met aren't another one alone
 not_settle : (words : List Text) (name : Text) → IsMet name (subcommand_of command_line words) → bytes_eq name (codes "settle") ≡ false → words ≡ codes "settle" ∷ [] → ⊥
@@ -70,19 +77,19 @@ helped words free = cond free (help_by (value_if_met (codes "word") (subcommand_
 pub asked : (words : List Text) → fault_of command_line words ≡ [] → (name : Text) × IsCalled name words → (r : Result Task WordsFault)
     → Asks (subcommand_of command_line words) r → IsAnswer words r
 asked words none called (Ok (Settle file)) asks = record {
-  answers = ap₂ or_else none (no_own (codes "settle") _ asks.0 refl refl refl);
+  answers = ap₂ or_else none (no_own (codes "settle") _ asks.0 refl refl refl refl refl);
   named = (called_as called.0 (codes "settle") words called.1 asks.0, asks.1);
   settle = λ is. ap Settle (none_named string_bytes file (asks.1 ∙ ap file_met (ap (subcommand_of command_line) is) ∙ settle_alone));
   once = λ is. absurd (not_once words (codes "settle") asks.0 refl is);
 }
 asked words none called (Ok (Once file)) asks = record {
-  answers = ap₂ or_else none (no_own (codes "once") _ asks.0 refl refl refl);
+  answers = ap₂ or_else none (no_own (codes "once") _ asks.0 refl refl refl refl refl);
   named = (called_as called.0 (codes "once") words called.1 asks.0, asks.1);
   settle = λ is. absurd (not_settle words (codes "once") asks.0 refl is);
   once = λ is. ap Once (none_named string_bytes file (asks.1 ∙ ap file_met (ap (subcommand_of command_line) is) ∙ once_alone));
 }
 asked words none called (Ok (Create disk overwrite)) asks = record {
-  answers = ap₂ or_else none (no_own (codes "create") _ asks.0 refl refl refl);
+  answers = ap₂ or_else none (no_own (codes "create") _ asks.0 refl refl refl refl refl);
   named = (called_as called.0 (codes "create") words called.1 asks.0, asks.1, asks.2);
   settle = λ is. absurd (not_settle words (codes "create") asks.0 refl is);
   once = λ is. absurd (not_once words (codes "create") asks.0 refl is);
@@ -91,7 +98,7 @@ asked words none called (Ok (Serve disk workers every)) asks =
     let begins = called_as called.0 (codes "serve") words called.1 asks.0 in
     let spelt = serve_numbers words none begins in
     record {
-      answers = ap₂ or_else none (no_own (codes "serve") _ asks.0 refl refl refl);
+      answers = ap₂ or_else none (no_own (codes "serve") _ asks.0 refl refl refl refl refl);
       named = (
         begins,
         asks.1,
@@ -105,7 +112,7 @@ asked words none called (Ok (Attend disk runners turns workers scripts)) asks =
     let begins = called_as called.0 (codes "attend") words called.1 asks.0 in
     let spelt = attend_numbers words none begins in
     record {
-      answers = ap₂ or_else none (no_own (codes "attend") _ asks.0 refl refl refl);
+      answers = ap₂ or_else none (no_own (codes "attend") _ asks.0 refl refl refl refl refl);
       named = record {
         begins = begins;
         disk = asks.1;
@@ -153,32 +160,32 @@ asked words none called (Ok (ReduceByRounds rounds workers partial file)) asks =
 asked words none called (Ok (Trace rounds format file)) asks =
     let begins = called_as called.0 (codes "trace") words called.1 asks.0.0 in
     record {
-      answers = ap₂ or_else none (ap₂ or_else (a_format (subcommand_of command_line words) (ap is_format asks.2 ∙ format_is format)) (ap₂ or_else (no_reduce (codes "trace") _ asks.0.0 refl) (no_help (codes "trace") _ asks.0.0 refl)));
+      answers = ap₂ or_else none (trace_free (subcommand_of command_line words) asks.0.0 (ap is_format asks.2 ∙ format_is format));
       named = ((begins, asks.0.1), number_named (codes "rounds") 0 most_rounds rounds words _ (trace_numbers words none begins) refl asks.1, asks.2);
       settle = λ is. absurd (not_settle words (codes "trace") asks.0.0 refl is);
       once = λ is. absurd (not_once words (codes "trace") asks.0.0 refl is);
     }
 asked words none called (Ok (Draw file)) asks = record {
-  answers = ap₂ or_else none (no_own (codes "draw") _ asks.0 refl refl refl);
+  answers = ap₂ or_else none (no_own (codes "draw") _ asks.0 refl refl refl refl refl);
   named = (called_as called.0 (codes "draw") words called.1 asks.0, asks.1);
   settle = λ is. absurd (not_settle words (codes "draw") asks.0 refl is);
   once = λ is. absurd (not_once words (codes "draw") asks.0 refl is);
 }
 asked words none called (Ok (Dump disk names)) asks = record {
-  answers = ap₂ or_else none (no_own (codes "dump") _ asks.0 refl refl refl);
+  answers = ap₂ or_else none (no_own (codes "dump") _ asks.0 refl refl refl refl refl);
   named = (called_as called.0 (codes "dump") words called.1 asks.0, asks.1, asks.2);
   settle = λ is. absurd (not_settle words (codes "dump") asks.0 refl is);
   once = λ is. absurd (not_once words (codes "dump") asks.0 refl is);
 }
-asked words none called (Ok (Inspect disk)) asks = record {
-  answers = ap₂ or_else none (no_own (codes "inspect") _ asks.0 refl refl refl);
-  named = (called_as called.0 (codes "inspect") words called.1 asks.0, asks.1);
+asked words none called (Ok (Inspect disk format)) asks = record {
+  answers = ap₂ or_else none (inspect_free (subcommand_of command_line words) asks.0 (ap is_report_format asks.2 ∙ report_is format));
+  named = (called_as called.0 (codes "inspect") words called.1 asks.0, asks.1, asks.2);
   settle = λ is. absurd (not_settle words (codes "inspect") asks.0 refl is);
   once = λ is. absurd (not_once words (codes "inspect") asks.0 refl is);
 }
-asked words none called (Ok (Check files)) asks = record {
-  answers = ap₂ or_else none (no_own (codes "check") _ asks.0 refl refl refl);
-  named = (called_as called.0 (codes "check") words called.1 asks.0, asks.1);
+asked words none called (Ok (Check files format)) asks = record {
+  answers = ap₂ or_else none (check_free (subcommand_of command_line words) asks.0 (ap is_report_format asks.2 ∙ report_is format));
+  named = (called_as called.0 (codes "check") words called.1 asks.0, asks.1, asks.2);
   settle = λ is. absurd (not_settle words (codes "check") asks.0 refl is);
   once = λ is. absurd (not_once words (codes "check") asks.0 refl is);
 }
@@ -186,7 +193,7 @@ asked words none called (Ok (Batch disk rounds every workers lines)) asks =
     let begins = called_as called.0 (codes "batch") words called.1 asks.0 in
     let spelt = batch_numbers words none begins in
     record {
-      answers = ap₂ or_else none (no_own (codes "batch") _ asks.0 refl refl refl);
+      answers = ap₂ or_else none (no_own (codes "batch") _ asks.0 refl refl refl refl refl);
       named = record {
         begins = begins;
         disk = asks.1;
@@ -206,7 +213,7 @@ asked words none called (Ok (Help text)) asks = record {
 }
 asked words none called (Ok (Version text)) asks = absurd asks
 asked words none called (Err (Words text)) (inl asks) = record {
-  answers = wrong words InvalidValue (ap₂ or_else none (ap (λ (ks : Kinds). or_else ks (or_else (reduce_mistakes (subcommand_of command_line words)) (help_mistakes (subcommand_of command_line words)))) (another_format _ asks.0 asks.1)))
+  answers = wrong words InvalidValue (ap₂ or_else none (ap (λ (ks : Kinds). or_else ks (or_else (report_mistakes (subcommand_of command_line words)) (or_else (reduce_mistakes (subcommand_of command_line words)) (help_mistakes (subcommand_of command_line words))))) (another_format _ asks.0 asks.1)))
       (λ e. cc) (λ e. cc);
   named = tt;
   settle = λ is. not_settle words (codes "trace") asks.0 refl is;
@@ -220,12 +227,26 @@ asked words none called (Err (Words text)) (inr (inl asks)) =
       settle = λ alone. not_settle words (codes "reduce") asks.0 refl alone;
       once = λ alone. not_once words (codes "reduce") asks.0 refl alone;
     }
-asked words none called (Err (Words text)) (inr (inr asks)) = record {
+asked words none called (Err (Words text)) (inr (inr (inl asks))) = record {
   answers = wrong words InvalidSubcommand (ap₂ or_else none (is_help (subcommand_of command_line words) false asks.0 asks.1)) (λ e. cc) (λ e. cc);
   named = tt;
   settle = λ is. not_settle words (codes "help") asks.0 refl is;
   once = λ is. not_once words (codes "help") asks.0 refl is;
 }
+asked words none called (Err (Words text)) (inr (inr (inr asks))) = record {
+  answers = wrong words InvalidValue (ap₂ or_else none (report_wrong (subcommand_of command_line words) asks.0 asks.1)) (λ e. cc) (λ e. cc);
+  named = tt;
+  settle = by_settle asks.0;
+  once = by_once asks.0;
+}
+  where
+    by_settle : TellsReport (subcommand_of command_line words) → words ≡ codes "settle" ∷ [] → GivesTask (Settle None) (Err (Words text))
+    by_settle (inl met) is = not_settle words (codes "check") met refl is
+    by_settle (inr met) is = not_settle words (codes "inspect") met refl is
+
+    by_once : TellsReport (subcommand_of command_line words) → words ≡ codes "once" ∷ [] → GivesTask (Once None) (Err (Words text))
+    by_once (inl met) is = not_once words (codes "check") met refl is
+    by_once (inr met) is = not_once words (codes "inspect") met refl is
 asked words none called (Err Memory) asks = record { answers = tt; named = tt; settle = λ is. tt; once = λ is. tt }
 
 -- ---- words that the parser refuses
@@ -282,8 +303,8 @@ not_taken words kind (Ok (ReduceByRounds rounds workers partial file)) made is =
 not_taken words kind (Ok (Trace rounds format file)) made is = absurd is
 not_taken words kind (Ok (Draw file)) made is = absurd is
 not_taken words kind (Ok (Dump disk names)) made is = absurd is
-not_taken words kind (Ok (Inspect disk)) made is = absurd is
-not_taken words kind (Ok (Check files)) made is = absurd is
+not_taken words kind (Ok (Inspect disk format)) made is = absurd is
+not_taken words kind (Ok (Check files format)) made is = absurd is
 not_taken words kind (Ok (Batch disk rounds every workers lines)) made is = absurd is
 not_taken words kind (Err (Words text)) made is =
     let mistake = made is.0 in

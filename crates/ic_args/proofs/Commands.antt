@@ -113,8 +113,11 @@ dump_options = disk ∷ named ∷ help ∷ []
 pub is_dump : IsCommand (codes "dump") (below 8) dump_options
 is_dump = record { is = inr (inr (inr (inr (inr (inr (inr (inr (inl refl)))))))); enters = λ rest. refl; meets = λ rest. refl }
 
+abbrev pub listing : Rule
+listing = number (codes "format") (codes "text") vp.String
+
 abbrev pub inspect_options : List Rule
-inspect_options = disk ∷ help ∷ []
+inspect_options = disk ∷ listing ∷ help ∷ []
 
 pub is_inspect : IsCommand (codes "inspect") (below 9) inspect_options
 is_inspect = record { is = inr (inr (inr (inr (inr (inr (inr (inr (inr (inl refl))))))))); enters = λ rest. refl; meets = λ rest. refl }
@@ -123,7 +126,7 @@ abbrev pub files : Rule
 files = several_argument (codes "file") 1 true
 
 abbrev pub check_options : List Rule
-check_options = files ∷ help ∷ []
+check_options = listing ∷ files ∷ help ∷ []
 
 pub is_check : IsCommand (codes "check") (below 10) check_options
 is_check = record { is = inr (inr (inr (inr (inr (inr (inr (inr (inr (inr (inl refl)))))))))); enters = λ rest. refl; meets = λ rest. refl }

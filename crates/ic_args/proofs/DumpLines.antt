@@ -1,4 +1,4 @@
--- Each well-formed line of `dump` is taken, with its path and its names, and each of `inspect` and `check` with its paths.
+-- Each well-formed line of `dump` is taken, with its path and its names.
 use Rattle.std.proofs.Common.{◌≡◌, List, [], ◌∷◌, Bool, true, false, None, Option, Some, codes, fold, inl, inr, refl, sym, ◌∙◌, ap, arith}
 use Rattle.std.specs.List.{AllByRecursion}
 use Rattle.clap.specs.Words.{Row, Text, fault_of, subcommand_of}
@@ -6,10 +6,10 @@ use Rattle.clap.specs.Walk.{nothing_held, walk_from, with_default}
 use Rattle.clap.proofs.OnLiterals.{clap_on_literals}
 use Rattle.clap.specs.declared.builder.value_parser.ValueParser.TheVariants as vp
 use Rattle.ic_args.specs.Words.{command_line, value_met, values_met}
-use Rattle.ic_args.specs.Lines.{IsCheckLine, IsDumpLine, IsInspectLine}
+use Rattle.ic_args.specs.Lines.{IsDumpLine}
 use Rattle.ic_args.specs.inner.Asking.{IsMet}
-use Rattle.ic_args.proofs.Arguments.{argument_row, found_after, many_read, range_none, range_some, shown_values}
-use Rattle.ic_args.proofs.Commands.{check_options, dump_options, inspect_options, is_check, is_dump, is_inspect}
+use Rattle.ic_args.proofs.Arguments.{argument_row, found_after, many_read, range_none, shown_values}
+use Rattle.ic_args.proofs.Commands.{dump_options, is_dump}
 use Rattle.ic_args.proofs.LineEnds.{IsHarmless, checks, either_none, entered_after, entered_by, given_row, given_there, last_found, value_there}
 use Rattle.ic_args.proofs.LineRows.{IsFoundRow}
 use Rattle.ic_args.proofs.OptionLines.{found_all}
@@ -43,37 +43,3 @@ dump_taken words path listed line =
       values_are = ap (values_met (codes "name")) entered.met ∙ shown_values (codes "name") last listed argument.shows;
       named = entered.named;
     }
-
--- ---- `inspect`
-
-pub record IsInspected (words : List Text) (path : Text) : Type 0 where
-  pub free : fault_of command_line words ≡ []
-  pub disk_is : value_met (codes "disk") (subcommand_of command_line words) ≡ path
-  pub named : IsMet (codes "inspect") (subcommand_of command_line words)
-
-pub inspect_taken : (words : List Text) (path : Text) → IsInspectLine path words → IsInspected words path
-inspect_taken words path line =
-    let one = reads_one (below 9) inspect_options (codes "disk") None vp.String true refl refl refl (λ v. (refl, refl)) (refl, refl) line.0 path nothing_held line.2 refl refl refl in
-    let rows = row_with (codes "disk") path vp.String ∷ [] in
-    let last = fold with_default rows inspect_options in
-    let found = last_found inspect_options (codes "disk") path rows (disk_found path) in
-    let entered = entered_by (codes "inspect") (below 9) inspect_options is_inspect ((λ rows. either_none _ _), ((λ rows. either_none _ _), tt)) words line.0 rows (at (below 9) inspect_options one.behind)
-    line.1 one.leads one.read.settles one.read.rows (ap checks (given_there (codes "disk") path last found)) in
-    record { free = entered.free; disk_is = ap (value_met (codes "disk")) entered.met ∙ value_there (codes "disk") path last found; named = entered.named }
-
--- ---- `check`
-
-pub record IsChecked (words paths : List Text) : Type 0 where
-  pub free : fault_of command_line words ≡ []
-  pub files_are : values_met (codes "file") (subcommand_of command_line words) ≡ paths
-  pub named : IsMet (codes "check") (subcommand_of command_line words)
-
-pub check_taken : (words paths : List Text) → IsCheckLine words paths → IsChecked words paths
-check_taken words [] line = absurd (line.one refl)
-check_taken words (v ∷ more) line =
-    let argument = many_read (below 10) check_options (codes "file") 1 true refl refl refl range_some (inr refl, (inl refl, tt)) (v ∷ more) [] nothing_held line.plain line.few refl refl refl refl in
-    let last = fold with_default argument.rows check_options in
-    let entered = entered_after (codes "check") (below 10) check_options is_check ((λ rows. either_none _ _), ((λ rows. either_none _ _), tt))
-    (codes "file") words [] (v ∷ more) [] nothing_held line.begins (leads_none (below 10) check_options (walk_from nothing_held)) argument
-    (ap checks (given_row (codes "file") last argument.given.0 (found_all check_options (codes "file") argument.rows argument.given.0 argument.given.1) argument.given.3)) in
-    record { free = entered.free; files_are = ap (values_met (codes "file")) entered.met ∙ shown_values (codes "file") last (v ∷ more) argument.shows; named = entered.named }

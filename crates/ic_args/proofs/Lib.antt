@@ -14,6 +14,8 @@ pub mod Commands
 pub mod LineEnds
 pub mod TextLines
 pub mod TraceLines
+pub mod CheckLines
+pub mod InspectLines
 pub mod ReduceLines
 pub mod ServeLines
 pub mod BatchLines

@@ -17,11 +17,12 @@ use Rattle.ic_args.proofs.LineEnds.{IsHarmless, either_none, entered_after, or_n
 use Rattle.ic_args.proofs.LineRows.{fresh_first, not_given, named_apart}
 use Rattle.ic_args.proofs.OptionLines.{ReadsGiven, all_read, given_as, option_value, stands_given}
 use Rattle.ic_args.proofs.WordsExact.{below, help}
-use Rattle.ic_args.proofs.WordsLaws.{a_format, no_help, no_reduce}
+use Rattle.ic_args.proofs.WordsLaws.{trace_free}
 
 is_format_text : (v : Text) → IsFormatText v → is_format v ≡ true
 is_format_text v (inl is) = ap is_format is
-is_format_text v (inr is) = ap is_format is
+is_format_text v (inr (inl is)) = ap is_format is
+is_format_text v (inr (inr is)) = ap is_format is
 
 trace_read : (g : Given) → IsTraceOption g → (words : List Text) → IsWritten g words → (h : Held) → settle_fault trace_options false h ≡ []
     → has_row g.name (settled trace_options h).rows ≡ false → ReadsGiven (below 6) trace_options (codes "file") g words h
@@ -48,7 +49,7 @@ harmless = ((λ rows. or_none _ _ refl), ((λ rows. or_none _ _ refl), ((λ rows
 trace_checked : (rows : List Row) → check_fault (below 6) rows false ≡ []
 trace_checked rows = refl
 
--- a format that is given is one of the two
+-- a format that is given is one of those that there are
 given_format : (gs : List Given) (v : Text) → AllByRecursion IsTraceOption gs → Gives gs (codes "format") v → is_format v ≡ true
 given_format [] v sorts gives = absurd gives
 given_format (g ∷ gs) v sorts (inr there) = given_format gs v sorts.1 there
@@ -82,9 +83,7 @@ trace_taken words most shown path line =
     ∙ ap text (option_value (codes "format") (codes "tsv") shown vp.String (rounds ∷ []) (file ∷ help ∷ []) rows (refl, tt) refl
     (stands_after (codes "file") all.more rows argument.grew (codes "format") (codes "tsv") shown refl (stands_given line.given all.more (codes "format") (codes "tsv") shown all.of line.once line.format))) in
     record {
-      free = ap₂ or_else entered.free
-          (ap₂ or_else (a_format (subcommand_of command_line words) (ap is_format is_shown ∙ shown_format line.given shown line.options line.format))
-          (ap₂ or_else (no_reduce (codes "trace") _ entered.named refl) (no_help (codes "trace") _ entered.named refl)));
+      free = ap₂ or_else entered.free (trace_free (subcommand_of command_line words) entered.named (ap is_format is_shown ∙ shown_format line.given shown line.options line.format));
       rounds_is = ap (value_met (codes "rounds")) entered.met
           ∙ ap text (option_value (codes "rounds") (codes "1000000") most counted [] (format ∷ file ∷ help ∷ []) rows tt refl
           (stands_after (codes "file") all.more rows argument.grew (codes "rounds") (codes "1000000") most refl (stands_given line.given all.more (codes "rounds") (codes "1000000") most all.of line.once line.rounds)));

@@ -16,8 +16,8 @@ use Rattle.clap.proofs.WalkLemmas.{first_value-rows, raw_values-rows}
 use Rattle.std.specs.Str.{bytes_eq}
 use Rattle.std.proofs.lemmas.Slice.Eq.{bytes_eq-Decides}
 use Rattle.clap.specs.Kinds.{or_else}
-use Rattle.ic_args.specs.Words.{BeginsWith, asks_in_place, asks_rounds, command_line, format_mistakes, has_help, help_mistakes, is_format, is_given, is_limits, is_met, limits_met, own_mistakes, reduce_faults, reduce_mistakes, value_if_met, value_met, values_met}
-use Rattle.ic_args.specs.inner.Asking.{IsIn, IsMet, commands}
+use Rattle.ic_args.specs.Words.{BeginsWith, asks_in_place, asks_rounds, command_line, format_mistakes, has_help, help_mistakes, is_format, is_given, is_limits, is_met, limits_met, own_mistakes, reduce_faults, reduce_mistakes, value_if_met, value_met, values_met, is_report_format, report_mistakes, tells_report}
+use Rattle.ic_args.specs.inner.Asking.{IsIn, IsMet, commands, TellsReport}
 use Rattle.ic_args.proofs.WordsExact.{IsCalled, first_met}
 
 command_line_simple : is_simple_and_free command_line ≡ true
@@ -139,6 +139,40 @@ another_format (Some p) is other =
     let same : p.0 ≡ codes "trace" = ap (λ (o : Option Text). unwrap_or o []) is in
     ap₂ (λ (b c : Bool). cond (b && not c) (InvalidValue ∷ []) []) (ap (λ (n : Text). bytes_eq n (codes "trace")) same) other
 
+-- the same of the formats of `check` and `inspect`
+abbrev report_by : (checks inspects given : Bool) → Kinds
+report_by checks inspects given = cond ((checks || inspects) && not given) (InvalidValue ∷ []) []
+
+pub no_report : (one : Text) (met : Option (Text × List Row)) → IsMet one met → bytes_eq one (codes "check") ≡ false → bytes_eq one (codes "inspect") ≡ false
+    → report_mistakes met ≡ []
+no_report one None is check inspect = refl
+no_report one (Some p) is check inspect =
+    let same : p.0 ≡ one = ap (λ (o : Option Text). unwrap_or o []) is in
+    ap₂ (λ (c i : Bool). report_by c i (is_report_format (value_met (codes "format") (Some p))))
+    (ap (λ (n : Text). bytes_eq n (codes "check")) same ∙ check) (ap (λ (n : Text). bytes_eq n (codes "inspect")) same ∙ inspect)
+
+pub a_report : (met : Option (Text × List Row)) → is_report_format (value_met (codes "format") met) ≡ true → report_mistakes met ≡ []
+a_report met is = go (tells_report met) is
+  where
+    go : (b : Bool) → is_report_format (value_met (codes "format") met) ≡ true → cond (b && not (is_report_format (value_met (codes "format") met))) (InvalidValue ∷ []) [] ≡ []
+    go true is = ap (λ (c : Bool). cond (not c) (InvalidValue ∷ []) []) is
+    go false is = refl
+
+pub another_report : (met : Option (Text × List Row)) → tells_report met ≡ true → is_report_format (value_met (codes "format") met) ≡ false → report_mistakes met ≡ InvalidValue ∷ []
+another_report met tells other = ap₂ (λ (b c : Bool). cond (b && not c) (InvalidValue ∷ []) []) tells other
+
+check_tells : (met : Option (Text × List Row)) → IsMet (codes "check") met → tells_report met ≡ true
+check_tells None is = cc
+check_tells (Some p) is =
+    let same : p.0 ≡ codes "check" = ap (λ (o : Option Text). unwrap_or o []) is in
+    ap (λ (n : Text). bytes_eq n (codes "check") || bytes_eq n (codes "inspect")) same
+
+inspect_tells : (met : Option (Text × List Row)) → IsMet (codes "inspect") met → tells_report met ≡ true
+inspect_tells None is = cc
+inspect_tells (Some p) is =
+    let same : p.0 ≡ codes "inspect" = ap (λ (o : Option Text). unwrap_or o []) is in
+    ap (λ (n : Text). bytes_eq n (codes "check") || bytes_eq n (codes "inspect")) same
+
 -- what `help` comes to, by two tests
 abbrev pub help_by_test : Bool → Bool → Kinds
 help_by_test is has = cond (not is) [] (cond has (DisplayHelp ∷ []) (InvalidSubcommand ∷ []))
@@ -164,11 +198,35 @@ is_help None has is named = cc
 is_help (Some p) has is named =
     let same : p.0 ≡ codes "help" = ap (λ (o : Option Text). unwrap_or o []) is in
     ap₂ or_else (no_format (codes "help") (Some p) is refl)
-    (ap₂ or_else (no_reduce (codes "help") (Some p) is refl) (ap₂ help_by_test (ap (λ (n : Text). bytes_eq n (codes "help")) same) named))
+    (ap₂ or_else (no_report (codes "help") (Some p) is refl refl)
+    (ap₂ or_else (no_reduce (codes "help") (Some p) is refl) (ap₂ help_by_test (ap (λ (n : Text). bytes_eq n (codes "help")) same) named)))
 
-pub no_own : (one : Text) (met : Option (Text × List Row)) → IsMet one met → bytes_eq one (codes "trace") ≡ false → bytes_eq one (codes "reduce") ≡ false
-    → bytes_eq one (codes "help") ≡ false → own_mistakes met ≡ []
-no_own one met is trace reduce help = ap₂ or_else (no_format one met is trace) (ap₂ or_else (no_reduce one met is reduce) (no_help one met is help))
+pub no_own : (one : Text) (met : Option (Text × List Row)) → IsMet one met → bytes_eq one (codes "trace") ≡ false → bytes_eq one (codes "check") ≡ false
+    → bytes_eq one (codes "inspect") ≡ false → bytes_eq one (codes "reduce") ≡ false → bytes_eq one (codes "help") ≡ false → own_mistakes met ≡ []
+no_own one met is trace check inspect reduce help =
+    ap₂ or_else (no_format one met is trace) (ap₂ or_else (no_report one met is check inspect) (ap₂ or_else (no_reduce one met is reduce) (no_help one met is help)))
+
+-- nor has a `trace` whose format there is, nor a `check`
+pub trace_free : (met : Option (Text × List Row)) → IsMet (codes "trace") met → is_format (value_met (codes "format") met) ≡ true → own_mistakes met ≡ []
+trace_free met is format =
+    ap₂ or_else (a_format met format) (ap₂ or_else (no_report (codes "trace") met is refl refl) (ap₂ or_else (no_reduce (codes "trace") met is refl) (no_help (codes "trace") met is refl)))
+
+pub check_free : (met : Option (Text × List Row)) → IsMet (codes "check") met → is_report_format (value_met (codes "format") met) ≡ true → own_mistakes met ≡ []
+check_free met is format =
+    ap₂ or_else (no_format (codes "check") met is refl) (ap₂ or_else (a_report met format) (ap₂ or_else (no_reduce (codes "check") met is refl) (no_help (codes "check") met is refl)))
+
+pub inspect_free : (met : Option (Text × List Row)) → IsMet (codes "inspect") met → is_report_format (value_met (codes "format") met) ≡ true → own_mistakes met ≡ []
+inspect_free met is format =
+    ap₂ or_else (no_format (codes "inspect") met is refl) (ap₂ or_else (a_report met format) (ap₂ or_else (no_reduce (codes "inspect") met is refl) (no_help (codes "inspect") met is refl)))
+
+-- another format of a `check` or an `inspect` is its mistake
+other_format : (met : Option (Text × List Row)) → format_mistakes met ≡ [] → tells_report met ≡ true → is_report_format (value_met (codes "format") met) ≡ false
+    → own_mistakes met ≡ InvalidValue ∷ []
+other_format met free tells other = ap₂ or_else free (ap (λ (ks : Kinds). or_else ks (or_else (reduce_mistakes met) (help_mistakes met))) (another_report met tells other))
+
+pub report_wrong : (met : Option (Text × List Row)) → TellsReport met → is_report_format (value_met (codes "format") met) ≡ false → own_mistakes met ≡ InvalidValue ∷ []
+report_wrong met (inl is) other = other_format met (no_format (codes "check") met is refl) (check_tells met is) other
+report_wrong met (inr is) other = other_format met (no_format (codes "inspect") met is refl) (inspect_tells met is) other
 
 -- ---- `reduce`
 
@@ -180,7 +238,8 @@ is_reduce (Some p) is =
 
 pub of_reduce : (met : Option (Text × List Row)) → IsMet (codes "reduce") met → own_mistakes met ≡ reduce_faults met
 of_reduce met is =
-    ap₂ or_else (no_format (codes "reduce") met is refl) (ap₂ or_else (is_reduce met is) (no_help (codes "reduce") met is refl) ∙ alone (reduce_faults met))
+    ap₂ or_else (no_format (codes "reduce") met is refl)
+    (ap₂ or_else (no_report (codes "reduce") met is refl refl) (ap₂ or_else (is_reduce met is) (no_help (codes "reduce") met is refl) ∙ alone (reduce_faults met)))
   where
     alone : (kinds : Kinds) → or_else kinds [] ≡ kinds
     alone [] = refl

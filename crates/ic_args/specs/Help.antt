@@ -214,7 +214,8 @@ trace_help = text_of (codes "Tells what the rounds of a system do, until no step
     ∷ codes "Options:"
     ∷ (codes "      --rounds <N>       How many rounds are made at most, from 0 to"
     ++ codes " 4611686018427387904 [default: 1000000]")
-    ∷ codes "      --format <FORMAT>  A table with tabs (tsv) or a picture (svg) [default: tsv]"
+    ∷ (codes "      --format <FORMAT>  A table with tabs (tsv), a picture (svg) or JSON"
+    ++ codes " objects (json) [default: tsv]")
     ∷ codes "  -h, --help             Print help"
     ∷ []
     ∷ codes "Example:"
@@ -267,11 +268,13 @@ dump_help = text_of (codes "Prints jobs of the disk in the file F, as lines that
 abbrev pub inspect_help : Text
 inspect_help = text_of (codes "Tells what the file F holds, which a server may have open"
     ∷ []
-    ∷ codes "Usage: icserve inspect --disk <F>"
+    ∷ codes "Usage: icserve inspect [OPTIONS] --disk <F>"
     ∷ []
     ∷ codes "Options:"
-    ∷ codes "      --disk <F>  The path of the file, which stays as it is"
-    ∷ codes "  -h, --help      Print help"
+    ∷ codes "      --disk <F>         The path of the file, which stays as it is"
+    ∷ (codes "      --format <FORMAT>  Lines (text), or JSON objects, one a line (json)"
+    ++ codes " [default: text]")
+    ∷ codes "  -h, --help             Print help"
     ∷ []
     ∷ codes "Example:"
     ∷ codes "  $ icserve create --disk jobs.disk"
@@ -284,13 +287,15 @@ inspect_help = text_of (codes "Tells what the file F holds, which a server may h
 abbrev pub check_help : Text
 check_help = text_of (codes "Prints the faults of texts with their places, and warns of what is mostly a mistake"
     ∷ []
-    ∷ codes "Usage: icserve check <FILE>..."
+    ∷ codes "Usage: icserve check [OPTIONS] <FILE>..."
     ∷ []
     ∷ codes "Arguments:"
     ∷ codes "  <FILE>...  The paths of the texts, one at least; for - standard input is read"
     ∷ []
     ∷ codes "Options:"
-    ∷ codes "  -h, --help  Print help"
+    ∷ (codes "      --format <FORMAT>  Lines (text), or JSON objects, one a line (json)"
+    ++ codes " [default: text]")
+    ∷ codes "  -h, --help             Print help"
     ∷ []
     ∷ codes "Example:"
     ∷ codes "  $ echo '{A><B} <x|A=C>' > net.ic"

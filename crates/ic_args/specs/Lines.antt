@@ -95,12 +95,21 @@ IsReduceOption given words =
 
 -- one of the formats
 abbrev pub IsFormatText : Text → Type 0
-IsFormatText text = (text ≡ codes "tsv") ⊎ (text ≡ codes "svg")
+IsFormatText text = (text ≡ codes "tsv") ⊎ (text ≡ codes "svg") ⊎ (text ≡ codes "json")
 
 -- an option of `trace`: a number of rounds, or a format
 abbrev pub IsTraceOption : Given → Type 0
 IsTraceOption given = IsRoundsOption given
     ⊎ ((given.name ≡ codes "format") × IsFormatText given.value)
+
+-- an option of `check`: a format
+abbrev pub IsCheckOption : Given → Type 0
+IsCheckOption given = (given.name ≡ codes "format")
+    × ((given.value ≡ codes "text") ⊎ (given.value ≡ codes "json"))
+
+-- an option of `inspect`: the disk, or a format
+abbrev pub IsInspectOption : Given → Type 0
+IsInspectOption given = (given.name ≡ codes "disk") ⊎ IsCheckOption given
 
 -- `--overwrite` stands before these words or behind them, or isn't there
 abbrev pub IsOverwriting : Bool → List Text → List Text → Type 0
@@ -121,18 +130,6 @@ pub record IsDumpLine (words : List Text) (path : Text) (names : List Text) : Ty
   pub written : IsWritten (record { name = codes "disk"; value = path }) front
   pub plain : AllByRecursion HasNoHyphen names
   pub few : length names < 2 ^ 64
-
--- `inspect --disk F`
-abbrev pub IsInspectLine : Text → List Text → Type 0
-IsInspectLine disk words = (rest : List Text) × (words ≡ codes "inspect" ∷ rest)
-    × IsWritten (record { name = codes "disk"; value = disk }) rest
-
--- `check`, and behind it the paths of files, one at least, none of which begins with a hyphen
-pub record IsCheckLine (words paths : List Text) : Type 0 where
-  pub begins : words ≡ codes "check" ∷ paths
-  pub one : paths ≢ []
-  pub plain : AllByRecursion HasNoHyphen paths
-  pub few : length paths < 2 ^ 64
 
 -- no option has the name of one behind it
 abbrev pub AreOnce : List Given → Type 0
@@ -162,6 +159,17 @@ pub record IsServeLine (words : List Text) (path threads rounds : Text) : Type 0
   pub workers : HasValue given (codes "workers") (codes "2") threads
   pub every : HasValue given (codes "every") (codes "100") rounds
 
+-- `inspect --disk F`, with `--format text|json` or without, in any order, each once
+pub record IsInspectLine (words : List Text) (path shown : Text) : Type 0 where
+  pub given : List Given
+  pub rest : List Text
+  pub begins : words ≡ codes "inspect" ∷ rest
+  pub written : AreWritten given rest
+  pub options : AllByRecursion IsInspectOption given
+  pub once : AreOnce given
+  pub disk : Gives given (codes "disk") path
+  pub format : HasValue given (codes "format") (codes "text") shown
+
 -- `attend --disk F`, with `--runners R`, `--turns T` and `--workers N` or without, in any order,
 -- each once, and behind them the scripts, none of which begins with a hyphen
 pub record IsAttendLine (words : List Text) (path r t n : Text) (scripts : List Text) : Type 0 where
@@ -177,6 +185,20 @@ pub record IsAttendLine (words : List Text) (path r t n : Text) (scripts : List 
   pub workers : HasValue given (codes "workers") (codes "2") n
   pub plain : AllByRecursion HasNoHyphen scripts
   pub few : length scripts < 2 ^ 64
+
+-- `check`, with `--format text|json` or without, and behind it the paths of files, one at least, none
+-- of which begins with a hyphen
+pub record IsCheckLine (words : List Text) (shown : Text) (paths : List Text) : Type 0 where
+  pub given : List Given
+  pub front : List Text
+  pub begins : words ≡ codes "check" ∷ (front ++ paths)
+  pub written : AreWritten given front
+  pub options : AllByRecursion IsCheckOption given
+  pub once : AreOnce given
+  pub format : HasValue given (codes "format") (codes "text") shown
+  pub one : paths ≢ []
+  pub plain : AllByRecursion HasNoHyphen paths
+  pub few : length paths < 2 ^ 64
 
 -- `batch --disk F`, with `--rounds N`, `--every K` and `--workers W` or without, in any order, each
 -- once, and behind them the path of lines, which begins with no hyphen
@@ -237,7 +259,7 @@ pub record AreOfRounds (given : List Given) (most threads : ℕ) (p : Bool) : Ty
   pub no_stats : HasNone given (codes "stats")
   pub no_limits : HasNone given (codes "limits")
 
--- `trace`, with `--rounds N` and `--format tsv|svg` or without, in any order, each once, and its FILE
+-- `trace`, with `--rounds N` and `--format tsv|svg|json` or without, in any order, each once, and its FILE
 pub record IsTraceLine (words : List Text) (most shown : Text) (file : Option Text) : Type 0 where
   pub given : List Given
   pub front : List Text

@@ -19,8 +19,10 @@ use Rattle.ic_args.specs.declared.words.Task.{Task}
 use Rattle.ic_args.specs.declared.words.Task.TheVariants.{Settle, Once, Create, Serve, Attend}
 use Rattle.ic_args.specs.declared.words.Task.TheVariants.{Reduce, ReduceByRounds, Trace, Draw, Dump, Inspect, Check, Batch}
 use Rattle.ic_args.specs.declared.words.Task.TheVariants.{Help, Version}
+use Rattle.ic_args.specs.declared.words.ReportFormat.{ReportFormat}
+use Rattle.ic_args.specs.declared.words.ReportFormat.TheVariants as check
 use Rattle.ic_args.specs.declared.words.TraceFormat.{TraceFormat}
-use Rattle.ic_args.specs.declared.words.TraceFormat.TheVariants.{Tsv, Svg}
+use Rattle.ic_args.specs.declared.words.TraceFormat.TheVariants.{Tsv, Svg, Json}
 use Rattle.ic_args.specs.declared.words.TextLimits.{TextLimits}
 use Rattle.ic_args.specs.declared.words.TextLimits.TheVariants.{Served, Wide}
 use Rattle.ic_args.specs.Help.{help_by, help_of, named_help, program_help}
@@ -148,7 +150,8 @@ abbrev pub dump_command : App
 dump_command = command_with (codes "dump") (disk_option ∷ name_argument ∷ [])
 
 abbrev pub inspect_command : App
-inspect_command = command_with (codes "inspect") (disk_option ∷ [])
+inspect_command = command_with (codes "inspect")
+    (disk_option ∷ valued_option (codes "format") (codes "text") ∷ [])
 
 -- the arguments `FILE..`, of which there is one at least
 abbrev pub file_argument : Rule
@@ -159,7 +162,8 @@ file_argument = record (new_rule (codes "file")) {
 }
 
 abbrev pub check_command : App
-check_command = command_with (codes "check") (file_argument ∷ [])
+check_command = command_with (codes "check")
+    (valued_option (codes "format") (codes "text") ∷ file_argument ∷ [])
 
 -- the argument `LINES`, which has to be given
 abbrev pub lines_argument : Rule
@@ -232,9 +236,20 @@ file_met met = option_and_then file_named (value_if_met (codes "file") met)
 abbrev pub format_word : TraceFormat → Text
 format_word Tsv = codes "tsv"
 format_word Svg = codes "svg"
+format_word Json = codes "json"
 
 abbrev pub is_format : Text → Bool
-is_format text = bytes_eq text (format_word Tsv) || bytes_eq text (format_word Svg)
+is_format text = bytes_eq text (format_word Tsv)
+    || (bytes_eq text (format_word Svg) || bytes_eq text (format_word Json))
+
+-- the text of a format of `check`
+abbrev pub report_word : ReportFormat → Text
+report_word check.Text = codes "text"
+report_word check.Json = codes "json"
+
+abbrev pub is_report_format : Text → Bool
+is_report_format text =
+    bytes_eq text (report_word check.Text) || bytes_eq text (report_word check.Json)
 
 -- the command of this name is met
 abbrev pub is_met : Text → Option (Text × List Row) → Bool
@@ -243,6 +258,14 @@ is_met name met = option_map_or (λ p. bytes_eq p.0 name) met false
 -- the mistake of a `trace` whose format is none
 abbrev pub format_mistakes : Option (Text × List Row) → Kinds
 format_mistakes met = if is_met (codes "trace") met && not (is_format (value_met (codes "format") met))
+    then InvalidValue ∷ [] else []
+
+-- the mistake of a `check` or an `inspect` whose format is none
+abbrev pub tells_report : Option (Text × List Row) → Bool
+tells_report met = is_met (codes "check") met || is_met (codes "inspect") met
+
+abbrev pub report_mistakes : Option (Text × List Row) → Kinds
+report_mistakes met = if tells_report met && not (is_report_format (value_met (codes "format") met))
     then InvalidValue ∷ [] else []
 
 -- the option has a value
@@ -293,7 +316,8 @@ help_mistakes met = if not (is_met (codes "help") met) then []
 
 -- the mistakes of values that are read one by one, and help that is asked for by a command
 abbrev pub own_mistakes : Option (Text × List Row) → Kinds
-own_mistakes met = or_else (format_mistakes met) (or_else (reduce_mistakes met) (help_mistakes met))
+own_mistakes met = or_else (format_mistakes met) (or_else (report_mistakes met)
+    (or_else (reduce_mistakes met) (help_mistakes met)))
 
 -- the mistakes that words may have: the parser's, and where it finds none those of their values
 abbrev pub mistakes_of : List Text → Kinds
@@ -312,8 +336,8 @@ AnswersWords mistakes (Ok (ReduceByRounds rounds workers partial file)) = mistak
 AnswersWords mistakes (Ok (Trace rounds format file)) = mistakes ≡ []
 AnswersWords mistakes (Ok (Draw file)) = mistakes ≡ []
 AnswersWords mistakes (Ok (Dump disk names)) = mistakes ≡ []
-AnswersWords mistakes (Ok (Inspect disk)) = mistakes ≡ []
-AnswersWords mistakes (Ok (Check files)) = mistakes ≡ []
+AnswersWords mistakes (Ok (Inspect disk format)) = mistakes ≡ []
+AnswersWords mistakes (Ok (Check files format)) = mistakes ≡ []
 AnswersWords mistakes (Ok (Batch disk rounds every workers lines)) = mistakes ≡ []
 AnswersWords mistakes (Ok (Help text)) = IsAmong DisplayHelp mistakes
 AnswersWords mistakes (Ok (Version text)) =
@@ -342,8 +366,8 @@ GivesHelp (Ok (ReduceByRounds rounds workers partial file)) = ⊥
 GivesHelp (Ok (Trace rounds format file)) = ⊥
 GivesHelp (Ok (Draw file)) = ⊥
 GivesHelp (Ok (Dump disk names)) = ⊥
-GivesHelp (Ok (Inspect disk)) = ⊥
-GivesHelp (Ok (Check files)) = ⊥
+GivesHelp (Ok (Inspect disk format)) = ⊥
+GivesHelp (Ok (Check files format)) = ⊥
 GivesHelp (Ok (Batch disk rounds every workers lines)) = ⊥
 GivesHelp (Ok (Version text)) = ⊥
 GivesHelp (Err (Words text)) = ⊥
@@ -362,8 +386,8 @@ GivesVersion (Ok (ReduceByRounds rounds workers partial file)) = ⊥
 GivesVersion (Ok (Trace rounds format file)) = ⊥
 GivesVersion (Ok (Draw file)) = ⊥
 GivesVersion (Ok (Dump disk names)) = ⊥
-GivesVersion (Ok (Inspect disk)) = ⊥
-GivesVersion (Ok (Check files)) = ⊥
+GivesVersion (Ok (Inspect disk format)) = ⊥
+GivesVersion (Ok (Check files format)) = ⊥
 GivesVersion (Ok (Batch disk rounds every workers lines)) = ⊥
 GivesVersion (Ok (Help text)) = ⊥
 GivesVersion (Err (Words text)) = ⊥
@@ -469,10 +493,12 @@ Names words (Draw file) = NamesText (codes "draw") words (option_map string_byte
 Names words (Dump disk names) = BeginsWith (codes "dump") words
     × (string_bytes disk ≡ value_met (codes "disk") (subcommand_of command_line words))
     × (map string_bytes names.items ≡ values_met (codes "name") (subcommand_of command_line words))
-Names words (Inspect disk) = BeginsWith (codes "inspect") words
+Names words (Inspect disk format) = BeginsWith (codes "inspect") words
     × (string_bytes disk ≡ value_met (codes "disk") (subcommand_of command_line words))
-Names words (Check files) = BeginsWith (codes "check") words
+    × (value_met (codes "format") (subcommand_of command_line words) ≡ report_word format)
+Names words (Check files format) = BeginsWith (codes "check") words
     × (map string_bytes files.items ≡ values_met (codes "file") (subcommand_of command_line words))
+    × (value_met (codes "format") (subcommand_of command_line words) ≡ report_word format)
 Names words (Batch disk rounds every workers lines) =
     NamesBatch words (string_bytes disk) rounds every workers (string_bytes lines)
 Names words (Help text) = string_bytes text ≡ help_asked words

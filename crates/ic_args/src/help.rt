@@ -198,7 +198,7 @@ Arguments:
 
 Options:
       --rounds <N>       How many rounds are made at most, from 0 to 4611686018427387904 [default: 1000000]
-      --format <FORMAT>  A table with tabs (tsv) or a picture (svg) [default: tsv]
+      --format <FORMAT>  A table with tabs (tsv), a picture (svg) or JSON objects (json) [default: tsv]
   -h, --help             Print help
 
 Example:
@@ -253,11 +253,12 @@ Example:
 const INSPECT: &str = "\
 Tells what the file F holds, which a server may have open
 
-Usage: icserve inspect --disk <F>
+Usage: icserve inspect [OPTIONS] --disk <F>
 
 Options:
-      --disk <F>  The path of the file, which stays as it is
-  -h, --help      Print help
+      --disk <F>         The path of the file, which stays as it is
+      --format <FORMAT>  Lines (text), or JSON objects, one a line (json) [default: text]
+  -h, --help             Print help
 
 Example:
   $ icserve create --disk jobs.disk
@@ -271,13 +272,14 @@ Example:
 const CHECK: &str = "\
 Prints the faults of texts with their places, and warns of what is mostly a mistake
 
-Usage: icserve check <FILE>...
+Usage: icserve check [OPTIONS] <FILE>...
 
 Arguments:
   <FILE>...  The paths of the texts, one at least; for - standard input is read
 
 Options:
-  -h, --help  Print help
+      --format <FORMAT>  Lines (text), or JSON objects, one a line (json) [default: text]
+  -h, --help             Print help
 
 Example:
   $ echo '{A><B} <x|A=C>' > net.ic

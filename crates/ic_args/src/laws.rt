@@ -8,10 +8,11 @@ ghost use Rattle.clap.specs.declared.error.ErrorKind.{ErrorKind};
 ghost use Rattle.clap.specs.declared.error.ErrorKind.TheVariants.{ArgumentConflict, DisplayHelp, DisplayVersion, InvalidSubcommand, InvalidValue, MissingRequiredArgument};
 ghost use Rattle.ic_args.specs.declared.words.Task.TheVariants.{Settle, Once, Create, Serve, Attend, Reduce, ReduceByRounds};
 ghost use Rattle.ic_args.specs.declared.words.Task.TheVariants.{Trace, Draw, Dump, Inspect, Check, Batch, Help, Version};
+ghost use Rattle.ic_args.specs.declared.words.ReportFormat.{ReportFormat};
 ghost use Rattle.ic_args.specs.declared.words.TraceFormat.{TraceFormat};
 ghost use Rattle.ic_args.specs.declared.words.TextLimits.{TextLimits};
 ghost use Rattle.ic_args.specs.declared.words.WordsFault.TheVariants.{Words, Memory};
-ghost use Rattle.ic_args.specs.Words.{AnswersWords, format_word, limits_word, help_asked, mistakes_of, words_fault_number, IsDecimal, Names};
+ghost use Rattle.ic_args.specs.Words.{AnswersWords, format_word, limits_word, help_asked, mistakes_of, words_fault_number, IsDecimal, Names, report_word};
 ghost use Rattle.ic_args.specs.Help.{help_by, help_of, Says, program_help, help_help, settle_help, once_help, create_help, serve_help, attend_help};
 ghost use Rattle.ic_args.specs.Help.{batch_help, check_help, draw_help, dump_help, inspect_help, reduce_help, trace_help};
 ghost use Rattle.ic_args.specs.Lines.{AreInPlace, AreOfRounds, Given, HasNoHyphen, IsAttendLine, IsBatchLine, IsCheckLine, IsCreateLine, IsDumpLine};
@@ -140,7 +141,7 @@ pub fn each_command_has_its_help()
         ∷ codes "(wide)" ∷ codes "[default: wide]" ∷ []) }
     ensures formats { AllByRecursion (Says trace_help) (codes "icserve trace" ∷ codes "--rounds <N>"
         ∷ codes "from 0 to 4611686018427387904 [default: 1000000]" ∷ codes "--format <FORMAT>"
-        ∷ codes "(tsv)" ∷ codes "(svg)" ∷ codes "[default: tsv]" ∷ []) }
+        ∷ codes "(tsv)" ∷ codes "(svg)" ∷ codes "(json)" ∷ codes "[default: tsv]" ∷ []) }
     ensures disk { AllByRecursion (Says create_help)
         (codes "icserve create" ∷ codes "--disk <F>" ∷ codes "--overwrite" ∷ []) }
     ensures numbers { AllByRecursion (Says serve_help) (codes "icserve serve" ∷ codes "--disk <F>"
@@ -153,13 +154,15 @@ pub fn each_command_has_its_help()
     ensures jobs { AllByRecursion (Says dump_help)
         (codes "icserve dump" ∷ codes "--disk <F>" ∷ codes "[NAME]..." ∷ []) }
     ensures file { AllByRecursion (Says inspect_help)
-        (codes "icserve inspect" ∷ codes "--disk <F>" ∷ []) }
+        (codes "icserve inspect" ∷ codes "--disk <F>" ∷ codes "--format <FORMAT>"
+        ∷ codes "(text)" ∷ codes "(json)" ∷ codes "[default: text]" ∷ []) }
     ensures lines { AllByRecursion (Says batch_help) (codes "icserve batch" ∷ codes "--disk <F>"
         ∷ codes "<LINES>" ∷ codes "--rounds <N>" ∷ codes "from 0 to 4611686018427387904"
         ∷ codes "--every <K>" ∷ codes "from 1 to 1000000 [default: 100]"
         ∷ codes "--workers <N>" ∷ codes "from 1 to 64 [default: 2]" ∷ []) }
     ensures texts { AllByRecursion (Says check_help)
-        (codes "icserve check" ∷ codes "<FILE>..."
+        (codes "icserve check" ∷ codes "<FILE>..." ∷ codes "--format <FORMAT>"
+        ∷ codes "(text)" ∷ codes "(json)" ∷ codes "[default: text]"
         ∷ codes "Prints the faults of texts with their places" ∷ []) }
 {}
 
@@ -272,21 +275,29 @@ pub fn dump_lines_are_taken(disk: &String, jobs: &Vec<String>)
         → (string_bytes disk.now ≡ path) × (map string_bytes jobs.now.items ≡ names) }
 {}
 
-/// A well-formed line of `inspect` is taken, and names the file that it is given.
+/// A well-formed line of `inspect` is taken, in whatever order its options stand, and names the file that it
+/// is given, and the format, or text. Another format is a mistake.
 pub fn inspect_lines_are_taken(disk: &String)
-    ensures taken { (words : List Text) (path : Text) → IsInspectLine path words
+    ensures taken { (words : List Text) (path shown : Text) → IsInspectLine words path shown
         → mistakes_of words ≡ [] }
-    ensures named { (words : List Text) (path : Text) → IsInspectLine path words
-        → Names words (Inspect disk.now) → string_bytes disk.now ≡ path }
+    ensures named { (words : List Text) (path shown : Text) (format : ReportFormat)
+        → IsInspectLine words path shown → Names words (Inspect disk.now format)
+        → (string_bytes disk.now ≡ path) × (report_word format ≡ shown) }
+    ensures other { mistakes_of (codes "inspect" ∷ codes "--disk=F" ∷ codes "--format=tsv" ∷ [])
+        ≡ InvalidValue ∷ [] }
 {}
 
-/// A well-formed line of `check` is taken, and names the files that it is given, in their order. With
-/// no file it is refused.
+/// A well-formed line of `check` is taken, and names the files that it is given, in their order, and the
+/// format, or text. With no file it is refused, and another format is a mistake.
 pub fn check_lines_are_taken(files: &Vec<String>)
-    ensures taken { (words paths : List Text) → IsCheckLine words paths → mistakes_of words ≡ [] }
-    ensures named { (words paths : List Text) → IsCheckLine words paths
-        → Names words (Check files.now) → map string_bytes files.now.items ≡ paths }
+    ensures taken { (words : List Text) (shown : Text) (paths : List Text)
+        → IsCheckLine words shown paths → mistakes_of words ≡ [] }
+    ensures named { (words : List Text) (shown : Text) (paths : List Text) (format : ReportFormat)
+        → IsCheckLine words shown paths → Names words (Check files.now format)
+        → (map string_bytes files.now.items ≡ paths) × (report_word format ≡ shown) }
     ensures none { mistakes_of (codes "check" ∷ []) ≡ MissingRequiredArgument ∷ [] }
+    ensures other { mistakes_of (codes "check" ∷ codes "--format=tsv" ∷ codes "-" ∷ [])
+        ≡ InvalidValue ∷ [] }
 {}
 
 /// A well-formed line of `batch` is taken, in whatever order its options stand, and names the disk's
@@ -344,7 +355,8 @@ pub fn common_lines_are_well_formed()
     ensures dump { (path name : Text) → HasNoHyphen path → HasNoHyphen name
         → IsDumpLine (codes "dump" ∷ codes "--disk" ∷ path ∷ name ∷ []) path (name ∷ []) }
     ensures inspect { (path : Text) → HasNoHyphen path
-        → IsInspectLine path (codes "inspect" ∷ codes "--disk" ∷ path ∷ []) }
+        → IsInspectLine (codes "inspect" ∷ codes "--disk" ∷ path ∷ []) path (codes "text") }
     ensures check { (path other : Text) → HasNoHyphen path → HasNoHyphen other
-        → IsCheckLine (codes "check" ∷ path ∷ other ∷ []) (path ∷ other ∷ []) }
+        → IsCheckLine (codes "check" ∷ codes "--format=json" ∷ path ∷ other ∷ []) (codes "json")
+        (path ∷ other ∷ []) }
 {}

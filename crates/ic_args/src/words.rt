@@ -6,7 +6,7 @@ ghost use Rattle.ic_args.specs.Words.{AnswersWords, GivesHelp, GivesTask, GivesV
 ghost use Rattle.ic_args.specs.Words.{attend_command, batch_command, check_command, command_line, create_command, dump_command, inspect_command};
 ghost use Rattle.ic_args.specs.Words.{program, reduce_command, serve_command, trace_command, with_disks, with_looks, with_streams};
 ghost use Rattle.ic_args.specs.Words.{disk_option, file_argument, flag, name_argument, number_option, valued_option};
-ghost use Rattle.ic_args.specs.Words.{lines_argument, most_rounds, most_steps};
+ghost use Rattle.ic_args.specs.Words.{is_report_format, lines_argument, most_rounds, most_steps, report_word};
 ghost use Rattle.ic_args.specs.Words.{script_argument};
 ghost use Rattle.ic_args.specs.Words.{input_argument, optional_argument, text_command};
 ghost use Rattle.ic_args.specs.Words.{asks_in_place, asks_rounds, is_limits, limits_met, limits_word, text_option, is_flag_met, is_given, mistakes_of, reduce_faults, value_met, values_met};
@@ -166,11 +166,15 @@ pub enum Task {
     Inspect {
         /// The path of the file.
         disk: String,
+        /// How it is told.
+        format: ReportFormat,
     },
     /// Tell the faults of texts, and what in them is mostly a mistake.
     Check {
         /// The paths of the texts, one at least.
         files: Vec<String>,
+        /// How it is told.
+        format: ReportFormat,
     },
     /// Bring the jobs of a file of lines to their ends.
     Batch {
@@ -207,6 +211,17 @@ pub enum TraceFormat {
     Tsv,
     /// As a picture.
     Svg,
+    /// As objects of JSON, one a line.
+    Json,
+}
+
+/// How it is told what is found.
+#[derive(Clone, Copy, Debug)]
+pub enum ReportFormat {
+    /// As lines.
+    Text,
+    /// As objects of JSON, one a line.
+    Json,
 }
 
 /// Why the words ask for nothing, each with its lasting number.
@@ -513,8 +528,13 @@ fn trace_task(alloc: Global, matches: &ArgMatches) -> Result<Task, WordsFault>
             format: TraceFormat::Svg,
             file,
         }),
+        "json" => Ok(Task::Trace {
+            rounds,
+            format: TraceFormat::Json,
+            file,
+        }),
         other => Err(WordsFault::Words(format!(in alloc;
-            "error: invalid value '{other}' for '--format <FORMAT>'\n  [possible values: tsv, svg]\n\n\
+            "error: invalid value '{other}' for '--format <FORMAT>'\n  [possible values: tsv, svg, json]\n\n\
              For more information, try '--help'.\n"
         )?)),
     }
@@ -530,22 +550,51 @@ fn dump_task(alloc: Global, matches: &ArgMatches) -> Result<Task, WordsFault>
     Ok(Task::Dump { disk, names })
 }
 
-/// The task of `inspect`.
+/// The task of `inspect`. A format that there isn't is refused as the parser refuses such a value.
 fn inspect_task(alloc: Global, matches: &ArgMatches) -> Result<Task, WordsFault>
     requires { IsMet (codes "inspect") (subcommand_rows_of matches.now) }
     ensures { Asks (subcommand_rows_of matches.now) result }
 {
     let disk = String::from_str(alloc, value_of(matches, "disk"))?;
-    Ok(Task::Inspect { disk })
+    match report_format(matches) {
+        Some(format) => Ok(Task::Inspect { disk, format }),
+        None => Err(WordsFault::Words(no_report_format(alloc, matches)?)),
+    }
 }
 
-/// The task of `check`.
+/// The task of `check`. A format that there isn't is refused as the parser refuses such a value.
 fn check_task(alloc: Global, matches: &ArgMatches) -> Result<Task, WordsFault>
     requires { IsMet (codes "check") (subcommand_rows_of matches.now) }
     ensures { Asks (subcommand_rows_of matches.now) result }
 {
     let files = values_of(alloc, matches, "file")?;
-    Ok(Task::Check { files })
+    match report_format(matches) {
+        Some(format) => Ok(Task::Check { files, format }),
+        None => Err(WordsFault::Words(no_report_format(alloc, matches)?)),
+    }
+}
+
+/// The format in which it is to be told what is found, if there is such a one.
+fn report_format(matches: &ArgMatches) -> Option<ReportFormat>
+    ensures format { IfSome result (λ format.
+        value_met (codes "format") (subcommand_rows_of matches.now) ≡ report_word format) }
+    ensures none { IfNone result
+        (is_report_format (value_met (codes "format") (subcommand_rows_of matches.now)) ≡ false) }
+{
+    match value_of(matches, "format") {
+        "text" => Some(ReportFormat::Text),
+        "json" => Some(ReportFormat::Json),
+        _ => None,
+    }
+}
+
+/// What is said where there is no such format.
+fn no_report_format(alloc: Global, matches: &ArgMatches) -> Result<String, AllocError> {
+    let other = value_of(matches, "format");
+    format!(in alloc;
+        "error: invalid value '{other}' for '--format <FORMAT>'\n  [possible values: text, json]\n\n\
+         For more information, try '--help'.\n"
+    )
 }
 
 /// The task of `batch`.
@@ -949,14 +998,17 @@ fn dump_command<'a>(alloc: Global) -> Result<Command<'a>, AllocError>
 fn inspect_command<'a>(alloc: Global) -> Result<Command<'a>, AllocError>
     ensures { IfOk result (IsMade inspect_command) }
 {
-    with_arg(Ok(Command::new(alloc, "inspect")), disk_option(alloc))
+    let command = with_arg(Ok(Command::new(alloc, "inspect")), disk_option(alloc));
+    with_arg(command, valued_option(alloc, "format", "FORMAT", "text"))
 }
 
 /// The command that tells the faults of texts.
 fn check_command<'a>(alloc: Global) -> Result<Command<'a>, AllocError>
     ensures { IfOk result (IsMade check_command) }
 {
-    with_arg(Ok(Command::new(alloc, "check")), file_argument(alloc))
+    let format = valued_option(alloc, "format", "FORMAT", "text");
+    let command = with_arg(Ok(Command::new(alloc, "check")), format);
+    with_arg(command, file_argument(alloc))
 }
 
 /// The command that brings jobs to their ends.

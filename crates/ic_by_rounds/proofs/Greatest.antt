@@ -3,7 +3,7 @@ use Rattle.std.proofs.Common.{◌≡◌, ◌≤◌, ◌<◌, ◌⊎◌, inl, inr
 use Rattle.std.specs.List.{AllByRecursion, list_any}
 use Rattle.std.proofs.lemmas.Bool.{cases_lt}
 use Rattle.std.proofs.lemmas.Grind.{common_steps}
-use Rattle.ic_by_rounds.specs.Pictures.{greatest}
+use Rattle.ic_by_rounds.specs.Pictures.{greatest, most_nodes}
 use Rattle.ic_by_rounds.specs.declared.row.Row.{Row}
 
 all_below : (number : Row → ℕ) (low high : ℕ) (rows : List Row) → low ≤ high → AllByRecursion (λ row. number row ≤ low) rows → AllByRecursion (λ row. number row ≤ high) rows
@@ -42,3 +42,16 @@ reached number row (next ∷ rows) = by (cases_lt (number row) (greatest number 
     by (inr high) rest =
         let same : greatest number (row ∷ next ∷ rows) ≡ number row = omega arith in
         or_left _ _ (ap (λ n. number row == n) same ∙ itself (number row))
+
+pub no_more_nodes : (before : ℕ) (rows : List Row) → (before ≤ most_nodes before rows) × AllByRecursion (λ row. row.nodes ≤ most_nodes before rows) rows
+no_more_nodes before rows = (
+  omega arith,
+  all_below (λ row. row.nodes) (greatest (λ row. row.nodes) rows) (most_nodes before rows) rows (omega arith) (none_greater (λ row. row.nodes) rows),
+)
+
+pub of_one : (m n : ℕ) → (max m n ≡ m) ⊎ (max m n ≡ n)
+of_one m n = by (cases_lt m n)
+  where
+    by : (m < n) ⊎ (n ≤ m) → (max m n ≡ m) ⊎ (max m n ≡ n)
+    by (inl low) = inr (omega arith)
+    by (inr high) = inl (omega arith)

@@ -121,7 +121,10 @@ module _ (one : (text : List ℕ) (a b : Result SystemParts TextFault) → Reads
       let both = rounds_once most text x.system y.system x.are.rounds y.are.rounds e f x.reads y.reads x.are.ends y.are.ends in
       let rows : rows_of x.system.rules.rules x.system.config x.are.rounds ≡ rows_of y.system.rules.rules y.system.config y.are.rounds =
       λ i. rows_of (same i).rules.rules (same i).config (both.0 i) in
-      (x.shows ∙ ap (shown_as format) (x.are.each ∙ rows ∙ sym y.are.each) ∙ sym y.shows, both.1)
+      let all : x.rows ≡ y.rows = x.are.each ∙ rows ∙ sym y.are.each in
+      let shown : shown_as format (configuration_nodes x.system.config) x.rows ≡ shown_as format (configuration_nodes y.system.config) y.rows =
+      λ i. shown_as format (configuration_nodes (same i).config) (all i) in
+      (x.shows ∙ shown ∙ sym y.shows, both.1)
 
   pub one_refusal : (most : ℕ) (partial also : Bool) (text : List ℕ) (x : Refusal) (r : Reduction) → EndsAs most partial text (Refused x) → EndsAs most also text r → r ≡ Refused x
   one_refusal most partial also text x r is next =
@@ -142,7 +145,7 @@ refused_tracing : (most : ℕ) (format : Format) (partial : Bool) (text : List �
 refused_tracing most format partial text x reduced =
     let it = reduced.1 in
     let rows = rows_of it.system.rules.rules it.system.config it.rounds in
-    (shown_as format rows, record { system = it.system; rows = rows; reads = it.reads; are = record { rounds = it.rounds; ends = it.told; each = refl }; shows = refl })
+    (shown_as format (configuration_nodes it.system.config) rows, record { system = it.system; rows = rows; reads = it.reads; are = record { rounds = it.rounds; ends = it.told; each = refl }; shows = refl })
 
 pub refused_alike : (most : ℕ) (format : Format) (partial : Bool) (text : List ℕ) (x : Refusal) → TracedAs most format text (ended.Refused x) ↔ EndsAs most partial text (Refused x)
 refused_alike most format partial text x = (refused_reducing most format partial text x, refused_tracing most format partial text x)

@@ -3,6 +3,7 @@ pub mod Stuck
 pub mod Reductions
 pub mod Tracing
 pub mod Tables
+pub mod Objects
 pub mod Pictures
 pub mod Traces
 pub mod Interacting

@@ -4,10 +4,11 @@ use Rattle.std.specs.Prelude.{if◌then◌else◌}
 use Rattle.std.specs.List.{concat, flat_map}
 use Rattle.std.specs.Fmt.{decimal}
 use Rattle.ic_by_rounds.specs.Tables.{table_of}
+use Rattle.ic_by_rounds.specs.Objects.{objects_of}
 use Rattle.ic_by_rounds.specs.declared.row.Row.{Row}
 use Rattle.ic_by_rounds.specs.declared.sums.Sums.{Sums}
 use Rattle.ic_by_rounds.specs.declared.sums.Format.{Format}
-use Rattle.ic_by_rounds.specs.declared.sums.Format.TheVariants.{Table, Picture}
+use Rattle.ic_by_rounds.specs.declared.sums.Format.TheVariants.{Table, Picture, Objects}
 
 -- a number of 64 bits, which stands for all above
 abbrev pub MOST : ℕ
@@ -25,19 +26,23 @@ interactions_in rows = min (sum_by (λ row. row.pairs) rows) MOST
 abbrev pub tenths_in : List Row → ℕ
 tenths_in rows = min (interactions_in rows * 10) MOST / max (length rows) 1
 
--- what the rows say all together, and what the picture's width and the greatest heights of bars and
--- line stand for, which isn't 0
-abbrev pub sums_of : List Row → Sums
-sums_of rows = record {
+-- how many nodes there are at most, before the first round and after each
+abbrev pub most_nodes : (before : ℕ) → List Row → ℕ
+most_nodes before rows = max before (greatest (λ row. row.nodes) rows)
+
+-- what is said all together by rows, before which there are so many nodes; and what the picture's
+-- width and the greatest heights of bars and line stand for, which isn't 0
+abbrev pub sums_of : (before : ℕ) → List Row → Sums
+sums_of before rows = record {
   rounds = length rows;
   interactions = interactions_in rows;
   greatest = greatest (λ row. row.pairs) rows;
-  nodes = greatest (λ row. row.nodes) rows;
+  nodes = most_nodes before rows;
   whole = tenths_in rows / 10;
   tenth = tenths_in rows % 10;
   width = max (length rows) 1;
   bars = max (greatest (λ row. row.pairs) rows) 1;
-  line = max (greatest (λ row. row.nodes) rows) 1;
+  line = max (most_nodes before rows) 1;
 }
 
 -- the end of a line
@@ -84,17 +89,25 @@ middle = concat (codes "</g></svg>" ∷ feed
     ∷ codes "<g transform='matrix(0.1 0 0 -0.1 80 400)'>" ∷ feed
     ∷ codes "<polyline fill='none' stroke='black' stroke-width='20' points='" ∷ feed ∷ [])
 
--- how far to the right the middle of a round's bar is; all bars are 6400 wide
-abbrev pub across : Sums → Row → ℕ
-across s row = (row.round * 2 - 1) * 3200 / s.width
+-- how far to the right the end of a round's bar is; all bars are 6400 wide
+abbrev pub across : Sums → (round : ℕ) → ℕ
+across s round = round * 6400 / s.width
 
--- how far above the axis the nodes after a round are; the most nodes are 3500 high
-abbrev pub up : Sums → Row → ℕ
-up s row = row.nodes * 3500 / s.line
+-- how far above the axis so many nodes are; the most nodes are 3500 high
+abbrev pub up : Sums → (nodes : ℕ) → ℕ
+up s nodes = nodes * 3500 / s.line
 
 -- a point of the line: the nodes after a round
+abbrev pub point_at : Sums → (round nodes : ℕ) → List ℕ
+point_at s round nodes =
+    concat (decimal (across s round) ∷ codes "," ∷ decimal (up s nodes) ∷ feed ∷ [])
+
 abbrev pub point_of : Sums → Row → List ℕ
-point_of s row = concat (decimal (across s row) ∷ codes "," ∷ decimal (up s row) ∷ feed ∷ [])
+point_of s row = point_at s row.round row.nodes
+
+-- the line through the nodes before the first round and after each
+abbrev pub points_of : Sums → (before : ℕ) → List Row → List ℕ
+points_of s before rows = point_at s 0 before ++ flat_map (point_of s) rows
 
 -- after the line: the axes and their numbers
 abbrev pub bottom_of : Sums → List ℕ
@@ -106,17 +119,18 @@ bottom_of s = concat (codes "'/></g>" ∷ feed
     ∷ codes "<text x='74' y='404' text-anchor='end'>0</text>" ∷ feed
     ∷ codes "<text x='726' y='56'>" ∷ decimal s.nodes ∷ codes "</text>" ∷ feed
     ∷ codes "<text x='726' y='404'>0</text>" ∷ feed
-    ∷ codes "<text x='80' y='420'>1</text>" ∷ feed
-    ∷ codes "<text x='400' y='440' text-anchor='middle'>round</text>" ∷ feed
+    ∷ codes "<text x='80' y='420'>0</text>" ∷ feed
+    ∷ codes "<text x='400' y='440' text-anchor='middle'>rounds</text>" ∷ feed
     ∷ codes "<text x='720' y='420' text-anchor='end'>" ∷ decimal s.rounds ∷ codes "</text>" ∷ feed
     ∷ codes "</svg>" ∷ feed ∷ [])
 
--- the picture of rows: a bar for each, and a line through the nodes after each
-abbrev pub picture_of : List Row → List ℕ
-picture_of rows = concat (title_of (sums_of rows) ∷ top_of (sums_of rows) ∷ flat_map bar_of rows
-    ∷ middle ∷ flat_map (point_of (sums_of rows)) rows ∷ bottom_of (sums_of rows) ∷ [])
+-- the picture of rows, before which there are so many nodes: a bar for each row, and a line
+abbrev pub picture_of : (before : ℕ) → List Row → List ℕ
+picture_of before rows = let s = sums_of before rows in concat (title_of s ∷ top_of s
+    ∷ flat_map bar_of rows ∷ middle ∷ points_of s before rows ∷ bottom_of s ∷ [])
 
 -- rows in a format
-abbrev pub shown_as : Format → List Row → List ℕ
-shown_as Table rows = table_of rows
-shown_as Picture rows = picture_of rows
+abbrev pub shown_as : Format → (before : ℕ) → List Row → List ℕ
+shown_as Table before rows = table_of rows
+shown_as Picture before rows = picture_of before rows
+shown_as Objects before rows = objects_of rows

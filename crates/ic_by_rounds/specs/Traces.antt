@@ -1,5 +1,6 @@
 -- What a text of a system is answered when it is traced (this project's choice).
 use Rattle.std.specs.Prelude.{◌≡◌, ◌≢◌, ℕ, List, Ok, Err}
+use Rattle.ic_term.specs.Configuration.{configuration_nodes}
 use Rattle.ic_rules.specs.System.{SystemParts}
 use Rattle.ic_text.specs.SystemText.{ReadsSystem}
 use Rattle.ic_text.specs.declared.fault.TextFault.TheVariants as text
@@ -19,7 +20,7 @@ pub record TracesTo (most : ℕ) (format : Format) (input output : List ℕ)
   pub rows : List Row
   pub reads : ReadsSystem input (Ok system)
   pub are : AreRows system.rules.rules system.config most rows ended
-  pub shows : output ≡ shown_as format rows
+  pub shows : output ≡ shown_as format (configuration_nodes system.config) rows
 
 -- how the rounds of a text whose trace is shown ended
 abbrev pub TracedAs : ℕ → Format → List ℕ → Ended → Type 0

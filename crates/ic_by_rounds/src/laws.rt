@@ -11,7 +11,7 @@ ghost use Rattle.ic_round.specs.Rounds.{IsQuiet, iterate};
 ghost use Rattle.ic_round.specs.Steps.{Steps};
 ghost use Rattle.ic_round.specs.declared.round_fault.RoundFault.{RoundFault};
 ghost use Rattle.ic_by_rounds.specs.Interacting.{interactions_of};
-ghost use Rattle.ic_by_rounds.specs.Pictures.{greatest};
+ghost use Rattle.ic_by_rounds.specs.Pictures.{greatest, most_nodes};
 ghost use Rattle.ic_by_rounds.specs.Reductions.{EndsAs, Reduces};
 ghost use Rattle.ic_by_rounds.specs.Reducing.{IsReducedBy, IsRefusedAfter};
 ghost use Rattle.ic_by_rounds.specs.Stuck.{is_of_agents, stuck_text};
@@ -98,12 +98,17 @@ pub fn rows_count_interactions()
         → active_count rs c ≡ length (active rs c) }
 {}
 
-/// The greatest number of rows is the number of one of them, and none of them has a greater one.
+/// The greatest number of rows is the number of one of them, and none of them has a greater one. The most nodes of a
+/// picture are those before the first round, or the most after one, and there are never more.
 pub fn the_greatest_is_of_a_row()
     ensures none_greater { (number : Row → ℕ) (rows : List Row)
         → AllByRecursion (λ row. number row ≤ greatest number rows) rows }
     ensures reached { (number : Row → ℕ) (row : Row) (rows : List Row)
         → IsTrue (list_any (λ it. number it == greatest number (row ∷ rows)) (row ∷ rows)) }
+    ensures no_more_nodes { (before : ℕ) (rows : List Row) → (before ≤ most_nodes before rows)
+        × AllByRecursion (λ row. row.nodes ≤ most_nodes before rows) rows }
+    ensures nodes { (before : ℕ) (rows : List Row) → (most_nodes before rows ≡ before)
+        ⊎ (most_nodes before rows ≡ greatest (λ row. row.nodes) rows) }
 {}
 
 /// Each text has one answer at most: what is printed, or one refusal and nothing that is printed. A

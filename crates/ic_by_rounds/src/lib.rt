@@ -2,12 +2,13 @@
 //!
 //! `reduce` makes rounds of a configuration until no step is possible, and `reduce_stream` does so of the system that a
 //! reader gives; a `Maker` makes the rounds, by one thread or by several. `trace` tells of each round how many
-//! equations it fires and what there is after it, and `trace_stream` writes that as a table or a picture.
+//! equations it fires and what there is after it, and `trace_stream` writes that as a table, a picture or objects of JSON.
 #![tactic(auto)]
 
 mod ended;
 pub mod laws;
 mod making;
+mod objects;
 mod picture;
 mod reducing;
 mod reduction;

@@ -2,24 +2,24 @@
 
 ghost use Rattle.std.specs.Prelude.{◌≡◌, ◌≤◌, ◌++◌, IfOk, OnOk};
 ghost use Rattle.std.specs.List.{flat_map};
-ghost use Rattle.ic_by_rounds.specs.Pictures.{bar_of, bottom_of, middle, picture_of, point_of, title_of, top_of};
+ghost use Rattle.ic_by_rounds.specs.Pictures.{bar_of, bottom_of, middle, picture_of, point_at, points_of, title_of, top_of};
 ghost use Rattle.ic_by_rounds.specs.Pictures.{averages_of, counted, head};
 
 use crate::row::Row;
 use crate::sums::{Sums, sums_of};
 use std::alloc::{AllocError, Global};
 
-/// The picture of these rows.
-pub(crate) fn picture(alloc: Global, rows: &[Row]) -> Result<Vec<u8>, AllocError>
-    ensures { IfOk result (λ picture. picture.items ≡ picture_of rows.now) }
+/// The picture of these rows, where there are so many nodes before the first round.
+pub(crate) fn picture(alloc: Global, before: u64, rows: &[Row]) -> Result<Vec<u8>, AllocError>
+    ensures { IfOk result (λ picture. picture.items ≡ picture_of before rows.now) }
 {
-    let sums = sums_of(rows);
+    let sums = sums_of(before, rows);
     let mut picture = Vec::new(alloc);
     put_title(alloc, &sums, &mut picture)?;
     put_top(alloc, &sums, &mut picture)?;
     put_bars(alloc, rows, &mut picture)?;
     put_middle(alloc, &mut picture)?;
-    put_points(alloc, &sums, rows, &mut picture)?;
+    put_points(alloc, &sums, before, rows, &mut picture)?;
     put_bottom(alloc, &sums, &mut picture)?;
     Ok(picture)
 }
@@ -139,30 +139,37 @@ fn put_middle(alloc: Global, picture: &mut Vec<u8>) -> Result<(), AllocError>
 fn put_points(
     alloc: Global,
     sums: &Sums,
+    before: u64,
     rows: &[Row],
     picture: &mut Vec<u8>,
 ) -> Result<(), AllocError>
     requires width { 1 ≤ sums.now.width }
     requires line { 1 ≤ sums.now.line }
     ensures { OnOk result
-        (picture.new.items ≡ picture.old.items ++ flat_map (point_of sums.now) rows.now) }
+        (picture.new.items ≡ picture.old.items ++ points_of sums.now before rows.now) }
 {
+    put_point(alloc, sums, 0, before, picture)?;
     for row in rows {
-        put_point(alloc, sums, row, picture)?;
+        put_point(alloc, sums, row.round, row.nodes, picture)?;
     }
     Ok(())
 }
 
-/// Appends the point of a round.
-fn put_point(alloc: Global, sums: &Sums, row: &Row, picture: &mut Vec<u8>) -> Result<(), AllocError>
+/// Appends the point of so many nodes after a round.
+fn put_point(
+    alloc: Global,
+    sums: &Sums,
+    round: u64,
+    nodes: u64,
+    picture: &mut Vec<u8>,
+) -> Result<(), AllocError>
     requires width { 1 ≤ sums.now.width }
     requires line { 1 ≤ sums.now.line }
     ensures { OnOk result
-        (picture.new.items ≡ picture.old.items ++ point_of sums.now row.now) }
+        (picture.new.items ≡ picture.old.items ++ point_at sums.now round nodes) }
 {
-    let middle = (u128::from(row.round) * 2).saturating_sub(1);
-    let across = middle * 3200 / u128::from(sums.width);
-    let up = u128::from(row.nodes) * 3500 / u128::from(sums.line);
+    let across = u128::from(round) * 6400 / u128::from(sums.width);
+    let up = u128::from(nodes) * 3500 / u128::from(sums.line);
     let text = format!(in alloc; "{across},{up}\n")?;
     picture.extend_from_slice(text.as_bytes())?;
     Ok(())
@@ -187,8 +194,8 @@ fn put_bottom(alloc: Global, sums: &Sums, picture: &mut Vec<u8>) -> Result<(), A
          <text x='74' y='404' text-anchor='end'>0</text>\n\
          <text x='726' y='56'>{nodes}</text>\n\
          <text x='726' y='404'>0</text>\n\
-         <text x='80' y='420'>1</text>\n\
-         <text x='400' y='440' text-anchor='middle'>round</text>\n\
+         <text x='80' y='420'>0</text>\n\
+         <text x='400' y='440' text-anchor='middle'>rounds</text>\n\
          <text x='720' y='420' text-anchor='end'>{rounds}</text>\n\
          </svg>\n"
     )?;

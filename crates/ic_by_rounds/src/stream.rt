@@ -14,6 +14,7 @@ ghost use Rattle.ic_diagnostics.specs.Telling.{Appended, AppendedAt};
 
 use crate::ended::Ended;
 use crate::making::Maker;
+use crate::objects::objects;
 use crate::picture::picture;
 use crate::reducing::{Reduced, reduce};
 use crate::reduction::Reduction;
@@ -69,7 +70,7 @@ pub fn reduce_stream<M: Maker, R: Read, W: Write>(
 }
 
 /// Makes rounds of the system that the reader gives until no step is possible, but at most so many,
-/// and writes what each of them does as a table or a picture.
+/// and writes what each of them does as a table, a picture or objects of JSON.
 ///
 /// Where a round is refused, the rounds before it are written all the same, and it is answered which one is. Nothing is
 /// written before the text is read and the rounds are made. The reader is read, and a refused text is told of, as by
@@ -126,18 +127,20 @@ fn shown_trace(
     };
     let (rules, config) = system.into_parts();
     let rules = FlatRules::new(alloc, rules)?;
+    let before = config.nodes();
     let (rows, ended) = trace(alloc, &rules, config, rounds)?;
-    let shown = shown_as(alloc, format, &rows)?;
+    let shown = shown_as(alloc, format, before, &rows)?;
     Ok((shown, ended))
 }
 
-/// Rows in a format.
-fn shown_as(alloc: Global, format: Format, rows: &[Row]) -> Result<Vec<u8>, AllocError>
-    ensures { IfOk result (λ shown. shown.items ≡ shown_as format rows.now) }
+/// Rows in a format, where there are so many nodes before the first round.
+fn shown_as(alloc: Global, format: Format, before: u64, rows: &[Row]) -> Result<Vec<u8>, AllocError>
+    ensures { IfOk result (λ shown. shown.items ≡ shown_as format before rows.now) }
 {
     match format {
         Format::Table => table(alloc, rows),
-        Format::Picture => picture(alloc, rows),
+        Format::Picture => picture(alloc, before, rows),
+        Format::Objects => objects(alloc, rows),
     }
 }
 

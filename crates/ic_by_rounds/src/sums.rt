@@ -10,8 +10,11 @@ use crate::row::Row;
 pub enum Format {
     /// A line for each round, with tabs between its numbers, after a line that names them.
     Table,
-    /// A picture in SVG: the equations that each round fires as a bar, and the nodes after it as a line.
+    /// A picture in SVG: the equations that each round fires as a bar, and the nodes before the first round and after each
+    /// as a line.
     Picture,
+    /// A line for each round: an object of JSON with its numbers.
+    Objects,
 }
 
 /// What rows say all together. A number above 2^64 - 1 is told as 2^64 - 1.
@@ -22,7 +25,7 @@ pub(crate) struct Sums {
     pub interactions: u64,
     /// How many equations one round fires at most.
     pub greatest: u64,
-    /// How many nodes there are at most after a round.
+    /// How many nodes there are at most, before the first round and after each.
     pub nodes: u64,
     /// How many equations a round fires on average, and the tenths of it.
     pub whole: u64,
@@ -33,9 +36,9 @@ pub(crate) struct Sums {
     pub line: u64,
 }
 
-/// What rows say all together.
-pub(crate) fn sums_of(rows: &[Row]) -> Sums
-    ensures value { result ≡ sums_of rows.now }
+/// What rows say all together, where there are so many nodes before the first round.
+pub(crate) fn sums_of(before: u64, rows: &[Row]) -> Sums
+    ensures value { result ≡ sums_of before rows.now }
     ensures width { 1 ≤ result.width }
     ensures line { 1 ≤ result.line }
 {
@@ -44,7 +47,7 @@ pub(crate) fn sums_of(rows: &[Row]) -> Sums
     let interactions = interactions(rows);
     let tenths = interactions.saturating_mul(10) / width;
     let greatest = greatest_pairs(rows);
-    let nodes = greatest_nodes(rows);
+    let nodes = before.max(greatest_nodes(rows));
     Sums {
         rounds,
         interactions,

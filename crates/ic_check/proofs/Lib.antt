@@ -28,3 +28,4 @@ pub mod Looks
 pub mod OneLine
 pub mod ToldLines
 pub mod CommandWords
+pub mod ObjectLemmas

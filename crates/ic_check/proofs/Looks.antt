@@ -6,10 +6,9 @@ use Rattle.std.specs.Io.KnownBytes.{Appends, Keeps}
 use Rattle.std.proofs.lemmas.List.{map-append, take-map, take_more, take_all}
 use Rattle.std.proofs.lemmas.List.Concat.{flat_map-append}
 use Rattle.std.proofs.lemmas.List.Folds.{list_any-append}
-use Rattle.ic_causes.specs.Causes.{shown_path}
-use Rattle.ic_check.specs.Checking.{Tells}
 use Rattle.ic_check.specs.Content.{Content, text, unread}
-use Rattle.ic_check.specs.Files.{AreLooks, Look, told, refused, LooksOver, LooksOverFront, LooksOverPart, is_faulty, is_refused, lines_of, reasons_of, verdict_of}
+use Rattle.ic_check.specs.Files.{AreLooks, Look, told, refused, LooksOver, LooksOverFront, LooksOverPart, TellsAs, is_faulty, is_refused, lines_of, reasons_of, verdict_of}
+use Rattle.ic_check.specs.declared.files.Layout.{Layout}
 use Rattle.ic_check.specs.declared.files.Verdict.{Verdict}
 use Rattle.ic_check.specs.declared.files.Verdict.TheVariants.{Fine, Faulty, Unread}
 use Rattle.ic_check.specs.inner.Verdicts.{WritesPart, verdict_by, worse}
@@ -30,12 +29,12 @@ appends_more (Some xs) None new a b p q = absurd p
 appends_more (Some xs) (Some ys) None a b p q = absurd q
 appends_more (Some xs) (Some ys) (Some zs) a b p q = q ∙ ap (λ c. c ++ b) p ∙ append_assoc xs a b
 
-looks_join : (Gives : List ℕ → Content → Type 0) (ps : List (List ℕ)) (ls : List Look) (qs : List (List ℕ)) (ms : List Look)
-    → AreLooks Gives ps ls → AreLooks Gives qs ms → AreLooks Gives (ps ++ qs) (ls ++ ms)
-looks_join Gives [] [] qs ms one two = two
-looks_join Gives [] (l ∷ ls) qs ms one two = absurd one
-looks_join Gives (p ∷ ps) [] qs ms one two = absurd one
-looks_join Gives (p ∷ ps) (l ∷ ls) qs ms one two = (one.0, looks_join Gives ps ls qs ms one.1 two)
+looks_join : (layout : Layout) (Gives : List ℕ → Content → Type 0) (ps : List (List ℕ)) (ls : List Look) (qs : List (List ℕ)) (ms : List Look)
+    → AreLooks layout Gives ps ls → AreLooks layout Gives qs ms → AreLooks layout Gives (ps ++ qs) (ls ++ ms)
+looks_join layout Gives [] [] qs ms one two = two
+looks_join layout Gives [] (l ∷ ls) qs ms one two = absurd one
+looks_join layout Gives (p ∷ ps) [] qs ms one two = absurd one
+looks_join layout Gives (p ∷ ps) (l ∷ ls) qs ms one two = (one.0, looks_join layout Gives ps ls qs ms one.1 two)
 
 -- what is found, by whether one isn't looked over and whether one has a fault
 abbrev found_by : (is_unread has_fault : Bool) → Verdict
@@ -58,10 +57,10 @@ one_text : (lines : List ℕ) (faulty : Bool) → verdict_by faulty ≡ verdict_
 one_text lines true = refl
 one_text lines false = refl
 
-module _ (Gives : List ℕ → Content → Type 0) where
+module _ (layout : Layout) (Gives : List ℕ → Content → Type 0) where
   -- one file of which a text is given, and one of which none is
   pub over_told : (path bytes lines : List ℕ) (faulty : Bool) (old new : Option (List ℕ)) (a : List ℕ)
-      → Gives path (text bytes) → Tells (shown_path path) bytes lines faulty → Appends old new lines → LooksOver Gives (path ∷ []) old new a a (verdict_by faulty)
+      → Gives path (text bytes) → TellsAs layout path bytes lines faulty → Appends old new lines → LooksOver layout Gives (path ∷ []) old new a a (verdict_by faulty)
   over_told path bytes lines faulty old new a given tells written = record {
     looks = told lines faulty ∷ [];
     each = ((bytes, given, tells), tt);
@@ -71,7 +70,7 @@ module _ (Gives : List ℕ → Content → Type 0) where
   }
 
   pub over_refused : (path why : List ℕ) (c : Option (List ℕ)) (a b : List ℕ)
-      → Gives path (unread why) → b ≡ a ++ why → LooksOver Gives (path ∷ []) c c a b Unread
+      → Gives path (unread why) → b ≡ a ++ why → LooksOver layout Gives (path ∷ []) c c a b Unread
   over_refused path why c a b given put = record {
     looks = refused why ∷ [];
     each = (given, tt);
@@ -80,14 +79,14 @@ module _ (Gives : List ℕ → Content → Type 0) where
     found = refl;
   }
 
-  pub over_none : (c : Option (List ℕ)) (a : List ℕ) → LooksOver Gives [] c c a a Fine
+  pub over_none : (c : Option (List ℕ)) (a : List ℕ) → LooksOver layout Gives [] c c a a Fine
   over_none c a = record { looks = []; each = tt; written = appends_none c; beside = sym (append-nil a); found = refl }
 
   over_join : (ps qs : List (List ℕ)) (old mid new : Option (List ℕ)) (a b c : List ℕ) (v w : Verdict)
-      → LooksOver Gives ps old mid a b v → LooksOver Gives qs mid new b c w → LooksOver Gives (ps ++ qs) old new a c (worse v w)
+      → LooksOver layout Gives ps old mid a b v → LooksOver layout Gives qs mid new b c w → LooksOver layout Gives (ps ++ qs) old new a c (worse v w)
   over_join ps qs old mid new a b c v w one two = record {
     looks = one.looks ++ two.looks;
-    each = looks_join Gives ps one.looks qs two.looks one.each two.each;
+    each = looks_join layout Gives ps one.looks qs two.looks one.each two.each;
     written = subst (Appends old new) (sym (flat_map-append lines_of one.looks two.looks))
         (appends_more old mid new (flat_map lines_of one.looks) (flat_map lines_of two.looks) one.written two.written);
     beside = two.beside ∙ ap (λ (l : List ℕ). l ++ flat_map reasons_of two.looks) one.beside
@@ -98,33 +97,33 @@ module _ (Gives : List ℕ → Content → Type 0) where
 
   -- one file more
   pub over_more : {X : Type 0} (f : X → List ℕ) (xs : List X) (i : ℕ) (x : X) (old mid new : Option (List ℕ)) (a b c : List ℕ) (v w : Verdict) → i < length xs → x ≡ get_or xs i x
-      → LooksOver Gives (map f (take i xs)) old mid a b v → LooksOver Gives (f x ∷ []) mid new b c w
-      → LooksOver Gives (map f (take (i + 1) xs)) old new a c (worse v w)
+      → LooksOver layout Gives (map f (take i xs)) old mid a b v → LooksOver layout Gives (f x ∷ []) mid new b c w
+      → LooksOver layout Gives (map f (take (i + 1) xs)) old new a c (worse v w)
   over_more f xs i x old mid new a b c v w below is one two =
-      subst (λ (ps : List (List ℕ)). LooksOver Gives ps old new a c (worse v w))
+      subst (λ (ps : List (List ℕ)). LooksOver layout Gives ps old new a c (worse v w))
       (sym (ap (map f) (take_more xs i x below ∙ ap (λ y. take i xs ++ y ∷ []) (sym is)) ∙ map-append f (take i xs) (x ∷ [])))
       (over_join (map f (take i xs)) (f x ∷ []) old mid new a b c v w one two)
 
   -- all files
   pub over_all : {X : Type 0} (f : X → List ℕ) (xs : List X) (i : ℕ) (old new : Option (List ℕ)) (a b : List ℕ) (v : Verdict) → length xs ≤ i
-      → LooksOver Gives (map f (take i xs)) old new a b v → LooksOver Gives (map f xs) old new a b v
+      → LooksOver layout Gives (map f (take i xs)) old new a b v → LooksOver layout Gives (map f xs) old new a b v
   over_all f xs i old new a b v past one =
-      subst (λ (ps : List (List ℕ)). LooksOver Gives ps old new a b v) (ap (map f) (take_all i xs past)) one
+      subst (λ (ps : List (List ℕ)). LooksOver layout Gives ps old new a b v) (ap (map f) (take_all i xs past)) one
 
   -- those so far, where nothing more is written or told
   pub over_front : {X : Type 0} (f : X → List ℕ) (xs : List X) (i : ℕ) (old mid new : Option (List ℕ)) (a b c : List ℕ) (v : Verdict)
-      → LooksOver Gives (map f (take i xs)) old mid a b v → Keeps mid new → c ≡ b → LooksOverFront Gives (map f xs) old new a c
+      → LooksOver layout Gives (map f (take i xs)) old mid a b v → Keeps mid new → c ≡ b → LooksOverFront layout Gives (map f xs) old new a c
   over_front f xs i old mid new a b c v one kept same = record {
     many = i;
     looks = one.looks;
-    each = subst (λ (ps : List (List ℕ)). AreLooks Gives ps one.looks) (sym (take-map f i xs)) one.each;
+    each = subst (λ (ps : List (List ℕ)). AreLooks layout Gives ps one.looks) (sym (take-map f i xs)) one.each;
     written = appends_kept old mid new (flat_map lines_of one.looks) one.written kept;
     beside = same ∙ one.beside;
   }
 
   -- those so far, and a front of what is told of the next one
   pub over_part : {X : Type 0} (f : X → List ℕ) (xs : List X) (i : ℕ) (x : X) (old mid new : Option (List ℕ)) (a b c : List ℕ) (v : Verdict) → i < length xs → x ≡ get_or xs i x
-      → LooksOver Gives (map f (take i xs)) old mid a b v → WritesPart Gives (f x) mid new → c ≡ b → LooksOverPart Gives (map f xs) old new a c
+      → LooksOver layout Gives (map f (take i xs)) old mid a b v → WritesPart layout Gives (f x) mid new → c ≡ b → LooksOverPart layout Gives (map f xs) old new a c
   over_part f xs i x old mid new a b c v below is one part same =
       let last = told part.0 part.1 in
       let front = part.3 in
@@ -135,8 +134,8 @@ module _ (Gives : List ℕ → Content → Type 0) where
         looks = one.looks;
         lines = part.0;
         faulty = part.1;
-        each = subst (λ (ps : List (List ℕ)). AreLooks Gives ps (one.looks ++ last ∷ [])) (sym more)
-            (looks_join Gives (map f (take i xs)) one.looks (f x ∷ []) (last ∷ []) one.each (part.2, tt));
+        each = subst (λ (ps : List (List ℕ)). AreLooks layout Gives ps (one.looks ++ last ∷ [])) (sym more)
+            (looks_join layout Gives (map f (take i xs)) one.looks (f x ∷ []) (last ∷ []) one.each (part.2, tt));
         written = record {
           sent = front.sent;
           unsent = front.unsent;

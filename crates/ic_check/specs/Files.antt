@@ -6,8 +6,11 @@ use Rattle.ic_output.specs.Output.{AppendsFront}
 use Rattle.ic_causes.specs.Causes.{shown_path}
 use Rattle.ic_check.specs.Checking.{Tells}
 use Rattle.ic_check.specs.Content.{Content, text, unread}
+use Rattle.ic_check.specs.Objects.{objects_of}
 use Rattle.ic_check.specs.declared.files.Given.{Given}
 use Rattle.ic_check.specs.declared.files.Given.TheVariants as given
+use Rattle.ic_check.specs.declared.files.Layout.{Layout}
+use Rattle.ic_check.specs.declared.files.Layout.TheVariants.{Lines, Objects}
 use Rattle.ic_check.specs.declared.files.Verdict.{Verdict}
 use Rattle.ic_check.specs.declared.files.Verdict.TheVariants.{Fine, Faulty, Unread}
 
@@ -21,18 +24,28 @@ pub data Look : Type 0 where
   told : List ℕ → Bool → Look
   refused : List ℕ → Look
 
+-- what is told of the text in the file of a path: in lines that begin with the path as it is shown, or
+-- as the objects of lines without it
+abbrev pub TellsAs : Layout → (path bytes lines : List ℕ) → Bool → Type 0
+TellsAs Lines path bytes lines faulty = Tells (shown_path path) bytes lines faulty
+TellsAs Objects path bytes lines faulty =
+    (nameless : List ℕ) × Tells [] bytes nameless faulty × (lines ≡ objects_of path nameless)
+
 -- this came of the file of a path
-abbrev pub IsLook : (Gives : List ℕ → Content → Type 0) → (path : List ℕ) → Look → Type 0
-IsLook Gives path (told lines faulty) =
-    (bytes : List ℕ) × Gives path (text bytes) × Tells (shown_path path) bytes lines faulty
-IsLook Gives path (refused why) = Gives path (unread why)
+abbrev pub IsLook : Layout → (Gives : List ℕ → Content → Type 0) → (path : List ℕ) → Look
+    → Type 0
+IsLook layout Gives path (told lines faulty) =
+    (bytes : List ℕ) × Gives path (text bytes) × TellsAs layout path bytes lines faulty
+IsLook layout Gives path (refused why) = Gives path (unread why)
 
 -- these came of the files of some paths, one of each, in their order
-abbrev pub AreLooks : (Gives : List ℕ → Content → Type 0) → List (List ℕ) → List Look → Type 0
-AreLooks Gives [] [] = Unit {0}
-AreLooks Gives [] (look ∷ looks) = ⊥
-AreLooks Gives (path ∷ paths) [] = ⊥
-AreLooks Gives (path ∷ paths) (look ∷ looks) = IsLook Gives path look × AreLooks Gives paths looks
+abbrev pub AreLooks : Layout → (Gives : List ℕ → Content → Type 0) → List (List ℕ) → List Look
+    → Type 0
+AreLooks layout Gives [] [] = Unit {0}
+AreLooks layout Gives [] (look ∷ looks) = ⊥
+AreLooks layout Gives (path ∷ paths) [] = ⊥
+AreLooks layout Gives (path ∷ paths) (look ∷ looks) =
+    IsLook layout Gives path look × AreLooks layout Gives paths looks
 
 -- what is written of a file
 abbrev pub lines_of : Look → List ℕ
@@ -60,31 +73,31 @@ verdict_of looks =
 
 -- The files of some paths are looked over: what is written of each is appended to what was written,
 -- in their order, and so is what is told beside it.
-pub record LooksOver (Gives : List ℕ → Content → Type 0) (paths : List (List ℕ))
+pub record LooksOver (layout : Layout) (Gives : List ℕ → Content → Type 0) (paths : List (List ℕ))
     (old new : Option (List ℕ)) (before after : List ℕ) (verdict : Verdict) : Type 0 where
   pub looks : List Look
-  pub each : AreLooks Gives paths looks
+  pub each : AreLooks layout Gives paths looks
   pub written : Appends old new (flat_map lines_of looks)
   pub beside : after ≡ before ++ flat_map reasons_of looks
   pub found : verdict ≡ verdict_of looks
 
 -- a front of the files is looked over, and nothing else is written or told beside it
-pub record LooksOverFront (Gives : List ℕ → Content → Type 0) (paths : List (List ℕ))
+pub record LooksOverFront (layout : Layout) (Gives : List ℕ → Content → Type 0) (paths : List (List ℕ))
     (old new : Option (List ℕ)) (before after : List ℕ) : Type 0 where
   pub many : ℕ
   pub looks : List Look
-  pub each : AreLooks Gives (take many paths) looks
+  pub each : AreLooks layout Gives (take many paths) looks
   pub written : Appends old new (flat_map lines_of looks)
   pub beside : after ≡ before ++ flat_map reasons_of looks
 
 -- The writer fails at the lines of a text: the files before that one are looked over, and a front of
 -- its lines is written after theirs.
-pub record LooksOverPart (Gives : List ℕ → Content → Type 0) (paths : List (List ℕ))
+pub record LooksOverPart (layout : Layout) (Gives : List ℕ → Content → Type 0) (paths : List (List ℕ))
     (old new : Option (List ℕ)) (before after : List ℕ) : Type 0 where
   pub many : ℕ
   pub looks : List Look
   pub lines : List ℕ
   pub faulty : Bool
-  pub each : AreLooks Gives (take many paths) (looks ++ told lines faulty ∷ [])
+  pub each : AreLooks layout Gives (take many paths) (looks ++ told lines faulty ∷ [])
   pub written : AppendsFront old new (flat_map lines_of looks) lines
   pub beside : after ≡ before ++ flat_map reasons_of looks

@@ -7,5 +7,6 @@ pub mod Telling
 pub mod Checking
 pub mod Meanings
 pub mod Content
+pub mod Objects
 pub mod Files
 pub mod inner

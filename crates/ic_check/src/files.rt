@@ -3,13 +3,13 @@
 ghost use Rattle.std.specs.Prelude.{◌≡◌, ◌≢◌, ◌⊎◌, [], ◌∷◌, ℕ, List, Bool, IfOk, IfErr, OnOk, OnErr, map, string_bytes};
 ghost use Rattle.std.specs.Io.KnownBytes.{Appends, Keeps};
 ghost use Rattle.ic_output.specs.Output.{AppendsFront};
-ghost use Rattle.ic_causes.specs.Causes.{shown_path};
-ghost use Rattle.ic_check.specs.Checking.{Tells};
 ghost use Rattle.ic_check.specs.Content.{Content};
-ghost use Rattle.ic_check.specs.Files.{LooksOver, LooksOverFront, LooksOverPart, content_of};
+ghost use Rattle.ic_check.specs.Checking.{Tells};
+ghost use Rattle.ic_check.specs.Files.{LooksOver, LooksOverFront, LooksOverPart, TellsAs, content_of};
 ghost use Rattle.ic_check.specs.inner.Verdicts.{WritesPart, verdict_by, worse};
 
 use crate::checking::check;
+use crate::objects::objects;
 use ic_causes::shown_path;
 use ic_output::write_flushed;
 use ic_streams::StreamFault;
@@ -33,6 +33,15 @@ pub enum Verdict {
     Unread,
 }
 
+/// How faults and warnings are told.
+#[derive(Clone, Copy, Debug, PartialEq, Eq)]
+pub enum Layout {
+    /// As lines, which begin with the file's path; of it a byte that is no printable ASCII is shown as `?`.
+    Lines,
+    /// As objects of JSON, one a line, which have the path as it is.
+    Objects,
+}
+
 /// What gives files, each when it is asked for.
 pub trait Source {
     /// What the file of a path gives, as far as that can be said.
@@ -50,24 +59,25 @@ pub fn check_files<S: Source, W: Write>(
     alloc: Global,
     source: &S,
     paths: &[String],
+    layout: Layout,
     writer: &mut W,
     told: &mut Vec<u8>,
 ) -> Result<Verdict, StreamFault>
     ensures looked { IfOk result (λ verdict.
-        LooksOver (S.gives source.now) (map string_bytes paths.now)
+        LooksOver layout (S.gives source.now) (map string_bytes paths.now)
         (W.contents writer.old) (W.contents writer.new) told.old.items told.new.items verdict) }
     ensures stopped { IfErr result (λ fault. fault ≢ StreamFault.Write
-        → LooksOverFront (S.gives source.now) (map string_bytes paths.now)
+        → LooksOverFront layout (S.gives source.now) (map string_bytes paths.now)
         (W.contents writer.old) (W.contents writer.new) told.old.items told.new.items) }
     ensures cut { IfErr result (λ fault. fault ≡ StreamFault.Write
-        → LooksOverPart (S.gives source.now) (map string_bytes paths.now)
+        → LooksOverPart layout (S.gives source.now) (map string_bytes paths.now)
         (W.contents writer.old) (W.contents writer.new) told.old.items told.new.items) }
     ensures sort { IfErr result
         (λ fault. (fault ≡ StreamFault.Memory) ⊎ (fault ≡ StreamFault.Write)) }
 {
     let mut worst = Verdict::Fine;
     for path in paths {
-        let verdict = check_file(alloc, source, path.as_str(), writer, told)?;
+        let verdict = check_file(alloc, source, path.as_str(), layout, writer, told)?;
         worst = worse(worst, verdict);
     }
     Ok(worst)
@@ -89,23 +99,24 @@ fn check_file<S: Source, W: Write>(
     alloc: Global,
     source: &S,
     path: &str,
+    layout: Layout,
     writer: &mut W,
     told: &mut Vec<u8>,
 ) -> Result<Verdict, StreamFault>
-    ensures looked { IfOk result (λ verdict. LooksOver (S.gives source.now) (path.now ∷ [])
+    ensures looked { IfOk result (λ verdict. LooksOver layout (S.gives source.now) (path.now ∷ [])
         (W.contents writer.old) (W.contents writer.new) told.old.items told.new.items verdict) }
     ensures untold { OnErr result (told.new.items ≡ told.old.items) }
     ensures silent { IfErr result (λ fault. fault ≢ StreamFault.Write
         → Keeps (W.contents writer.old) (W.contents writer.new)) }
     ensures cut { IfErr result (λ fault. fault ≡ StreamFault.Write
-        → WritesPart (S.gives source.now) path.now
+        → WritesPart layout (S.gives source.now) path.now
         (W.contents writer.old) (W.contents writer.new)) }
     ensures sort { IfErr result
         (λ fault. (fault ≡ StreamFault.Memory) ⊎ (fault ≡ StreamFault.Write)) }
 {
     match source.give(alloc, path)? {
         Given::Text(text) => {
-            let is_faulty = check_text(alloc, path.as_bytes(), &text, writer)?;
+            let is_faulty = check_text(alloc, path.as_bytes(), layout, &text, writer)?;
             Ok(verdict_of(is_faulty))
         }
         Given::Unread(why) => {
@@ -130,25 +141,55 @@ fn verdict_of(is_faulty: bool) -> Verdict
 fn check_text<W: Write>(
     alloc: Global,
     path: &[u8],
+    layout: Layout,
     text: &[u8],
     writer: &mut W,
 ) -> Result<bool, StreamFault>
     ensures told { IfOk result (λ faulty. (lines : List ℕ)
-        × Tells (shown_path path.now) text.now lines faulty
+        × TellsAs layout path.now text.now lines faulty
         × Appends (W.contents writer.old) (W.contents writer.new) lines) }
     ensures silent { IfErr result (λ fault. fault ≢ StreamFault.Write
         → Keeps (W.contents writer.old) (W.contents writer.new)) }
     ensures cut { IfErr result (λ fault. fault ≡ StreamFault.Write
-        → (lines : List ℕ) × (faulty : Bool) × Tells (shown_path path.now) text.now lines faulty
+        → (lines : List ℕ) × (faulty : Bool) × TellsAs layout path.now text.now lines faulty
         × AppendsFront (W.contents writer.old) (W.contents writer.new) [] lines) }
     ensures sort { IfErr result
         (λ fault. (fault ≡ StreamFault.Memory) ⊎ (fault ≡ StreamFault.Write)) }
 {
-    let file = shown_path(alloc, path)?;
-    let mut lines = Vec::new(alloc);
-    let is_faulty = check(alloc, &file, text, &mut lines)?;
+    let (lines, is_faulty) = told_as(alloc, layout, path, text)?;
     write(writer, &lines)?;
     Ok(is_faulty)
+}
+
+/// What is told of the text in the file of this path, and whether it has a fault.
+fn told_as(
+    alloc: Global,
+    layout: Layout,
+    path: &[u8],
+    text: &[u8],
+) -> Result<(Vec<u8>, bool), AllocError>
+    ensures { IfOk result
+        (λ told. TellsAs layout path.now text.now told.0.items told.1) }
+{
+    match layout {
+        Layout::Lines => {
+            let file = shown_path(alloc, path)?;
+            told_lines(alloc, &file, text)
+        }
+        Layout::Objects => {
+            let (lines, is_faulty) = told_lines(alloc, b"", text)?;
+            Ok((objects(alloc, path, &lines)?, is_faulty))
+        }
+    }
+}
+
+/// The lines that tell of the text in a file of this name, and whether it has a fault.
+fn told_lines(alloc: Global, file: &[u8], text: &[u8]) -> Result<(Vec<u8>, bool), AllocError>
+    ensures { IfOk result (λ told. Tells file.now text.now told.0.items told.1) }
+{
+    let mut lines = Vec::new(alloc);
+    let is_faulty = check(alloc, file, text, &mut lines)?;
+    Ok((lines, is_faulty))
 }
 
 /// Writes lines and flushes them.

@@ -17,7 +17,7 @@ ghost use Rattle.ic_lines.specs.Lines.{ended, has_feed, lines};
 ghost use Rattle.ic_text.specs.declared.fault.TextFault.{TextFault};
 ghost use Rattle.ic_text.specs.declared.misread.Detail.{Detail};
 ghost use Rattle.ic_causes.specs.Causes.{shown_path};
-ghost use Rattle.ic_diagnostics.specs.Lines.{column};
+ghost use Rattle.ic_diagnostics.specs.Lines.{column, last_line, line_number, told_at};
 ghost use Rattle.ic_diagnostics.specs.Sights.{is_command};
 ghost use Rattle.ic_diagnostics.specs.declared.telling.Kind.{Kind};
 ghost use Rattle.ic_check.specs.Checking.{Tells, TellsLine, TellsLines, before, form_of, told_fault, told_line_fault};
@@ -36,6 +36,7 @@ ghost use Rattle.ic_jobs.specs.declared.limits.TheConstants.{MAX_BUDGET};
 ghost use Rattle.ic_rules.specs.JobName.{is_job_name};
 ghost use Rattle.ic_rules.specs.declared.job_name.TheConstants.{MAX_JOB_NAME};
 ghost use Rattle.ic_text.specs.Name.{number_in};
+ghost use Rattle.ic_text.specs.Text.{fault_text};
 ghost use Rattle.ic_text.specs.Places.{IsPlaced, IsSyntaxPlace};
 ghost use Rattle.ic_text.specs.SystemSense.{system_sense};
 ghost use Rattle.ic_text.specs.SystemSource.{IsSystemPhrase, SystemPhrase, system_words};
@@ -47,7 +48,8 @@ ghost use Rattle.ic_text.specs.Token.{Token, is_blank, is_word_byte, mark, token
 ghost use Rattle.ic_check.specs.Meanings.{AreLines, BeginsLine, GoesWith, HasNoRule, IsOneLine, IsSubmitBehind, IsSubmitFront, IsToldAt, IsWarned, Passes, StandsIn, StandsOnce, faces, facing, is_among, is_looked_for, listed, told_commands};
 ghost use Rattle.ic_check.specs.Reach.{AllAmong, IsReach, IsTakenBy};
 ghost use Rattle.ic_check.specs.Symbols.{config_symbols, text_symbols};
-ghost use Rattle.ic_check.specs.Telling.{line_limit_sentence, place_text, sought_sentence, spot_text};
+ghost use Rattle.ic_check.specs.Objects.{fault_fields, finding_fields, object_of, objects_of};
+ghost use Rattle.ic_check.specs.Telling.{fault_line, line_limit_sentence, place_text, placed_line, sought_sentence, spot_text};
 ghost use Rattle.ic_check.specs.Warnings.{Warns, once_line, once_lines, pair_text, ruleless_line, unused_line, warning_line};
 
 /// An equation is told as one without a rule exactly where both sides are agents and no rule is of their two symbols.
@@ -380,3 +382,28 @@ pub fn what_stands_there_is_found()
     ensures taken { (rs : List Rule) (i : ℕ) (p : Pair) (a : Active)
         → active_pair rs p ≡ Some a → a.rule ≡ i → IsTakenBy rs i p }
 {}
+
+/// The object of a line has what the line tells, whichever of the lines it is that there are: of a fault, with its place
+/// or without one, or of a warning, of the whole file or of a line of it. What is told after the line is told in further
+/// objects.
+pub fn objects_have_what_lines_tell()
+    ensures fault { (path text words rest : List ℕ) (before at : ℕ) (fault : TextFault)
+        → has_feed words ≡ false
+        → objects_of path (placed_line [] before text at fault words ++ rest)
+        ≡ object_of path (decimal (before + line_number (take (told_at text at) text)))
+        (decimal (column (last_line (take (told_at text at) text)))) (fault_text fault) words
+        ++ objects_of path rest }
+    ensures unplaced { (path rest : List ℕ) (fault : TextFault)
+        → objects_of path (fault_line [] fault ++ rest)
+        ≡ object_of path [] [] (fault_text fault) [] ++ objects_of path rest }
+    ensures warning { (path words rest : List ℕ) → has_feed words ≡ false
+        → objects_of path (warning_line [] words ++ rest)
+        ≡ object_of path [] [] (codes "warning") words ++ objects_of path rest }
+    ensures line_warning { (path words rest : List ℕ) (line : ℕ) → has_feed words ≡ false
+        → objects_of path (warning_line (place_text [] (Some line)) words ++ rest)
+        ≡ object_of path (decimal line) [] (codes "warning") words ++ objects_of path rest }
+    ensures kinds { (fault : TextFault) (words : List ℕ)
+        → finding_fields (fault_text fault) words ≡ fault_fields (fault_text fault) words }
+{
+    ic_lines::laws::lines_are_parted_by_line_feeds();
+}

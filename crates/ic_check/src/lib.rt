@@ -4,8 +4,8 @@
 //! told as compilers do, and lines after a faulty one are looked at, too.
 //!
 //! For a system without a fault it warns of pairs that no rule takes apart, of symbols that stand only once, and of
-//! rules that are never used. `check_files` does so of files, one after the other, whatever gives them. `laws` says in
-//! other words what the warnings are.
+//! rules that are never used. `check_files` does so of files, one after the other, whatever gives them, in lines or as
+//! objects of JSON. `laws` says in other words what the warnings are.
 #![tactic(auto)]
 
 mod checking;
@@ -15,6 +15,7 @@ mod front;
 pub mod laws;
 mod line_places;
 mod lines;
+mod objects;
 mod reach;
 mod remarks;
 mod symbols;
@@ -22,4 +23,4 @@ mod texts;
 mod warnings;
 
 pub use checking::{Form, check};
-pub use files::{Given, Source, Verdict, check_files};
+pub use files::{Given, Layout, Source, Verdict, check_files};

@@ -12,7 +12,7 @@ use ic_jobs::Command;
 use std::alloc::{AllocError, Global};
 
 /// The first line of a text, and what follows its line feed.
-fn split_line(text: &[u8]) -> (&[u8], &[u8])
+pub(crate) fn split_line(text: &[u8]) -> (&[u8], &[u8])
     requires { 0 < length text.now }
     ensures lines { lines text.now ≡ result.0.now ∷ lines result.1.now }
     ensures shorter { length result.1.now < length text.now }

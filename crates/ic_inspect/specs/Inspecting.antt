@@ -8,24 +8,33 @@ use Rattle.ic_inspect.specs.declared.fault.InspectFault.TheVariants.{Read, Chang
 use Rattle.ic_inspect.specs.declared.inspecting.TheConstants.{LIMIT}
 use Rattle.ic_inspect.specs.declared.seen.Seen.{Seen}
 use Rattle.ic_inspect.specs.Seeing.{IsSeen}
+use Rattle.ic_inspect.specs.declared.inspecting.Layout.{Layout}
+use Rattle.ic_inspect.specs.declared.inspecting.Layout.TheVariants.{Words, Objects}
 use Rattle.ic_inspect.specs.Report.{report}
+use Rattle.ic_inspect.specs.Objects.{objects}
+
+-- what is seen of two slots, in words or as objects
+abbrev pub told_as : Layout → Option Seen → Option Seen → List ℕ
+told_as Words first second = report first second
+told_as Objects first second = objects first second
 
 -- these lines tell what is seen of the two slots of a file
-pub record Tells (file lines : List ℕ) : Type 0 where
+pub record Tells (layout : Layout) (file lines : List ℕ) : Type 0 where
   pub first : Option Seen
   pub second : Option Seen
   pub first_seen : IsSeen First first file
   pub second_seen : IsSeen Second second file
-  pub told : lines ≡ report first second
+  pub told : lines ≡ told_as layout first second
 
 -- the lines of a file are appended to what was written
-abbrev pub WritesTold : List ℕ → Option (List ℕ) → Option (List ℕ) → Type 0
-WritesTold file old new = (lines : List ℕ) × Tells file lines × Appends old new lines
+abbrev pub WritesTold : Layout → List ℕ → Option (List ℕ) → Option (List ℕ) → Type 0
+WritesTold layout file old new =
+    (lines : List ℕ) × Tells layout file lines × Appends old new lines
 
 -- a front of them is, where the writer fails
-abbrev pub WritesToldPart : List ℕ → Option (List ℕ) → Option (List ℕ) → Type 0
-WritesToldPart file old new =
-    (lines : List ℕ) × Tells file lines × AppendsFront old new [] lines
+abbrev pub WritesToldPart : Layout → List ℕ → Option (List ℕ) → Option (List ℕ) → Type 0
+WritesToldPart layout file old new =
+    (lines : List ℕ) × Tells layout file lines × AppendsFront old new [] lines
 
 -- these are the first bytes that a reader has, where it tells them
 abbrev pub IsFrontOf : List ℕ → Option (List ℕ) → Type 0

@@ -2,5 +2,6 @@
 pub mod Seeing
 pub mod Held
 pub mod Report
+pub mod Objects
 pub mod Inspecting
 pub mod Moments

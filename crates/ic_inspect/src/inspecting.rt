@@ -4,10 +4,12 @@ ghost use Rattle.std.specs.Prelude.{◌≡◌, ◌≢◌, ◌⊎◌, [], IfOk, I
 ghost use Rattle.std.specs.Io.KnownBytes.{Appends, Consumes, Keeps};
 ghost use Rattle.std.specs.Str.{bytes_eq};
 ghost use Rattle.ic_output.specs.Output.{AppendsFront};
-ghost use Rattle.ic_inspect.specs.Inspecting.{Tells, WritesTold, WritesToldPart, IsFrontOf, IsOtherThan};
+ghost use Rattle.ic_inspect.specs.Inspecting.{Tells, WritesTold, WritesToldPart, IsFrontOf, IsOtherThan, told_as};
 
 use crate::fault::InspectFault;
 use crate::looking::see;
+use crate::objects::objects;
+use crate::seen::Seen;
 use crate::telling::report;
 use ic_frames::Slot;
 use ic_output::write_flushed;
@@ -45,6 +47,15 @@ pub fn read_front<R: Read>(alloc: Global, reader: &mut R) -> Result<Vec<u8>, Ins
     Err(InspectFault::Read)
 }
 
+/// How it is told what a file holds.
+#[derive(Clone, Copy, Debug, PartialEq, Eq)]
+pub enum Layout {
+    /// In lines of words.
+    Words,
+    /// As objects of JSON, one a line.
+    Objects,
+}
+
 /// Writes what these bytes of a file hold, if a second reading gives them too: what is seen of each slot, which of them
 /// is held, and the jobs of its table.
 ///
@@ -52,34 +63,50 @@ pub fn read_front<R: Read>(alloc: Global, reader: &mut R) -> Result<Vec<u8>, Ins
 /// the file was written meanwhile, and nothing is written. Where the writer fails a front of the lines is written.
 pub fn inspect<R: Read, W: Write>(
     alloc: Global,
+    layout: Layout,
     first: &[u8],
     again: &mut R,
     writer: &mut W,
 ) -> Result<(), InspectFault>
     ensures told { OnOk result
-        (WritesTold first.now (W.contents writer.old) (W.contents writer.new)) }
+        (WritesTold layout first.now (W.contents writer.old) (W.contents writer.new)) }
     ensures again { OnOk result (IsFrontOf first.now (R.remaining again.old)) }
     ensures changed { IfErr result (λ fault. fault ≡ InspectFault.Changed
         → IsOtherThan first.now (R.remaining again.old)) }
     ensures silent { IfErr result (λ fault. fault ≢ InspectFault.Write
         → Keeps (W.contents writer.old) (W.contents writer.new)) }
     ensures cut { IfErr result (λ fault. fault ≡ InspectFault.Write
-        → WritesToldPart first.now (W.contents writer.old) (W.contents writer.new)) }
+        → WritesToldPart layout first.now (W.contents writer.old) (W.contents writer.new)) }
     ensures again_at_cut { IfErr result (λ fault. fault ≡ InspectFault.Write
         → IsFrontOf first.now (R.remaining again.old)) }
 {
     read_again(alloc, first, again)?;
-    let lines = told(alloc, first)?;
+    let lines = told(alloc, layout, first)?;
     write(writer, &lines)
 }
 
 /// The lines of what these bytes of a file hold.
-pub fn told(alloc: Global, file: &[u8]) -> Result<Vec<u8>, AllocError>
-    ensures { IfOk result (λ lines. Tells file.now lines.items) }
+pub fn told(alloc: Global, layout: Layout, file: &[u8]) -> Result<Vec<u8>, AllocError>
+    ensures { IfOk result (λ lines. Tells layout file.now lines.items) }
 {
     let first = see(alloc, file, Slot::First)?;
     let second = see(alloc, file, Slot::Second)?;
-    report(alloc, &first, &second)
+    told_as(alloc, layout, &first, &second)
+}
+
+/// The lines of what is seen of two slots.
+fn told_as(
+    alloc: Global,
+    layout: Layout,
+    first: &Option<Seen>,
+    second: &Option<Seen>,
+) -> Result<Vec<u8>, AllocError>
+    ensures { IfOk result (λ lines. lines.items ≡ told_as layout first.now second.now) }
+{
+    match layout {
+        Layout::Words => report(alloc, first, second),
+        Layout::Objects => objects(alloc, first, second),
+    }
 }
 
 /// Reads a file again, which is to give the same bytes.

@@ -24,6 +24,7 @@ ghost use Rattle.ic_frames.specs.Staged.{IsStaged};
 ghost use Rattle.ic_slots.specs.Held.{Held, IsHeld, the_table, no_slot, two_alike, damaged};
 ghost use Rattle.ic_inspect.specs.declared.fault.InspectFault.{InspectFault};
 ghost use Rattle.ic_inspect.specs.declared.inspecting.TheConstants.{LIMIT};
+ghost use Rattle.ic_inspect.specs.declared.inspecting.Layout.{Layout};
 ghost use Rattle.ic_inspect.specs.declared.seen.Body.TheVariants.{TooLong, CutShort, NoTable, Holds};
 ghost use Rattle.ic_inspect.specs.declared.seen.Seen.{Seen};
 ghost use Rattle.ic_inspect.specs.Seeing.{IsSeen};
@@ -33,7 +34,7 @@ ghost use Rattle.ic_inspect.specs.Moments.{IsReading, IsServed, IsServerStep, Is
 ghost use Rattle.ic_inspect.specs.Inspecting.{Tells, WritesTold, all_inspect_faults, inspect_fault_number};
 
 use crate::fault::InspectFault;
-use crate::inspecting::{inspect, read_front};
+use crate::inspecting::{Layout, inspect, read_front};
 use ic_disk::Disk;
 use ic_frames::laws::{one_body_is_kept, the_newest_slot_is_held};
 use ic_frames::{Frames, KeepFault};
@@ -146,7 +147,8 @@ pub fn pairs_with_a_rule_are_counted()
 pub fn the_front_is_seen_as_the_file()
     ensures seen { (slot : Slot) (seen : Option Seen) (file : List ℕ)
         → IsSeen slot seen (take LIMIT file) → IsSeen slot seen file }
-    ensures lines { (file lines : List ℕ) → Tells (take LIMIT file) lines → Tells file lines }
+    ensures lines { (layout : Layout) (file lines : List ℕ)
+        → Tells layout (take LIMIT file) lines → Tells layout file lines }
 {
     ic_frames::laws::a_slot_is_open_or_whole();
 }
@@ -181,19 +183,20 @@ pub fn a_file_that_stays_is_read_as_it_is()
 /// `a_table_that_is_shown_stood` says.
 pub fn what_is_inspected_was_read_twice<R: Read, S: Read, W: Write>(
     alloc: Global,
+    layout: Layout,
     reader: &mut R,
     again: &mut S,
     writer: &mut W,
 ) -> Result<(), InspectFault>
     ensures told { (all : List ℕ) → R.remaining reader.old ≡ Some all → OnOk result
-        (WritesTold (take LIMIT all) (W.contents writer.old) (W.contents writer.new)) }
+        (WritesTold layout (take LIMIT all) (W.contents writer.old) (W.contents writer.new)) }
     ensures twice { (at : ℕ → List ℕ) (from between later until : ℕ) (all others : List ℕ)
         → R.remaining reader.old ≡ Some all → IsReading at from between (take LIMIT all)
         → S.remaining again.old ≡ Some others → IsReading at later until (take LIMIT others)
         → between ≤ later → OnOk result (IsReadTwiceBetween at from until (take LIMIT all)) }
 {
     let first = read_front(alloc, reader)?;
-    inspect(alloc, &first, again, writer)
+    inspect(alloc, layout, &first, again, writer)
 }
 
 /// What a keep writes beside a newest slot that is whole is a step of a server, and so is what stands in the midst of

@@ -1,4 +1,4 @@
-//! What a disk's file holds, told in lines, with nothing changed and no lock taken.
+//! What a disk's file holds, told in lines of words or as objects of JSON, with nothing changed and no lock taken.
 //!
 //! `read_front` reads a file once. `inspect` is handed what it gave, reads the file again, and writes what both
 //! readings saw: each slot, and the jobs of the table that is held. `told` makes these lines of bytes. `laws` says that
@@ -10,10 +10,11 @@ mod fault;
 mod inspecting;
 pub mod laws;
 mod looking;
+mod objects;
 mod seen;
 mod telling;
 
 pub use choosing::Newest;
 pub use fault::InspectFault;
-pub use inspecting::{LIMIT, inspect, read_front, told};
+pub use inspecting::{LIMIT, Layout, inspect, read_front, told};
 pub use seen::{Body, Seen};

@@ -163,14 +163,14 @@ fn put_sizes(job: &Job, out: &mut Vec<u8>) -> Result<(), AllocError>
 }
 
 /// How many nodes a job's configuration has.
-fn nodes_of(job: &Job) -> u64
+pub(crate) fn nodes_of(job: &Job) -> u64
     ensures { result ≡ configuration_nodes job.now.config }
 {
     job.config().nodes()
 }
 
 /// How many equations of a job's configuration are active.
-fn pairs_of(job: &Job) -> u64
+pub(crate) fn pairs_of(job: &Job) -> u64
     ensures { result ≡ active_pairs job.now.rules.rules job.now.config }
 {
     active_equations(job.rules(), job.config())
@@ -193,7 +193,7 @@ fn put_count(words: &[u8], count: u64, out: &mut Vec<u8>) -> Result<(), AllocErr
 }
 
 /// The word of a state.
-fn state_word(state: State) -> &'static [u8]
+pub(crate) fn state_word(state: State) -> &'static [u8]
     ensures { result.now ≡ state_text state }
 {
     match state {

@@ -2,7 +2,7 @@
 
 use ic_commands::{Line, read_command};
 use ic_dump::dump_jobs;
-use ic_inspect::inspect;
+use ic_inspect::{Layout, inspect};
 use ic_jobs::Table;
 use ic_notation::Trouble;
 use std::alloc::{AllocError, Global};
@@ -63,7 +63,7 @@ fn dump_fault(alloc: Global, table: &Table, mut output: Broken) -> u8 {
 /// The number of a look's fault, 0 for none.
 fn look_fault(alloc: Global, bytes: &[u8], mut output: Broken) -> u8 {
     let mut again = bytes;
-    match inspect(alloc, bytes, &mut again, &mut output) {
+    match inspect(alloc, Layout::Words, bytes, &mut again, &mut output) {
         Ok(()) => 0,
         Err(fault) => fault.number(),
     }

@@ -1,5 +1,5 @@
 -- A net as a graph in Graphviz's DOT (this project's choice).
-use Rattle.std.specs.Prelude.{ℕ, zero, suc, ◌+◌, ◌==◌, List, [], ◌∷◌, ◌++◌, Bool, true, false, codes, if◌then◌else◌, slice_get}
+use Rattle.std.specs.Prelude.{ℕ, zero, suc, ◌+◌, ◌==◌, List, [], ◌∷◌, ◌++◌, Bool, true, false, codes, if◌then◌else◌, nat_lt, slice_get}
 use Rattle.std.specs.List.{concat, flat_map}
 use Rattle.std.specs.Fmt.{decimal}
 use Rattle.ic_term.specs.Symbol.{Symbol}
@@ -25,19 +25,23 @@ head_text = concat (codes "graph net {" ∷ feed
     ∷ codes "node [shape=plaintext, width=0, height=0]" ∷ feed
     ∷ codes "edge [arrowsize=0.7]" ∷ feed ∷ [])
 
--- the auxiliary port with this number: the first one begins a row of its own
-abbrev pub port_cell : ℕ → List ℕ
-port_cell i = if i == 1 then concat (codes "|{<" ∷ decimal i ∷ codes ">" ∷ [])
+-- the place of the auxiliary port with this number: the first one begins a row of its own
+abbrev pub port_place : ℕ → List ℕ
+port_place i = if i == 1 then concat (codes "|{<" ∷ decimal i ∷ codes ">" ∷ [])
     else concat (codes "|<" ∷ decimal i ∷ codes ">" ∷ [])
 
--- so many auxiliary ports in order
-abbrev pub port_cells : ℕ → List ℕ
-port_cells zero = []
-port_cells (suc n) = port_cells n ++ port_cell (n + 1)
+-- an auxiliary port of so many has its number in its place where there are more than two
+abbrev pub port_cell : (arity i : ℕ) → List ℕ
+port_cell arity i = port_place i ++ (if nat_lt 2 arity then decimal i else [])
+
+-- the first of so many auxiliary ports in order
+abbrev pub port_cells : (arity count : ℕ) → List ℕ
+port_cells arity zero = []
+port_cells arity (suc n) = port_cells arity n ++ port_cell arity (n + 1)
 
 -- the row of an agent's auxiliary ports, if it has any
 abbrev pub ports_text : ℕ → List ℕ
-ports_text arity = port_cells arity ++ (if arity == 0 then [] else codes "}")
+ports_text arity = port_cells arity arity ++ (if arity == 0 then [] else codes "}")
 
 -- what stands before the symbol of an agent
 abbrev pub agent_head : ℕ → List ℕ
@@ -54,9 +58,10 @@ abbrev pub agent_lines : List Symbol → ℕ → List Agent → List ℕ
 agent_lines symbols k [] = []
 agent_lines symbols k (a ∷ rest) = agent_line symbols k a ++ agent_lines symbols (k + 1) rest
 
--- the vertex of an equation of two names is a point
+-- the vertex of an equation of two names is a point that can be seen
 abbrev pub joint_line : ℕ → List ℕ
-joint_line j = concat (codes "J" ∷ decimal j ∷ codes " [shape=point]" ∷ feed ∷ [])
+joint_line j = concat (codes "J" ∷ decimal j ∷ codes " [shape=point, width=0.05, height=0.05]"
+    ∷ feed ∷ [])
 
 abbrev pub joint_lines : ℕ → List ℕ
 joint_lines zero = []

@@ -4,7 +4,7 @@ ghost use Rattle.std.specs.Prelude.{◌≡◌, ◌++◌, IfOk, OnOk, slice_get};
 ghost use Rattle.std.specs.List.{flat_map};
 ghost use Rattle.ic_text.specs.Text.{text_or_none};
 ghost use Rattle.ic_nets.specs.Dot.{agent_head, agent_line, agent_lines, dot_of, head_text, is_principal, joint_line, joint_lines};
-ghost use Rattle.ic_nets.specs.Dot.{port_cell, port_cells, port_text, ports_text, style_of, wire_line};
+ghost use Rattle.ic_nets.specs.Dot.{port_cell, port_cells, port_place, port_text, ports_text, style_of, wire_line};
 
 use crate::net::{Agent, Net, Wire};
 use crate::port::Port;
@@ -14,8 +14,9 @@ use std::alloc::{AllocError, Global};
 
 /// A net as a graph: a vertex for each agent, with its ports in order, and an edge for each wire.
 ///
-/// The principal port is at the symbol, where an edge has an arrow head. The places of the interface and free names are
-/// small vertices, and an equation of two names is a point. An agent whose symbol is unknown has no text.
+/// The principal port is at the symbol, where an edge has an arrow head. Where an agent has more than two auxiliary
+/// ports, each has its number. The places of the interface and free names are small vertices, and an equation of two
+/// names is a point. An agent whose symbol is unknown has no text.
 pub fn dot(alloc: Global, symbols: &Symbols, net: &Net) -> Result<Vec<u8>, AllocError>
     ensures { IfOk result (λ graph. graph.items ≡ dot_of symbols.now net.now) }
 {
@@ -100,26 +101,38 @@ fn put_agent_head(alloc: Global, number: usize, out: &mut Vec<u8>) -> Result<(),
 fn put_ports(alloc: Global, arity: usize, out: &mut Vec<u8>) -> Result<(), AllocError>
     ensures { OnOk result (out.new.items ≡ out.old.items ++ ports_text arity) }
 {
-    put_cells(alloc, arity, out)?;
+    put_cells(alloc, arity, arity, out)?;
     if arity > 0 {
         out.push(b'}')?;
     }
     Ok(())
 }
 
-/// Appends so many ports in order.
-fn put_cells(alloc: Global, arity: usize, out: &mut Vec<u8>) -> Result<(), AllocError>
-    ensures { OnOk result (out.new.items ≡ out.old.items ++ port_cells arity) }
+/// Appends the first `count` of `arity` ports in order.
+fn put_cells(alloc: Global, arity: usize, count: usize, out: &mut Vec<u8>) -> Result<(), AllocError>
+    ensures { OnOk result (out.new.items ≡ out.old.items ++ port_cells arity count) }
 {
-    for i in 0..arity {
-        put_cell(alloc, i + 1, out)?;
+    for i in 0..count {
+        put_cell(alloc, arity, i + 1, out)?;
     }
     Ok(())
 }
 
-/// Appends the auxiliary port with this number.
-fn put_cell(alloc: Global, port: usize, out: &mut Vec<u8>) -> Result<(), AllocError>
-    ensures { OnOk result (out.new.items ≡ out.old.items ++ port_cell port) }
+/// Appends the auxiliary port with this number, of so many.
+fn put_cell(alloc: Global, arity: usize, port: usize, out: &mut Vec<u8>) -> Result<(), AllocError>
+    ensures { OnOk result (out.new.items ≡ out.old.items ++ port_cell arity port) }
+{
+    put_place(alloc, port, out)?;
+    if arity > 2 {
+        let number = format!(in alloc; "{port}")?;
+        out.extend_from_slice(number.as_bytes())?;
+    }
+    Ok(())
+}
+
+/// Appends the place of the auxiliary port with this number.
+fn put_place(alloc: Global, port: usize, out: &mut Vec<u8>) -> Result<(), AllocError>
+    ensures { OnOk result (out.new.items ≡ out.old.items ++ port_place port) }
 {
     let cell = if port == 1 {
         format!(in alloc; "|{{<{port}>")?
@@ -144,7 +157,7 @@ fn put_joints(alloc: Global, joints: usize, out: &mut Vec<u8>) -> Result<(), All
 fn put_joint(alloc: Global, joint: usize, out: &mut Vec<u8>) -> Result<(), AllocError>
     ensures { OnOk result (out.new.items ≡ out.old.items ++ joint_line joint) }
 {
-    let line = format!(in alloc; "J{joint} [shape=point]\n")?;
+    let line = format!(in alloc; "J{joint} [shape=point, width=0.05, height=0.05]\n")?;
     out.extend_from_slice(line.as_bytes())?;
     Ok(())
 }

@@ -1,6 +1,6 @@
 //! The words after the program's name.
 
-use ic_args::{Task, TextLimits, TraceFormat, read_words};
+use ic_args::{Task, TextLimits, TraceFormat, read_words, ReportFormat};
 use ic_notation::Trouble;
 use std::alloc::{AllocError, Global};
 
@@ -79,8 +79,13 @@ fn asked(alloc: Global, task: &Task) -> Result<String, AllocError> {
             let asked = format!(in alloc; "dump {disk}")?;
             with_texts(asked, names)
         }
-        Task::Inspect { disk } => format!(in alloc; "inspect {disk}"),
-        Task::Check { files } => with_texts(String::from_str(alloc, "check")?, files),
+        Task::Inspect { disk, format } => {
+            format!(in alloc; "inspect {} {disk}", report_format(*format))
+        }
+        Task::Check { files, format } => {
+            let asked = format!(in alloc; "check {}", report_format(*format))?;
+            with_texts(asked, files)
+        }
         Task::Batch {
             disk,
             rounds,
@@ -122,11 +127,20 @@ fn with_flags(mut asked: String, partial: bool, stats: bool) -> Result<String, A
     Ok(asked)
 }
 
+/// How it is told what is found.
+fn report_format(format: ReportFormat) -> &'static str {
+    match format {
+        ReportFormat::Text => "text",
+        ReportFormat::Json => "json",
+    }
+}
+
 /// What a trace asks for.
 fn traced(alloc: Global, rounds: u64, format: TraceFormat) -> Result<String, AllocError> {
     let format = match format {
         TraceFormat::Tsv => "tsv",
         TraceFormat::Svg => "svg",
+        TraceFormat::Json => "json",
     };
     format!(in alloc; "trace {rounds} {format}")
 }

@@ -2,23 +2,29 @@
 
 use crate::inspecting::open_to_read;
 use crate::texts::{read_limited, too_long};
+use ic_args::ReportFormat;
 use ic_causes::{NotedInput, NotedOutput, Notes, cause_line};
-use ic_check::{Given, Source, check_files};
+use ic_check::{Given, Layout, Source, check_files};
 use ic_exits::{Failure, check_ending};
 use std::alloc::{AllocError, Global};
 use std::io;
 
-/// Prints the faults and warnings of the files of these paths, in their order; for `-` standard input is
+/// Prints the faults and warnings of the files of these paths, in their order and this format; for `-` standard input is
 /// read. One that can't be read doesn't keep the others from being checked; why it can't is appended to `told`.
 pub(crate) fn check(
     rt: &HostRuntime,
     paths: &[String],
+    format: ReportFormat,
     notes: &Notes,
     told: &mut Vec<u8>,
 ) -> Result<(), Failure> {
     let source = FileSource { rt };
     let mut output = NotedOutput::new(io::writer(rt), notes);
-    let checked = check_files(rt.alloc(), &source, paths, &mut output, told);
+    let layout = match format {
+        ReportFormat::Text => Layout::Lines,
+        ReportFormat::Json => Layout::Objects,
+    };
+    let checked = check_files(rt.alloc(), &source, paths, layout, &mut output, told);
     check_ending(checked.map_err(Failure::Stream)?)
 }
 

@@ -1,21 +1,31 @@
 //! The program's word `inspect`: what a disk's file holds, on standard output.
 
 use crate::standing::stand_ins;
+use ic_args::ReportFormat;
 use ic_causes::{NotedFile, NotedFiles, NotedOutput, Notes};
 use ic_disk::{DiskFault, open_plain};
 use ic_exits::Failure;
-use ic_inspect::{InspectFault, read_front};
+use ic_inspect::{InspectFault, Layout, read_front};
 use std::fs::OpenOptions;
 use std::io;
 
 /// How often a file is looked at, at most, that is written meanwhile.
 const LOOKS: u32 = 20;
 
-/// Prints what the file of this path holds, which stays as it is. No lock is taken, so a server may
+/// Prints what the file of this path holds, which stays as it is, in this format. No lock is taken, so a server may
 /// have it open.
-pub(crate) fn inspect(rt: &HostRuntime, path: &str, notes: &Notes) -> Result<(), Failure> {
+pub(crate) fn inspect(
+    rt: &HostRuntime,
+    path: &str,
+    format: ReportFormat,
+    notes: &Notes,
+) -> Result<(), Failure> {
+    let layout = match format {
+        ReportFormat::Text => Layout::Words,
+        ReportFormat::Json => Layout::Objects,
+    };
     for _ in 0..LOOKS {
-        if look(rt, path, notes)? {
+        if look(rt, path, layout, notes)? {
             return Ok(());
         }
     }
@@ -23,11 +33,11 @@ pub(crate) fn inspect(rt: &HostRuntime, path: &str, notes: &Notes) -> Result<(),
 }
 
 /// Reads the file twice, one time after the other, and prints what it holds, if both times are alike.
-fn look(rt: &HostRuntime, path: &str, notes: &Notes) -> Result<bool, Failure> {
+fn look(rt: &HostRuntime, path: &str, layout: Layout, notes: &Notes) -> Result<bool, Failure> {
     let first = read_once(rt, path, notes)?;
     let mut again = open_to_read(rt, path, notes).map_err(|_| Failure::Disk(DiskFault))?;
     let mut output = NotedOutput::new(io::writer(rt), notes);
-    match ic_inspect::inspect(rt.alloc(), &first, &mut again, &mut output) {
+    match ic_inspect::inspect(rt.alloc(), layout, &first, &mut again, &mut output) {
         Ok(()) => Ok(true),
         Err(InspectFault::Changed) => Ok(false),
         Err(fault) => Err(Failure::Inspect(fault)),

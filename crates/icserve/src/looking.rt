@@ -68,6 +68,7 @@ pub(crate) fn trace<R: Read>(
     let format = match format {
         TraceFormat::Tsv => Format::Table,
         TraceFormat::Svg => Format::Picture,
+        TraceFormat::Json => Format::Objects,
     };
     let traced = trace_stream(rt.alloc(), rounds, format, input, &mut output, told);
     match traced.map_err(Failure::Stream)? {

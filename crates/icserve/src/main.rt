@@ -110,7 +110,7 @@ fn path_of(task: &Task) -> &str {
         Task::Serve { disk, .. } => disk.as_str(),
         Task::Attend { disk, .. } => disk.as_str(),
         Task::Dump { disk, .. } => disk.as_str(),
-        Task::Inspect { disk } => disk.as_str(),
+        Task::Inspect { disk, .. } => disk.as_str(),
         Task::Batch { disk, .. } => disk.as_str(),
         _ => "",
     }
@@ -188,8 +188,8 @@ fn run<T: Threads + Wait + Copy + Send + Sync + 'static, R: Read>(
         }
         Task::Draw { .. } => looking::draw(rt, input, notes, told),
         Task::Dump { disk, names } => dumping::dump(rt, disk.as_str(), names, notes),
-        Task::Inspect { disk } => inspecting::inspect(rt, disk.as_str(), notes),
-        Task::Check { files } => checking::check(rt, files, notes, told),
+        Task::Inspect { disk, format } => { inspecting::inspect(rt, disk.as_str(), *format, notes) }
+        Task::Check { files, format } => checking::check(rt, files, *format, notes, told),
         Task::Batch {
             disk,
             rounds,

@@ -4,7 +4,7 @@ use Rattle.clap.specs.Words.{Row, Text}
 use Rattle.clap.specs.declared.error.ErrorKind.{ErrorKind}
 use Rattle.clap.specs.declared.error.ErrorKind.TheVariants.{DisplayHelp, DisplayVersion, OutOfMemory}
 use Rattle.ic_args.specs.Help.{help_by, help_of}
-use Rattle.ic_args.specs.Words.{IsDecimal, asks_in_place, asks_rounds, format_word, is_flag_met, limits_met, limits_word, is_format, is_given, most_rounds, most_steps}
+use Rattle.ic_args.specs.Words.{IsDecimal, asks_in_place, asks_rounds, format_word, is_flag_met, limits_met, limits_word, is_format, is_given, most_rounds, most_steps, is_report_format, report_word}
 use Rattle.ic_args.specs.Words.{file_met, has_help, value_if_met}
 use Rattle.ic_args.specs.Words.{number_met, reduce_faults, value_met, values_met, version_line}
 use Rattle.ic_args.specs.declared.words.Task.{Task}
@@ -47,6 +47,10 @@ IsCommandMet met = (name : Text) × IsIn name commands × IsMet name met
 abbrev pub AsksText : Text → Option (Text × List Row) → Option Text → Type 0
 AsksText name met file = IsMet name met × (file ≡ file_met met)
 
+-- a command was met that tells what is found
+abbrev pub TellsReport : Option (Text × List Row) → Type 0
+TellsReport met = IsMet (codes "check") met ⊎ IsMet (codes "inspect") met
+
 -- what is answered to the command that was met
 abbrev pub Asks : Option (Text × List Row) → Result Task WordsFault → Type 0
 Asks met (Ok (Settle file)) = AsksText (codes "settle") met (option_map string_bytes file)
@@ -82,10 +86,12 @@ Asks met (Ok (Draw file)) = AsksText (codes "draw") met (option_map string_bytes
 Asks met (Ok (Dump disk names)) = IsMet (codes "dump") met
     × (string_bytes disk ≡ value_met (codes "disk") met)
     × (map string_bytes names.items ≡ values_met (codes "name") met)
-Asks met (Ok (Inspect disk)) = IsMet (codes "inspect") met
+Asks met (Ok (Inspect disk format)) = IsMet (codes "inspect") met
     × (string_bytes disk ≡ value_met (codes "disk") met)
-Asks met (Ok (Check files)) = IsMet (codes "check") met
+    × (value_met (codes "format") met ≡ report_word format)
+Asks met (Ok (Check files format)) = IsMet (codes "check") met
     × (map string_bytes files.items ≡ values_met (codes "file") met)
+    × (value_met (codes "format") met ≡ report_word format)
 Asks met (Ok (Batch disk rounds every workers lines)) = IsMet (codes "batch") met
     × (string_bytes disk ≡ value_met (codes "disk") met)
     × IsReadFrom (codes "rounds") 0 most_rounds met rounds
@@ -99,7 +105,8 @@ Asks met (Ok (Version text)) = ⊥
 Asks met (Err (Words text)) = (IsMet (codes "trace") met
     × (is_format (value_met (codes "format") met) ≡ false))
     ⊎ ((IsMet (codes "reduce") met × (reduce_faults met ≢ []))
-    ⊎ (IsMet (codes "help") met × (has_help (value_if_met (codes "word") met) ≡ false)))
+    ⊎ ((IsMet (codes "help") met × (has_help (value_if_met (codes "word") met) ≡ false))
+    ⊎ (TellsReport met × (is_report_format (value_met (codes "format") met) ≡ false))))
 Asks met (Err Memory) = Unit {0}
 
 -- what is answered where the parser's error is of this kind

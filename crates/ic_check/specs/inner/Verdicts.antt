@@ -3,6 +3,7 @@ use Rattle.std.specs.Prelude.{ℕ, List, [], Bool, true, false, Option}
 use Rattle.ic_output.specs.Output.{AppendsFront}
 use Rattle.ic_check.specs.Content.{Content}
 use Rattle.ic_check.specs.Files.{IsLook, told}
+use Rattle.ic_check.specs.declared.files.Layout.{Layout}
 use Rattle.ic_check.specs.declared.files.Verdict.{Verdict}
 use Rattle.ic_check.specs.declared.files.Verdict.TheVariants.{Fine, Faulty, Unread}
 
@@ -20,7 +21,7 @@ verdict_by true = Faulty
 verdict_by false = Fine
 
 -- a front of the lines of the text of a path's file is written
-abbrev pub WritesPart : (Gives : List ℕ → Content → Type 0) → (path : List ℕ)
+abbrev pub WritesPart : Layout → (Gives : List ℕ → Content → Type 0) → (path : List ℕ)
     → (old new : Option (List ℕ)) → Type 0
-WritesPart Gives path old new = (lines : List ℕ) × (faulty : Bool)
-    × IsLook Gives path (told lines faulty) × AppendsFront old new [] lines
+WritesPart layout Gives path old new = (lines : List ℕ) × (faulty : Bool)
+    × IsLook layout Gives path (told lines faulty) × AppendsFront old new [] lines

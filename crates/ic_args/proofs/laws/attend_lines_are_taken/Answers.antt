@@ -7,7 +7,7 @@ use Rattle.ic_args.proofs.laws.attend_lines_are_taken.Goals as goal
 
 pub returns-clause-taken : goal.returns-clause-taken
 returns-clause-taken c = λ words path r t n scripts line.
-    let is = attend_taken words path r t n scripts line in ap₂ or_else is.free (no_own (codes "attend") _ is.named refl refl refl)
+    let is = attend_taken words path r t n scripts line in ap₂ or_else is.free (no_own (codes "attend") _ is.named refl refl refl refl refl)
 
 pub returns-clause-named : goal.returns-clause-named
 returns-clause-named c = λ words path r t n scripts runners turns workers line names.

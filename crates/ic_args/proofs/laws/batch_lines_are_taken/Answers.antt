@@ -8,7 +8,7 @@ use Rattle.ic_args.proofs.laws.batch_lines_are_taken.Goals as goal
 
 pub returns-clause-taken : goal.returns-clause-taken
 returns-clause-taken c = λ words path r k n file line.
-    let is = batch_taken words path r k n file line in ap₂ or_else is.free (no_own (codes "batch") _ is.named refl refl refl)
+    let is = batch_taken words path r k n file line in ap₂ or_else is.free (no_own (codes "batch") _ is.named refl refl refl refl refl)
 
 pub returns-clause-named : goal.returns-clause-named
 returns-clause-named c = λ words path r k n file rounds every workers line names.

@@ -1,17 +1,20 @@
-use Rattle.std.proofs.Common.{◌∙◌, ap₂, codes, refl}
-use Rattle.clap.specs.Kinds.{or_else}
+use Rattle.std.proofs.Common.{◌∙◌, refl, sym}
 use Rattle.clap.proofs.OnLiterals.{clap_on_literals}
-use Rattle.ic_args.proofs.DumpLines.{check_taken}
-use Rattle.ic_args.proofs.WordsLaws.{no_own}
+use Rattle.ic_args.proofs.CheckLines.{check_taken}
 use Rattle.ic_args.proofs.laws.check_lines_are_taken.Goals as goal
 
 pub returns-clause-taken : goal.returns-clause-taken
-returns-clause-taken c = λ words paths line.
-    let is = check_taken words paths line in ap₂ or_else is.free (no_own (codes "check") _ is.named refl refl refl)
+returns-clause-taken c = λ words shown paths line. (check_taken words shown paths line).free
 
 pub returns-clause-named : goal.returns-clause-named
-returns-clause-named c = λ words paths line names. names.1 ∙ (check_taken words paths line).files_are
+returns-clause-named c = λ words shown paths format line names.
+    let is = check_taken words shown paths line in
+    (names.1 ∙ is.files_are, sym names.2 ∙ is.format_is)
 
 pub returns-clause-none : goal.returns-clause-none
 unfolding clap_on_literals
 returns-clause-none c = refl
+
+pub returns-clause-other : goal.returns-clause-other
+unfolding clap_on_literals
+returns-clause-other c = refl

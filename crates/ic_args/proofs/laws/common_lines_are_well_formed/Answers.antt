@@ -231,7 +231,7 @@ returns-clause-trace c = λ path plain. record {
   last = (refl, plain);
   begins = refl;
   written = ((codes "--format" ∷ codes "svg" ∷ []), [], refl, inr (refl, λ same. cc), refl);
-  options = (inr (refl, inr refl), tt);
+  options = (inr (refl, inr (inl refl)), tt);
   once = (tt, tt);
   rounds = inr (((λ same. omega (arith, ap head same)), tt), refl);
   format = inl (inl (refl, refl));
@@ -262,4 +262,30 @@ returns-clause-batch c = λ path file plain other. record {
   every = inr (((λ same. cc), ((λ same. cc), tt)), refl);
   workers = inr (((λ same. cc), ((λ same. cc), tt)), refl);
   plain = other;
+}
+
+pub returns-clause-check : goal.returns-clause-check
+returns-clause-check c = λ path other plain also. record {
+  given = given_as (codes "format") (codes "json") ∷ [];
+  front = codes "--format=json" ∷ [];
+  begins = refl;
+  written = ((codes "--format=json" ∷ []), [], refl, inl refl, refl);
+  options = ((refl, inr refl), tt);
+  once = (tt, tt);
+  format = inl (inl (refl, refl));
+  one = λ same. cc;
+  plain = (plain, (also, tt));
+  few = omega (arith);
+}
+
+pub returns-clause-inspect : goal.returns-clause-inspect
+returns-clause-inspect c = λ path plain. record {
+  given = given_as (codes "disk") path ∷ [];
+  rest = codes "--disk" ∷ path ∷ [];
+  begins = refl;
+  written = ((codes "--disk" ∷ path ∷ []), [], refl, inr (refl, plain), refl);
+  options = (inl refl, tt);
+  once = (tt, tt);
+  disk = inl (refl, refl);
+  format = inr (((λ same. cc), tt), refl);
 }

@@ -6,7 +6,7 @@ use Rattle.ic_args.proofs.laws.create_lines_are_taken.Goals as goal
 
 pub returns-clause-taken : goal.returns-clause-taken
 returns-clause-taken c = λ words path overwrite line.
-    let is = create_taken words path overwrite line in ap₂ or_else is.free (no_own (codes "create") _ is.named refl refl refl)
+    let is = create_taken words path overwrite line in ap₂ or_else is.free (no_own (codes "create") _ is.named refl refl refl refl refl)
 
 pub returns-clause-named : goal.returns-clause-named
 returns-clause-named c = λ words path overwrite named line names.

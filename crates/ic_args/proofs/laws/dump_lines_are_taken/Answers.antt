@@ -6,7 +6,7 @@ use Rattle.ic_args.proofs.laws.dump_lines_are_taken.Goals as goal
 
 pub returns-clause-taken : goal.returns-clause-taken
 returns-clause-taken c = λ words path listed line.
-    let is = dump_taken words path listed line in ap₂ or_else is.free (no_own (codes "dump") _ is.named refl refl refl)
+    let is = dump_taken words path listed line in ap₂ or_else is.free (no_own (codes "dump") _ is.named refl refl refl refl refl)
 
 pub returns-clause-named : goal.returns-clause-named
 returns-clause-named c = λ words path listed line names.

@@ -58,7 +58,7 @@ pub returns-clause-in_place : goal.returns-clause-in_place
 returns-clause-in_place c = ((223, refl), ((278, refl), ((345, refl), ((424, refl), ((586, refl), ((676, refl), ((481, refl), ((535, refl), ((557, refl), ((564, refl), tt))))))))))
 
 pub returns-clause-formats : goal.returns-clause-formats
-returns-clause-formats c = ((72, refl), ((213, refl), ((266, refl), ((321, refl), ((358, refl), ((377, refl), ((383, refl), tt)))))))
+returns-clause-formats c = ((72, refl), ((213, refl), ((266, refl), ((321, refl), ((358, refl), ((375, refl), ((397, refl), ((404, refl), tt))))))))
 
 pub returns-clause-disk : goal.returns-clause-disk
 returns-clause-disk c = ((39, refl), ((64, refl), ((166, refl), tt)))
@@ -73,10 +73,10 @@ pub returns-clause-jobs : goal.returns-clause-jobs
 returns-clause-jobs c = ((73, refl), ((86, refl), ((97, refl), tt)))
 
 pub returns-clause-file : goal.returns-clause-file
-returns-clause-file c = ((66, refl), ((82, refl), tt))
+returns-clause-file c = ((66, refl), ((92, refl), ((187, refl), ((212, refl), ((248, refl), ((255, refl), tt))))))
 
 pub returns-clause-lines : goal.returns-clause-lines
 returns-clause-lines c = ((89, refl), ((113, refl), ((124, refl), ((299, refl), ((351, refl), ((418, refl), ((470, refl), ((509, refl), ((571, refl), tt)))))))))
 
 pub returns-clause-texts : goal.returns-clause-texts
-returns-clause-texts c = ((92, refl), ((106, refl), ((0, refl), tt)))
+returns-clause-texts c = ((92, refl), ((116, refl), ((234, refl), ((259, refl), ((295, refl), ((302, refl), ((0, refl), tt)))))))

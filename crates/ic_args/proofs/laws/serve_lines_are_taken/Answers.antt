@@ -7,7 +7,7 @@ use Rattle.ic_args.proofs.laws.serve_lines_are_taken.Goals as goal
 
 pub returns-clause-taken : goal.returns-clause-taken
 returns-clause-taken c = λ words path workers every line.
-    let is = serve_taken words path workers every line in ap₂ or_else is.free (no_own (codes "serve") _ is.named refl refl refl)
+    let is = serve_taken words path workers every line in ap₂ or_else is.free (no_own (codes "serve") _ is.named refl refl refl refl refl)
 
 pub returns-clause-named : goal.returns-clause-named
 returns-clause-named c = λ words path workers every threads rounds line names.

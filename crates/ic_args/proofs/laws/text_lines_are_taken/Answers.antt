@@ -8,11 +8,11 @@ use Rattle.ic_args.proofs.laws.text_lines_are_taken.Goals as goal
 
 pub returns-clause-taken : goal.returns-clause-taken
 returns-clause-taken c = λ words file. (
-  (λ line. let is = text_taken (codes "settle") (below 0) is_settle (λ rows. refl) words file line in ap₂ or_else is.free (no_own (codes "settle") _ is.named refl refl refl)),
+  (λ line. let is = text_taken (codes "settle") (below 0) is_settle (λ rows. refl) words file line in ap₂ or_else is.free (no_own (codes "settle") _ is.named refl refl refl refl refl)),
   (
-    (λ line. let is = text_taken (codes "once") (below 1) is_once (λ rows. refl) words file line in ap₂ or_else is.free (no_own (codes "once") _ is.named refl refl refl)),
+    (λ line. let is = text_taken (codes "once") (below 1) is_once (λ rows. refl) words file line in ap₂ or_else is.free (no_own (codes "once") _ is.named refl refl refl refl refl)),
     (
-      (λ line. let is = text_taken (codes "draw") (below 7) is_draw (λ rows. refl) words file line in ap₂ or_else is.free (no_own (codes "draw") _ is.named refl refl refl)),
+      (λ line. let is = text_taken (codes "draw") (below 7) is_draw (λ rows. refl) words file line in ap₂ or_else is.free (no_own (codes "draw") _ is.named refl refl refl refl refl)),
       tt,
     ),
   ),

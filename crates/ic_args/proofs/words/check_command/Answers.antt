@@ -1,10 +1,11 @@
 use Rattle.std.proofs.Common.{codes}
 use Rattle.clap.specs.Words.{new_app}
-use Rattle.ic_args.specs.Words.{file_argument}
+use Rattle.ic_args.specs.Words.{file_argument, valued_option}
 use Rattle.ic_args.specs.inner.Making.{IsMade}
 use Rattle.ic_args.proofs.words.check_command.Goals as goal
 
 pub returns : goal.returns
 returns c =
     let made : IsMade (new_app (codes "check")) c.new.result = (c.new.ensures.app, c.new.ensures.local) in
-    c.with_arg.ensures (new_app (codes "check")) file_argument made c.file_argument.ensures.rule c.file_argument.ensures.local
+    let first = c.with_arg-command.ensures (new_app (codes "check")) (valued_option (codes "format") (codes "text")) made c.valued_option-format.ensures.rule c.valued_option-format.ensures.local in
+    c.with_arg.ensures _ file_argument first c.file_argument.ensures.rule c.file_argument.ensures.local

@@ -1,6 +1,6 @@
 use Rattle.std.proofs.Common.{◌≡◌, ◌∙◌, ◌++◌, [], ℕ, List, append_assoc, append-nil, ap}
 use Rattle.std.specs.List.{flat_map}
-use Rattle.ic_by_rounds.specs.Pictures.{bar_of, bottom_of, middle, point_of, title_of, top_of}
+use Rattle.ic_by_rounds.specs.Pictures.{bar_of, bottom_of, middle, points_of, title_of, top_of}
 use Rattle.ic_by_rounds.specs.declared.sums.Sums.{Sums}
 use Rattle.ic_by_rounds.proofs.picture.picture.Goals as goal
 
@@ -18,4 +18,4 @@ returns c =
     let rows = c.args.rows.now in
     let all = joined c.new-picture.result.items _ _ _ _ _ _ _ _ _ _ _ _ c.new-picture.ensures.items c.in_ok-put_title.ensures c.in_ok-put_top.ensures c.in_ok-put_bars.ensures c.in_ok-put_middle.ensures
     c.in_ok-put_points.ensures c.in_ok-put_bottom.ensures in
-    all ∙ ap (λ (s : Sums). title_of s ++ (top_of s ++ (flat_map bar_of rows ++ (middle ++ (flat_map (point_of s) rows ++ (bottom_of s ++ [])))))) c.sums_of-sums.ensures.value
+    all ∙ ap (λ (s : Sums). title_of s ++ (top_of s ++ (flat_map bar_of rows ++ (middle ++ (points_of s c.args.before rows ++ (bottom_of s ++ [])))))) c.sums_of-sums.ensures.value

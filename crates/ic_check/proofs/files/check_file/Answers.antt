@@ -1,8 +1,6 @@
 use Rattle.std.proofs.Common.{◌∙◌, ◌++◌, List, ℕ, ap, subst}
-use Rattle.ic_causes.specs.Causes.{shown_path}
-use Rattle.ic_check.specs.Checking.{Tells}
 use Rattle.ic_check.specs.Content.{text, unread}
-use Rattle.ic_check.specs.Files.{content_of}
+use Rattle.ic_check.specs.Files.{TellsAs, content_of}
 use Rattle.ic_check.specs.declared.files.Given.{Given}
 use Rattle.ic_check.proofs.Looks.{over_refused, over_told}
 use Rattle.ic_check.proofs.files.check_file.Goals as goal
@@ -17,10 +15,10 @@ returns-in_ok-is_faulty-in-Text-clause-looked g c =
     let faulty = c.in_ok-is_faulty-in-Text.is_faulty in
     let told = c.in_ok-is_faulty-in-Text.ensures.told in
     let given : Gives path (text bytes) = subst (λ (v : Given). Gives path (content_of v)) c.in-Text.is c.in_ok-text.ensures.given in
-    let shown : Tells (shown_path path) c.deref.result.now told.0 faulty =
-    subst (λ (p : List ℕ). Tells (shown_path p) c.deref.result.now told.0 faulty) c.as_bytes.ensures.value told.1 in
-    let tells : Tells (shown_path path) bytes told.0 faulty = subst (λ (b : List ℕ). Tells (shown_path path) b told.0 faulty) c.deref.ensures.value shown in
-    rw c.verdict_of.ensures (over_told Gives path bytes told.0 faulty old new c.args.told.now.items given tells told.2)
+    let shown : TellsAs c.args.layout path c.deref.result.now told.0 faulty =
+    subst (λ (p : List ℕ). TellsAs c.args.layout p c.deref.result.now told.0 faulty) c.as_bytes.ensures.value told.1 in
+    let tells : TellsAs c.args.layout path bytes told.0 faulty = subst (λ (b : List ℕ). TellsAs c.args.layout path b told.0 faulty) c.deref.ensures.value shown in
+    rw c.verdict_of.ensures (over_told c.args.layout Gives path bytes told.0 faulty old new c.args.told.now.items given tells told.2)
 
 pub returns-in_ok-extend_from_slice-in-Unread-clause-looked : goal.returns-in_ok-extend_from_slice-in-Unread-clause-looked
 returns-in_ok-extend_from_slice-in-Unread-clause-looked g c =
@@ -28,5 +26,5 @@ returns-in_ok-extend_from_slice-in-Unread-clause-looked g c =
     let path = c.args.path.now in
     let why = c.in-Unread.why.items in
     let given : Gives path (unread why) = subst (λ (v : Given). Gives path (content_of v)) c.in-Unread.is c.in_ok-text.ensures.given in
-    over_refused Gives path why (g.W.Write.contents c.args.writer.now) c.args.told.now.items c.extend_from_slice.new.self.items given
+    over_refused c.args.layout Gives path why (g.W.Write.contents c.args.writer.now) c.args.told.now.items c.extend_from_slice.new.self.items given
     (c.in_ok-extend_from_slice-in-Unread.ensures.items ∙ ap (λ (l : List ℕ). c.args.told.now.items ++ l) c.deref-in-Unread.ensures.value)

@@ -13,7 +13,7 @@ returns-in_err-verdict-clause-stopped g c =
     let old = g.W.Write.contents c.args.writer.now in
     let mid = g.W.Write.contents c.loop-path.writer in
     let new = g.W.Write.contents c.check_file.new.writer in
-    rw (e.1, e.2) (λ other. over_front Gives string_bytes c.args.paths.now c.loop-path.path-index old mid new c.args.told.now.items c.loop-path.told.items c.check_file.new.told.items c.loop-path.worst
+    rw (e.1, e.2) (λ other. over_front c.args.layout Gives string_bytes c.args.paths.now c.loop-path.path-index old mid new c.args.told.now.items c.loop-path.told.items c.check_file.new.told.items c.loop-path.worst
     c.loop-path.invariant (c.in_err-verdict.ensures.silent other) c.in_err-verdict.ensures.untold)
 
 pub returns-in_err-verdict-clause-cut : goal.returns-in_err-verdict-clause-cut
@@ -25,8 +25,8 @@ returns-in_err-verdict-clause-cut g c =
     let new = g.W.Write.contents c.check_file.new.writer in
     let path = c.path-item.result in
     rw (e.1, e.2) (λ cut.
-    let part : WritesPart Gives (string_bytes path) mid new = subst (λ (p : List ℕ). WritesPart Gives p mid new) c.as_str.ensures.value (c.in_err-verdict.ensures.cut cut) in
-    over_part Gives string_bytes c.args.paths.now c.loop-path.path-index path old mid new c.args.told.now.items c.loop-path.told.items c.check_file.new.told.items c.loop-path.worst
+    let part : WritesPart c.args.layout Gives (string_bytes path) mid new = subst (λ (p : List ℕ). WritesPart c.args.layout Gives p mid new) c.as_str.ensures.value (c.in_err-verdict.ensures.cut cut) in
+    over_part c.args.layout Gives string_bytes c.args.paths.now c.loop-path.path-index path old mid new c.args.told.now.items c.loop-path.told.items c.check_file.new.told.items c.loop-path.worst
     c.loop-path-test.true c.path-item.is c.loop-path.invariant part c.in_err-verdict.ensures.untold)
 
 pub loop-path-preserved : goal.loop-path-preserved
@@ -40,8 +40,8 @@ loop-path-preserved g c =
     let after = c.check_file.new.told.items in
     let path = c.path-item.result in
     let verdict = c.in_ok-verdict.verdict in
-    let here : LooksOver Gives (string_bytes path ∷ []) mid new told after verdict =
-    subst (λ (p : List ℕ). LooksOver Gives (p ∷ []) mid new told after verdict) c.as_str.ensures.value c.in_ok-verdict.ensures.looked in
+    let here : LooksOver c.args.layout Gives (string_bytes path ∷ []) mid new told after verdict =
+    subst (λ (p : List ℕ). LooksOver c.args.layout Gives (p ∷ []) mid new told after verdict) c.as_str.ensures.value c.in_ok-verdict.ensures.looked in
     rw c.worse-worst.ensures
-    (over_more Gives string_bytes c.args.paths.now c.loop-path.path-index path old mid new before told after c.loop-path.worst verdict c.loop-path-test.true c.path-item.is
+    (over_more c.args.layout Gives string_bytes c.args.paths.now c.loop-path.path-index path old mid new before told after c.loop-path.worst verdict c.loop-path-test.true c.path-item.is
     c.loop-path.invariant here)

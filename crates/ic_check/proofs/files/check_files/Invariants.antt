@@ -6,4 +6,4 @@ use Rattle.ic_check.proofs.files.check_files.Given as goal
 -- the files so far are looked over
 abbrev pub invariant-loop-path : goal.invariant-loop-path
 invariant-loop-path g l =
-    LooksOver (g.S.Source.gives l.source) (map string_bytes (take l.path-index l.paths)) (g.W.Write.contents l.fn.writer) (g.W.Write.contents l.writer) l.fn.told.items l.told.items l.worst
+    LooksOver l.layout (g.S.Source.gives l.source) (map string_bytes (take l.path-index l.paths)) (g.W.Write.contents l.fn.writer) (g.W.Write.contents l.writer) l.fn.told.items l.told.items l.worst

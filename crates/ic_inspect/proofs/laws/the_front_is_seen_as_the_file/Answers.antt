@@ -7,7 +7,7 @@ returns c =
     let seen = front_seen c.a_slot_is_open_or_whole.ensures.whole in
     record {
       seen = seen;
-      lines = λ file lines is. record {
+      lines = λ layout file lines is. record {
         first = is.first;
         second = is.second;
         first_seen = seen First is.first file is.first_seen;
