@@ -7,3 +7,4 @@ pub mod LifeLemmas
 pub mod BeginningLemmas
 pub mod LeftLemmas
 pub mod PageLemmas
+pub mod CallLemmas

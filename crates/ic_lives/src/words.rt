@@ -1,18 +1,28 @@
 //! What the words of the laws come to: standing among others, what has come and was answered,
 //! iterates.
 
-ghost use Rattle.std.specs.Prelude.{◌≡◌, [], ◌∷◌, ◌++◌, ℕ, List, Some};
+ghost use Rattle.std.specs.Prelude.{◌≡◌, ◌↔◌, ◌≤◌, [], ◌∷◌, ◌++◌, ℕ, List, None, Some, length, take};
 ghost use Rattle.ic_round.specs.Rounds.{iterate};
 ghost use Rattle.ic_jobs.specs.declared.command.Command.{Command};
 ghost use Rattle.ic_jobs.specs.declared.event.Entry.{Entry};
+ghost use Rattle.ic_jobs.specs.declared.event.Event.TheVariants.{Command as by_command};
 ghost use Rattle.ic_jobs.specs.declared.reply.Reply.{Reply};
+ghost use Rattle.ic_jobs.specs.Events.{IsAnswered};
+ghost use Rattle.ic_jobs.specs.History.{IsLegal, replay};
 ghost use Rattle.ic_jobs.specs.Job.{JobParts};
 ghost use Rattle.ic_jobs.specs.Life.{Life, life};
 ghost use Rattle.ic_jobs.specs.Table.{job_named};
+ghost use Rattle.ic_slots.specs.Held.{HoldsTable};
+ghost use Rattle.ic_book.specs.Book.{table_of};
 ghost use Rattle.ic_book.specs.Entries.{command_entry};
 ghost use Rattle.ic_book.specs.Moves.{Move, answers, brings};
-ghost use Rattle.ic_lives.specs.Headline.{AreIterates};
+ghost use Rattle.ic_book.specs.Server.{Runs, Server, down, up};
+ghost use Rattle.ic_lives.specs.Headline.{AreIterates, AreTold, Tells};
 ghost use Rattle.ic_lives.specs.Histories.{IsHistoryOf, StandAmong, answered, come};
+ghost use Rattle.ic_lives.specs.Past.{IsPast, Next, Past};
+
+use ic_book::Book;
+use ic_disk::Disk;
 
 /// An entry that stands among others is one of them. Those before it stand before that one, and those
 /// after it stand after that one.
@@ -49,3 +59,48 @@ pub fn each_job_is_an_iterate()
         → (began : Life) × (life name history ≡ Some began) × (job.rounds ≡ began.rounds)
         × (job.config ≡ iterate began.rules.rules began.rounds began.began) }
 {}
+
+/// Exactly the names that live by the history have a job in such a table.
+pub fn exactly_the_living_have_a_job()
+    ensures { (history : List Entry) (table : List JobParts) (name : List ℕ)
+        → AreIterates history table
+        → (job_named name table ≡ None) ↔ (life name history ≡ None) }
+{}
+
+/// Each answered command stands in a history of moves, after what earlier moves have answered and
+/// before what later ones have. Its reply is the one over the table that all entries before it leave.
+pub fn each_answered_command_stands()
+    ensures { (later earlier : List Move) (who : ℕ) (command : Command) (reply : Reply)
+        (history : List Entry)
+        → IsHistoryOf (later ++ answers who command reply ∷ earlier) history
+        → (before behind : List Entry)
+        × (history ≡ before ++ command_entry who command reply ∷ behind)
+        × StandAmong (answered earlier) before × StandAmong (answered later) behind
+        × IsAnswered (replay [] before) (by_command command) reply }
+{
+    ic_jobs::laws::histories_split_and_join();
+    ic_jobs::laws::one_entry_is_legal_where_it_is_answered();
+}
+
+/// What a past tells: the table of an open book is that of its entries, and so are the jobs; a file
+/// has the table after so many of them, and no fewer than last. A run is told by a past of its moves,
+/// and up to each move by the past before it.
+pub fn what_is_told<D: Disk>(book: &Book<D>, found: &D)
+    ensures table { (past : Past) → Tells {ghosts = D.Disk} past (up book.now)
+        → IsLegal [] past.entries × (past.lasting ≤ length past.entries)
+        × (table_of book.now ≡ replay [] past.entries)
+        × AreIterates past.entries (table_of book.now) }
+    ensures file { (past : Past) (file : List ℕ) → Tells {ghosts = D.Disk} past (down found.now)
+        → D.image found.now file → IsLegal [] past.entries
+        × ((n : ℕ) × (past.lasting ≤ n) × (n ≤ length past.entries)
+        × HoldsTable (replay [] (take n past.entries)) file) }
+    ensures run { (moves : List Move) (first last : Server D.Disk) (run : Runs moves first last)
+        (past : Past) → AreTold moves first last run past → IsPast moves past × Tells past last }
+    ensures earlier { (move : Move) (moves : List Move) (first last : Server D.Disk)
+        (run : Runs (move ∷ moves) first last) (past : Past)
+        → AreTold (move ∷ moves) first last run past
+        → (before : Past) × AreTold moves first run.0 run.1 before × Next move before past }
+{
+    let _ = book;
+    let _ = found;
+}

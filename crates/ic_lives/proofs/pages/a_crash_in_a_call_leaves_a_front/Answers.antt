@@ -1,4 +1,4 @@
-use Rattle.std.proofs.Common.{◌∙◌, ⊎_elim}
+use Rattle.std.proofs.Common.{◌∙◌}
 use Rattle.ic_lives.proofs.LeftLemmas.{stop_front}
 use Rattle.ic_lives.proofs.pages.a_crash_in_a_call_leaves_a_front.Goals as goal
 
