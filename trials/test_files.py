@@ -13,6 +13,7 @@ WORDS = [
     (["settle"], CHAIN),
     (["once"], ADD),
     (["draw"], CHAIN),
+    (["expand"], "{copy D} # twice\n<one,two|D(one,two)=S(Z)>"),
     (["reduce"], ADD),
     (["reduce", "--partial", "--steps", "1000"], ADD),
     (["reduce", "--rounds=9", "--workers", "3"], ADD),

@@ -10,7 +10,7 @@ import sys
 from program import IN_MEMORY, PROGRAM, TOP, Trial, run
 from test_pages import typed_in
 
-WORDS = "settle once create serve attend reduce trace draw dump inspect check batch help".split()
+WORDS = "settle once create serve attend reduce trace draw dump inspect check batch expand help".split()
 
 
 def help_of(*words):

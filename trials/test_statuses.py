@@ -308,7 +308,7 @@ class Servings(Trial):
         disk = self.disk()
         folder = os.open(self.room, os.O_RDONLY)
         self.addCleanup(os.close, folder)
-        for words in (["settle"], ["once"], ["reduce"], ["trace"], ["draw"], ["serve", "--disk", disk]):
+        for words in (["settle"], ["once"], ["reduce"], ["trace"], ["draw"], ["expand"], ["serve", "--disk", disk]):
             self.isnt_read(run(*words, stdin=folder), "is a folder")
             shell = ["-c", 'exec "$0" "$@" <&-', PROGRAM, *words]
             self.isnt_read(run(*shell, program="/bin/sh"), "error 9 of the system")
@@ -317,7 +317,7 @@ class Servings(Trial):
         """What came before is answered."""
         disk, wanted = self.disk(), "nothing is there yet, and it is set not to wait"
         cases = [(["serve", "--disk", disk], b"list\nlist\n", b"jobs\njobs\n"), (["serve", "--disk", disk], b"list", b"")]
-        cases += [([word], b"<|", b"") for word in ("settle", "once", "reduce", "trace", "draw")]
+        cases += [([word], b"<|", b"") for word in ("settle", "once", "reduce", "trace", "draw", "expand")]
         for words, given, out in cases:
             read, write = os.pipe2(os.O_NONBLOCK)
             try:

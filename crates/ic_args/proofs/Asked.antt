@@ -12,7 +12,7 @@ use Rattle.ic_args.specs.Help.{help_by, help_of}
 use Rattle.ic_args.specs.Words.{AnswersWords, GivesHelp, GivesTask, GivesVersion, Names, command_line, file_met, format_word, help_mistakes, is_format, is_limits, limits_word, mistakes_of, most_rounds, most_steps, reduce_mistakes, value_if_met, is_report_format, report_mistakes, report_word}
 use Rattle.ic_args.specs.inner.Asking.{AnswersRefused, Asks, IsMet, TellsReport}
 use Rattle.ic_args.specs.declared.words.Task.{Task}
-use Rattle.ic_args.specs.declared.words.Task.TheVariants.{Settle, Once, Create, Serve, Attend, Reduce, ReduceByRounds, Trace, Draw, Dump, Inspect, Check, Batch, Help, Version}
+use Rattle.ic_args.specs.declared.words.Task.TheVariants.{Settle, Once, Create, Serve, Attend, Reduce, ReduceByRounds, Trace, Draw, Dump, Inspect, Check, Batch, Help, Version, Expand}
 use Rattle.ic_args.specs.declared.words.ReportFormat.{ReportFormat}
 use Rattle.ic_args.specs.declared.words.ReportFormat.TheVariants as check
 use Rattle.ic_args.specs.declared.words.TraceFormat.{TraceFormat}
@@ -205,6 +205,12 @@ asked words none called (Ok (Batch disk rounds every workers lines)) asks =
       settle = λ is. absurd (not_settle words (codes "batch") asks.0 refl is);
       once = λ is. absurd (not_once words (codes "batch") asks.0 refl is);
     }
+asked words none called (Ok (Expand file)) asks = record {
+  answers = ap₂ or_else none (no_own (codes "expand") _ asks.0 refl refl refl refl refl);
+  named = (called_as called.0 (codes "expand") words called.1 asks.0, asks.1);
+  settle = λ is. absurd (not_settle words (codes "expand") asks.0 refl is);
+  once = λ is. absurd (not_once words (codes "expand") asks.0 refl is);
+}
 asked words none called (Ok (Help text)) asks = record {
   answers = subst (IsAmong DisplayHelp) (sym (ap₂ or_else none (is_help (subcommand_of command_line words) true asks.0 asks.1))) (inl refl);
   named = asks.2 ∙ sym (ap (λ (kinds : Kinds). helped words (is_empty kinds)) none);
@@ -306,6 +312,7 @@ not_taken words kind (Ok (Dump disk names)) made is = absurd is
 not_taken words kind (Ok (Inspect disk format)) made is = absurd is
 not_taken words kind (Ok (Check files format)) made is = absurd is
 not_taken words kind (Ok (Batch disk rounds every workers lines)) made is = absurd is
+not_taken words kind (Ok (Expand file)) made is = absurd is
 not_taken words kind (Err (Words text)) made is =
     let mistake = made is.0 in
     record {

@@ -142,3 +142,6 @@ batch_options = disk ∷ life ∷ every ∷ workers ∷ lines ∷ help ∷ []
 
 pub is_batch : IsCommand (codes "batch") (below 11) batch_options
 is_batch = record { is = inr (inr (inr (inr (inr (inr (inr (inr (inr (inr (inr (inl refl))))))))))); enters = λ rest. refl; meets = λ rest. refl }
+
+pub is_expand : IsCommand (codes "expand") (below 12) text_options
+is_expand = record { is = inr (inr (inr (inr (inr (inr (inr (inr (inr (inr (inr (inr (inl refl)))))))))))); enters = λ rest. refl; meets = λ rest. refl }

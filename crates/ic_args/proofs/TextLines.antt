@@ -1,4 +1,4 @@
--- Each well-formed line of `settle`, `once` or `draw` is taken, with its FILE.
+-- Each well-formed line of `settle`, `once`, `draw` or `expand` is taken, with its FILE.
 use Rattle.std.proofs.Common.{◌≡◌, List, [], ◌∷◌, Option, None, Some, Bool, true, false, codes, fold, inl, inr, refl, ◌∙◌, ap}
 use Rattle.clap.specs.Words.{Row, Text, fault_of, subcommand_of}
 use Rattle.clap.specs.Simple.{Shape}

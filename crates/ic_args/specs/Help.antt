@@ -20,6 +20,7 @@ program_help = text_of (codes "A job server for the interaction calculus"
     ∷ codes "  once     Makes one round, and prints the configuration"
     ∷ codes "  settle   Settles a configuration that has no rules, and prints it"
     ∷ codes "  check    Prints the faults of texts in files, and warns of what is mostly a mistake"
+    ∷ codes "  expand   Writes a text with comments, long names, copy and erase as a plain one"
     ∷ []
     ∷ codes "To run jobs, which outlive a crash:"
     ∷ codes "  create   Makes the file F an empty disk"
@@ -245,6 +246,29 @@ draw_help = text_of (codes "Draws the net of a configuration as a graph in Graph
     ∷ codes "  }"
     ∷ [])
 
+abbrev pub expand_help : Text
+expand_help = text_of ((codes "Writes a text with comments, long names, copy and erase as one that the other"
+    ++ codes " commands read")
+    ∷ []
+    ∷ codes "Usage: icserve expand [FILE]"
+    ∷ []
+    ∷ codes "Arguments:"
+    ∷ codes "  [FILE]  The path of the text; where there is none, or -, standard input is read"
+    ∷ []
+    ∷ codes "Options:"
+    ∷ codes "  -h, --help  Print help"
+    ∷ []
+    ∷ (codes "A comment is # and the rest of its line. A name is a small letter, and then"
+    ++ codes " letters, digits and _.")
+    ∷ (codes "Among the rules `copy S` stands for the rules by which S(x,y) copies each"
+    ++ codes " symbol of the text, and")
+    ∷ codes "`erase S` for those by which S erases each. A rule that is given is not written again."
+    ∷ []
+    ∷ codes "Example:"
+    ∷ codes "  $ echo '{copy D} <one,two|D(one,two)=S(Z)>  # twice' | icserve expand | icserve reduce"
+    ∷ codes "  <S(Z),S(Z)|>"
+    ∷ [])
+
 abbrev pub dump_help : Text
 dump_help = text_of (codes "Prints jobs of the disk in the file F, as lines that submit them"
     ∷ []
@@ -355,6 +379,7 @@ helps = (codes "settle", settle_help) ∷ (codes "once", once_help) ∷ (codes "
     ∷ (codes "serve", serve_help) ∷ (codes "attend", attend_help) ∷ (codes "reduce", reduce_help)
     ∷ (codes "trace", trace_help) ∷ (codes "draw", draw_help) ∷ (codes "dump", dump_help)
     ∷ (codes "inspect", inspect_help) ∷ (codes "check", check_help) ∷ (codes "batch", batch_help)
+    ∷ (codes "expand", expand_help)
     ∷ (codes "help", help_help) ∷ []
 
 -- the help of the command of this name, none where it names none

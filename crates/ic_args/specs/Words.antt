@@ -17,7 +17,7 @@ use Rattle.clap.specs.declared.error.ErrorKind.TheVariants.{DisplayHelp, Display
 use Rattle.clap.specs.declared.error.ErrorKind.TheVariants.{ArgumentConflict, MissingRequiredArgument}
 use Rattle.ic_args.specs.declared.words.Task.{Task}
 use Rattle.ic_args.specs.declared.words.Task.TheVariants.{Settle, Once, Create, Serve, Attend}
-use Rattle.ic_args.specs.declared.words.Task.TheVariants.{Reduce, ReduceByRounds, Trace, Draw, Dump, Inspect, Check, Batch}
+use Rattle.ic_args.specs.declared.words.Task.TheVariants.{Reduce, ReduceByRounds, Trace, Draw, Dump, Inspect, Check, Batch, Expand}
 use Rattle.ic_args.specs.declared.words.Task.TheVariants.{Help, Version}
 use Rattle.ic_args.specs.declared.words.ReportFormat.{ReportFormat}
 use Rattle.ic_args.specs.declared.words.ReportFormat.TheVariants as check
@@ -197,11 +197,12 @@ abbrev pub with_looks : App
 with_looks = with_subcommand (with_subcommand (with_subcommand with_disks reduce_command.top)
     trace_command.top) (text_command (codes "draw")).top
 
--- the command line of the program, which has `dump`, `inspect`, `check`, `batch` and `help`, too
+-- the command line of the program, which has `dump`, `inspect`, `check`, `batch`, `expand` and `help`,
+-- too
 abbrev pub command_line : App
 command_line = with_subcommand (with_subcommand (with_subcommand (with_subcommand (with_subcommand
-    with_looks dump_command.top) inspect_command.top) check_command.top) batch_command.top)
-    help_command.top
+    (with_subcommand with_looks dump_command.top) inspect_command.top) check_command.top)
+    batch_command.top) (text_command (codes "expand")).top) help_command.top
 
 -- the line that tells the version
 abbrev pub version_line : List ℕ
@@ -339,6 +340,7 @@ AnswersWords mistakes (Ok (Dump disk names)) = mistakes ≡ []
 AnswersWords mistakes (Ok (Inspect disk format)) = mistakes ≡ []
 AnswersWords mistakes (Ok (Check files format)) = mistakes ≡ []
 AnswersWords mistakes (Ok (Batch disk rounds every workers lines)) = mistakes ≡ []
+AnswersWords mistakes (Ok (Expand file)) = mistakes ≡ []
 AnswersWords mistakes (Ok (Help text)) = IsAmong DisplayHelp mistakes
 AnswersWords mistakes (Ok (Version text)) =
     IsAmong DisplayVersion mistakes × (string_bytes text ≡ version_line)
@@ -369,6 +371,7 @@ GivesHelp (Ok (Dump disk names)) = ⊥
 GivesHelp (Ok (Inspect disk format)) = ⊥
 GivesHelp (Ok (Check files format)) = ⊥
 GivesHelp (Ok (Batch disk rounds every workers lines)) = ⊥
+GivesHelp (Ok (Expand file)) = ⊥
 GivesHelp (Ok (Version text)) = ⊥
 GivesHelp (Err (Words text)) = ⊥
 
@@ -389,6 +392,7 @@ GivesVersion (Ok (Dump disk names)) = ⊥
 GivesVersion (Ok (Inspect disk format)) = ⊥
 GivesVersion (Ok (Check files format)) = ⊥
 GivesVersion (Ok (Batch disk rounds every workers lines)) = ⊥
+GivesVersion (Ok (Expand file)) = ⊥
 GivesVersion (Ok (Help text)) = ⊥
 GivesVersion (Err (Words text)) = ⊥
 
@@ -501,5 +505,6 @@ Names words (Check files format) = BeginsWith (codes "check") words
     × (value_met (codes "format") (subcommand_of command_line words) ≡ report_word format)
 Names words (Batch disk rounds every workers lines) =
     NamesBatch words (string_bytes disk) rounds every workers (string_bytes lines)
+Names words (Expand file) = NamesText (codes "expand") words (option_map string_bytes file)
 Names words (Help text) = string_bytes text ≡ help_asked words
 Names words (Version text) = string_bytes text ≡ version_line

@@ -17,6 +17,7 @@ To look at a system, which is read from a file or from standard input:
   once     Makes one round, and prints the configuration
   settle   Settles a configuration that has no rules, and prints it
   check    Prints the faults of texts in files, and warns of what is mostly a mistake
+  expand   Writes a text with comments, long names, copy and erase as a plain one
 
 To run jobs, which outlive a crash:
   create   Makes the file F an empty disk
@@ -228,6 +229,27 @@ Example:
   }
 ";
 
+/// The help of `expand`.
+const EXPAND: &str = "\
+Writes a text with comments, long names, copy and erase as one that the other commands read
+
+Usage: icserve expand [FILE]
+
+Arguments:
+  [FILE]  The path of the text; where there is none, or -, standard input is read
+
+Options:
+  -h, --help  Print help
+
+A comment is # and the rest of its line. A name is a small letter, and then letters, digits and _.
+Among the rules `copy S` stands for the rules by which S(x,y) copies each symbol of the text, and
+`erase S` for those by which S erases each. A rule that is given is not written again.
+
+Example:
+  $ echo '{copy D} <one,two|D(one,two)=S(Z)>  # twice' | icserve expand | icserve reduce
+  <S(Z),S(Z)|>
+";
+
 /// The help of `dump`.
 const DUMP: &str = "\
 Prints jobs of the disk in the file F, as lines that submit them
@@ -385,6 +407,7 @@ fn named_help(word: &str) -> Option<&'static str>
         "inspect" => Some(INSPECT),
         "check" => Some(CHECK),
         "batch" => Some(BATCH),
+        "expand" => Some(EXPAND),
         "help" => Some(HELP),
         _ => None,
     }

@@ -7,14 +7,14 @@ ghost use Rattle.clap.specs.Words.{Text};
 ghost use Rattle.clap.specs.declared.error.ErrorKind.{ErrorKind};
 ghost use Rattle.clap.specs.declared.error.ErrorKind.TheVariants.{ArgumentConflict, DisplayHelp, DisplayVersion, InvalidSubcommand, InvalidValue, MissingRequiredArgument};
 ghost use Rattle.ic_args.specs.declared.words.Task.TheVariants.{Settle, Once, Create, Serve, Attend, Reduce, ReduceByRounds};
-ghost use Rattle.ic_args.specs.declared.words.Task.TheVariants.{Trace, Draw, Dump, Inspect, Check, Batch, Help, Version};
+ghost use Rattle.ic_args.specs.declared.words.Task.TheVariants.{Trace, Draw, Dump, Inspect, Check, Batch, Help, Version, Expand};
 ghost use Rattle.ic_args.specs.declared.words.ReportFormat.{ReportFormat};
 ghost use Rattle.ic_args.specs.declared.words.TraceFormat.{TraceFormat};
 ghost use Rattle.ic_args.specs.declared.words.TextLimits.{TextLimits};
 ghost use Rattle.ic_args.specs.declared.words.WordsFault.TheVariants.{Words, Memory};
 ghost use Rattle.ic_args.specs.Words.{AnswersWords, format_word, limits_word, help_asked, mistakes_of, words_fault_number, IsDecimal, Names, report_word};
 ghost use Rattle.ic_args.specs.Help.{help_by, help_of, Says, program_help, help_help, settle_help, once_help, create_help, serve_help, attend_help};
-ghost use Rattle.ic_args.specs.Help.{batch_help, check_help, draw_help, dump_help, inspect_help, reduce_help, trace_help};
+ghost use Rattle.ic_args.specs.Help.{batch_help, check_help, draw_help, dump_help, expand_help, inspect_help, reduce_help, trace_help};
 ghost use Rattle.ic_args.specs.Lines.{AreInPlace, AreOfRounds, Given, HasNoHyphen, IsAttendLine, IsBatchLine, IsCheckLine, IsCreateLine, IsDumpLine};
 ghost use Rattle.ic_args.specs.Lines.{IsInspectLine, IsReduceLine, IsServeLine, IsTextLine, IsTraceLine};
 
@@ -60,6 +60,8 @@ pub fn commands_are_taken()
     ensures trace { mistakes_of (codes "trace" ∷ []) ≡ [] }
     ensures draw { mistakes_of (codes "draw" ∷ []) ≡ [] }
     ensures drawn { mistakes_of (codes "draw" ∷ codes "--" ∷ []) ≡ [] }
+    ensures expand { mistakes_of (codes "expand" ∷ []) ≡ [] }
+    ensures expanded { mistakes_of (codes "expand" ∷ codes "--" ∷ []) ≡ [] }
 {}
 
 /// The words that ask for help, at each command too, and those that ask for the version.
@@ -86,15 +88,16 @@ pub fn help_and_version_are_asked()
         ≡ DisplayHelp ∷ [] }
     ensures check { mistakes_of (codes "check" ∷ codes "--help" ∷ []) ≡ DisplayHelp ∷ [] }
     ensures batch { mistakes_of (codes "batch" ∷ codes "--help" ∷ []) ≡ DisplayHelp ∷ [] }
+    ensures expand { mistakes_of (codes "expand" ∷ codes "--help" ∷ []) ≡ DisplayHelp ∷ [] }
     ensures word { mistakes_of (codes "help" ∷ []) ≡ DisplayHelp ∷ [] }
     ensures words { AllByRecursion (λ name. mistakes_of (codes "help" ∷ name ∷ []) ≡ DisplayHelp ∷ [])
         (codes "settle" ∷ codes "once" ∷ codes "create" ∷ codes "serve" ∷ codes "attend"
         ∷ codes "reduce" ∷ codes "trace" ∷ codes "draw" ∷ codes "dump"
-        ∷ codes "inspect" ∷ codes "check" ∷ codes "batch" ∷ codes "help" ∷ []) }
+        ∷ codes "inspect" ∷ codes "check" ∷ codes "batch" ∷ codes "expand" ∷ codes "help" ∷ []) }
     ensures asked { AllByRecursion (λ name. help_asked (codes "help" ∷ name ∷ []) ≡ help_of (name ∷ []))
         (codes "settle" ∷ codes "once" ∷ codes "create" ∷ codes "serve" ∷ codes "attend"
         ∷ codes "reduce" ∷ codes "trace" ∷ codes "draw" ∷ codes "dump"
-        ∷ codes "inspect" ∷ codes "check" ∷ codes "batch" ∷ codes "help" ∷ []) }
+        ∷ codes "inspect" ∷ codes "check" ∷ codes "batch" ∷ codes "expand" ∷ codes "help" ∷ []) }
     ensures whole { help_asked (codes "help" ∷ []) ≡ program_help }
     ensures unknown { mistakes_of (codes "help" ∷ codes "helps" ∷ []) ≡ InvalidSubcommand ∷ [] }
     ensures version { mistakes_of (codes "--version" ∷ []) ≡ DisplayVersion ∷ [] }
@@ -117,18 +120,20 @@ pub fn each_command_has_its_help()
     ensures inspect { (words : List Text) → help_of (codes "inspect" ∷ words) ≡ inspect_help }
     ensures check { (words : List Text) → help_of (codes "check" ∷ words) ≡ check_help }
     ensures batch { (words : List Text) → help_of (codes "batch" ∷ words) ≡ batch_help }
+    ensures expand { (words : List Text) → help_of (codes "expand" ∷ words) ≡ expand_help }
     ensures help { (words : List Text) → help_of (codes "help" ∷ words) ≡ help_help }
     ensures program { (word : Text) (words : List Text) → AllByRecursion (λ name. word ≢ name)
         (codes "settle" ∷ codes "once" ∷ codes "create" ∷ codes "serve" ∷ codes "attend"
         ∷ codes "reduce" ∷ codes "trace" ∷ codes "draw" ∷ codes "dump"
-        ∷ codes "inspect" ∷ codes "check" ∷ codes "batch" ∷ codes "help" ∷ []) → help_of (word ∷ words) ≡ program_help }
+        ∷ codes "inspect" ∷ codes "check" ∷ codes "batch" ∷ codes "expand" ∷ codes "help" ∷ []) → help_of (word ∷ words) ≡ program_help }
     ensures commands { AllByRecursion (Says program_help) (codes "  settle  " ∷ codes "  once  "
         ∷ codes "  create  " ∷ codes "  serve  " ∷ codes "  attend  "
         ∷ codes "  reduce  " ∷ codes "  trace  " ∷ codes "  draw  " ∷ codes "  dump  "
-        ∷ codes "  inspect  " ∷ codes "  check  " ∷ codes "  batch  " ∷ codes "  help  "
+        ∷ codes "  inspect  " ∷ codes "  check  " ∷ codes "  batch  " ∷ codes "  expand  " ∷ codes "  help  "
         ∷ codes "-h, --help" ∷ codes "-V, --version" ∷ []) }
     ensures streams { Says settle_help (codes "icserve settle [FILE]")
         × Says once_help (codes "icserve once [FILE]") × Says draw_help (codes "icserve draw [FILE]")
+        × Says expand_help (codes "icserve expand [FILE]")
         × Says reduce_help (codes "[FILE]") × Says trace_help (codes "[FILE]")
         × Says help_help (codes "icserve help [WORD]") }
     ensures rounds { AllByRecursion (Says reduce_help) (codes "icserve reduce" ∷ codes "--rounds <N>"
@@ -166,18 +171,20 @@ pub fn each_command_has_its_help()
         ∷ codes "Prints the faults of texts with their places" ∷ []) }
 {}
 
-/// A well-formed line of `settle`, `once` or `draw` is taken, and names the FILE that it is given, or
+/// A well-formed line of `settle`, `once`, `draw` or `expand` is taken, and names the FILE that it is given, or
 /// standard input.
 pub fn text_lines_are_taken(named: &Option<String>)
     ensures taken { (words : List Text) (file : Option Text) → AllByRecursion (λ command.
         IsTextLine command file words → mistakes_of words ≡ [])
-        (codes "settle" ∷ codes "once" ∷ codes "draw" ∷ []) }
+        (codes "settle" ∷ codes "once" ∷ codes "draw" ∷ codes "expand" ∷ []) }
     ensures settle { (words : List Text) (file : Option Text) → IsTextLine (codes "settle") file words
         → Names words (Settle named.now) → option_map string_bytes named.now ≡ file }
     ensures once { (words : List Text) (file : Option Text) → IsTextLine (codes "once") file words
         → Names words (Once named.now) → option_map string_bytes named.now ≡ file }
     ensures draw { (words : List Text) (file : Option Text) → IsTextLine (codes "draw") file words
         → Names words (Draw named.now) → option_map string_bytes named.now ≡ file }
+    ensures expand { (words : List Text) (file : Option Text) → IsTextLine (codes "expand") file words
+        → Names words (Expand named.now) → option_map string_bytes named.now ≡ file }
 {}
 
 /// A well-formed line of `create` is taken, and names the file that it is given, and whether it has

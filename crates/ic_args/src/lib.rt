@@ -7,4 +7,4 @@ mod help;
 pub mod laws;
 mod words;
 
-pub use words::{Task, TextLimits, TraceFormat, WordsFault, read_words, ReportFormat};
+pub use words::{ReportFormat, Task, TextLimits, TraceFormat, WordsFault, read_words};

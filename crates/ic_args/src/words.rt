@@ -189,6 +189,11 @@ pub enum Task {
         /// The path of the lines.
         lines: String,
     },
+    /// Write a text with comments, long names and generic rules as one without.
+    Expand {
+        /// The path of the text.
+        file: Option<String>,
+    },
     /// Show this help.
     Help(String),
     /// Show this line, which tells the version.
@@ -317,6 +322,7 @@ fn task_named(alloc: Global, name: &str, matches: &ArgMatches) -> Result<Task, W
         "inspect" => inspect_task(alloc, matches),
         "check" => check_task(alloc, matches),
         "batch" => batch_task(alloc, matches),
+        "expand" => expand_task(alloc, matches),
         "help" => help_task(alloc, matches),
         _ => unreachable!(),
     }
@@ -347,6 +353,15 @@ fn draw_task(alloc: Global, matches: &ArgMatches) -> Result<Task, WordsFault>
 {
     let file = file_of(alloc, matches)?;
     Ok(Task::Draw { file })
+}
+
+/// The task of `expand`.
+fn expand_task(alloc: Global, matches: &ArgMatches) -> Result<Task, WordsFault>
+    requires { IsMet (codes "expand") (subcommand_rows_of matches.now) }
+    ensures { Asks (subcommand_rows_of matches.now) result }
+{
+    let file = file_of(alloc, matches)?;
+    Ok(Task::Expand { file })
 }
 
 /// The task of `help`. A word that names no command is refused as the parser refuses such a command.
@@ -1072,5 +1087,6 @@ fn command<'a>(alloc: Global) -> Result<Command<'a>, AllocError>
     let program = with_command(program, inspect_command(alloc));
     let program = with_command(program, check_command(alloc));
     let program = with_command(program, batch_command(alloc));
+    let program = with_command(program, text_command(alloc, "expand"));
     with_command(program, help_command(alloc))
 }

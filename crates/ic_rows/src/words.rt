@@ -1,6 +1,6 @@
 //! The words after the program's name.
 
-use ic_args::{Task, TextLimits, TraceFormat, read_words, ReportFormat};
+use ic_args::{ReportFormat, Task, TextLimits, TraceFormat, read_words};
 use ic_notation::Trouble;
 use std::alloc::{AllocError, Global};
 
@@ -93,6 +93,7 @@ fn asked(alloc: Global, task: &Task) -> Result<String, AllocError> {
             workers,
             lines,
         } => format!(in alloc; "batch {disk} {rounds} {every} {workers} {lines}"),
+        Task::Expand { file } => with_file(String::from_str(alloc, "expand")?, file),
         Task::Help(_) => String::from_str(alloc, "help"),
         Task::Version(text) => format!(in alloc; "version {text}"),
     }

@@ -94,7 +94,7 @@ fn file_of(task: &Task) -> Option<&str> {
     let file = match task {
         Task::Settle { file } | Task::Once { file } | Task::Draw { file } => file,
         Task::Reduce { file, .. } | Task::ReduceByRounds { file, .. } => file,
-        Task::Trace { file, .. } => file,
+        Task::Trace { file, .. } | Task::Expand { file } => file,
         _ => return None,
     };
     match file {
@@ -187,6 +187,7 @@ fn run<T: Threads + Wait + Copy + Send + Sync + 'static, R: Read>(
             looking::trace(rt, *rounds, *format, input, notes, told)
         }
         Task::Draw { .. } => looking::draw(rt, input, notes, told),
+        Task::Expand { .. } => texts::expand(rt, input, notes, told),
         Task::Dump { disk, names } => dumping::dump(rt, disk.as_str(), names, notes),
         Task::Inspect { disk, format } => { inspecting::inspect(rt, disk.as_str(), *format, notes) }
         Task::Check { files, format } => checking::check(rt, files, *format, notes, told),

@@ -1,6 +1,8 @@
-//! Texts in files, which have a bound on their length.
+//! Texts in files, which have a bound on their length, and `expand`.
 
-use ic_causes::shown_path;
+use ic_causes::{NotedOutput, Notes, shown_path};
+use ic_exits::Failure;
+use ic_expand::expand_stream;
 use std::alloc::{AllocError, Global};
 use std::io::{self, Read};
 
@@ -26,4 +28,16 @@ pub(crate) fn too_long(alloc: Global, path: &str) -> Result<Vec<u8>, AllocError>
     let mut line = shown_path(alloc, path.as_bytes())?;
     line.extend_from_slice(TOO_LONG)?;
     Ok(line)
+}
+
+/// Prints the text of the calculus for which a text stands. Where the text is refused, the lines that tell its place are
+/// appended to `told`.
+pub(crate) fn expand<R: Read>(
+    rt: &HostRuntime,
+    input: &mut R,
+    notes: &Notes,
+    told: &mut Vec<u8>,
+) -> Result<(), Failure> {
+    let mut output = NotedOutput::new(io::writer(rt), notes);
+    expand_stream(rt.alloc(), input, &mut output, told).map_err(Failure::Stream)
 }

@@ -9,7 +9,7 @@ use Rattle.ic_args.specs.Words.{file_met, has_help, value_if_met}
 use Rattle.ic_args.specs.Words.{number_met, reduce_faults, value_met, values_met, version_line}
 use Rattle.ic_args.specs.declared.words.Task.{Task}
 use Rattle.ic_args.specs.declared.words.Task.TheVariants.{Settle, Once, Create, Serve, Attend, Reduce, ReduceByRounds}
-use Rattle.ic_args.specs.declared.words.Task.TheVariants.{Trace, Draw, Dump, Inspect, Check, Batch, Help, Version}
+use Rattle.ic_args.specs.declared.words.Task.TheVariants.{Trace, Draw, Dump, Inspect, Check, Batch, Expand, Help, Version}
 use Rattle.ic_args.specs.declared.words.WordsFault.{WordsFault}
 use Rattle.ic_args.specs.declared.words.WordsFault.TheVariants.{Words, Memory}
 
@@ -32,7 +32,7 @@ IsMet name met = option_map (λ p. p.0) met ≡ Some name
 abbrev pub commands : List Text
 commands = codes "settle" ∷ codes "once" ∷ codes "create" ∷ codes "serve" ∷ codes "attend"
     ∷ codes "reduce" ∷ codes "trace" ∷ codes "draw" ∷ codes "dump"
-    ∷ codes "inspect" ∷ codes "check" ∷ codes "batch" ∷ codes "help" ∷ []
+    ∷ codes "inspect" ∷ codes "check" ∷ codes "batch" ∷ codes "expand" ∷ codes "help" ∷ []
 
 -- it is one of these
 abbrev pub IsIn : Text → List Text → Type 0
@@ -98,6 +98,7 @@ Asks met (Ok (Batch disk rounds every workers lines)) = IsMet (codes "batch") me
     × IsReadFrom (codes "every") 1 1000000 met every
     × IsReadFrom (codes "workers") 1 64 met workers
     × (string_bytes lines ≡ value_met (codes "lines") met)
+Asks met (Ok (Expand file)) = AsksText (codes "expand") met (option_map string_bytes file)
 Asks met (Ok (Help text)) = IsMet (codes "help") met
     × (has_help (value_if_met (codes "word") met) ≡ true)
     × (string_bytes text ≡ help_by (value_if_met (codes "word") met))

@@ -33,3 +33,11 @@ returns-clause-draw c = refl
 pub returns-clause-drawn : goal.returns-clause-drawn
 unfolding clap_on_literals
 returns-clause-drawn c = refl
+
+pub returns-clause-expand : goal.returns-clause-expand
+unfolding clap_on_literals
+returns-clause-expand c = refl
+
+pub returns-clause-expanded : goal.returns-clause-expanded
+unfolding clap_on_literals
+returns-clause-expanded c = refl

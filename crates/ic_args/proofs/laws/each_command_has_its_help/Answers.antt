@@ -39,6 +39,9 @@ returns-clause-check c = λ words. refl
 pub returns-clause-batch : goal.returns-clause-batch
 returns-clause-batch c = λ words. refl
 
+pub returns-clause-expand : goal.returns-clause-expand
+returns-clause-expand c = λ words. refl
+
 pub returns-clause-help : goal.returns-clause-help
 returns-clause-help c = λ words. refl
 
@@ -46,10 +49,10 @@ pub returns-clause-program : goal.returns-clause-program
 returns-clause-program c = λ word words others. ap (λ o. unwrap_or o program_help) (no_help_named word others)
 
 pub returns-clause-commands : goal.returns-clause-commands
-returns-clause-commands c = ((426, refl), ((369, refl), ((617, refl), ((659, refl), ((733, refl), ((140, refl), ((218, refl), ((287, refl), ((916, refl), ((992, refl), ((494, refl), ((824, refl), ((1074, refl), ((1175, refl), ((1203, refl), tt)))))))))))))))
+returns-clause-commands c = ((426, refl), ((369, refl), ((699, refl), ((741, refl), ((815, refl), ((140, refl), ((218, refl), ((287, refl), ((998, refl), ((1074, refl), ((494, refl), ((906, refl), ((580, refl), ((1156, refl), ((1257, refl), ((1285, refl), tt))))))))))))))))
 
 pub returns-clause-streams : goal.returns-clause-streams
-returns-clause-streams c = ((90, refl), (65, refl), (70, refl), (106, refl), (96, refl), (55, refl))
+returns-clause-streams c = ((90, refl), (65, refl), (70, refl), (100, refl), (106, refl), (96, refl), (55, refl))
 
 pub returns-clause-rounds : goal.returns-clause-rounds
 returns-clause-rounds c = ((81, refl), ((748, refl), ((797, refl), ((833, refl), ((895, refl), tt)))))

@@ -70,17 +70,21 @@ pub returns-clause-batch : goal.returns-clause-batch
 unfolding clap_on_literals
 returns-clause-batch c = refl
 
+pub returns-clause-expand : goal.returns-clause-expand
+unfolding clap_on_literals
+returns-clause-expand c = refl
+
 pub returns-clause-word : goal.returns-clause-word
 unfolding clap_on_literals
 returns-clause-word c = refl
 
 pub returns-clause-words : goal.returns-clause-words
 unfolding clap_on_literals
-returns-clause-words c = (refl, (refl, (refl, (refl, (refl, (refl, (refl, (refl, (refl, (refl, (refl, (refl, (refl, tt)))))))))))))
+returns-clause-words c = (refl, (refl, (refl, (refl, (refl, (refl, (refl, (refl, (refl, (refl, (refl, (refl, (refl, (refl, tt))))))))))))))
 
 pub returns-clause-asked : goal.returns-clause-asked
 unfolding clap_on_literals
-returns-clause-asked c = (refl, (refl, (refl, (refl, (refl, (refl, (refl, (refl, (refl, (refl, (refl, (refl, (refl, tt)))))))))))))
+returns-clause-asked c = (refl, (refl, (refl, (refl, (refl, (refl, (refl, (refl, (refl, (refl, (refl, (refl, (refl, (refl, tt))))))))))))))
 
 pub returns-clause-whole : goal.returns-clause-whole
 unfolding clap_on_literals

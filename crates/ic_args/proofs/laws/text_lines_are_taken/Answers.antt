@@ -1,6 +1,6 @@
 use Rattle.std.proofs.Common.{◌∙◌, ap₂, codes, refl}
 use Rattle.clap.specs.Kinds.{or_else}
-use Rattle.ic_args.proofs.Commands.{is_draw, is_once, is_settle}
+use Rattle.ic_args.proofs.Commands.{is_draw, is_expand, is_once, is_settle}
 use Rattle.ic_args.proofs.TextLines.{text_taken}
 use Rattle.ic_args.proofs.WordsExact.{below}
 use Rattle.ic_args.proofs.WordsLaws.{no_own}
@@ -13,7 +13,10 @@ returns-clause-taken c = λ words file. (
     (λ line. let is = text_taken (codes "once") (below 1) is_once (λ rows. refl) words file line in ap₂ or_else is.free (no_own (codes "once") _ is.named refl refl refl refl refl)),
     (
       (λ line. let is = text_taken (codes "draw") (below 7) is_draw (λ rows. refl) words file line in ap₂ or_else is.free (no_own (codes "draw") _ is.named refl refl refl refl refl)),
-      tt,
+      (
+        (λ line. let is = text_taken (codes "expand") (below 12) is_expand (λ rows. refl) words file line in ap₂ or_else is.free (no_own (codes "expand") _ is.named refl refl refl refl refl)),
+        tt,
+      ),
     ),
   ),
 )
@@ -26,3 +29,6 @@ returns-clause-once c = λ words file line names. names.1 ∙ (text_taken (codes
 
 pub returns-clause-draw : goal.returns-clause-draw
 returns-clause-draw c = λ words file line names. names.1 ∙ (text_taken (codes "draw") (below 7) is_draw (λ rows. refl) words file line).file_is
+
+pub returns-clause-expand : goal.returns-clause-expand
+returns-clause-expand c = λ words file line names. names.1 ∙ (text_taken (codes "expand") (below 12) is_expand (λ rows. refl) words file line).file_is

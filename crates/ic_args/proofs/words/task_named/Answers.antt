@@ -6,4 +6,4 @@ pub unreachable-requires : goal.unreachable-requires
 unreachable-requires c =
     let other = c.in_default in
     none_of c.args.name.now commands c.requires.known
-    (other.not-settle, (other.not-once, (other.not-create, (other.not-serve, (other.not-attend, (other.not-reduce, (other.not-trace, (other.not-draw, (other.not-dump, (other.not-inspect, (other.not-check, (other.not-batch, (other.not-help, tt)))))))))))))
+    (other.not-settle, (other.not-once, (other.not-create, (other.not-serve, (other.not-attend, (other.not-reduce, (other.not-trace, (other.not-draw, (other.not-dump, (other.not-inspect, (other.not-check, (other.not-batch, (other.not-expand, (other.not-help, tt))))))))))))))

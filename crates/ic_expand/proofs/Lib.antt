@@ -1,0 +1,10 @@
+pub mod Cutting
+pub mod Lists
+pub mod Steps
+pub mod Places
+pub mod Spares
+pub mod Renamings
+pub mod Plain
+pub mod GenericLemmas
+pub mod Within
+pub mod Streaming

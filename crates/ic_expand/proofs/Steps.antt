@@ -1,0 +1,103 @@
+-- What one piece more makes of what is found in a text.
+use Rattle.std.proofs.Common.{◌≡◌, ℕ, ◌+◌, ◌<◌, ◌≤◌, Bool, true, false, cond, List, [], ◌∷◌, ◌++◌, length, refl, sym, ap, ◌∙◌, arith, append_assoc, append-nil, Option, None, Some, Result, Ok, Err}
+use Rattle.std.specs.List.{concat, fold}
+use Rattle.std.proofs.lemmas.Bool.{false≢true}
+use Rattle.ic_term.specs.Symbol.{Symbol}
+use Rattle.ic_expand.specs.declared.fault.Reason.{Reason}
+use Rattle.ic_expand.specs.declared.fault.ExpandFault.{ExpandFault}
+use Rattle.ic_expand.specs.declared.fault.ExpandFault.TheVariants.{Refused}
+use Rattle.ic_expand.specs.declared.names.Spelling.{Spelling}
+use Rattle.ic_expand.specs.declared.spot.Spot.{Spot}
+use Rattle.ic_expand.specs.Pieces.{pieces}
+use Rattle.ic_expand.specs.Spots.{after}
+use Rattle.ic_expand.specs.Reading.{arguments, heads, is_head, is_use, noted, partner, uses, with_pair}
+use Rattle.ic_expand.specs.Names.{is_named, names, with_word}
+use Rattle.ic_expand.specs.Expanding.{Sheet, before_text, piece_text, refusal, unless_refused, with_generic, written}
+use Rattle.ic_expand.proofs.Cutting.{concat-pieces}
+
+-- ---- a list with one element more where a test says so
+
+if_yes : {X Y : Type 0} (f : List X → Y) (b : Bool) (x : X) (xs : List X) → b ≡ true → f (cond b (x ∷ xs) xs) ≡ f (x ∷ xs)
+if_yes f true x xs is = refl
+if_yes f false x xs is = absurd (false≢true is)
+
+if_no : {X Y : Type 0} (f : List X → Y) (b : Bool) (x : X) (xs : List X) → b ≡ false → f (cond b (x ∷ xs) xs) ≡ f xs
+if_no f true x xs is = absurd (false≢true (sym is))
+if_no f false x xs is = refl
+
+-- ---- symbols
+
+module _ (ss : List Symbol) (spot : Spot) (p behind rest : List ℕ) (cut : pieces rest ≡ p ∷ pieces behind) where
+  pub used : is_use spot p ≡ true
+      → fold noted ss (uses spot (pieces rest)) ≡ fold noted (noted ss (record { text = p; arity = arguments behind })) (uses (after spot p) (pieces behind))
+  used is =
+      ap (λ ps. fold noted ss (uses spot ps)) cut
+      ∙ if_yes (fold noted ss) (is_use spot p) (record { text = p; arity = arguments (concat (pieces behind)) }) (uses (after spot p) (pieces behind)) is
+      ∙ ap (λ (text : List ℕ). fold noted (noted ss (record { text = p; arity = arguments text })) (uses (after spot p) (pieces behind))) (concat-pieces behind)
+
+  pub unused : is_use spot p ≡ false
+      → fold noted ss (uses spot (pieces rest)) ≡ fold noted ss (uses (after spot p) (pieces behind))
+  unused is =
+      ap (λ ps. fold noted ss (uses spot ps)) cut
+      ∙ if_no (fold noted ss) (is_use spot p) (record { text = p; arity = arguments (concat (pieces behind)) }) (uses (after spot p) (pieces behind)) is
+
+-- ---- pairs
+
+module _ (pairs : List (List ℕ × List ℕ)) (spot : Spot) (p behind rest : List ℕ) (cut : pieces rest ≡ p ∷ pieces behind) where
+  pub paired : is_head spot p ≡ true
+      → fold with_pair pairs (heads spot (pieces rest)) ≡ fold with_pair (with_pair pairs (p, partner behind)) (heads (after spot p) (pieces behind))
+  paired is =
+      ap (λ ps. fold with_pair pairs (heads spot ps)) cut
+      ∙ if_yes (fold with_pair pairs) (is_head spot p) (p, partner (concat (pieces behind))) (heads (after spot p) (pieces behind)) is
+      ∙ ap (λ (text : List ℕ). fold with_pair (with_pair pairs (p, partner text)) (heads (after spot p) (pieces behind))) (concat-pieces behind)
+
+  pub unpaired : is_head spot p ≡ false
+      → fold with_pair pairs (heads spot (pieces rest)) ≡ fold with_pair pairs (heads (after spot p) (pieces behind))
+  unpaired is =
+      ap (λ ps. fold with_pair pairs (heads spot ps)) cut
+      ∙ if_no (fold with_pair pairs) (is_head spot p) (p, partner (concat (pieces behind))) (heads (after spot p) (pieces behind)) is
+
+-- ---- names
+
+module _ (ws : List (List ℕ)) (spelling : Spelling) (spot : Spot) (p behind rest : List ℕ) (cut : pieces rest ≡ p ∷ pieces behind) where
+  pub called : is_named spelling spot p ≡ true
+      → fold with_word ws (names spelling spot (pieces rest)) ≡ fold with_word (with_word ws p) (names spelling (after spot p) (pieces behind))
+  called is =
+      ap (λ ps. fold with_word ws (names spelling spot ps)) cut
+      ∙ if_yes (fold with_word ws) (is_named spelling spot p) p (names spelling (after spot p) (pieces behind)) is
+
+  pub uncalled : is_named spelling spot p ≡ false
+      → fold with_word ws (names spelling spot (pieces rest)) ≡ fold with_word ws (names spelling (after spot p) (pieces behind))
+  uncalled is =
+      ap (λ ps. fold with_word ws (names spelling spot ps)) cut
+      ∙ if_no (fold with_word ws) (is_named spelling spot p) p (names spelling (after spot p) (pieces behind)) is
+
+-- ---- what is written
+
+pub before-before : (front text : List ℕ) (r : Result (List ℕ) ExpandFault) → before_text front (before_text text r) ≡ before_text (front ++ text) r
+before-before front text (Ok rest) = ap (λ (t : List ℕ). Ok t) (sym (append_assoc front text rest))
+before-before front text (Err fault) = refl
+
+module _ (sheet : Sheet) (earlier : List (List ℕ)) (spot : Spot) (at : ℕ) (out : List ℕ) (p behind rest : List ℕ) (cut : pieces rest ≡ p ∷ pieces behind) where
+  -- what follows the piece
+  abbrev later : Result (List ℕ) ExpandFault
+  later = written sheet (with_generic earlier spot p) (after spot p) (at + length p) (pieces behind)
+
+  pub put_more : refusal sheet earlier spot p ≡ None
+      → before_text out (written sheet earlier spot at (pieces rest)) ≡ before_text (out ++ piece_text sheet earlier spot p) later
+  put_more none =
+      ap (λ ps. before_text out (written sheet earlier spot at ps)) cut
+      ∙ ap (λ (r : Option Reason). before_text out (unless_refused r at (piece_text sheet earlier spot p) later)) none
+      ∙ before-before out (piece_text sheet earlier spot p) later
+
+  pub put_no_more : (reason : Reason) → refusal sheet earlier spot p ≡ Some reason
+      → before_text out (written sheet earlier spot at (pieces rest)) ≡ Err (Refused reason at)
+  put_no_more reason some =
+      ap (λ ps. before_text out (written sheet earlier spot at ps)) cut
+      ∙ ap (λ (r : Option Reason). before_text out (unless_refused r at (piece_text sheet earlier spot p) later)) some
+
+-- nothing is left
+pub put_all : (sheet : Sheet) (earlier : List (List ℕ)) (spot : Spot) (at : ℕ) (out rest : List ℕ) → rest ≡ []
+    → before_text out (written sheet earlier spot at (pieces rest)) ≡ Ok out
+put_all sheet earlier spot at out rest none =
+    ap (λ (l : List ℕ). before_text out (written sheet earlier spot at (pieces l))) none ∙ ap (λ (t : List ℕ). Ok t) (append-nil out)

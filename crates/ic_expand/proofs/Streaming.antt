@@ -1,0 +1,94 @@
+-- What was taken from a reader, and what it says of all that the reader had.
+use Rattle.std.proofs.Common.{◌≡◌, ◌≢◌, ℕ, ◌+◌, ◌<◌, ◌≤◌, Bool, cond, List, [], ◌++◌, Option, None, Some, OnErr, Result, Ok, Err, length, length-append, append-nil, arith, nat_le, false, ◌∙◌, ap, sym, inl, inr, subst}
+use Rattle.std.specs.Prelude.{IfErr, OnOk}
+use Rattle.std.specs.Result.{IsErrAnd}
+use Rattle.std.proofs.KnownBytes.{Consumes-trans}
+use Rattle.std.proofs.lemmas.Bool.{cases_lt}
+use Rattle.std.proofs.lemmas.Bool.Decides.{nat_tests}
+use Rattle.std.specs.Io.KnownBytes.{Appends, Consumes}
+use Rattle.ic_output.specs.Output.{AppendsFront}
+use Rattle.ic_streams.specs.Streams.{FaultOf, IsAnswered, OfText}
+use Rattle.ic_streams.specs.declared.fault.StreamFault.{StreamFault}
+use Rattle.ic_streams.specs.declared.fault.StreamFault.TheVariants.{Read, Text, Round, Memory, Write}
+use Rattle.ic_streams.specs.lemmas.Reading.{answered_as, answered_cut, answered_refused, answered_written}
+use Rattle.ic_expand.specs.declared.fault.Reason.TheVariants.{TextBytes}
+use Rattle.ic_expand.specs.declared.fault.ExpandFault.TheVariants.{Refused}
+use Rattle.ic_expand.specs.declared.limits.TheConstants.{MAX_RICH_TEXT}
+use Rattle.ic_expand.specs.Comments.{uncommented}
+use Rattle.ic_expand.specs.Pieces.{pieces}
+use Rattle.ic_expand.specs.Expanding.{expanded, written_pieces}
+use Rattle.ic_expand.specs.Streams.{Expands, TakesSome, TakesWhole, Told, ToldAt}
+
+-- two reads, one after the other
+pub taken_more : {T E : Type 0} (r : Result T E) (a b c : Option (List ℕ)) (xs ys : List ℕ) → Consumes a b xs → Consumes b c ys → length xs + length ys ≤ MAX_RICH_TEXT + 1
+    → OnErr r (TakesSome a c)
+taken_more (Ok v) a b c xs ys p q bound = tt
+taken_more (Err e) a b c xs ys p q bound = (xs ++ ys, Consumes-trans a b c xs ys p q, rw length-append bound)
+
+-- ---- what is so of a front that was taken is so of the text
+
+le-false : (m n : ℕ) → n < m → nat_le m n ≡ false
+le-false m n less = grind (arith, nat_tests)
+
+too_long : (text : List ℕ) → MAX_RICH_TEXT < length text → expanded text ≡ Err (Refused TextBytes MAX_RICH_TEXT)
+too_long text long = ap (λ (b : Bool). cond b (written_pieces (pieces (uncommented text))) (Err (Refused TextBytes MAX_RICH_TEXT))) (le-false (length text) MAX_RICH_TEXT long)
+
+-- a text is expanded as this front of it is, where the front is too long, or the whole text
+front_expanded : (front rest : List ℕ) → (length front ≤ MAX_RICH_TEXT → rest ≡ []) → expanded (front ++ rest) ≡ expanded front
+front_expanded front rest end = elim (cases_lt MAX_RICH_TEXT (length front)) [
+  | inl long ↦ (let more : MAX_RICH_TEXT < length (front ++ rest) = rw length-append (omega arith) in too_long (front ++ rest) more ∙ sym (too_long front long))
+  | inr short ↦ ap expanded (ap (λ r. front ++ r) (end short) ∙ append-nil front)
+]
+
+expands_as : (front text : List ℕ) → expanded text ≡ expanded front → (answer : Result (List ℕ) StreamFault) → Expands front answer → Expands text answer
+expands_as front text same (Ok output) s = same ∙ s
+expands_as front text same (Err (Text fault)) s = (s.0, s.1, (same ∙ s.2.0, s.2.1))
+expands_as front text same (Err (Round fault)) s = absurd s
+expands_as front text same (Err Read) s = absurd s
+expands_as front text same (Err Memory) s = absurd s
+expands_as front text same (Err Write) s = absurd s
+
+of_front : (Holds : List ℕ → Type 0) → ((front rest : List ℕ) → (length front ≤ MAX_RICH_TEXT → rest ≡ []) → Holds front → Holds (front ++ rest))
+    → (old new : Option (List ℕ)) (front : List ℕ) → TakesWhole front old new → Holds front → OfText old Holds
+of_front Holds law None new front takes h = (front, h)
+of_front Holds law (Some text) None front takes h = absurd takes.0
+of_front Holds law (Some text) (Some rest) front takes h = rw takes.0 (law front rest takes.2 h)
+
+module _ {T : Type 0} where
+  of_taken : (r : Result T StreamFault) (old new before after : Option (List ℕ)) (front : List ℕ) → TakesWhole front old new
+      → IsAnswered Expands front r before after → OfText old (λ text. IsAnswered Expands text r before after)
+  of_taken r old new before after front takes a =
+      of_front (λ text. IsAnswered Expands text r before after)
+      (λ front rest end h. answered_as Expands r front (front ++ rest) before after (expands_as front (front ++ rest) (front_expanded front rest end)) h) old new front takes a
+
+  pub refused_of_taken : (r : Result T StreamFault) (old new before after : Option (List ℕ)) (front seen : List ℕ) (fault : StreamFault)
+      → TakesWhole front old new → seen ≡ front → FaultOf Expands seen fault → fault ≢ Write → IsErrAnd r (λ e. e ≡ fault)
+      → OfText old (λ text. IsAnswered Expands text r before after)
+  refused_of_taken (Ok v) old new before after front seen fault takes is refused other fails = absurd fails
+  refused_of_taken (Err e) old new before after front seen fault takes is refused other fails =
+      of_taken (Err e) old new before after front takes (answered_refused Expands e before after front seen fault is refused other fails)
+
+  -- its text is written, or the writer failed
+  pub written_of_taken : (r : Result T StreamFault) (old new before after : Option (List ℕ)) (front seen line given : List ℕ)
+      → TakesWhole front old new → seen ≡ front → Expands seen (Ok line) → given ≡ line → OnOk r (Appends before after given)
+      → OnErr r (AppendsFront before after [] given) → IfErr r (λ fault. fault ≡ Write) → OfText old (λ text. IsAnswered Expands text r before after)
+  written_of_taken (Ok v) old new before after front seen line given takes is has same appends cut fails =
+      of_taken (Ok v) old new before after front takes (answered_written Expands v before after front seen line given is has same appends)
+  written_of_taken (Err e) old new before after front seen line given takes is has same appends cut fails =
+      of_taken (Err e) old new before after front takes (answered_cut Expands e before after front seen line given is has same cut fails)
+
+-- ---- what is told
+
+told_taken : (old new : Option (List ℕ)) (front seen : List ℕ) (fault : StreamFault) (before after : List ℕ) → TakesWhole front old new → seen ≡ front
+    → ToldAt seen fault before after → Told old new fault before after
+told_taken old new front seen (Text fault) before after takes same told = (front, takes, subst (λ (text : List ℕ). ToldAt text (Text fault) before after) same told)
+told_taken old new front seen (Round fault) before after takes same told = told
+told_taken old new front seen Read before after takes same told = told
+told_taken old new front seen Memory before after takes same told = told
+told_taken old new front seen Write before after takes same told = told
+
+pub told_of_taken : {T : Type 0} (r : Result T StreamFault) (old new : Option (List ℕ)) (front seen : List ℕ) (fault : StreamFault) (before after : List ℕ)
+    → TakesWhole front old new → seen ≡ front → ToldAt seen fault before after → IsErrAnd r (λ e. e ≡ fault) → IfErr r (λ f. Told old new f before after)
+told_of_taken (Ok v) old new front seen fault before after takes same told fails = tt
+told_of_taken (Err e) old new front seen fault before after takes same told fails =
+    subst (λ (f : StreamFault). Told old new f before after) (sym fails) (told_taken old new front seen fault before after takes same told)

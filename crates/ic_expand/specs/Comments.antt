@@ -1,0 +1,17 @@
+-- To be believed: what a comment is (this project's choice).
+use Rattle.std.specs.Prelude.{ℕ, ◌==◌, List, [], ◌∷◌, Bool, true, false, not, if◌then◌else◌}
+
+-- whether a byte is of a comment, by whether the byte before it is: `#` begins one, and the end of the
+-- line ends it
+abbrev pub is_commented : (inside : Bool) → ℕ → Bool
+is_commented inside b = if inside then not (b == 10) else b == 35
+
+-- what of a text is no comment, where what stands before it is of one or not
+abbrev pub kept_behind : (inside : Bool) → List ℕ → List ℕ
+kept_behind inside [] = []
+kept_behind inside (b ∷ bs) = if is_commented inside b then kept_behind true bs
+    else b ∷ kept_behind false bs
+
+-- a text without its comments
+abbrev pub uncommented : List ℕ → List ℕ
+uncommented text = kept_behind false text

@@ -1,0 +1,83 @@
+-- To be believed: what a text says of its symbols and rules.
+use Rattle.std.specs.Prelude.{ℕ, ◌+◌, ◌-◌, ◌==◌, List, [], ◌∷◌, ◌++◌, Bool, false, ◌&&◌, ◌||◌, not, length, nat_lt, if◌then◌else◌}
+use Rattle.std.specs.List.{concat, fold, list_any, take_while}
+use Rattle.std.specs.Str.{bytes_eq}
+use Rattle.ic_text.specs.Token.{is_blank}
+use Rattle.ic_term.specs.Symbol.{Symbol, is_symbol_text}
+use Rattle.ic_term.specs.declared.limits.TheConstants.{MAX_SYMBOLS}
+use Rattle.ic_rules.specs.declared.limits.TheConstants.{MAX_RULES}
+use Rattle.ic_expand.specs.declared.spot.Spot.{Spot}
+use Rattle.ic_expand.specs.declared.spot.Spot.TheVariants.{Elsewhere, Opening, Asked, Given}
+use Rattle.ic_expand.specs.Pieces.{joins}
+use Rattle.ic_expand.specs.Spots.{after}
+
+-- the commas before the `)` that closes, where so many others are open
+abbrev pub commas : (depth : ℕ) → List ℕ → ℕ
+commas depth [] = 0
+commas depth (b ∷ bs) = if b == 40 then commas (depth + 1) bs
+    else (if b == 41 then (if depth == 0 then 0 else commas (depth - 1) bs)
+    else (if b == 44 && depth == 0 then 1 + commas depth bs else commas depth bs))
+
+-- the number of arguments with which a text goes on after a symbol
+abbrev pub arguments : List ℕ → ℕ
+arguments [] = 0
+arguments (b ∷ bs) = if is_blank b then arguments bs
+    else (if b == 40 then 1 + commas 0 bs else 0)
+
+-- whether a piece is a symbol in a term: after `copy` and `erase` it is none
+abbrev pub is_use : Spot → List ℕ → Bool
+is_use (Asked kind) p = false
+is_use spot p = is_symbol_text p
+
+-- the symbols of terms, each with its number of arguments, as often as they stand
+abbrev pub uses : Spot → List (List ℕ) → List Symbol
+uses spot [] = []
+uses spot (p ∷ ps) = if is_use spot p
+    then record { text = p; arity = arguments (concat ps) } ∷ uses (after spot p) ps
+    else uses (after spot p) ps
+
+-- whether a text is that of one of these symbols
+abbrev pub is_known : List ℕ → List Symbol → Bool
+is_known text ss = list_any (λ s. bytes_eq text s.text) ss
+
+-- a symbol is noted where it stands first, as long as there are few
+abbrev pub noted : List Symbol → Symbol → List Symbol
+noted ss s = if is_known s.text ss || not (nat_lt (length ss) MAX_SYMBOLS) then ss
+    else ss ++ s ∷ []
+
+-- the symbols of a text by first occurrence, each with its number of arguments there
+abbrev pub symbols_of : List (List ℕ) → List Symbol
+symbols_of ps = fold noted [] (uses Elsewhere ps)
+
+-- what stands in a text after the first such byte
+abbrev pub beyond : ℕ → List ℕ → List ℕ
+beyond m [] = []
+beyond m (b ∷ bs) = if b == m then bs else beyond m bs
+
+-- the word with which a text begins after its blanks
+abbrev pub leading_word : List ℕ → List ℕ
+leading_word [] = []
+leading_word (b ∷ bs) = if is_blank b then leading_word bs else take_while joins (b ∷ bs)
+
+-- the second symbol of a rule, which stands after `><`
+abbrev pub partner : List ℕ → List ℕ
+partner rest = leading_word (beyond 60 (beyond 62 rest))
+
+-- whether a piece is the first symbol of a rule
+abbrev pub is_head : Spot → List ℕ → Bool
+is_head Opening p = is_symbol_text p
+is_head spot p = false
+
+-- the two symbols of each rule that is given
+abbrev pub heads : Spot → List (List ℕ) → List (List ℕ × List ℕ)
+heads spot [] = []
+heads spot (p ∷ ps) = if is_head spot p then (p, partner (concat ps)) ∷ heads (after spot p) ps
+    else heads (after spot p) ps
+
+-- a pair after others, as long as there are fewer than a system may have rules
+abbrev pub with_pair : List (List ℕ × List ℕ) → List ℕ × List ℕ → List (List ℕ × List ℕ)
+with_pair pairs pair = if nat_lt (length pairs) MAX_RULES then pairs ++ pair ∷ [] else pairs
+
+-- the same of as many rules as a system may have
+abbrev pub pairs_of : List (List ℕ) → List (List ℕ × List ℕ)
+pairs_of ps = fold with_pair [] (heads Elsewhere ps)

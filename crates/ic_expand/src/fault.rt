@@ -1,0 +1,46 @@
+//! Why a text isn't expanded.
+
+ghost use Rattle.std.specs.Prelude.{◌≡◌};
+ghost use Rattle.ic_expand.specs.declared.fault.ExpandFault.TheVariants.{Memory};
+
+use std::alloc::{AllocError, AllocFailed};
+
+/// Why a text is refused.
+#[derive(Clone, Copy, Debug, PartialEq, Eq)]
+pub enum Reason {
+    /// It has too many bytes.
+    TextBytes,
+    /// After `copy` no symbol stands that terms of the text have with two arguments.
+    NoCopier,
+    /// After `erase` no symbol stands that terms of the text have without arguments.
+    NoEraser,
+    /// Each rule for which this `copy` or `erase` would stand is given already.
+    NoRules,
+    /// After the symbol of a `copy` or an `erase` neither `;` nor `}` stands.
+    NoEnd,
+}
+
+/// Why a text isn't expanded.
+#[derive(Clone, Copy, Debug, PartialEq, Eq)]
+pub enum ExpandFault {
+    /// It is refused, at this place of the text without its comments.
+    Refused(Reason, usize),
+    /// A growth was refused.
+    Memory,
+}
+
+impl From<AllocError> for ExpandFault {
+    ghost from_gives = { λ _ e. e ≡ Memory };
+
+    fn from(_error: AllocError) -> ExpandFault {
+        ExpandFault::Memory
+    }
+}
+
+impl<T: Drop> From<AllocFailed<T>> for ExpandFault {
+    ghost from_gives = { λ _ e. e ≡ Memory };
+
+    fn from(_failed: AllocFailed<T>) -> ExpandFault {
+        ExpandFault::Memory
+    }
+}

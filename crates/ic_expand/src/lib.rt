@@ -1,0 +1,26 @@
+//! Texts for people, and the texts of the calculus that they stand for.
+//!
+//! A rich text may have comments, names of more than one letter, and lines `copy S` and `erase S` among its rules.
+//! `expand` writes it as a text that `ic_text` reads: without comments, with names of the calculus, and with the rules
+//! of S and each symbol in the place of such a line. `expand_stream` does so over a reader and a writer. `laws` says what
+//! is proved of the definitions alone.
+#![tactic(auto)]
+
+mod agents;
+mod comments;
+mod fault;
+pub mod laws;
+mod limits;
+mod names;
+mod pieces;
+mod reading;
+mod rules;
+mod spot;
+mod stream;
+mod writing;
+
+pub use fault::{ExpandFault, Reason};
+pub use limits::MAX_RICH_TEXT;
+pub use spot::Kind;
+pub use stream::expand_stream;
+pub use writing::expand;

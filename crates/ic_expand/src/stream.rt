@@ -1,0 +1,150 @@
+//! Expanding what a reader gives, and telling of a text that is refused.
+
+ghost use Rattle.std.specs.Prelude.{◌≡◌, ◌≢◌, ◌≤◌, ◌++◌, ◌⊎◌, Ok, IfOk, IfErr, OnOk, OnErr, length};
+ghost use Rattle.std.specs.Io.KnownBytes.{Keeps};
+ghost use Rattle.ic_streams.specs.Streams.{FaultOf, IsAnswered, OfText};
+ghost use Rattle.ic_expand.specs.Streams.{Expands, TakesAt, TakesSome, TakesText, TakesWhole, Told, ToldAt, reason_sentence, refusal_lines, text_fault, told_text};
+ghost use Rattle.ic_streams.specs.declared.fault.StreamFault.TheVariants.{Text};
+
+use crate::comments::without_comments;
+use crate::fault::{ExpandFault, Reason};
+use crate::limits::MAX_RICH_TEXT;
+use crate::writing::expand;
+use ic_diagnostics::place_lines;
+use ic_streams::{StreamFault, write_line};
+use ic_text::TextFault;
+use std::alloc::{AllocError, Global};
+use std::io::{ErrorKind, Read, Write};
+
+/// How many bytes are read at a time.
+const CHUNK: usize = 8_192;
+
+/// Writes the text of the calculus for which the text stands that the reader gives.
+///
+/// Nothing is written before the text is read and expanded. A text of more than 16,777,216 bytes is `TextFault::Limit`,
+/// and at most 16,777,217 bytes are read; any other refusal is `TextFault::Syntax`. Where the text is refused, the lines
+/// that tell of it are appended to `told`.
+pub fn expand_stream<R: Read, W: Write>(
+    alloc: Global,
+    reader: &mut R,
+    writer: &mut W,
+    told: &mut Vec<u8>,
+) -> Result<(), StreamFault>
+    // There is a text of which this holds: the reader's, where it tells its bytes.
+    ensures answered { OfText (R.remaining reader.old) (λ text. IsAnswered Expands text result
+        (W.contents writer.old) (W.contents writer.new)) }
+    ensures silent { IfErr result (λ fault. fault ≢ StreamFault.Write
+        → Keeps (W.contents writer.old) (W.contents writer.new)) }
+    ensures taken { OnOk result (TakesText (R.remaining reader.old) (R.remaining reader.new)) }
+    ensures taken_at_fault { IfErr result
+        (λ fault. TakesAt fault (R.remaining reader.old) (R.remaining reader.new)) }
+    ensures told { IfErr result (λ fault. Told (R.remaining reader.old) (R.remaining reader.new) fault
+        told.old.items told.new.items) }
+    ensures quiet { OnOk result (told.new.items ≡ told.old.items) }
+{
+    let text = read_whole(alloc, reader)?;
+    let out = expanded_text(alloc, &text, told)?;
+    write_line(writer, &out)
+}
+
+/// All that the reader has, or one byte more than a text may have.
+fn read_whole<R: Read>(alloc: Global, reader: &mut R) -> Result<Vec<u8>, StreamFault>
+    ensures text { IfOk result
+        (λ text. TakesWhole text.items (R.remaining reader.old) (R.remaining reader.new)) }
+    ensures some { OnErr result (TakesSome (R.remaining reader.old) (R.remaining reader.new)) }
+    ensures sort { IfErr result
+        (λ fault. (fault ≡ StreamFault.Read) ⊎ (fault ≡ StreamFault.Memory)) }
+{
+    let mut text = Vec::new(alloc);
+    let mut chunk = [0u8; CHUNK];
+    for _ in 0..u64::MAX {
+        if text.len() > MAX_RICH_TEXT {
+            return Ok(text);
+        }
+        let room = CHUNK.min(MAX_RICH_TEXT + 1 - text.len());
+        match reader.read(&mut chunk[..room]) {
+            Ok(0) => return Ok(text),
+            Ok(count) => text.extend_from_slice(&chunk[..count])?,
+            Err(error) if error.kind() == ErrorKind::Interrupted => {}
+            Err(_) => return Err(StreamFault::Read),
+        }
+    }
+    Err(StreamFault::Read)
+}
+
+/// What a text is expanded to, or its refusal, of which `told` gets the lines.
+fn expanded_text(alloc: Global, text: &[u8], told: &mut Vec<u8>) -> Result<Vec<u8>, StreamFault>
+    ensures text { IfOk result (λ out. Expands text.now (Ok out.items)) }
+    ensures refused { IfErr result (λ fault. FaultOf Expands text.now fault) }
+    ensures told { IfErr result (λ fault. ToldAt text.now fault told.old.items told.new.items) }
+    ensures quiet { OnOk result (told.new.items ≡ told.old.items) }
+    ensures sort { IfErr result
+        (λ fault. (fault ≢ StreamFault.Write) × (fault ≢ StreamFault.Read)) }
+{
+    match expand(alloc, text) {
+        Ok(out) => Ok(out),
+        Err(ExpandFault::Memory) => Err(StreamFault::Memory),
+        Err(ExpandFault::Refused(reason, at)) => Err(refused(alloc, text, reason, at, told)),
+    }
+}
+
+/// The fault of a stream whose text is refused, of which `told` gets the lines. Where memory ran out it gets nothing.
+fn refused(alloc: Global, text: &[u8], reason: Reason, at: usize, told: &mut Vec<u8>) -> StreamFault
+    requires { at ≤ length (told_text reason text.now) }
+    ensures fault { (result ≡ StreamFault.Memory) ⊎ (result ≡ Text (text_fault reason)) }
+    ensures told { result ≢ StreamFault.Memory → told.new.items
+        ≡ told.old.items ++ refusal_lines text.now reason at }
+    ensures unsaid { result ≡ StreamFault.Memory → told.new.items ≡ told.old.items }
+{
+    match refusal_lines(alloc, text, reason, at) {
+        Ok(lines) => match told.extend_from_slice(&lines) {
+            Ok(()) => StreamFault::Text(text_fault(reason)),
+            Err(_) => StreamFault::Memory,
+        },
+        Err(_) => StreamFault::Memory,
+    }
+}
+
+/// The lines that tell of a refusal: its place in the text without comments, which is on the same line and in the same
+/// column as in the text.
+fn refusal_lines(
+    alloc: Global,
+    text: &[u8],
+    reason: Reason,
+    at: usize,
+) -> Result<Vec<u8>, AllocError>
+    requires { at ≤ length (told_text reason text.now) }
+    ensures { IfOk result (λ lines. lines.items ≡ refusal_lines text.now reason at) }
+{
+    let sentence = reason_sentence(reason);
+    match reason {
+        Reason::TextBytes => place_lines(alloc, text, at, sentence),
+        Reason::NoCopier | Reason::NoEraser | Reason::NoRules | Reason::NoEnd => {
+            let body = without_comments(alloc, text)?;
+            place_lines(alloc, &body, at, sentence)
+        }
+    }
+}
+
+/// What is amiss at the place of a refusal.
+fn reason_sentence(reason: Reason) -> &'static [u8]
+    ensures { result.now ≡ reason_sentence reason }
+{
+    match reason {
+        Reason::TextBytes => b"a text has at most 16777216 bytes",
+        Reason::NoCopier => b"copy is of a symbol that terms of the text have with two arguments",
+        Reason::NoEraser => b"erase is of a symbol that terms of the text have without arguments",
+        Reason::NoRules => b"no rule is left for which this stands: each is given before",
+        Reason::NoEnd => b"; or } is looked for here",
+    }
+}
+
+/// The fault of a text that is refused.
+fn text_fault(reason: Reason) -> TextFault
+    ensures { result ≡ text_fault reason }
+{
+    match reason {
+        Reason::TextBytes => TextFault::Limit,
+        Reason::NoCopier | Reason::NoEraser | Reason::NoRules | Reason::NoEnd => TextFault::Syntax,
+    }
+}
