@@ -505,6 +505,16 @@ def round_of(rules, config):
     return settled(after)
 
 
+def name_steps(rules, config, rounds):
+    """How many steps put a term for a name in so many rounds, and before the first: each takes an equation away."""
+    steps = 0
+    for _ in range(rounds + 1):
+        after = settled(config)
+        steps += len(config.equations) - len(after.equations)
+        config = fired(rules, after)
+    return steps
+
+
 # Jobs and tables.
 
 

@@ -7,7 +7,7 @@ import draws
 import model
 import nets
 from program import IN_MEMORY, Trial, run
-from test_in_place import stats_of
+from test_in_place import name_steps_of, stats_of
 
 SYSTEMS = int(os.environ.get("SYSTEMS") or 400)
 
@@ -31,11 +31,11 @@ class DrawnInPlace(Trial):
             text = draws.system_text(rules, config)
             plain = nets.Reduction(rules, config, self.drawn_from)
             if plain.run(PATIENT):
-                self.ends_alike(rules, text, plain)
+                self.ends_alike(rules, text, plain, config)
             else:
                 self.never_ends(rules, text)
 
-    def ends_alike(self, rules, text, plain):
+    def ends_alike(self, rules, text, plain, config):
         self.seen["quiet"] += 1
         ran = run("reduce", "--stats", given=text)
         made, _, rest = stats_of(ran.err)
@@ -50,6 +50,8 @@ class DrawnInPlace(Trial):
             self.equals(by_rounds.command, "the model's net", wanted, nets.form_of(rules, by_rounds.out))
             table = run("trace", "--rounds", 10_000, given=text).out.splitlines()[1:]
             self.equals(by_rounds.command, "interactions of all rounds", made, sum(int(it.split(b"\t")[1]) for it in table))
+            steps = model.name_steps(rules, config, len(table))
+            self.equals(ran.command, "the model's name steps", steps, name_steps_of(ran.err))
         if made:
             self.goes_on(rules, text, made, wanted)
 

@@ -19,8 +19,8 @@ from worked_rows import expanded, rows
 MOST = 2**62 - 1
 
 STATS = re.compile(
-    rb"icserve: interactions (\d+), places (\d+), seconds \d+\.\d{3}, interactions a second \d+\n"
-    rb"icserve: interactions by rule((?:,? \d+: \d+)*)\n"
+    rb"icserve: interactions (\d+)(?:, name steps (\d+))?, places (\d+), seconds \d+\.\d{3}, interactions a second \d+\n"
+    rb"icserve: (no interactions|rule \d+: \d+ interactions?(?:, rule \d+: \d+ interactions?)*)\n"
 )
 REACHED = re.compile(rb"interactions (\d+), places (\d+)(?:, --nodes (\d+))?\n")
 
@@ -42,9 +42,15 @@ def stats_of(err):
     """How many interactions and places a run with `--stats` tells, and what else it says on standard error. The interactions
     of all rules are those in all, else none are told."""
     told = STATS.match(err)
-    if not told or sum(map(int, re.findall(rb": (\d+)", told[3]))) != int(told[1]):
+    if not told or sum(map(int, re.findall(rb": (\d+)", told[4]))) != int(told[1]):
         return None, None, err
-    return int(told[1]), int(told[2]), err[told.end() :]
+    return int(told[1]), int(told[3]), err[told.end() :]
+
+
+def name_steps_of(err):
+    """How many steps that put a term for a name a run with `--stats` tells, if it does."""
+    told = STATS.match(err)
+    return int(told[2]) if told and told[2] else None
 
 
 class InPlace(Trial):
@@ -281,6 +287,16 @@ class HardNets(InPlace):
         self.is_net(ran.command, swaps, ran.out, "<c,d|c=F(a),d=G(t,t)>")
         text = "{Gamma(x,y)><Gamma(y,x);Gamma(Delta(a,b),Delta(c,d))><Delta(Gamma(a,c),Gamma(b,d))} <a,b,c,d|Gamma(a,b)=Delta(c,d)>"
         self.reduces(given=text, out=["<Delta(a,b),Delta(c,d),Gamma(a,c),Gamma(b,d)|>"], interactions=1)
+
+    def test_name_steps_and_each_rule_are_told_at_a_quiet_end(self):
+        pace = rb", places %d, seconds [.\d]+, interactions a second \d+\n"
+        two = f"{ADD} <r|Add(r,S(Z))=S(Z)>"
+        for words, told in (
+            ([], b"icserve: interactions 2, name steps 4" + pace % 5 + b"icserve: rule 1: 1 interaction, rule 2: 1 interaction\n"),
+            (["--steps", 0], b"icserve: interactions 0" + pace % 4 + b"icserve: no interactions\nicserve: not done\n"),
+        ):
+            ran = run("reduce", "--stats", *words, given=two)
+            self.equals(ran.command, f"{ran.err} is as {told}", True, bool(re.fullmatch(told, ran.err)))
 
     def test_places_are_used_again(self):
         """A net that stays small takes few places, however many interactions it makes."""

@@ -70,7 +70,7 @@ class Large(Trial):
 
     def test_one_line_and_a_million_lines(self):
         drawn = self.draws()
-        text, answer, made = sums(drawn, 200_000, "\n")
+        text, answer, made = sums(drawn, 400_000, "\n")
         lines = text.replace("(", "\n(\n").replace(")", "\n)\n")
         self.equals("the text", f"a million lines: {lines.count(chr(10))}", True, lines.count("\n") > 900_000)
         self.reduces(lines, answer, made)

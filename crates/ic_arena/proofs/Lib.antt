@@ -1,2 +1,4 @@
 pub mod NamesPieces
 pub mod HeapPieces
+pub mod Found
+pub mod Full

@@ -2,3 +2,4 @@ pub mod Word
 pub mod Piece
 pub mod Tables
 pub mod lemmas
+pub mod inner

@@ -1,6 +1,6 @@
 //! The table of the agents of one symbol.
 
-ghost use Rattle.std.specs.Prelude.{◌≡◌, ℕ, ◌+◌, ◌^◌, ◌<◌, ◌≤◌, [], ◌∷◌, ◌++◌, length, map, sum_by, take, drop, vec_len, vec_capacity, OnOk, IfSome};
+ghost use Rattle.std.specs.Prelude.{◌≡◌, ℕ, ◌+◌, ◌^◌, ◌<◌, ◌≤◌, [], ◌∷◌, ◌++◌, length, map, sum_by, take, drop, max, vec_len, vec_capacity, OnOk};
 ghost use Rattle.std.specs.List.{AllByRecursion};
 ghost use Rattle.ic_arena.specs.Word.{agent_word};
 ghost use Rattle.ic_arena.specs.Piece.{agent_of, room};
@@ -17,13 +17,14 @@ pub struct Heap {
     words: Vec<Word>,
     arity: u32,
     count: u32,
-    /// A free block, if there is one here: it is looked at before it is used.
+    /// The block that was freed last, if one is free. Its first word tells the one that was freed before.
     free: u32,
 }
 
 impl Model for Heap {
     ghost use Rattle.std.specs.Prelude.{vec_capacity};
-    ghost use Rattle.ic_arena.specs.Tables.{Blocks, AreBlocks};
+    ghost use Rattle.ic_arena.specs.Tables.{Blocks};
+    ghost use Rattle.ic_arena.specs.inner.Free.{AreKept};
 
     ghost Value = { Blocks };
 
@@ -34,13 +35,13 @@ impl Model for Heap {
       capacity = vec_capacity h.words;
     } };
 
-    ghost invariant = { λ h. AreBlocks
+    ghost invariant = { λ h. AreKept
         (record {
           arity = h.arity;
           count = h.count;
           words = h.words.items;
           capacity = vec_capacity h.words;
-        }) };
+        }) h.free };
 }
 
 impl Heap {
@@ -101,32 +102,24 @@ impl Heap {
             → sum_by (room (agent_word s result)) (blocks_pieces s self.old) ≡ 0 }
         ensures arity { self.new.arity ≡ self.old.arity }
         ensures len { length self.new.words ≤ length self.old.words + self.old.arity }
-        ensures count { self.new.count ≤ self.old.count + 1 }
+        // There are as many as before, or all are in use now.
+        ensures count { (s : ℕ) → self.new.count
+            ≡ max self.old.count (length (blocks_pieces s self.new)) }
         ensures capacity { self.new.capacity ≡ self.old.capacity }
     {
-        if let Some(block) = self.find_free() {
+        if self.free < self.count {
+            let block = self.free;
             let at = block as usize * self.arity as usize;
-            self.free = self.words[at].index;
-            write(&mut self.words, at, operands, registers);
-            return block;
+            if self.words[at].tag == FREE {
+                self.free = self.words[at].index;
+                write(&mut self.words, at, operands, registers);
+                return block;
+            }
         }
         let block = self.count;
         append(&mut self.words, operands, registers);
         self.count += 1;
         block
-    }
-
-    /// The block that was freed last, if it is known and still free.
-    fn find_free(&self) -> Option<u32>
-        ensures { IfSome result (λ b. (b < self.now.count)
-            × ((first_word self.now b).tag ≡ FREE)) }
-    {
-        let block = self.free;
-        if block < self.count && self.words[block as usize * self.arity as usize].tag == FREE {
-            Some(block)
-        } else {
-            None
-        }
     }
 
     /// The arguments of the agent in a block.
@@ -142,6 +135,7 @@ impl Heap {
     /// Takes the arguments of an agent out of its block, which is free then.
     pub fn take(&mut self, block: u32, registers: &mut Vec<Word>)
         requires there { block < self.old.count }
+        requires used { ¬ ((first_word self.old block).tag ≡ FREE) }
         requires room { vec_len registers.old + self.old.arity ≤ vec_capacity registers.old }
         ensures taken { registers.new.items ≡ registers.old.items ++ block_at self.old block }
         ensures freed { (s : ℕ) → Replaced

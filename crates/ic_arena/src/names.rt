@@ -1,6 +1,6 @@
 //! The table of names.
 
-ghost use Rattle.std.specs.Prelude.{◌≡◌, ◌+◌, ◌^◌, ◌<◌, ◌≤◌, [], ◌∷◌, ◌++◌, length, OnOk, IfSome};
+ghost use Rattle.std.specs.Prelude.{◌≡◌, ◌+◌, ◌^◌, ◌<◌, ◌≤◌, [], ◌∷◌, ◌++◌, length, max, OnOk};
 ghost use Rattle.ic_arena.specs.Word.{name_word};
 ghost use Rattle.ic_arena.specs.Piece.{idle, waits};
 ghost use Rattle.ic_arena.specs.Tables.{Replaced, names_pieces, entry};
@@ -13,17 +13,20 @@ use std::marker::Model;
 #[derive(Drop)]
 pub struct Names {
     entries: Vec<Word>,
-    /// A free name, if there is one here: it is looked at before it is used.
+    /// The name that was freed last, if one is free. What it holds tells the one that was freed before.
     free: u32,
 }
 
 impl Model for Names {
-    ghost use Rattle.std.specs.Prelude.{vec_capacity};
+    ghost use Rattle.std.specs.Prelude.{ℕ, vec_capacity};
     ghost use Rattle.ic_arena.specs.Tables.{Entries};
+    ghost use Rattle.ic_arena.specs.inner.Free.{AreFound};
 
     ghost Value = { Entries };
 
     ghost view = { λ n. record { entries = n.entries.items; capacity = vec_capacity n.entries } };
+
+    ghost invariant = { λ n. (free : ℕ) × AreFound free n.entries.items n.free };
 }
 
 impl Names {
@@ -60,34 +63,25 @@ impl Names {
         ensures opened { Replaced [] (idle (name_word result) ∷ [])
             (names_pieces 0 self.old.entries) (names_pieces 0 self.new.entries) }
         ensures fresh { (entry self.old.entries result).tag ≡ FREE }
-        ensures len { length self.new.entries ≤ length self.old.entries + 1 }
+        // There are as many as before, or all are in use now.
+        ensures len { length self.new.entries
+            ≡ max (length self.old.entries) (length (names_pieces 0 self.new.entries)) }
         ensures capacity { self.new.capacity ≡ self.old.capacity }
     {
         let mark = Word {
             tag: IDLE,
             index: 0,
         };
-        if let Some(name) = self.find_free() {
-            self.free = self.entries[name as usize].index;
-            self.entries[name as usize] = mark;
+        let last = self.free as usize;
+        if last < self.entries.len() && self.entries[last].tag == FREE {
+            let name = self.free;
+            self.free = self.entries[last].index;
+            self.entries[last] = mark;
             return name;
         }
         let name = self.entries.len() as u32;
         self.entries.push_reserved(mark);
         name
-    }
-
-    /// The name that was freed last, if it is known and still free.
-    fn find_free(&self) -> Option<u32>
-        ensures { IfSome result (λ n. (n < length self.now.entries)
-            × ((entry self.now.entries n).tag ≡ FREE)) }
-    {
-        let name = self.free;
-        if (name as usize) < self.entries.len() && self.entries[name as usize].tag == FREE {
-            Some(name)
-        } else {
-            None
-        }
     }
 
     /// What waits for a name, or the mark that nothing does, or that it is free.

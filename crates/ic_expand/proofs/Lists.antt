@@ -1,9 +1,10 @@
 -- Lists that are seen as lists of other things.
-use Rattle.std.proofs.Common.{◌≡◌, ℕ, suc, ◌+◌, ◌||◌, Bool, true, false, cond, List, [], ◌∷◌, ◌++◌, drop, length, map, nat_lt, not, None, Some, refl, sym, ap, ap₂, ◌∙◌}
+use Rattle.std.proofs.Common.{◌≡◌, ℕ, ◌+◌, ◌||◌, Bool, true, false, cond, List, [], ◌∷◌, ◌++◌, drop, map, nat_lt, not, None, Some, Result, Ok, Err, refl, sym, ap, ap₂, ◌∙◌}
+use Rattle.std.specs.Prelude.{OnOk, is_ok}
 use Rattle.std.specs.List.{list_any, position, position_or_len}
 use Rattle.std.specs.Str.{bytes_eq}
 use Rattle.std.proofs.lemmas.List.{length-map, map-append}
-use Rattle.ic_expand.specs.Names.{is_among, with_word}
+use Rattle.ic_expand.specs.Names.{with_word}
 
 pub any-map : {X Y : Type 0} (f : X → Y) (p : Y → Bool) (xs : List X) → list_any p (map f xs) ≡ list_any (λ x. p (f x)) xs
 any-map f p [] = refl
@@ -56,3 +57,9 @@ place-map f p (x ∷ xs) = ap (λ (n : ℕ). cond (not (p (f x))) (1 + n) 0) (pl
 
 pub position-map : {X : Type 0} (f : X → List ℕ) (p : List ℕ → Bool) (xs : List X) → position p (map f xs) ≡ position (λ x. p (f x)) xs
 position-map f p xs = ap₂ (λ (m n : ℕ). cond (nat_lt m n) (Some m) None) (place-map f p xs) (length-map xs f)
+
+-- ---- what a call has left that took everything, or nothing
+
+pub at_ok : {T E : Type 0} (r : Result T E) (new whole old : List ℕ) → new ≡ cond (is_ok r) whole old → OnOk r (new ≡ whole)
+at_ok (Ok v) new whole old is = is
+at_ok (Err e) new whole old is = tt

@@ -1,5 +1,5 @@
 -- A text without comments, long names and generic rules is written as it is; and comments mean nothing.
-use Rattle.std.proofs.Common.{◌≡◌, ℕ, ◌+◌, ◌≤◌, ◌==◌, ◌||◌, Bool, true, false, not, cond, List, [], ◌∷◌, ◌++◌, length, Option, None, Some, Result, Ok, Err, codes, refl, sym, ap, ◌∙◌, subst, append-nil, nat_le, arith}
+use Rattle.std.proofs.Common.{◌≡◌, ℕ, ◌+◌, ◌≤◌, ◌==◌, Bool, true, false, not, cond, List, [], ◌∷◌, ◌++◌, length, Option, None, Result, Ok, Err, codes, refl, sym, ap, ◌∙◌, subst, append-nil, nat_le, arith}
 use Rattle.std.specs.List.{concat, fold, list_any}
 use Rattle.std.specs.Str.{bytes_eq}
 use Rattle.std.proofs.lemmas.Bool.{false≢true, or_parts}
@@ -10,16 +10,16 @@ use Rattle.ic_expand.specs.declared.fault.Reason.{Reason}
 use Rattle.ic_expand.specs.declared.fault.Reason.TheVariants.{TextBytes}
 use Rattle.ic_expand.specs.declared.fault.ExpandFault.TheVariants.{Refused}
 use Rattle.ic_expand.specs.declared.fault.ExpandFault.{ExpandFault}
-use Rattle.ic_expand.specs.declared.names.Spelling.TheVariants.{Short, Long}
+use Rattle.ic_expand.specs.declared.names.Spelling.TheVariants.{Long}
 use Rattle.ic_expand.specs.declared.spot.Spot.{Spot}
 use Rattle.ic_expand.specs.declared.spot.Spot.TheVariants.{Elsewhere, Opening, Asked, Given}
 use Rattle.ic_expand.specs.declared.spot.Kind.TheVariants.{Copier, Eraser}
 use Rattle.ic_expand.specs.declared.limits.TheConstants.{MAX_RICH_TEXT}
-use Rattle.ic_expand.specs.Comments.{is_commented, kept_behind, uncommented}
+use Rattle.ic_expand.specs.Comments.{kept_behind, uncommented}
 use Rattle.ic_expand.specs.Pieces.{first_byte, pieces}
 use Rattle.ic_expand.specs.Spots.{after, behind, behind_first, opens_rule}
 use Rattle.ic_expand.specs.Names.{is_named, is_spelt, names, told_word, with_word}
-use Rattle.ic_expand.specs.Expanding.{Sheet, before_text, expanded, kept_word, piece_text, refusal, refused_at, sheet_of, unless_refused, with_generic, written, written_pieces}
+use Rattle.ic_expand.specs.Expanding.{Sheet, before_text, expanded, kept_word, piece_text, refusal, sheet_of, unless_refused, with_generic, written, written_pieces}
 use Rattle.ic_expand.proofs.Cutting.{concat-pieces}
 
 le-true : (m n : ℕ) → m ≤ n → nat_le m n ≡ true

@@ -1,5 +1,5 @@
 -- What one piece more makes of what is found in a text.
-use Rattle.std.proofs.Common.{◌≡◌, ℕ, ◌+◌, ◌<◌, ◌≤◌, Bool, true, false, cond, List, [], ◌∷◌, ◌++◌, length, refl, sym, ap, ◌∙◌, arith, append_assoc, append-nil, Option, None, Some, Result, Ok, Err}
+use Rattle.std.proofs.Common.{◌≡◌, ℕ, ◌+◌, Bool, true, false, cond, List, [], ◌∷◌, ◌++◌, length, refl, sym, ap, ◌∙◌, append_assoc, append-nil, Option, None, Some, Result, Ok, Err}
 use Rattle.std.specs.List.{concat, fold}
 use Rattle.std.proofs.lemmas.Bool.{false≢true}
 use Rattle.ic_term.specs.Symbol.{Symbol}

@@ -5,7 +5,7 @@ use Rattle.std.proofs.lemmas.Bool.Decides.{nat_tests}
 use Rattle.ic_term.specs.Symbol.{Symbol}
 use Rattle.ic_text.specs.Token.{is_blank}
 use Rattle.ic_expand.specs.declared.fault.Reason.{Reason}
-use Rattle.ic_expand.specs.declared.fault.Reason.TheVariants.{TextBytes, NoCopier, NoEraser, NoRules, NoEnd}
+use Rattle.ic_expand.specs.declared.fault.Reason.TheVariants.{TextBytes, NoEnd}
 use Rattle.ic_expand.specs.declared.fault.ExpandFault.{ExpandFault}
 use Rattle.ic_expand.specs.declared.fault.ExpandFault.TheVariants.{Refused, Memory}
 use Rattle.ic_expand.specs.declared.limits.TheConstants.{MAX_RICH_TEXT}

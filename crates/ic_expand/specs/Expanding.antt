@@ -1,5 +1,5 @@
 -- To be believed: the text of the calculus that a text stands for, or why there is none.
-use Rattle.std.specs.Prelude.{ℕ, ◌+◌, ◌==◌, List, [], ◌∷◌, ◌++◌, Bool, true, false, ◌&&◌, ◌||◌, Option, None, Some, Result, Ok, Err, filter, length, map, nat_le, if◌then◌else◌}
+use Rattle.std.specs.Prelude.{ℕ, ◌+◌, ◌==◌, List, [], ◌∷◌, ◌++◌, Bool, true, ◌&&◌, ◌||◌, Option, None, Some, Result, Ok, Err, filter, length, map, nat_le, if◌then◌else◌}
 use Rattle.std.specs.List.{list_any}
 use Rattle.std.specs.Str.{bytes_eq}
 use Rattle.ic_text.specs.Token.{is_blank}
@@ -7,7 +7,7 @@ use Rattle.ic_term.specs.Symbol.{Symbol}
 use Rattle.ic_expand.specs.declared.fault.Reason.{Reason}
 use Rattle.ic_expand.specs.declared.fault.Reason.TheVariants.{TextBytes, NoCopier, NoEraser, NoRules, NoEnd}
 use Rattle.ic_expand.specs.declared.fault.ExpandFault.{ExpandFault}
-use Rattle.ic_expand.specs.declared.fault.ExpandFault.TheVariants.{Refused, Memory}
+use Rattle.ic_expand.specs.declared.fault.ExpandFault.TheVariants.{Refused}
 use Rattle.ic_expand.specs.declared.limits.TheConstants.{MAX_RICH_TEXT}
 use Rattle.ic_expand.specs.declared.names.Spelling.TheVariants.{Short, Long}
 use Rattle.ic_expand.specs.declared.spot.Kind.{Kind}

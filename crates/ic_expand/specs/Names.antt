@@ -1,5 +1,5 @@
 -- To be believed: the names of a text, and what they are written as (this project's choice).
-use Rattle.std.specs.Prelude.{◌≡◌, ℕ, ◌+◌, ◌==◌, List, [], ◌∷◌, ◌++◌, Bool, true, false, ◌&&◌, ◌||◌, not, Option, None, Some, IsTrue, filter, get_or, length, if◌then◌else◌}
+use Rattle.std.specs.Prelude.{◌≡◌, ℕ, ◌+◌, ◌==◌, List, [], ◌∷◌, ◌++◌, Bool, false, ◌&&◌, ◌||◌, not, Option, None, Some, IsTrue, filter, get_or, length, if◌then◌else◌}
 use Rattle.std.specs.List.{fold, list_all, list_any, position, range_with_len, AllByRecursion}
 use Rattle.std.specs.Str.{bytes_eq}
 use Rattle.std.specs.Char.{is_ascii_alphanumeric, is_ascii_lowercase}
@@ -7,7 +7,7 @@ use Rattle.ic_text.specs.Name.{is_name, name_text}
 use Rattle.ic_expand.specs.declared.names.Spelling.{Spelling}
 use Rattle.ic_expand.specs.declared.names.Spelling.TheVariants.{Short, Long}
 use Rattle.ic_expand.specs.declared.spot.Spot.{Spot}
-use Rattle.ic_expand.specs.declared.spot.Spot.TheVariants.{Elsewhere, Opening, Asked, Given}
+use Rattle.ic_expand.specs.declared.spot.Spot.TheVariants.{Elsewhere, Opening}
 use Rattle.ic_expand.specs.Spots.{after}
 
 abbrev pub is_name_byte : ℕ → Bool

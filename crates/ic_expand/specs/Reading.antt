@@ -7,7 +7,7 @@ use Rattle.ic_term.specs.Symbol.{Symbol, is_symbol_text}
 use Rattle.ic_term.specs.declared.limits.TheConstants.{MAX_SYMBOLS}
 use Rattle.ic_rules.specs.declared.limits.TheConstants.{MAX_RULES}
 use Rattle.ic_expand.specs.declared.spot.Spot.{Spot}
-use Rattle.ic_expand.specs.declared.spot.Spot.TheVariants.{Elsewhere, Opening, Asked, Given}
+use Rattle.ic_expand.specs.declared.spot.Spot.TheVariants.{Elsewhere, Opening, Asked}
 use Rattle.ic_expand.specs.Pieces.{joins}
 use Rattle.ic_expand.specs.Spots.{after}
 

@@ -14,7 +14,7 @@ use Rattle.ic_rules.specs.System.{SystemParts}
 use Rattle.ic_flat.specs.declared.word.Word.{Word as FlatWord}
 use Rattle.ic_flat.specs.Words.{forest, IsWhole, word_names}
 use Rattle.ic_flat.specs.Flat.{configuration_of}
-use Rattle.ic_flat.specs.lemmas.FlatLaws.{names-configuration_of, over-configuration_of}
+use Rattle.ic_flat.specs.lemmas.FlatLaws.{length-equations, names-configuration_of, over-configuration_of}
 use Rattle.ic_naming.specs.Naming.{RenamesUntold, renamed_word, renumbered, renumbered_words, told_name}
 use Rattle.ic_naming.specs.lemmas.RenamedWords.{forest-renamed, whole-renamed, word_over-renamed}
 use Rattle.ic_naming.specs.lemmas.Renumbered.{renumbered-written}
@@ -22,7 +22,7 @@ use Rattle.ic_round.specs.Naming.{HasNames}
 use Rattle.ic_round.specs.Rounds.{IsQuiet}
 use Rattle.ic_reaching.specs.OneNet.{OneNet}
 use Rattle.ic_reaching.specs.Reaching.{Reaches}
-use Rattle.ic_machine.specs.Net.{Net, pieces, HasNext, IsStuck}
+use Rattle.ic_machine.specs.Net.{Net, pieces, HasNext}
 use Rattle.ic_machine.specs.Plan.{Plans}
 use Rattle.ic_meaning.specs.Words.{Numbers}
 use Rattle.ic_meaning.specs.Nets.{net_of}
@@ -34,6 +34,7 @@ use Rattle.ic_in_place.specs.declared.running.End.{End}
 use Rattle.ic_in_place.specs.declared.running.End.TheVariants.{Quiet, Steps, Nodes, Limit}
 use Rattle.ic_in_place.specs.declared.running.End.TheVariants as end
 use Rattle.ic_in_place.specs.Reducing.{CanInteract, IsPutTogether, EndsBy, IsReachedBy, Writes}
+use Rattle.ic_in_place.specs.Counting.{TellsNameSteps}
 use Rattle.ic_in_place.specs.Holding.{AreGiven, IsHeldAt}
 use Rattle.ic_in_place.specs.inner.Numbering.{written_numbers, HasNumber, IsNumbered}
 use Rattle.ic_in_place.specs.inner.Stopping.{arities_of, StopsBy, HasStopped}
@@ -67,13 +68,31 @@ pub record AnswerLaws : Type 0 where
 
 -- what the stop says is what the end does
 ends_alike : (s : SystemParts) (bounds : Bounds) (p : Plans) (d : Configuration) (m : Net) (places : ℕ) (end : End)
-    → (HasNext p m.pending → CanInteract s.rules.rules d) → (m.pending ≡ [] → AllByRecursion (IsStuck p) m.aside → IsQuiet s.rules.rules d × IsPutTogether d)
+    → (HasNext p m.pending → CanInteract s.rules.rules d) → (m.pending ≡ [] → IsQuiet s.rules.rules d) → IsPutTogether d
     → StopsBy bounds p m places end → EndsBy s.rules.rules bounds d m.interactions places end
-ends_alike s bounds p d m places Quiet next quiet is = quiet is.0 is.1
-ends_alike s bounds p d m places Steps next quiet is = (is.0, next is.1)
-ends_alike s bounds p d m places Nodes next quiet is = is
-ends_alike s bounds p d m places Limit next quiet is = is
-ends_alike s bounds p d m places end.Memory next quiet is = is
+ends_alike s bounds p d m places Quiet next quiet together is = (quiet is, together)
+ends_alike s bounds p d m places Steps next quiet together is = (is.0, next is.1, together)
+ends_alike s bounds p d m places Nodes next quiet together is = (is.0, is.1)
+ends_alike s bounds p d m places Limit next quiet together is = is
+ends_alike s bounds p d m places end.Memory next quiet together is = is
+
+-- a quiet end is that of a quiet configuration
+pub quiet_at : (rs : List Rule) (bounds : Bounds) (d : Configuration) (interactions places : ℕ) (end : End)
+    → EndsBy rs bounds d interactions places end → end ≡ Quiet → IsQuiet rs d
+quiet_at rs bounds d interactions places Quiet is e = is.0
+quiet_at rs bounds d interactions places Steps is e = cc
+quiet_at rs bounds d interactions places Nodes is e = cc
+quiet_at rs bounds d interactions places Limit is e = cc
+quiet_at rs bounds d interactions places end.Memory is e = cc
+
+-- a pair was left where it stopped for its places
+left_over : (bounds : Bounds) (p : Plans) (m : Net) (places : ℕ) (end : End) → StopsBy bounds p m places end → end ≡ Nodes
+    → HasNext p m.pending
+left_over bounds p m places Nodes is e = is.2
+left_over bounds p m places Quiet is e = cc
+left_over bounds p m places Steps is e = cc
+left_over bounds p m places Limit is e = cc
+left_over bounds p m places end.Memory is e = cc
 
 numbered_names : (given : List ℕ) (ts : List Token) → AllByRecursion (IsNumbered given) ts → AllByRecursion (HasNumber given) (names_of ts)
 numbered_names given [] all = tt
@@ -81,20 +100,26 @@ numbered_names given (Name w ∷ ts) all = (all.0, numbered_names given ts all.1
 numbered_names given (Agent s ∷ ts) all = numbered_names given ts all.1
 
 -- a machine that has stopped holds one net with what was read back
-held_at : (s : SystemParts) (bounds : Bounds) (given : List ℕ) (m : Net) (end : End) (places : ℕ) (by_rule : List ℕ) (answer : Configuration) (stopped : HasStopped s bounds given by_rule m end places)
+abbrev held_at : (s : SystemParts) (bounds : Bounds) (given : List ℕ) (m : Net) (end : End) (places : ℕ) (by_rule : List ℕ) (answer : Configuration) (stopped : HasStopped s bounds given by_rule m end places)
     → OneNet (net_of stopped.held.numbers m.interface (pieces m)) answer → IsHeldAt s.rules s.config answer stopped.fired places bounds.nodes
 held_at s bounds given m end places by_rule answer stopped net = record {
   machine = m;
+  first = stopped.first;
   plans = stopped.plans;
+  rule_numbers = stopped.rule_numbers;
   given = given;
+  plan = stopped.plan;
+  operands = stopped.operands;
+  compiled = stopped.compiled;
+  starts = stopped.starts;
+  none = stopped.none;
+  watched = stopped.watched;
+  by_plans = stopped.by_plans;
   held = stopped.held;
+  begun = stopped.begun;
   one_net = net;
   all = stopped.all;
   enough = stopped.enough;
-  first = stopped.first;
-  begun = stopped.begun;
-  none = stopped.none;
-  watched = stopped.watched;
 }
 
 -- What was read back is what was reached, and its words are written.
@@ -102,12 +127,13 @@ pub answered_so : AnswerLaws → (s : SystemParts) (bounds : Bounds) (given : Li
     (ts : List Token) (terms equations : ℕ) (words : List FlatWord)
     → OneNet (net_of stopped.held.numbers m.interface (pieces m)) (configuration_read stopped.held.numbers ts terms)
     → (HasNext stopped.plans m.pending → CanInteract s.rules.rules (configuration_read stopped.held.numbers ts terms))
-    → (m.pending ≡ [] → AllByRecursion (IsStuck stopped.plans) m.aside → HasNames (configuration_read stopped.held.numbers ts terms)
+    → (HasNames (configuration_read stopped.held.numbers ts terms)
     → AreGiven stopped.held.numbers.given (configuration_read stopped.held.numbers ts terms)
-    → IsQuiet s.rules.rules (configuration_read stopped.held.numbers ts terms) × IsPutTogether (configuration_read stopped.held.numbers ts terms))
+    → (m.pending ≡ [] → IsQuiet s.rules.rules (configuration_read stopped.held.numbers ts terms)) × IsPutTogether (configuration_read stopped.held.numbers ts terms))
     → IsWhole (flat_words stopped.held.numbers ts) → length (forest (flat_words stopped.held.numbers ts)) ≡ terms + 2 * equations
     → AllByRecursion (IsNumbered given) ts → words ≡ renumbered_words (flat_words (written_numbers (arities_of s) given) ts)
-    → (answer : Configuration) × IsReachedBy s bounds answer end m.interactions places by_rule × Writes s.rules.symbols words terms equations answer
+    → (answer : Configuration) × IsReachedBy s bounds answer end m.interactions places by_rule × IsPutTogether answer
+    × (length answer.equations ≡ equations) × Writes s.rules.symbols words terms equations answer
 answered_so laws s bounds given m end places by_rule stopped ts terms equations words net next quiet whole counted numbered written =
     let held = stopped.held in
     let n : Numbers = held.numbers in
@@ -141,10 +167,13 @@ answered_so laws s bounds given m end places by_rule stopped ts terms equations 
           counted = stopped.counted;
           within = stopped.within;
           held = held_at s bounds given m end places by_rule answer stopped net;
-          ended = ends_alike s bounds stopped.plans answer m places end next (λ none stuck. quiet none stuck net.names_too are) stopped.ended;
+          ended = ends_alike s bounds stopped.plans answer m places end next (quiet net.names_too are).0 (quiet net.names_too are).1 stopped.ended;
+          next = left_over bounds stopped.plans m places end stopped.ended;
         };
         counts = stopped.counts;
       }),
+      (quiet net.names_too are).1,
+      length-equations ws terms equations 0 counted,
       transport (λ (l : List FlatWord). Writes rs.symbols l terms equations answer) (sym words_are) (writes_so rs.symbols ws terms equations answer whole counted refl refl over),
     )
 
@@ -154,6 +183,7 @@ answered_so laws s bounds given m end places by_rule stopped ts terms equations 
 pub record IsUnread (s : SystemParts) (bounds : Bounds) (partial : Bool) (end : End) (interactions places : ℕ) (by_rule : List ℕ) : Type 0 where
   pub answer : Configuration
   pub reached : IsReachedBy s bounds answer end interactions places by_rule
+  pub name_steps : TellsNameSteps s.rules.rules s.config interactions (length answer.equations) end None
   pub prints : [] ≡ line_reached partial end s.rules.symbols answer
   pub stuck : None ≡ stuck_at end s.rules.symbols answer
 
@@ -164,27 +194,30 @@ unread_so itself s bounds given m Steps places by_rule partial stopped none = ab
 unread_so itself s bounds given m Nodes places by_rule partial stopped none = record {
   answer = net_of stopped.held.numbers m.interface (pieces m);
   reached = record {
-    reached = record { fired = stopped.fired; reached = stopped.held.reached; counted = stopped.counted; within = stopped.within; held = held_at s bounds given m Nodes places by_rule _ stopped (itself _ stopped.held.has_names); ended = stopped.ended };
+    reached = record { fired = stopped.fired; reached = stopped.held.reached; counted = stopped.counted; within = stopped.within; held = held_at s bounds given m Nodes places by_rule _ stopped (itself _ stopped.held.has_names); ended = (stopped.ended.0, stopped.ended.1); next = left_over bounds stopped.plans m places Nodes stopped.ended };
     counts = stopped.counts;
   };
+  name_steps = refl;
   prints = sym (ap (λ b. cond b (line_of s.rules.symbols (renumbered (net_of stopped.held.numbers m.interface (pieces m)))) []) none);
   stuck = refl;
 }
 unread_so itself s bounds given m Limit places by_rule partial stopped none = record {
   answer = net_of stopped.held.numbers m.interface (pieces m);
   reached = record {
-    reached = record { fired = stopped.fired; reached = stopped.held.reached; counted = stopped.counted; within = stopped.within; held = held_at s bounds given m Limit places by_rule _ stopped (itself _ stopped.held.has_names); ended = stopped.ended };
+    reached = record { fired = stopped.fired; reached = stopped.held.reached; counted = stopped.counted; within = stopped.within; held = held_at s bounds given m Limit places by_rule _ stopped (itself _ stopped.held.has_names); ended = stopped.ended; next = left_over bounds stopped.plans m places Limit stopped.ended };
     counts = stopped.counts;
   };
+  name_steps = refl;
   prints = sym (ap (λ b. cond b (line_of s.rules.symbols (renumbered (net_of stopped.held.numbers m.interface (pieces m)))) []) none);
   stuck = refl;
 }
 unread_so itself s bounds given m end.Memory places by_rule partial stopped none = record {
   answer = net_of stopped.held.numbers m.interface (pieces m);
   reached = record {
-    reached = record { fired = stopped.fired; reached = stopped.held.reached; counted = stopped.counted; within = stopped.within; held = held_at s bounds given m end.Memory places by_rule _ stopped (itself _ stopped.held.has_names); ended = stopped.ended };
+    reached = record { fired = stopped.fired; reached = stopped.held.reached; counted = stopped.counted; within = stopped.within; held = held_at s bounds given m end.Memory places by_rule _ stopped (itself _ stopped.held.has_names); ended = stopped.ended; next = left_over bounds stopped.plans m places end.Memory stopped.ended };
     counts = stopped.counts;
   };
+  name_steps = refl;
   prints = sym (ap (λ b. cond b (line_of s.rules.symbols (renumbered (net_of stopped.held.numbers m.interface (pieces m)))) []) none);
   stuck = refl;
 }

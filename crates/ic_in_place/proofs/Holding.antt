@@ -20,6 +20,7 @@ use Rattle.ic_machine.specs.Runs.{Begins}
 use Rattle.ic_machine.specs.Separate.{IsSeparate}
 use Rattle.ic_machine.specs.Steps.{Steps}
 use Rattle.ic_machine.specs.lemmas.Balance.{steps_balance}
+use Rattle.ic_machine.specs.lemmas.RunsOn.{ran_steps}
 use Rattle.ic_machine.specs.lemmas.StepsOn.{steps_through}
 use Rattle.ic_meaning.specs.Words.{Numbers, AreNumbers}
 use Rattle.ic_meaning.specs.Nets.{net_of, AreNetPieces, IsStuckPiece}
@@ -76,7 +77,7 @@ held_so laws rs numbers p c given plan operands m set over named compiled run =
     let same : n.arities ≡ p.arities = begun.1 in
     let apart : IsSeparate p.arities i start.first = separate_before p i start.first (pieces run.first) start.steps run.separate in
     let are : AreNetPieces p.arities i start.first = laws.first p.arities (length given) plan operands i start.first compiled.is_plan start.begins apart in
-    let steps : Steps p fired start.first (pieces m) = steps_through p [] fired start.first (pieces run.first) (pieces m) start.steps run.ran.steps in
+    let steps : Steps p fired start.first (pieces m) = steps_through p [] fired start.first (pieces run.first) (pieces m) start.steps (ran_steps p run.first m run.ran) in
     let from : Reaches rs.rules c (net_of n i start.first) [] = laws.net rs.rules c c (net_of n i start.first) [] (laws.itself rs.rules c named) begun.4 in
     let reached : Reaches rs.rules c (net_of n i (pieces m)) all = laws.reached rs numbers p n c i fired start.first (pieces m) [] set over named compiled.plans compiled.of_rules begun.3 same
     (transport (λ (a : List ℕ). AreNetPieces a i start.first) (sym same) are) from steps in

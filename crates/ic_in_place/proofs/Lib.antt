@@ -13,3 +13,4 @@ pub mod OneText
 pub mod Answered
 pub mod Written
 pub mod Interacts
+pub mod NameSteps

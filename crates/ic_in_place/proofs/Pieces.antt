@@ -1,10 +1,11 @@
 -- Lemmas: a run in pieces.
-use Rattle.std.proofs.Common.{◌≡◌, ◌≢◌, ℕ, ◌+◌, ◌-◌, ◌≤◌, refl, arith}
+use Rattle.std.proofs.Common.{◌≡◌, ◌≢◌, ℕ, suc, ◌+◌, ◌-◌, ◌*◌, ◌≤◌, refl, arith}
 use Rattle.ic_machine.specs.Net.{Net}
 use Rattle.ic_machine.specs.Plan.{Plans}
 use Rattle.ic_in_place.specs.declared.running.End.{End}
 use Rattle.ic_in_place.specs.declared.running.End.TheVariants.{Steps, Nodes}
-use Rattle.ic_in_place.specs.Running.{RunsOn}
+use Rattle.ic_in_place.specs.declared.running.TheConstants.{PIECE}
+use Rattle.ic_in_place.specs.Running.{RunsOn, IsLookedAt}
 
 -- a piece that ended before its steps were made
 pub ended_before : (p : Plans) (all left steps : ℕ) (end : End) (first old new : Net) → old.interactions + left ≡ first.interactions + all → steps ≤ left
@@ -39,3 +40,16 @@ too_many p all left steps first old new counted low runs = record {
 pub goes_on : (p : Plans) (all left steps : ℕ) (first old new : Net) → old.interactions + left ≡ first.interactions + all → steps ≤ left
     → RunsOn p steps Steps old new → new.interactions + (left - steps) ≡ first.interactions + all
 goes_on p all left steps first old new counted low runs = omega (arith, counted, low, runs.all refl)
+
+-- one more whole piece
+pub one_more_piece : (p : Plans) (steps : ℕ) (first old new : Net) → (looks : ℕ) × (old.interactions ≡ first.interactions + looks * PIECE)
+    → RunsOn p steps Steps old new → steps ≡ PIECE → (looks : ℕ) × (new.interactions ≡ first.interactions + looks * PIECE)
+one_more_piece p steps first old new before runs whole = (suc before.0, omega (arith, before.1, runs.all refl, whole))
+
+pub looked_at : (p : Plans) (steps : ℕ) (first old new : Net) → (looks : ℕ) × (old.interactions ≡ first.interactions + looks * PIECE)
+    → RunsOn p steps Steps old new → steps ≡ PIECE → IsLookedAt p first new
+looked_at p steps first old new before runs whole = record {
+  looks = before.0;
+  whole = omega (arith, before.1, runs.all refl, whole);
+  more = runs.more refl;
+}

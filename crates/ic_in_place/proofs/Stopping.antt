@@ -8,7 +8,7 @@ use Rattle.ic_term.specs.Symbol.{is_over}
 use Rattle.ic_rules.specs.RuleSet.{Rules, IsRuleSet}
 use Rattle.ic_rules.specs.System.{SystemParts}
 use Rattle.ic_round.specs.Naming.{HasNames}
-use Rattle.ic_machine.specs.Net.{Net, pieces, IsStuck}
+use Rattle.ic_machine.specs.Net.{Net, pieces, IsPair, IsStuck}
 use Rattle.ic_machine.specs.Plan.{Planned, Plans, ArePlans, IsPlan}
 use Rattle.ic_machine.specs.Runs.{IsStart, Ran}
 use Rattle.ic_meaning.specs.Plans.{ArePlansOf, StandsForNet, rule_number}
@@ -16,10 +16,11 @@ use Rattle.ic_in_place.specs.declared.running.Bounds.{Bounds}
 use Rattle.ic_in_place.specs.declared.running.End.{End}
 use Rattle.ic_in_place.specs.declared.running.End.TheVariants.{Quiet, Steps, Nodes, Limit, Memory}
 use Rattle.ic_in_place.specs.Holding.{AreGiven, AreCompiled, HasRun, Holds}
-use Rattle.ic_in_place.specs.Running.{RunsOn, IsWatched}
+use Rattle.ic_in_place.specs.Running.{RunsOn, IsLookedAt, IsWatched}
 use Rattle.ic_in_place.proofs.Counted.{summed_told}
 use Rattle.ic_in_place.specs.inner.Summing.{IsSummed}
-use Rattle.ic_in_place.proofs.Onward.{all_of_both, ran_nothing, ran_nothing-fired}
+use Rattle.ic_in_place.proofs.Onward.{all_of_both, ran_nothing, ran_nothing-fired, ran_through, ran_through-fired}
+use Rattle.ic_machine.specs.lemmas.RunsOn.{ran_steps}
 use Rattle.ic_arena.specs.Piece.{Piece}
 use Rattle.ic_machine.specs.Steps.{Step, Steps as StepsOf, no_step, one_more, turns, puts, meets, fires}
 use Rattle.std.proofs.lemmas.List.Sums.{count_by-le-length}
@@ -57,12 +58,15 @@ pub record StopLaws : Type 0 where
       → (run : HasRun p (length given) plan operands m) → Holds rs p c given (map (rule_number numbers) run.ran.fired) m
 
 by_end : (bounds : Bounds) (p : Plans) (old m : Net) (places : ℕ) (end : End) → old.interactions ≡ 0
-    → RunsOn p bounds.steps end old m → AllByRecursion (IsStuck p) m.aside → (end ≡ Nodes → bounds.nodes < places) → StopsBy bounds p m places end
-by_end bounds p old m places Quiet none runs stuck nodes = (runs.quiet refl, stuck)
-by_end bounds p old m places Steps none runs stuck nodes = let all = runs.all refl in (omega (arith, all, none), runs.more refl)
-by_end bounds p old m places Nodes none runs stuck nodes = nodes refl
-by_end bounds p old m places Limit none runs stuck nodes = tt
-by_end bounds p old m places Memory none runs stuck nodes = tt
+    → RunsOn p bounds.steps end old m → (end ≡ Nodes → bounds.nodes < places) → (end ≡ Nodes → IsLookedAt p old m)
+    → StopsBy bounds p m places end
+by_end bounds p old m places Quiet none runs nodes looked = runs.quiet refl
+by_end bounds p old m places Steps none runs nodes looked = let all = runs.all refl in (omega (arith, all, none), runs.more refl)
+by_end bounds p old m places Nodes none runs nodes looked =
+    let at : IsLookedAt p old m = looked refl in
+    (nodes refl, (at.looks, omega (arith, at.whole, none)), at.more)
+by_end bounds p old m places Limit none runs nodes looked = tt
+by_end bounds p old m places Memory none runs nodes looked = tt
 
 -- each plan that fired is there
 known_step : (p : Plans) (xs ys : List Piece) (fired : List ℕ) → Step p fired xs ys → AllByRecursion (λ i. i < length p.plans) fired
@@ -88,11 +92,13 @@ pub stopped_so : StopLaws → (s : SystemParts) (bounds : Bounds) (numbers : Lis
     → IsSound s → p.arities ≡ arities_of s → ArePlans p → ArePlansOf s.rules numbers p
     → IsStart (arities_of s) (length given) plan operands → StandsForNet (arities_of s) given s.config plan operands
     → ((x : ℕ) → (occurrences x (configuration_names s.config) ≡ 1) ↔ Contains given x)
-    → IsBegun p (length given) plan operands old → Ran p old m → RunsOn p bounds.steps end old m
-    → (end ≡ Nodes → bounds.nodes < places) → places ≡ m.names + sum m.agents → length m.places ≤ places → IsWatched p bounds.nodes old m
+    → IsBegun p (length given) plan operands old → RunsOn p bounds.steps end old m
+    → (end ≡ Nodes → bounds.nodes < places) → (end ≡ Nodes → IsLookedAt p old m) → places ≡ m.names + sum m.agents
+    → length m.places ≤ places → AllByRecursion IsPair m.pending → IsWatched p bounds.nodes old m
     → (by_rule : List ℕ) → IsSummed (length s.rules.rules) numbers m.counts by_rule → length numbers ≡ length p.plans → m.interactions < 2 ^ 64
     → HasStopped s bounds given by_rule m end places
-stopped_so laws s bounds numbers p given plan operands old m end places sound arities plans of_rules start stands are begun ran runs nodes all enough watched by_rule summed numbered low =
+stopped_so laws s bounds numbers p given plan operands old m end places sound arities plans of_rules start stands are begun runs nodes looked all enough pairs watched by_rule summed numbered low =
+    let ran : Ran p old m = ran_through p old watched.mark m watched.before watched.after in
     let count : length (arities_of s) ≡ length s.rules.symbols = length-map s.rules.symbols (λ x. x.arity) in
     let compiled : AreCompiled s.rules numbers p s.config given plan operands = record {
       plans = plans;
@@ -112,7 +118,7 @@ stopped_so laws s bounds numbers p given plan operands old m end places sound ar
     let held : Holds s.rules p s.config given (map (rule_number numbers) ran.fired) m =
     laws.reached s.rules numbers p s.config given plan operands m sound.rules sound.over sound.names compiled run in
     let many = length-map ran.fired (rule_number numbers) in
-    let known = known_plans p (pieces old) (pieces m) ran.fired ran.steps in
+    let known = known_plans p (pieces old) (pieces m) ran.fired (ran_steps p old m ran) in
     let zeros : (i : ℕ) → slice_index_or old.counts i 0 ≡ 0 = (λ i. ap (λ (l : List ℕ). slice_index_or l i 0) begun.counts ∙ no_count p.plans i) in
     let plans_count : length old.counts ≡ length p.plans = ap (length {A = ℕ}) begun.counts ∙ length-map p.plans (λ plan. 0) in
     let by_rules = (λ (i : ℕ). summed_told i numbers m.counts ran.fired (transport (λ (n : ℕ). AllByRecursion (λ k. k < n) ran.fired) (sym numbered) known)
@@ -123,9 +129,14 @@ stopped_so laws s bounds numbers p given plan operands old m end places sound ar
       below = all_low given stands.names s.config.next (2 ^ 62) sound.next stands.below;
       plans = p;
       rule_numbers = numbers;
-      of_rules = of_rules;
+      plan = plan;
+      operands = operands;
+      compiled = compiled;
       arities = arities;
       own_arities = ran.arities ∙ begun.arities ∙ arities;
+      starts = begun.starts;
+      by_plans = ap (map (rule_number numbers)) (ran_through-fired p old watched.mark m watched.before watched.after);
+      pairs = pairs;
       fired = map (rule_number numbers) ran.fired;
       held = held;
       counted = omega (arith, ran.counted, begun.none, many);
@@ -142,7 +153,6 @@ stopped_so laws s bounds numbers p given plan operands old m end places sound ar
           (record { first = old; starts = begun.starts; separate = begun.separate; aside = begun.aside; ran = ran_nothing p old }));
       none = begun.none;
       watched = watched;
-      ended = by_end bounds p old m places end begun.none runs
-          (transport (AllByRecursion (IsStuck p)) (sym (ran.aside ∙ ap (λ es. es ++ ran.more) begun.aside)) ran.stuck)
-          nodes;
+      aside = transport (AllByRecursion (IsStuck p)) (sym (ran.aside ∙ ap (λ es. es ++ ran.more) begun.aside)) ran.stuck;
+      ended = by_end bounds p old m places end begun.none runs nodes looked;
     }

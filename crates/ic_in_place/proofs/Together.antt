@@ -1,7 +1,8 @@
 -- Lemmas: what is read back where no pair is left is put together.
 use Rattle.std.proofs.Common.{◌≡◌, ℕ, zero, suc, ◌+◌, ◌*◌, ◌≤◌, List, [], ◌∷◌, ◌++◌, length, take, drop, refl, sym, ap, arith, subst as transport}
 use Rattle.std.specs.List.{AllByRecursion}
-use Rattle.std.proofs.lemmas.List.{take-append-drop}
+use Rattle.std.proofs.lemmas.List.{length-append, take-append-drop}
+use Rattle.std.proofs.lemmas.List.Concat.{flat_map-append}
 use Rattle.ic_term.specs.Tree.{Tree, name, names, agent, Pair}
 use Rattle.ic_term.specs.Configuration.{Configuration, configuration_names, occurrences}
 use Rattle.ic_flat.specs.Words.{forest}
@@ -11,7 +12,7 @@ use Rattle.ic_round.specs.Naming.{HasNames}
 use Rattle.ic_round.specs.Rounds.{IsQuiet}
 use Rattle.ic_arena.specs.declared.word.Word.{Word}
 use Rattle.ic_machine.specs.declared.equation.Equation.{Equation}
-use Rattle.ic_machine.specs.Net.{Net, IsStuck}
+use Rattle.ic_machine.specs.Net.{Net, IsPair, IsStuck}
 use Rattle.ic_machine.specs.Plan.{Plans}
 use Rattle.ic_meaning.specs.Words.{Numbers, AreNumbers}
 use Rattle.ic_meaning.specs.Plans.{ArePlansOf}
@@ -27,15 +28,21 @@ free_head : (n : Numbers) (c : Configuration) (w : Word) (t : Tree) → AreGiven
 free_head n c w (name x) are head = (are x).1 (w.index, head.1)
 free_head n c w (agent s ts) are head = tt
 
-all_ends : (p : Plans) (n : Numbers) (c : Configuration) (es : List Equation) (ts : List Tree) → AreGiven n.given c → AllByRecursion (IsStuck p) es → BeginAs n (sides_of es) ts
+all_ends : (n : Numbers) (c : Configuration) (es : List Equation) (ts : List Tree) → AreGiven n.given c → AllByRecursion IsPair es → BeginAs n (sides_of es) ts
     → AllByRecursion (λ e. IsAgentOrFree c e.left × IsAgentOrFree c e.right) (take (length es) (pairs_of ts))
-all_ends p n c [] ts are stuck begin = tt
-all_ends p n c (e ∷ es) [] are stuck begin = absurd begin
-all_ends p n c (e ∷ es) (t ∷ []) are stuck begin = absurd begin.1
-all_ends p n c (e ∷ es) (t ∷ u ∷ ts) are stuck begin = (
-  (free_head n c e.left t are (begin.0 stuck.0.left), free_head n c e.right u are (begin.1.0 stuck.0.right)),
-  all_ends p n c es ts are stuck.1 begin.1.1,
+all_ends n c [] ts are pairs begin = tt
+all_ends n c (e ∷ es) [] are pairs begin = absurd begin
+all_ends n c (e ∷ es) (t ∷ []) are pairs begin = absurd begin.1
+all_ends n c (e ∷ es) (t ∷ u ∷ ts) are pairs begin = (
+  (free_head n c e.left t are (begin.0 pairs.0.0), free_head n c e.right u are (begin.1.0 pairs.0.1)),
+  all_ends n c es ts are pairs.1 begin.1.1,
 )
+
+-- pairs, and others that are stuck
+pub all_pairs : (p : Plans) (es fs : List Equation) → AllByRecursion IsPair es → AllByRecursion (IsStuck p) fs → AllByRecursion IsPair (es ++ fs)
+all_pairs p [] [] pairs stuck = tt
+all_pairs p [] (f ∷ fs) pairs stuck = ((stuck.0.left, stuck.0.right), all_pairs p [] fs tt stuck.1)
+all_pairs p (e ∷ es) fs pairs stuck = (pairs.0, all_pairs p es fs pairs.1 stuck)
 
 -- ---- the circles
 
@@ -59,24 +66,25 @@ all_circles n c (e ∷ es) sound are named all = (circle_so n c e sound are name
 
 -- ---- all together
 
-pub put_together : (p : Plans) (n : Numbers) (m : Net) (ts : List Token) (terms : ℕ) → AreNumbers n → m.pending ≡ [] → AllByRecursion (IsStuck p) m.aside
+pub put_together : (n : Numbers) (m : Net) (ts : List Token) (terms : ℕ) → AreNumbers n → AllByRecursion IsPair (m.pending ++ m.aside)
     → terms ≡ length m.interface → BeginAs n (m.interface ++ (sides_of m.pending ++ sides_of m.aside)) (forest (flat_words n ts))
     → AreCirclesAfter n (length m.pending + length m.aside) (configuration_read n ts terms)
     → HasNames (configuration_read n ts terms) → AreGiven n.given (configuration_read n ts terms) → IsPutTogether (configuration_read n ts terms)
-put_together p n m ts terms sound none stuck counted begin circles named are =
+put_together n m ts terms sound pairs counted begin circles named are =
     let c : Configuration = configuration_read n ts terms in
     let F : List Tree = forest (flat_words n ts) in
-    let K : ℕ = length m.aside in
-    let aside : BeginAs n (sides_of m.aside) (drop terms F) =
-    transport (λ (k : ℕ). BeginAs n (sides_of m.aside) (drop k F)) (sym counted)
-    (begin_after n m.interface (sides_of m.aside) F (transport (λ (l : List Equation). BeginAs n (m.interface ++ (sides_of l ++ sides_of m.aside)) F) none begin)) in
-    let few : length m.pending + length m.aside ≡ K = omega (arith, ap (length {A = Equation}) none) in
+    let es : List Equation = m.pending ++ m.aside in
+    let K : ℕ = length es in
+    let all : BeginAs n (sides_of es) (drop terms F) =
+    transport (λ l. BeginAs n l (drop terms F)) (sym (flat_map-append (λ (e : Equation). e.left ∷ e.right ∷ []) m.pending m.aside))
+    (transport (λ (k : ℕ). BeginAs n (sides_of m.pending ++ sides_of m.aside) (drop k F)) (sym counted)
+    (begin_after n m.interface (sides_of m.pending ++ sides_of m.aside) F begin)) in
     record {
       ends = take K c.equations;
       circles = drop K c.equations;
       parts = sym (take-append-drop K c.equations);
-      are_ends = all_ends p n c m.aside (drop terms F) are stuck aside;
-      are_circles = all_circles n c (drop K c.equations) sound are named (transport (λ (k : ℕ). AreCirclesAfter n k c) few circles);
+      are_ends = all_ends n c es (drop terms F) are pairs all;
+      are_circles = all_circles n c (drop K c.equations) sound are named (transport (λ (k : ℕ). AreCirclesAfter n k c) (sym (length-append m.pending m.aside)) circles);
     }
 
 -- what the law says of what is read of stuck pairs

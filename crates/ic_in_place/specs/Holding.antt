@@ -1,5 +1,5 @@
 -- What a machine holds that began with a configuration.
-use Rattle.std.specs.Prelude.{◌≡◌, ◌↔◌, ℕ, ◌+◌, ◌<◌, ◌≤◌, List, [], Some, length, slice_get, sum}
+use Rattle.std.specs.Prelude.{◌≡◌, ◌↔◌, ℕ, ◌+◌, ◌<◌, ◌≤◌, List, [], ◌++◌, Some, length, map, slice_get, sum}
 use Rattle.std.specs.List.{AllByRecursion}
 use Rattle.ic_term.specs.Configuration.{Configuration, configuration_names, occurrences}
 use Rattle.ic_rules.specs.RuleSet.{Rules}
@@ -13,7 +13,7 @@ use Rattle.ic_machine.specs.Runs.{Starts, Ran}
 use Rattle.ic_machine.specs.Separate.{IsSeparate}
 use Rattle.ic_meaning.specs.Words.{Numbers, AreNumbers}
 use Rattle.ic_meaning.specs.Nets.{net_of, AreNetPieces}
-use Rattle.ic_meaning.specs.Plans.{ArePlansOf, StandsForNet}
+use Rattle.ic_meaning.specs.Plans.{ArePlansOf, StandsForNet, rule_number}
 use Rattle.ic_in_place.specs.Running.{IsWatched}
 
 -- these are the names that occur once
@@ -52,19 +52,26 @@ pub record Holds (rs : Rules) (p : Plans) (c : Configuration) (given fired : Lis
   pub free : AreGiven given (net_of numbers m.interface (pieces m))
 
 -- A machine that has so many places, of names and for agents, the free ones too, holds one net with an answer. No more
--- pieces are at them than there are places. It began with the configuration, and its places were watched on the way.
+-- pieces are at them than there are places. It began with the configuration, and these rules are those of the plans that
+-- fired since. Its places were watched on the way.
 pub record IsHeldAt (rs : Rules) (c answer : Configuration) (fired : List ℕ) (places nodes : ℕ) : Type 0 where
   pub machine : Net
   pub first : Net
   pub plans : Plans
+  pub rule_numbers : List ℕ
   pub given : List ℕ
+  pub plan : Planned
+  pub operands : List ℕ
+  pub compiled : AreCompiled rs rule_numbers plans c given plan operands
+  pub starts : Starts plans (length given) plan operands first
+  pub none : first.interactions ≡ 0
+  pub watched : IsWatched plans nodes first machine
+  pub by_plans : fired ≡ map (rule_number rule_numbers) (watched.before.fired ++ watched.after.fired)
   pub held : Holds rs plans c given fired machine
+  pub begun : Holds rs plans c given [] first
   pub one_net : OneNet (net_of held.numbers machine.interface (pieces machine)) answer
   pub all : places ≡ machine.names + sum machine.agents
   pub enough : length machine.places ≤ places
-  pub begun : Holds rs plans c given [] first
-  pub none : first.interactions ≡ 0
-  pub watched : IsWatched plans nodes first machine
 
 -- No pair is left to be looked at, and places hold no equation.
 pub record HasEnded (m : Net) : Type 0 where

@@ -1,5 +1,5 @@
 -- What a system is reduced to in place (this project's choice).
-use Rattle.std.specs.Prelude.{◌≡◌, ℕ, ◌+◌, ◌*◌, ◌<◌, ◌≤◌, List, ◌++◌, IsTrue, length}
+use Rattle.std.specs.Prelude.{◌≡◌, ℕ, suc, ◌+◌, ◌*◌, ◌<◌, ◌≤◌, List, ◌++◌, IsTrue, length}
 use Rattle.std.specs.List.{list_all, AllByRecursion}
 use Rattle.ic_term.specs.Tree.{Tree, name, agent, names, Pair}
 use Rattle.ic_term.specs.Configuration.{Configuration, configuration_names, occurrences}
@@ -14,6 +14,8 @@ use Rattle.ic_round.specs.Rounds.{IsQuiet}
 use Rattle.ic_round.specs.Steps.{Interaction}
 use Rattle.ic_reaching.specs.Reaching.{Reaches}
 use Rattle.ic_text.specs.declared.limits.TheConstants.{MAX_NAME}
+use Rattle.ic_machine.specs.Net.{HasNext}
+use Rattle.ic_in_place.specs.declared.running.TheConstants.{PIECE}
 use Rattle.ic_in_place.specs.declared.running.Bounds.{Bounds}
 use Rattle.ic_in_place.specs.declared.running.End.{End}
 use Rattle.ic_in_place.specs.declared.running.End.TheVariants.{Quiet, Steps, Nodes, Limit, Memory}
@@ -42,17 +44,19 @@ pub record IsPutTogether (c : Configuration) : Type 0 where
 abbrev pub CanInteract : List Rule → Configuration → Type 0
 CanInteract rs c = (d : Configuration) × (place : ℕ) × Interaction rs c d place
 
--- what an end says of the configuration that was reached, and of how many interactions were made and places there are
+-- What an end says of the configuration that was reached, and of how many interactions were made and places there are. Places
+-- are looked at after each piece of a run.
 abbrev pub EndsBy : List Rule → Bounds → Configuration → ℕ → ℕ → End → Type 0
 EndsBy rs bounds c interactions places Quiet = IsQuiet rs c × IsPutTogether c
 EndsBy rs bounds c interactions places Steps =
-    (interactions ≡ bounds.steps) × CanInteract rs c
-EndsBy rs bounds c interactions places Nodes = bounds.nodes < places
+    (interactions ≡ bounds.steps) × CanInteract rs c × IsPutTogether c
+EndsBy rs bounds c interactions places Nodes =
+    (bounds.nodes < places) × ((looks : ℕ) × (interactions ≡ suc looks * PIECE))
 EndsBy rs bounds c interactions places Limit = Unit {0}
 EndsBy rs bounds c interactions places Memory = Unit {0}
 
 -- A configuration is reached from that of a system by so many interactions, at most as many as may be made, and this is
--- why no more were made. The machine that held it had so many places.
+-- why no more were made. The machine that held it had so many places. Where it stopped for these, a pair was left.
 pub record IsReached (s : SystemParts) (bounds : Bounds) (answer : Configuration) (end : End)
     (interactions places : ℕ) : Type 0 where
   pub fired : List ℕ
@@ -61,6 +65,7 @@ pub record IsReached (s : SystemParts) (bounds : Bounds) (answer : Configuration
   pub within : interactions ≤ bounds.steps
   pub held : IsHeldAt s.rules s.config answer fired places bounds.nodes
   pub ended : EndsBy s.rules.rules bounds answer interactions places end
+  pub next : end ≡ Nodes → HasNext held.plans held.machine.pending
 
 -- The same, and how many of these interactions were made by each rule.
 pub record IsReachedBy (s : SystemParts) (bounds : Bounds) (answer : Configuration) (end : End)

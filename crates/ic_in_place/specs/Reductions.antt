@@ -1,5 +1,5 @@
 -- What a text of a system is answered when it is reduced in place (this project's choice).
-use Rattle.std.specs.Prelude.{◌≡◌, ◌≢◌, List, [], Bool, true, Option, None, Ok, Err, ℕ, if◌then◌else◌}
+use Rattle.std.specs.Prelude.{◌≡◌, ◌≢◌, List, [], Bool, true, Option, None, Ok, Err, ℕ, length, if◌then◌else◌}
 use Rattle.std.specs.Option.{option_map}
 use Rattle.std.specs.Io.KnownBytes.{Appends}
 use Rattle.ic_term.specs.Configuration.{Configuration}
@@ -12,7 +12,8 @@ use Rattle.ic_text.specs.declared.fault.TextFault.TheVariants as text
 use Rattle.ic_streams.specs.Streams.{Answering, line_of}
 use Rattle.ic_streams.specs.declared.fault.StreamFault.TheVariants.{Read, Text, Round, Memory, Write}
 use Rattle.ic_by_rounds.specs.Stuck.{stuck_text}
-use Rattle.ic_in_place.specs.Reducing.{IsReachedBy}
+use Rattle.ic_in_place.specs.Counting.{TellsNameSteps}
+use Rattle.ic_in_place.specs.Reducing.{IsPutTogether, IsReachedBy}
 use Rattle.ic_in_place.specs.declared.running.Bounds.{Bounds}
 use Rattle.ic_in_place.specs.declared.running.End.{End}
 use Rattle.ic_in_place.specs.declared.running.End.TheVariants as end
@@ -48,6 +49,9 @@ pub record EndsAs (limits : Limits) (bounds : Bounds) (partial : Bool) (input : 
   pub reads : ReadsSystemWithin limits input (Ok system)
   pub reached : IsReachedBy system bounds answer outcome.end outcome.interactions outcome.places
       outcome.by_rule.items
+  pub name_steps : TellsNameSteps system.rules.rules system.config outcome.interactions
+      (length answer.equations) outcome.end outcome.name_steps
+  pub together : is_written partial outcome.end ≡ true → IsPutTogether answer
   pub prints : line ≡ line_reached partial outcome.end system.rules.symbols answer
   pub stuck : option_map (λ text. text.items) outcome.stuck
       ≡ stuck_at outcome.end system.rules.symbols answer

@@ -1,5 +1,5 @@
 -- How a run of a machine ended.
-use Rattle.std.specs.Prelude.{◌≡◌, ℕ, ◌+◌, ◌≤◌, ◌⊎◌, [], length, sum}
+use Rattle.std.specs.Prelude.{◌≡◌, ℕ, suc, ◌+◌, ◌*◌, ◌≤◌, ◌⊎◌, [], length, sum}
 use Rattle.ic_machine.specs.Net.{Net, HasNext}
 use Rattle.ic_machine.specs.Plan.{Plans}
 use Rattle.ic_machine.specs.Runs.{Ran}
@@ -14,6 +14,12 @@ pub record RunsOn (p : Plans) (steps : ℕ) (end : End) (old new : Net) : Type 0
   pub quiet : end ≡ Quiet → new.pending ≡ []
   pub all : end ≡ Steps → new.interactions ≡ old.interactions + steps
   pub more : end ≡ Steps → HasNext p new.pending
+
+-- Whole pieces of a run were made, at least one, and the last pair that is left can fire.
+pub record IsLookedAt (p : Plans) (old new : Net) : Type 0 where
+  pub looks : ℕ
+  pub whole : new.interactions ≡ old.interactions + suc looks * PIECE
+  pub more : HasNext p new.pending
 
 -- There are at most so many places, and no more pieces at them.
 pub record IsWithin (nodes : ℕ) (m : Net) : Type 0 where

@@ -1,8 +1,10 @@
-//! How often each rule fired, by how often its plans did.
+//! How often each rule fired, by how often its plans did, and how many steps put a term for a name.
 
-ghost use Rattle.std.specs.Prelude.{◌≡◌, ◌+◌, ◌<◌, ◌==◌, ℕ, IfOk, length, min, slice_index_or, if◌then◌else◌};
-ghost use Rattle.ic_in_place.specs.inner.Summing.{IsSummed};
+ghost use Rattle.std.specs.Prelude.{◌≡◌, ◌+◌, ◌*◌, ◌^◌, ◌<◌, ◌==◌, ◌≢◌, ℕ, None, Some, SomeIff, IfOk, length, min, slice_index_or, if◌then◌else◌};
+ghost use Rattle.ic_in_place.specs.inner.Summing.{IsSummed, made_from};
 
+use crate::running::End;
+use ic_rules::Rule;
 use std::alloc::{AllocError, Global};
 
 /// So many counts of nothing.
@@ -48,4 +50,53 @@ fn count_of(counts: &[u64], plan: usize) -> u64
         Some(count) => *count,
         None => 0,
     }
+}
+
+/// How many steps put a term for a name, if the end is quiet, where so many equations were given and so many are left.
+/// Nothing if there are too many to be counted.
+pub(crate) fn name_steps_at(
+    end: End,
+    equations: usize,
+    rules: &[Rule],
+    by_rule: &[u64],
+    interactions: u64,
+    left: usize,
+) -> Option<u64>
+    ensures quiet { end ≡ End.Quiet → (n : ℕ)
+        → n + interactions + left ≡ equations + made_from rules.now by_rule.now 0
+        → n + interactions + left < 2 ^ 64 → result ≡ Some n }
+    ensures other { end ≢ End.Quiet → result ≡ None }
+{
+    match end {
+        End::Quiet => name_steps(equations, rules, by_rule, interactions, left),
+        _ => None,
+    }
+}
+
+/// How many steps put a term for a name. A rule that fires makes an equation of each of its arguments and takes one away,
+/// and a name step takes one away. So these are all that were there or made, less the interactions and what is left.
+fn name_steps(
+    equations: usize,
+    rules: &[Rule],
+    by_rule: &[u64],
+    interactions: u64,
+    left: usize,
+) -> Option<u64>
+    ensures { (n : ℕ) → n + interactions + left ≡ equations + made_from rules.now by_rule.now 0
+        → n + interactions + left < 2 ^ 64 → result ≡ Some n }
+{
+    let mut made = equations as u64;
+    for (place, rule) in rules.iter().enumerate() {
+        let times = count_of(by_rule, place);
+        made = plus_times(made, times, rule.left_args().len())?;
+        made = plus_times(made, times, rule.right_args().len())?;
+    }
+    made.checked_sub(interactions)?.checked_sub(left as u64)
+}
+
+/// A number and so many times another one, if that is below 2^64.
+fn plus_times(number: u64, times: u64, other: usize) -> Option<u64>
+    ensures { SomeIff result (number + times * other < 2 ^ 64) (number + times * other) }
+{
+    number.checked_add(times.checked_mul(other as u64)?)
 }

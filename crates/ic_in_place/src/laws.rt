@@ -1,6 +1,6 @@
 //! Laws of what a machine holds.
 
-ghost use Rattle.std.specs.Prelude.{◌≡◌, ℕ, ◌+◌, List, [], IsTrue, length, map};
+ghost use Rattle.std.specs.Prelude.{◌≡◌, ℕ, ◌+◌, List, [], IsTrue, length, map, sum, sum_by};
 ghost use Rattle.ic_term.specs.Configuration.{Configuration};
 ghost use Rattle.ic_term.specs.Symbol.{is_over};
 ghost use Rattle.ic_rules.specs.RuleSet.{Rules, IsRuleSet};
@@ -19,7 +19,8 @@ ghost use Rattle.ic_meaning.specs.Plans.{rule_number};
 ghost use Rattle.ic_in_place.specs.declared.running.Bounds.{Bounds};
 ghost use Rattle.ic_in_place.specs.declared.running.End.{End};
 ghost use Rattle.ic_in_place.specs.declared.running.End.TheVariants.{Quiet};
-ghost use Rattle.ic_in_place.specs.Reducing.{IsReached};
+ghost use Rattle.ic_in_place.specs.Counting.{AreCounts, AreNameSteps, arguments_at, name_steps};
+ghost use Rattle.ic_in_place.specs.Reducing.{IsReached, IsReachedBy};
 ghost use Rattle.ic_in_place.specs.Holding.{AreCompiled, HasRun, Holds, HasEnded};
 
 /// Runs go on: what a run leads to, and what a run from there leads to.
@@ -119,4 +120,41 @@ pub fn a_reduction_that_was_cut_goes_on()
     ic_reaching::laws::what_is_reached_is_one_net();
     ic_reaching::laws::what_is_reached_goes_on();
     ic_reaching::laws::what_is_reached_quiet_is_the_end_of_every_order();
+}
+
+/// What is told of each rule is together what is told in all. Where a reduction ends quiet, each rule fires as often in
+/// every order that does.
+pub fn interactions_by_rule_are_all()
+    ensures all { (s : SystemParts) (bounds : Bounds) (answer : Configuration) (end : End)
+        (interactions places : ℕ) (by_rule : List ℕ)
+        → IsRuleSet s.rules → IsTrue (is_over s.rules.symbols s.config) → HasNames s.config
+        → IsReachedBy s bounds answer end interactions places by_rule → sum by_rule ≡ interactions }
+    ensures every_order { (s : SystemParts) (bounds : Bounds) (answer e : Configuration)
+        (interactions places : ℕ) (by_rule : List ℕ) (kinds : List Kind)
+        → IsRuleSet s.rules → IsTrue (is_over s.rules.symbols s.config) → HasNames s.config
+        → IsReachedBy s bounds answer Quiet interactions places by_rule
+        → Chain s.rules.rules kinds s.config e → IsQuiet s.rules.rules e
+        → AreCounts (length s.rules.rules) (rules_fired kinds) by_rule }
+{
+    ic_reaching::laws::what_is_reached_is_one_net();
+    ic_reaching::laws::what_is_reached_goes_on();
+    ic_reaching::laws::what_is_reached_quiet_is_the_end_of_every_order();
+}
+
+/// Every order that ends quiet has as many steps that put a term for a name. They are the equations that were given or made,
+/// one of each argument of a rule that fired, less one for each interaction and those that are left.
+pub fn name_steps_are_those_of_every_order()
+    ensures every_order { (rs : Rules) (c e : Configuration) (n : ℕ) (kinds : List Kind)
+        → IsRuleSet rs → IsTrue (is_over rs.symbols c) → HasNames c
+        → AreNameSteps rs.rules c n → Chain rs.rules kinds c e → IsQuiet rs.rules e
+        → name_steps kinds ≡ n }
+    ensures equations { (rs : Rules) (c e : Configuration) (kinds : List Kind)
+        → IsRuleSet rs → IsTrue (is_over rs.symbols c) → HasNames c
+        → Chain rs.rules kinds c e
+        → length e.equations + (name_steps kinds + length (rules_fired kinds))
+        ≡ length c.equations + sum_by (arguments_at rs.rules) (rules_fired kinds) }
+{
+    ic_confluence::laws::every_order_ends_in_the_same_net();
+    ic_reaching::laws::what_is_reached_is_one_net();
+    ic_reaching::laws::what_is_reached_goes_on();
 }

@@ -5,10 +5,11 @@ ghost use Rattle.ic_term.specs.Configuration.{Configuration, configuration_nodes
 ghost use Rattle.ic_machine.specs.Plan.{planned};
 ghost use Rattle.ic_machine.specs.Runs.{IsStart};
 ghost use Rattle.ic_in_place.specs.declared.running.Bounds.{Bounds as AnyBounds};
-ghost use Rattle.ic_in_place.specs.Reducing.{IsReachedBy, Writes};
+ghost use Rattle.ic_in_place.specs.Counting.{TellsNameSteps};
+ghost use Rattle.ic_in_place.specs.Reducing.{IsPutTogether, IsReachedBy, Writes};
 ghost use Rattle.ic_in_place.specs.inner.Stopping.{HasStopped, IsBegun, IsSound, arities_of};
 
-use crate::counting::{no_counts, sum_by_rule};
+use crate::counting::{name_steps_at, no_counts, sum_by_rule};
 use crate::running::{Bounds, End, Watch, run_in_pieces};
 use crate::writing::words_of;
 use ic_flat::{WideSystem, Word};
@@ -31,6 +32,8 @@ pub struct Reduced {
     pub interactions: u64,
     /// How often each rule fired, in the order of the rules.
     pub by_rule: Vec<u64>,
+    /// How many steps put a term for a name, told if the end is quiet. Every order makes as many.
+    pub name_steps: Option<u64>,
     /// How many places the machine had at the end, the free ones too.
     pub places: u64,
     /// Why the reduction ended.
@@ -58,6 +61,9 @@ pub fn reduce_in_place<V: Watch>(
     ensures { IfOk result (λ reduced. (answer : Configuration)
         × IsReachedBy system.now bounds answer reduced.end reduced.interactions reduced.places
         reduced.by_rule.items
+        × IsPutTogether answer
+        × TellsNameSteps system.now.rules.rules system.now.config reduced.interactions
+        (length answer.equations) reduced.end reduced.name_steps
         × Writes system.now.rules.symbols reduced.words.items reduced.terms reduced.equations answer) }
 {
     let stopped = run_system(alloc, system, bounds, watch)?;
@@ -77,6 +83,9 @@ pub(crate) fn read_stopped(
         → (answer : Configuration)
         × IsReachedBy system.now bounds answer reduced.end reduced.interactions reduced.places
         reduced.by_rule.items
+        × IsPutTogether answer
+        × TellsNameSteps system.now.rules.rules system.now.config reduced.interactions
+        (length answer.equations) reduced.end reduced.name_steps
         × Writes system.now.rules.symbols reduced.words.items reduced.terms reduced.equations answer) }
     ensures places { IfOk result (λ reduced. reduced.places ≡ stopped.places) }
 {
@@ -85,17 +94,29 @@ pub(crate) fn read_stopped(
     ic_meaning::laws::what_is_reached_has_the_same_free_names();
     ic_readback::laws::what_is_read_of_stuck_pairs_is_quiet();
     ic_naming::laws::what_is_renumbered_forgets_names();
+    ic_reaching::laws::what_is_reached_goes_on();
+    ic_reaching::laws::what_is_reached_quiet_is_the_end_of_every_order();
+    ic_reaching::laws::where_names_begin_is_all_that_differs();
     let interactions = stopped.machine.interactions();
     let (places, end) = (stopped.places, stopped.end);
     let read = read_back(alloc, stopped.machine)?;
     let symbols = system.rules().symbols();
     let words = words_of(alloc, symbols, &stopped.given, &read.tokens)?;
+    let name_steps = name_steps_at(
+        end,
+        system.config().equations_len(),
+        system.rules().rules(),
+        &stopped.by_rule,
+        interactions,
+        read.equations,
+    );
     Ok(Reduced {
         words: renumbered_words(alloc, &words)?,
         terms: read.terms,
         equations: read.equations,
         interactions,
         by_rule: stopped.by_rule,
+        name_steps,
         places,
         end,
     })

@@ -2,9 +2,9 @@
 
 ghost use Rattle.std.specs.Prelude.{◌≡◌, ◌≢◌, ◌+◌, ◌<◌, ◌≤◌, ◌^◌, length, sum, IfSome, IfNone};
 ghost use Rattle.std.specs.List.{AllByRecursion};
-ghost use Rattle.ic_machine.specs.Net.{IsAtPlace};
+ghost use Rattle.ic_machine.specs.Net.{IsAtPlace, IsPair};
 ghost use Rattle.ic_machine.specs.Runs.{Ran};
-ghost use Rattle.ic_in_place.specs.Running.{RunsOn, IsWatched};
+ghost use Rattle.ic_in_place.specs.Running.{RunsOn, IsLookedAt, IsWatched};
 
 use ic_machine::{Ended, Machine, MachineFault, Program};
 
@@ -52,7 +52,9 @@ pub(crate) fn run_in_pieces<V: Watch>(
     ensures ran { Ran program.now machine.old machine.new }
     ensures ends { RunsOn program.now bounds.steps result.0 machine.old machine.new }
     ensures places { AllByRecursion IsAtPlace machine.new.places }
+    ensures pairs { AllByRecursion IsPair machine.new.pending }
     ensures nodes { result.0 ≡ End.Nodes → bounds.nodes < result.1 }
+    ensures looked { result.0 ≡ End.Nodes → IsLookedAt program.now machine.old machine.new }
     ensures count { result.1 ≡ machine.new.names + sum machine.new.agents }
     ensures watched { IsWatched program.now bounds.nodes machine.old machine.new }
     ensures enough { length machine.new.places ≤ result.1 }
@@ -82,6 +84,7 @@ fn run_piece(machine: &mut Machine, program: &Program, steps: u64) -> Option<End
     requires few { machine.old.interactions + steps < 2 ^ 64 }
     ensures ran { Ran program.now machine.old machine.new }
     ensures places { AllByRecursion IsAtPlace machine.new.places }
+    ensures pairs { AllByRecursion IsPair machine.new.pending }
     ensures ended { IfSome result (λ end. RunsOn program.now steps end machine.old machine.new) }
     ensures within { machine.new.interactions ≤ machine.old.interactions + steps }
     ensures before { IfSome result (λ end. (end ≢ End.Steps) × (end ≢ End.Nodes)) }

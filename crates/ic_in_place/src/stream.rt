@@ -30,6 +30,8 @@ pub struct Outcome {
     pub interactions: u64,
     /// How often each rule fired, in the order of the rules.
     pub by_rule: Vec<u64>,
+    /// How many steps put a term for a name, told if the end is quiet. Every order makes as many.
+    pub name_steps: Option<u64>,
     /// How many places there were at the end, the free ones too.
     pub places: u64,
     /// The symbols of the first equation of two agents, where the end is quiet.
@@ -109,6 +111,7 @@ fn reached_line<V: Watch>(
             end: stopped.end,
             interactions: stopped.machine.interactions(),
             by_rule: stopped.by_rule,
+            name_steps: None,
             places: stopped.places,
             stuck: None,
         };
@@ -122,6 +125,7 @@ fn reached_line<V: Watch>(
         end: reduced.end,
         interactions: reduced.interactions,
         by_rule: reduced.by_rule,
+        name_steps: reduced.name_steps,
         places: reduced.places,
         stuck,
     };

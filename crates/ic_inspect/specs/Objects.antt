@@ -36,9 +36,17 @@ slot_object digit seen = concat (codes "{\"slot\":" ∷ (digit ∷ []) ∷ slot_
     ∷ (10 ∷ []) ∷ [])
 
 -- the name of a job, its state and its rounds
+abbrev pub name_field : JobParts → List ℕ
+name_field j = codes "\"job\":\"" ++ j.name ++ codes "\""
+
+abbrev pub state_field : JobParts → List ℕ
+state_field j = codes ",\"state\":\"" ++ state_text j.state ++ codes "\""
+
+abbrev pub rounds_field : JobParts → List ℕ
+rounds_field j = codes ",\"rounds\":" ++ decimal j.rounds
+
 abbrev pub standing_fields : JobParts → List ℕ
-standing_fields j = concat (codes "\"job\":\"" ∷ j.name ∷ codes "\",\"state\":\"" ∷ state_text j.state
-    ∷ codes "\",\"rounds\":" ∷ decimal j.rounds ∷ [])
+standing_fields j = name_field j ++ state_field j ++ rounds_field j
 
 -- how many nodes and active pairs it has
 abbrev pub nodes_field : JobParts → List ℕ

@@ -3,7 +3,8 @@
 ghost use Rattle.std.specs.Prelude.{◌≡◌, ◌++◌, IfOk, OnOk, Some};
 ghost use Rattle.std.specs.List.{flat_map};
 ghost use Rattle.ic_inspect.specs.Held.{held_by_body, held_by_slot, held_of, newest_of};
-ghost use Rattle.ic_inspect.specs.Objects.{body_field, gate_field, held_object, held_objects, job_object, nodes_field, objects, pairs_field, slot_fields, slot_object, standing_fields};
+ghost use Rattle.ic_inspect.specs.Objects.{body_field, gate_field, held_object, held_objects, job_object, name_field, nodes_field, objects, pairs_field};
+ghost use Rattle.ic_inspect.specs.Objects.{rounds_field, slot_fields, slot_object, standing_fields, state_field};
 ghost use Rattle.ic_inspect.specs.Report.{newest_text};
 
 use crate::choosing::{Newest, newest_of};
@@ -167,11 +168,37 @@ fn put_job(job: &Job, out: &mut Vec<u8>) -> Result<(), AllocError>
 fn put_standing(job: &Job, out: &mut Vec<u8>) -> Result<(), AllocError>
     ensures { OnOk result (out.new.items ≡ out.old.items ++ standing_fields job.now) }
 {
+    put_name(job, out)?;
+    put_state(job, out)?;
+    put_rounds(job, out)?;
+    Ok(())
+}
+
+/// Appends a job's name.
+fn put_name(job: &Job, out: &mut Vec<u8>) -> Result<(), AllocError>
+    ensures { OnOk result (out.new.items ≡ out.old.items ++ name_field job.now) }
+{
     out.extend_from_slice(b"\"job\":\"")?;
     out.extend_from_slice(job.name().as_bytes())?;
-    out.extend_from_slice(b"\",\"state\":\"")?;
+    out.push(b'"')?;
+    Ok(())
+}
+
+/// Appends a job's state.
+fn put_state(job: &Job, out: &mut Vec<u8>) -> Result<(), AllocError>
+    ensures { OnOk result (out.new.items ≡ out.old.items ++ state_field job.now) }
+{
+    out.extend_from_slice(b",\"state\":\"")?;
     out.extend_from_slice(state_word(job.state()))?;
-    out.extend_from_slice(b"\",\"rounds\":")?;
+    out.push(b'"')?;
+    Ok(())
+}
+
+/// Appends how many rounds a job has made.
+fn put_rounds(job: &Job, out: &mut Vec<u8>) -> Result<(), AllocError>
+    ensures { OnOk result (out.new.items ≡ out.old.items ++ rounds_field job.now) }
+{
+    out.extend_from_slice(b",\"rounds\":")?;
     put_decimal(job.rounds(), out)?;
     Ok(())
 }

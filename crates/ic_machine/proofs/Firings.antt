@@ -17,13 +17,13 @@ use Rattle.ic_machine.specs.declared.equation.Equation.{Equation}
 use Rattle.ic_machine.specs.Plan.{Made, Planned, Plans, constants, pieces_made}
 use Rattle.ic_machine.specs.Net.{equated_of}
 use Rattle.ic_machine.specs.Separate.{IsSeparate, is_constant_tag}
-use Rattle.ic_machine.specs.Steps.{AreFresh, Fires, fires, Steps}
+use Rattle.ic_machine.specs.Runs.{Way}
+use Rattle.ic_machine.specs.Steps.{AreFresh, Fires, Steps, no_step}
 use Rattle.ic_machine.specs.inner.Firing.{heaps_pieces, arities_of, AreSame, Taken}
 use Rattle.ic_machine.specs.inner.Tables.{IsNumbered}
 use Rattle.ic_machine.specs.lemmas.FiresKeep.{agent_uses, agent_room}
 use Rattle.ic_machine.specs.lemmas.Orders.{to_front, replaced_sum}
 use Rattle.ic_machine.specs.lemmas.Orders as orders
-use Rattle.ic_machine.specs.lemmas.StepsOn.{one_step, steps_through}
 use Rattle.ic_machine.proofs.Heaps.{as_agent, same_arities, same_pieces, tables_elsewhere}
 use Rattle.ic_machine.proofs.Making.{name_room, agent_room_only}
 use Rattle.ic_machine.proofs.NameRooms.{word_eq_refl}
@@ -72,7 +72,7 @@ pair_order n h0 h1 h2 l r f rest x first second =
     three
 
 -- The last pending pair fires, and what its plan makes is linked.
-pub fire_steps : (q : Plans) (i a b : ℕ) (p : Planned) (front : List Equation) (e : Equation) (k m : ℕ)
+pub fire_way : (q : Plans) (i a b : ℕ) (p : Planned) (front : List Equation) (e : Equation) (k m : ℕ)
     (ns : List Word) (h0 h1 h2 : List Blocks) (r0 r1 r2 names made : List Word) (rest end : List Piece)
     (l : Taken e.left k (heaps_pieces 0 h0) (heaps_pieces 0 h1) r0 r1)
     (r : Taken e.right m (heaps_pieces 0 h1) (heaps_pieces 0 h2) r1 r2)
@@ -84,16 +84,17 @@ pub fire_steps : (q : Plans) (i a b : ℕ) (p : Planned) (front : List Equation)
     → AreFresh (names ++ made) (names_pieces 0 ns ++ (heaps_pieces 0 h2 ++ (map equated_of front ++ rest)))
     → Steps q [] (pieces_made p (r2 ++ (names ++ made)) names made
     ++ (names_pieces 0 ns ++ (heaps_pieces 0 h2 ++ (map equated_of front ++ rest)))) end
-    → Steps q (i ∷ [])
+    → Way q (i ∷ []) ((pieces_made p (r2 ++ (names ++ made)) names made
+    ++ (names_pieces 0 ns ++ (heaps_pieces 0 h2 ++ (map equated_of front ++ rest)))) ∷ [])
     (names_pieces 0 ns ++ (heaps_pieces 0 h0 ++ (map equated_of (front ++ e ∷ []) ++ rest))) end
-fire_steps q i a b p front e k m ns h0 h1 h2 r0 r1 r2 names made rest end l r la ra ka kb number first nc mc nt mt fresh links =
+fire_way q i a b p front e k m ns h0 h1 h2 r0 r1 r2 names made rest end l r la ra ka kb number first nc mc nt mt fresh links =
     let others : List Piece = names_pieces 0 ns ++ (heaps_pieces 0 h2 ++ (map equated_of front ++ rest)) in
     let xs : List Piece = names_pieces 0 ns
     ++ (heaps_pieces 0 h0 ++ (map equated_of (front ++ e ∷ []) ++ rest)) in
     let left : Word = agent_word a e.left.index in
     let right : Word = agent_word b e.right.index in
     let regs : List Word = constants (length q.arities) ++ (l.args ++ (r.args ++ (names ++ made))) in
-    let mid : List Piece = pieces_made p regs names made ++ others in
+    let mid : List Piece = pieces_made p (r2 ++ (names ++ made)) names made ++ others in
     let filled : r2 ++ (names ++ made) ≡ regs =
     ap (λ (z : List Word). z ++ (names ++ made)) r.pushed
     ∙ (append_assoc r1 r.args (names ++ made)
@@ -134,10 +135,10 @@ fire_steps q i a b p front e k m ns h0 h1 h2 r0 r1 r2 names made rest end l r la
       name_tags = nt;
       made_tags = mt;
       fresh = fresh;
-      result = IsPermutation-refl mid;
+      result = subst (λ (z : List Word). IsPermutation mid (pieces_made p z names made ++ others)) filled
+          (IsPermutation-refl mid);
     } in
-    steps_through q (i ∷ []) [] xs mid end (one_step q (i ∷ []) xs mid (fires i xs mid fire))
-    (subst (λ (z : List Word). Steps q [] (pieces_made p z names made ++ others) end) filled links)
+    (record { before = xs; steps = no_step xs xs (IsPermutation-refl xs); fires = fire }, links)
 
 -- what is past the end of a list
 pub get_past : (xs : List ℕ) (s : ℕ) → length xs ≤ s → slice_get xs s ≡ None

@@ -7,9 +7,9 @@ use Rattle.std.proofs.lemmas.List.{append-nil, drop-drop, length-drop, length-ma
 use Rattle.std.proofs.lemmas.List.Sums.{sum_by-append}
 use Rattle.ic_arena.specs.declared.word.Word.{Word}
 use Rattle.ic_arena.specs.declared.word.TheConstants.{FREE}
-use Rattle.ic_arena.specs.Word.{agent_word}
+use Rattle.ic_arena.specs.Word.{agent_word, name_word}
 use Rattle.ic_arena.specs.Piece.{Piece, agent_of, agent_with, room}
-use Rattle.ic_arena.specs.Tables.{Replaced, Blocks, AreBlocks, block_at, block_piece, blocks_from, blocks_pieces}
+use Rattle.ic_arena.specs.Tables.{Replaced, Blocks, AreBlocks, block_at, block_piece, blocks_from, blocks_pieces, first_word}
 use Rattle.ic_arena.specs.lemmas.Rooms.{other_tag, other_index, blocks_elsewhere}
 use Rattle.ic_machine.specs.Plan.{Made, AreMade}
 use Rattle.ic_machine.specs.inner.Firing.{heaps_pieces, arities_of, table, SameSize, AreSame, HasRoom, Taken}
@@ -338,6 +338,27 @@ agent_block hs w s tag h =
     let same = table_room w hs 0 s s (sym (zero-add s)) tag in
     let here : 1 ≤ sum_by (room w) (blocks_pieces s (table hs s)) = omega arith in
     subst (λ (v : Word). 1 ≤ sum_by (room v) (blocks_pieces s (table hs s))) (as_agent w s tag) here
+
+-- a block that has room isn't free
+room_first : (a : Word) (k at : ℕ) (ws : List Word) (d : Word) → 1 ≤ sum_by (room a) (block_piece a (take k (drop at ws)))
+    → ¬ ((slice_index_or ws at d).tag ≡ FREE)
+room_first a zero at ws d h free = absurd (omega arith)
+room_first a (suc k) zero [] d h free = absurd (omega arith)
+room_first a (suc k) (suc at) [] d h free = absurd (omega arith)
+room_first a (suc k) zero (w ∷ ws) d h free =
+    let none : sum_by (room a) (block_piece a (w ∷ take k ws)) ≡ 0 = rw free refl in absurd (omega arith)
+room_first a (suc k) (suc at) (w ∷ ws) d h free = room_first a (suc k) at ws d h free
+
+pub not_free : (hs : List Blocks) (w : Word) (s : ℕ) → w.tag ≡ s + 1 → 1 ≤ sum_by (room w) (heaps_pieces 0 hs)
+    → ¬ ((first_word (table hs s) w.index).tag ≡ FREE)
+not_free hs w s tag h =
+    let b : Blocks = table hs s in
+    let there : 1 ≤ sum_by (room (agent_word s w.index)) (blocks_pieces s b) = agent_block hs w s tag h in
+    let below : w.index < b.count = in_block s w.index b there in
+    let same : sum_by (room (agent_word s w.index)) (blocks_pieces s b)
+    ≡ sum_by (room (agent_word s w.index)) (block_piece (agent_word s w.index) (block_at b w.index)) =
+    blocks_room s b.arity 0 w.index w.index b.count (w.index * b.arity) b.words (sym (zero-add w.index)) refl below in
+    room_first (agent_word s w.index) b.arity (w.index * b.arity) b.words (name_word 0) (omega arith)
 
 -- the arguments of an agent are taken out of its block
 pub taken_args : (hs : List Blocks) (w : Word) (s : ℕ) (b b' : Blocks) (before after : List Word)

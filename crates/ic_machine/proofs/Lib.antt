@@ -15,3 +15,4 @@ pub mod Reading
 pub mod Standing
 pub mod Taking
 pub mod Limits
+pub mod InUse

@@ -14,9 +14,9 @@ use Rattle.ic_arena.specs.Tables.{Replaced, names_pieces, register}
 use Rattle.ic_machine.specs.declared.equation.Equation.{Equation}
 use Rattle.ic_machine.specs.declared.plan.Link.{Link}
 use Rattle.ic_machine.specs.Plan.{Plans, linked}
-use Rattle.ic_machine.specs.Net.{equated_of}
+use Rattle.ic_machine.specs.Net.{equated_of, IsPair}
 use Rattle.ic_machine.specs.Steps.{Steps, no_step}
-use Rattle.ic_machine.specs.inner.Linking.{AreNamed, AreLinks, Meeting, Pushed, IsPair}
+use Rattle.ic_machine.specs.inner.Linking.{AreNamed, AreLinks, Meeting, Pushed}
 use Rattle.ic_machine.specs.lemmas.Balance.{steps_balance, equations_room}
 use Rattle.ic_machine.specs.lemmas.FiringKeeps.{all_append}
 use Rattle.ic_machine.specs.lemmas.Orders.{to_front, replaced_sum}

@@ -11,21 +11,21 @@ use Rattle.ic_arena.specs.Word.{count}
 use Rattle.ic_arena.specs.Piece.{Piece, room, uses}
 use Rattle.ic_machine.specs.declared.equation.Equation.{Equation}
 use Rattle.ic_machine.specs.Plan.{Planned, Plans, ArePlans, IsPlan, plan_at}
-use Rattle.ic_machine.specs.Net.{Net, equated_of, pieces, HasNext, IsStuck}
-use Rattle.ic_machine.specs.Runs.{Counted, Ran}
+use Rattle.ic_machine.specs.Net.{Net, equated_of, pieces, HasNext, IsStuck, IsPair}
+use Rattle.ic_machine.specs.Runs.{Counted, Ran, Way}
 use Rattle.ic_machine.specs.Separate.{IsSeparate}
 use Rattle.ic_machine.specs.Steps.{Steps, no_step}
-use Rattle.ic_machine.specs.inner.Linking.{IsPair}
 use Rattle.ic_machine.specs.inner.Pairs.{HasNumber, HasPlan, CanFire, IsLast, Passed}
 use Rattle.ic_machine.specs.inner.Tables.{IsNumbered}
 use Rattle.ic_machine.specs.lemmas.Balance.{equations_room}
 use Rattle.ic_machine.specs.lemmas.FiresKeep.{steps_keep}
 use Rattle.ic_machine.specs.lemmas.FiringKeeps.{all_append}
 use Rattle.ic_machine.specs.lemmas.Orders.{to_front}
-use Rattle.ic_machine.specs.lemmas.RunsOn.{counted_none}
+use Rattle.ic_machine.specs.lemmas.RunsOn.{counted_none, way_from, way_to}
 use Rattle.ic_machine.specs.lemmas.Separation.{separate_in_order}
 use Rattle.ic_machine.specs.lemmas.StepsOn.{steps_to}
 use Rattle.ic_machine.proofs.Fresh.{all_front}
+use Rattle.ic_machine.proofs.InUse.{same_places}
 use Rattle.ic_machine.proofs.Links.{steps_from}
 
 -- what can't fire is set aside: the same pieces
@@ -204,6 +204,25 @@ passed_then p is ps us ps' us' qs n h n' h' passed s =
     (passed_order p ps us ps' us' (n ++ h) passed)
     (net_steps p is (map equated_of ps') (map equated_of qs) (map equated_of us') n n' h h' s)
 
+-- the same of a way, on which a pair fires
+pub passed_way : (p : Plans) (is : List ℕ) (ms : List (List Piece)) (ps us ps' us' qs : List Equation) (n h n' h' : List Piece)
+    → Passed p ps us ps' us'
+    → Way p is ms (n ++ (h ++ (map equated_of ps' ++ map equated_of us')))
+    (n' ++ (h' ++ (map equated_of qs ++ map equated_of us')))
+    → Way p is ms (map equated_of ps ++ (map equated_of us ++ (n ++ h)))
+    (map equated_of qs ++ (map equated_of us' ++ (n' ++ h')))
+passed_way p is ms ps us ps' us' qs n h n' h' passed w =
+    let start : List Piece = map equated_of ps ++ (map equated_of us ++ (n ++ h)) in
+    let mid : List Piece = map equated_of ps' ++ (map equated_of us' ++ (n ++ h)) in
+    let held : List Piece = n ++ (h ++ (map equated_of ps' ++ map equated_of us')) in
+    let after : List Piece = n' ++ (h' ++ (map equated_of qs ++ map equated_of us')) in
+    let end : List Piece = map equated_of qs ++ (map equated_of us' ++ (n' ++ h')) in
+    way_to p is ms start after end
+    (way_from p is ms start held after
+    (no_step start held (IsPermutation-trans start mid held (passed_order p ps us ps' us' (n ++ h) passed)
+    (held_order (map equated_of ps') (map equated_of us') n h))) w)
+    (IsPermutation-sym end after (held_order (map equated_of qs) (map equated_of us') n' h'))
+
 -- the last of some equations
 pub last_of : (es : List Equation) (n : ℕ) (e : Equation) → n + 1 ≡ length es → slice_get es n ≡ Some e
     → IsLast e es
@@ -231,10 +250,14 @@ popped es new n e last len rest =
 
 -- What a net leads to where equations are set aside alone.
 pub passed_ran : (p : Plans) (a b : Net) → Passed p a.pending a.aside b.pending b.aside → b.arities ≡ a.arities
-    → b.interface ≡ a.interface → b.places ≡ a.places → b.interactions ≡ a.interactions → b.counts ≡ a.counts → Ran p a b
-passed_ran p a b h arities interface places interactions counts = record {
+    → b.interface ≡ a.interface → b.places ≡ a.places → b.interactions ≡ a.interactions → b.counts ≡ a.counts
+    → b.names ≡ a.names → b.agents ≡ a.agents → Ran p a b
+passed_ran p a b h arities interface places interactions counts names agents = record {
   fired = [];
-  steps = subst (λ (l : List Piece). Steps p [] (pieces a)
+  moments = [];
+  places = same_places a b names agents;
+  symbols = ap length agents;
+  way = subst (λ (l : List Piece). Steps p [] (pieces a)
       (map equated_of b.pending ++ (map equated_of b.aside ++ l))) (sym places)
       (passed_steps p a.pending a.aside b.pending b.aside a.places h);
   counted = interactions ∙ sym (add-zero a.interactions);

@@ -33,7 +33,7 @@ all_names Q b (w ∷ ws) f g =
     (all_names Q (b + 1) ws (λ i le lt. f i (omega arith) (omega arith))
     (λ i v le lt. g i v (omega arith) (omega arith)))
 
-one_block : (Q : Piece → Type 0) (a : Word) (ws : List Word) → (1 ≤ length ws → Q (agent_of a ws))
+pub one_block : (Q : Piece → Type 0) (a : Word) (ws : List Word) → (1 ≤ length ws → Q (agent_of a ws))
     → AllByRecursion Q (block_piece a ws)
 one_block Q a [] f = tt
 one_block Q a (w ∷ ws) f = either Q (w.tag == FREE) [] (agent_of a (w ∷ ws) ∷ []) tt (f (omega arith), tt)

@@ -1,7 +1,8 @@
 -- What a machine begins with.
-use Rattle.std.proofs.Common.{◌≡◌, ℕ, zero, suc, ◌+◌, ◌*◌, ◌<◌, ◌≤◌, ◌==◌, List, [], ◌++◌, true, false, cond, length, map, refl, ap, sym, subst, ◌∙◌, append_assoc, arith, sum_by, count_by, slice_get, Option, Some}
+use Rattle.std.proofs.Common.{◌≡◌, ℕ, zero, suc, ◌+◌, ◌*◌, ◌<◌, ◌≤◌, ◌==◌, List, [], ◌++◌, true, false, cond, length, map, max, refl, ap, sym, subst, ◌∙◌, append_assoc, arith, sum_by, count_by, slice_get, Option, Some}
 use Rattle.std.specs.List.{AllByRecursion, flat_map, range_with_len}
 use Rattle.std.specs.Option.{option_map_or}
+use Rattle.std.proofs.Math.Nat.{zero-max}
 use Rattle.std.proofs.lemmas.Bool.{ne_eqb}
 use Rattle.std.proofs.lemmas.List.FromFn.{length-map-range_with_len}
 use Rattle.std.proofs.lemmas.List.{append-nil}
@@ -12,17 +13,20 @@ use Rattle.ic_arena.specs.declared.word.TheConstants.{IDLE, GIVEN}
 use Rattle.ic_arena.specs.Word.{word_eq, count}
 use Rattle.ic_arena.specs.Piece.{Piece}
 use Rattle.ic_arena.specs.Tables.{names_pieces, register}
+use Rattle.ic_machine.specs.declared.machine.Machine.TheInside.{Inside}
 use Rattle.ic_machine.specs.declared.tables.Tables.{Tables}
-use Rattle.ic_machine.specs.Net.{equated_of}
+use Rattle.ic_machine.specs.Net.{equated_of, in_use, places_of}
 use Rattle.ic_machine.specs.Plan.{Planned, Plans, constants, link_operands, operands_of, pieces_made}
 use Rattle.ic_machine.specs.Runs.{IsStart, given_words}
 use Rattle.ic_machine.specs.Separate.{IsSeparate, is_constant_tag}
 use Rattle.ic_machine.specs.Steps.{AreFresh, Steps}
-use Rattle.ic_machine.specs.inner.Firing.{heaps_pieces}
-use Rattle.ic_machine.specs.inner.Tables.{held, IsMade}
+use Rattle.ic_machine.specs.inner.Firing.{heaps_pieces, table}
+use Rattle.ic_machine.specs.inner.Machine.{net_of}
+use Rattle.ic_machine.specs.inner.Tables.{held, size_at, IsMade}
 use Rattle.ic_machine.specs.lemmas.FiringKeeps.{all_append, all_of, counted_in, few_of, made_within, plan_room, plan_uses}
 use Rattle.ic_machine.specs.lemmas.StepsOn.{steps_to}
 use Rattle.ic_machine.proofs.Firings.{get_past}
+use Rattle.ic_machine.proofs.InUse.{net_size}
 use Rattle.ic_machine.proofs.Running.{held_order}
 
 -- how many given names there are
@@ -134,3 +138,26 @@ start_steps q p given t u made names heaps pending registers =
     ∙ append_assoc (constants (length q.arities)) (given_words given) (made.names ++ made.made)) alone in
     steps_to q [] (pieces_made p regs made.names made.made) (n ++ (h ++ (e ++ []))) (e ++ ([] ++ (n ++ h))) start
     (IsPermutation-sym (e ++ ([] ++ (n ++ h))) (n ++ (h ++ (e ++ []))) (held_order e [] n h))
+
+-- there are as many places as what a plan makes uses, where there were none before
+pub places_at_start : (kind : ℕ) (p : Planned) (t u : Tables) (m : Inside) (regs : List Word) (made : IsMade p t u)
+    → m.tables ≡ u → t.names.entries ≡ [] → heaps_pieces 0 t.heaps.items ≡ [] → t.pending.items ≡ []
+    → ((s : ℕ) → (table t.heaps.items s).count ≡ 0) → t.registers.items ++ (made.names ++ made.made) ≡ regs
+    → places_of kind (net_of m) ≡ in_use kind (pieces_made p regs made.names made.made)
+places_at_start kind p t u m regs made is names heaps pending counts filled =
+    let alone : pieces_made p (t.registers.items ++ (made.names ++ made.made)) made.names made.made ++ held t []
+    ≡ pieces_made p regs made.names made.made =
+    ap (λ (l : List Piece). pieces_made p (t.registers.items ++ (made.names ++ made.made)) made.names made.made ++ l)
+    (nothing_held t names heaps pending)
+    ∙ (append-nil (pieces_made p (t.registers.items ++ (made.names ++ made.made)) made.names made.made)
+    ∙ ap (λ (l : List Word). pieces_made p l made.names made.made) filled) in
+    net_size m kind ∙ (ap (size_at kind) is ∙ (made.places kind []
+    ∙ (ap (λ (n : ℕ). max n (in_use kind (pieces_made p (t.registers.items ++ (made.names ++ made.made)) made.names made.made
+    ++ held t []))) (no_size t (ap length names) counts kind)
+    ∙ (zero-max (in_use kind (pieces_made p (t.registers.items ++ (made.names ++ made.made)) made.names made.made ++ held t []))
+    ∙ ap (in_use kind) alone))))
+  where
+    no_size : (t : Tables) → length t.names.entries ≡ 0 → ((s : ℕ) → (table t.heaps.items s).count ≡ 0) → (kind : ℕ)
+        → size_at kind t ≡ 0
+    no_size t names counts zero = names
+    no_size t names counts (suc s) = counts s

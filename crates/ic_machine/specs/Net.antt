@@ -1,5 +1,5 @@
 -- The net that a machine holds.
-use Rattle.std.specs.Prelude.{◌≡◌, ℕ, ◌+◌, ◌^◌, ◌<◌, ◌≤◌, ◌⊎◌, [], ◌∷◌, ◌++◌, List, length, map, None, Some, Contains, slice_index_or}
+use Rattle.std.specs.Prelude.{◌≡◌, ℕ, zero, suc, ◌+◌, ◌^◌, ◌<◌, ◌≤◌, ◌==◌, ◌⊎◌, [], ◌∷◌, ◌++◌, Bool, false, List, length, map, None, Some, Contains, count_by, slice_index_or}
 use Rattle.ic_arena.specs.declared.word.Word.{Word}
 use Rattle.ic_arena.specs.declared.word.TheConstants.{NAME}
 use Rattle.ic_arena.specs.Piece.{Piece, equated, idle, waits, agent_of}
@@ -26,6 +26,10 @@ equated_of e = equated e.left e.right
 -- all pieces of a net
 abbrev pub pieces : Net → List Piece
 pieces n = map equated_of n.pending ++ (map equated_of n.aside ++ n.places)
+
+-- neither side of an equation is a name of the net
+abbrev pub IsPair : Equation → Type 0
+IsPair e = (¬ (e.left.tag ≡ NAME)) × (¬ (e.right.tag ≡ NAME))
 
 -- No step of this equation is possible: neither side is a name, and their symbols, if both are known, have no plan.
 pub record IsStuck (p : Plans) (e : Equation) : Type 0 where
@@ -57,6 +61,23 @@ pub record HasNext (p : Plans) (es : List Equation) : Type 0 where
 abbrev pub IsFull : Planned → Net → Type 0
 IsFull p n = (2 ^ 32 ≤ n.names + p.names)
     ⊎ ((m : Made) × Contains p.made m × (2 ^ 32 ≤ slice_index_or n.agents m.symbol 0 + length p.made))
+
+-- Whether a piece says what is at a place of this kind: places of names are of kind 0, and those of agents of the kind of
+-- their tag.
+abbrev pub is_at : ℕ → Piece → Bool
+is_at kind (equated l r) = false
+is_at kind (idle x) = x.tag == kind
+is_at kind (waits x u) = x.tag == kind
+is_at kind (agent_of a ws) = a.tag == kind
+
+-- how many places of this kind are in use
+abbrev pub in_use : ℕ → List Piece → ℕ
+in_use kind ps = count_by (is_at kind) ps
+
+-- how many places of this kind there are, the free ones too
+abbrev pub places_of : ℕ → Net → ℕ
+places_of zero n = n.names
+places_of (suc s) n = slice_index_or n.agents s 0
 
 -- what is at a place, and no equation
 abbrev pub IsAtPlace : Piece → Type 0

@@ -1,5 +1,5 @@
 -- What a machine begins with, and what a run leads to.
-use Rattle.std.specs.Prelude.{◌≡◌, ℕ, ◌+◌, ◌<◌, ◌≤◌, ◌==◌, List, [], ◌++◌, Some, length, map, count_by, slice_get, slice_index_or}
+use Rattle.std.specs.Prelude.{◌≡◌, ℕ, ◌+◌, ◌<◌, ◌≤◌, ◌==◌, List, [], ◌∷◌, ◌++◌, Some, length, map, max, count_by, fold, slice_get, slice_index_or}
 use Rattle.std.specs.List.{AllByRecursion, range_with_len}
 use Rattle.ic_arena.specs.declared.word.Word.{Word}
 use Rattle.ic_arena.specs.declared.word.TheConstants.{NAME, GIVEN}
@@ -7,8 +7,8 @@ use Rattle.ic_arena.specs.Piece.{Piece}
 use Rattle.ic_arena.specs.Tables.{register}
 use Rattle.ic_machine.specs.declared.equation.Equation.{Equation}
 use Rattle.ic_machine.specs.Plan.{Planned, Plans, IsPlan, allowance, constants, operands_of, pieces_made}
-use Rattle.ic_machine.specs.Net.{Net, pieces, IsStuck}
-use Rattle.ic_machine.specs.Steps.{AreFresh, Steps}
+use Rattle.ic_machine.specs.Net.{Net, in_use, pieces, places_of, IsStuck}
+use Rattle.ic_machine.specs.Steps.{AreFresh, Fires, Steps}
 
 -- the words of so many given names
 abbrev pub given_words : ℕ → List Word
@@ -40,11 +40,13 @@ pub record Begins (arities : List ℕ) (given : ℕ) (p : Planned) (operands : L
   pub interface_is : interface ≡ map (register (first_registers arities given names made)) operands
   pub pieces : ps ≡ pieces_made p (first_registers arities given names made) names made
 
--- A net is what a machine begins with, linked by steps that fire nothing.
+-- A net is what a machine begins with, linked by steps that fire nothing. It has as many places as that uses.
 pub record Starts (p : Plans) (given : ℕ) (plan : Planned) (operands : List ℕ) (n : Net) : Type 0 where
   pub first : List Piece
   pub begins : Begins p.arities given plan operands n.interface first
   pub steps : Steps p [] first (pieces n)
+  pub places : (kind : ℕ) → places_of kind n ≡ in_use kind first
+  pub symbols : length n.agents ≡ length p.arities
 
 -- What was counted of each plan, and what is counted of it after these have fired.
 pub record Counted (fired old new : List ℕ) : Type 0 where
@@ -52,11 +54,31 @@ pub record Counted (fired old new : List ℕ) : Type 0 where
   pub each : (i : ℕ) → i < length old
       → slice_index_or new i 0 ≡ slice_index_or old i 0 + count_by (λ j. j == i) fired
 
--- Steps lead from one net to another. They fired as many pairs as were counted, of each plan too, and set aside equations that
--- are stuck.
+-- A pair fires by this plan, after steps that fire nothing.
+pub record FiresNext (p : Plans) (fired : ℕ) (xs ys : List Piece) : Type 0 where
+  pub before : List Piece
+  pub steps : Steps p [] xs before
+  pub fires : Fires p fired before ys
+
+-- Pairs fire by these plans, one after another. These are the pieces as each of them has fired, before they are linked.
+abbrev pub Way : Plans → List ℕ → List (List Piece) → List Piece → List Piece → Type 0
+Way p [] [] xs ys = Steps p [] xs ys
+Way p [] (m ∷ ms) xs ys = ⊥
+Way p (i ∷ is) [] xs ys = ⊥
+Way p (i ∷ is) (m ∷ ms) xs ys = FiresNext p i xs m × Way p is ms m ys
+
+-- the greatest of some numbers
+abbrev pub greatest : ℕ → List ℕ → ℕ
+greatest n ns = fold max n ns
+
+-- Pairs fired on the way from one net to another, as many as were counted, of each plan too. Equations that are stuck were set
+-- aside. Of each kind there are as many places as before, or as were ever in use.
 pub record Ran (p : Plans) (old new : Net) : Type 0 where
   pub fired : List ℕ
-  pub steps : Steps p fired (pieces old) (pieces new)
+  pub moments : List (List Piece)
+  pub way : Way p fired moments (pieces old) (pieces new)
+  pub places : (kind : ℕ) → places_of kind new ≡ greatest (places_of kind old) (map (in_use kind) moments)
+  pub symbols : length new.agents ≡ length old.agents
   pub counted : new.interactions ≡ old.interactions + length fired
   pub counts : Counted fired old.counts new.counts
   pub arities : new.arities ≡ old.arities

@@ -1,8 +1,9 @@
 //! What a firing takes, opens and makes.
 
-ghost use Rattle.std.specs.Prelude.{◌≡◌, ℕ, ◌+◌, ◌-◌, ◌^◌, ◌<◌, ◌≤◌, List, [], ◌∷◌, ◌++◌, true, Err, Contains, map, length, sum_by, vec_len, vec_capacity, OnOk};
+ghost use Rattle.std.specs.Prelude.{◌≡◌, ℕ, ◌+◌, ◌-◌, ◌^◌, ◌<◌, ◌≤◌, List, [], ◌∷◌, ◌++◌, true, Err, Contains, map, max, length, sum_by, vec_len, vec_capacity, OnOk};
 ghost use Rattle.std.specs.List.{AllByRecursion};
 ghost use Rattle.ic_arena.specs.Piece.{room};
+ghost use Rattle.ic_arena.specs.Tables.{blocks_pieces, names_pieces};
 ghost use Rattle.ic_arena.specs.declared.word.TheConstants.{GIVEN, IDLE};
 ghost use Rattle.ic_machine.specs.Plan.{Made, made_of, AreMade};
 ghost use Rattle.ic_machine.specs.Runs.{given_words};
@@ -84,6 +85,9 @@ pub(crate) fn open_names(names: &mut Names, count: u32, registers: &mut Vec<Word
     ensures opened { Opened count names.old.entries names.new.entries
         registers.old.items registers.new.items }
     ensures few { length names.new.entries ≤ length names.old.entries + count }
+    // There are as many as before, or all are in use now.
+    ensures places { length names.new.entries
+        ≡ max (length names.old.entries) (length (names_pieces 0 names.new.entries)) }
     ensures memory { names.new.capacity ≡ names.old.capacity }
     ensures capacity { vec_capacity registers.new ≡ vec_capacity registers.old }
 {
@@ -120,6 +124,9 @@ pub(crate) fn make_agents(heaps: &mut Vec<Heap>, makes: &[Make], registers: &mut
     ensures arities { arities_of heaps.new.items ≡ arities_of heaps.old.items }
     ensures sizes { (s : ℕ)
         → IsGrown (length makes.now) (table heaps.old.items s) (table heaps.new.items s) }
+    // Of each symbol there are as many as before, or all are in use now.
+    ensures places { (s : ℕ) → (table heaps.new.items s).count
+        ≡ max (table heaps.old.items s).count (length (blocks_pieces s (table heaps.new.items s))) }
 {
     for make in makes {
         let heap = &mut heaps[make.symbol as usize];

@@ -10,8 +10,7 @@ ghost use Rattle.ic_arena.specs.Tables.{register};
 ghost use Rattle.ic_machine.specs.Plan.{planned};
 ghost use Rattle.ic_machine.specs.Separate.{IsSeparate};
 ghost use Rattle.ic_machine.specs.Runs.{IsStart, Starts, Counted, Ran};
-ghost use Rattle.ic_machine.specs.Net.{pieces, HasNext, IsAtPlace, IsFull};
-ghost use Rattle.ic_machine.specs.inner.Linking.{IsPair};
+ghost use Rattle.ic_machine.specs.Net.{pieces, HasNext, IsAtPlace, IsFull, IsPair};
 ghost use Rattle.ic_machine.specs.inner.Pairs.{HasNumber, IsLast, Passed};
 
 use crate::equation::Equation;
@@ -121,6 +120,7 @@ impl Machine {
         ensures more { result ≡ Ok Ended.Steps → HasNext program.now self.new.pending }
         ensures separate { IsSeparate self.new.arities self.new.interface (pieces self.new) }
         ensures places { AllByRecursion IsAtPlace self.new.places }
+        ensures pairs { AllByRecursion IsPair self.new.pending }
         ensures limit { result ≡ Err MachineFault.Limit
             → (next : HasNext program.now self.new.pending) × IsFull next.active.plan self.new }
     {
@@ -148,6 +148,7 @@ impl Machine {
         ensures err { OnErr result (self.new.interactions ≡ self.old.interactions) }
         ensures separate { IsSeparate self.new.arities self.new.interface (pieces self.new) }
         ensures places { AllByRecursion IsAtPlace self.new.places }
+        ensures pairs { AllByRecursion IsPair self.new.pending }
         ensures limit { result ≡ Err MachineFault.Limit
             → (next : HasNext program.now self.new.pending) × IsFull next.active.plan self.new }
     {
@@ -170,6 +171,7 @@ impl Machine {
         ensures more { result ≡ Ok false → HasNext program.now self.new.pending }
         ensures separate { IsSeparate self.new.arities self.new.interface (pieces self.new) }
         ensures places { AllByRecursion IsAtPlace self.new.places }
+        ensures pairs { AllByRecursion IsPair self.new.pending }
         ensures limit { result ≢ Err MachineFault.Limit }
     {
         let found = find_plan(program, &mut self.tables.pending, &mut self.aside)?;

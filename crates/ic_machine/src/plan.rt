@@ -3,8 +3,7 @@
 ghost use Rattle.std.specs.Prelude.{◌≡◌, ◌<◌, Some, length, map, slice_get, IfSome, IfNone};
 ghost use Rattle.std.specs.Option.{option_map};
 ghost use Rattle.ic_machine.specs.Plan.{planned, plan_of, ArePlans};
-ghost use Rattle.ic_machine.specs.Net.{IsStuck};
-ghost use Rattle.ic_machine.specs.inner.Linking.{IsPair};
+ghost use Rattle.ic_machine.specs.Net.{IsStuck, IsPair};
 ghost use Rattle.ic_machine.specs.inner.Pairs.{HasNumber};
 
 use crate::equation::Equation;

@@ -3,12 +3,11 @@
 ghost use Rattle.std.specs.Prelude.{◌≡◌, ℕ, ◌+◌, ◌-◌, ◌^◌, ◌<◌, ◌≤◌, List, [], ◌∷◌, ◌++◌, Some, Err, map, length, take, slice_get, vec_len, vec_capacity, OnOk, OnErr, IfOk};
 ghost use Rattle.std.specs.List.{AllByRecursion};
 ghost use Rattle.ic_arena.specs.declared.word.TheConstants.{GIVEN};
-ghost use Rattle.ic_machine.specs.Net.{equated_of};
+ghost use Rattle.ic_machine.specs.Net.{equated_of, IsPair};
 ghost use Rattle.ic_machine.specs.Plan.{Plans, planned, made_of, constants};
 ghost use Rattle.ic_machine.specs.Separate.{IsSeparate};
-ghost use Rattle.ic_machine.specs.Steps.{Steps};
 ghost use Rattle.ic_machine.specs.inner.Firing.{heaps_pieces, arities_of, AreSame, table};
-ghost use Rattle.ic_machine.specs.inner.Linking.{IsPair, Pushed};
+ghost use Rattle.ic_machine.specs.inner.Linking.{Pushed};
 ghost use Rattle.ic_machine.specs.inner.Pairs.{CanFire, IsLast};
 
 use crate::equation::Equation;
@@ -34,7 +33,7 @@ pub(crate) struct Tables {
 }
 
 impl Tables {
-    ghost use Rattle.ic_machine.specs.inner.Tables.{held, size_of, HasMemory, HasRoomFor, HasSpare, IsReady, IsMade, IsNumbered, IsTooMuch};
+    ghost use Rattle.ic_machine.specs.inner.Tables.{held, size_at, size_of, HasMemory, HasRoomFor, HasSpare, IsReady, IsMade, IsNumbered, IsTooMuch, FiresBy};
 
     /// Tables of nothing, for symbols of these arities. The registers hold the agents without arguments.
     pub(crate) fn new(alloc: Global, arities: &[u32]) -> Result<Tables, AllocError>
@@ -196,13 +195,13 @@ impl Tables {
             → pair.left.tag ≡ left + 1 → pair.right.tag ≡ right + 1
             → p.arities ≡ arities_of self.old.heaps.items
             → IsNumbered p i left right (planned plan.now)
-            → Steps p (i ∷ []) (held self.old (map equated_of rest))
-            (held self.new (map equated_of rest))) }
+            → FiresBy p i self.old self.new rest) }
         ensures pairs { AllByRecursion IsPair self.old.pending.items
             → AllByRecursion IsPair self.new.pending.items }
         ensures pending { OnErr result (self.new.pending.items ≡ self.old.pending.items) }
         ensures same { OnErr result ((rest : List Equation)
             → held self.new (map equated_of rest) ≡ held self.old (map equated_of rest)) }
+        ensures places { OnErr result ((kind : ℕ) → size_at kind self.new ≡ size_at kind self.old) }
         ensures arities { arities_of self.new.heaps.items ≡ arities_of self.old.heaps.items }
         ensures few { length self.new.names.entries < 2 ^ 32 }
         ensures registers { take (length self.new.heaps.items) self.new.registers.items

@@ -27,11 +27,16 @@ used_at zero low = refl
 used_at (suc zero) low = refl
 used_at (suc (suc k)) low = absurd (omega arith)
 
+fresh_at : (k : ℕ) → k < 1 → (x : ℕ) × (x < 2) × (place x ≡ 5 + k)
+fresh_at zero low = (1, (let h : 1 < 2 = omega arith in h), refl)
+fresh_at (suc k) low = absurd (omega arith)
+
 pub addition_stands : StandsFor addition_arities addition_rule addition_plan
 addition_stands = record {
   registers = place;
   read = read_at;
   apart = apart_at;
+  fresh = fresh_at;
   used = used_at;
   equations = λ held constants. IsPermutation-refl (equations_made 6 addition_plan held);
 }

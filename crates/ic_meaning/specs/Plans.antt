@@ -2,7 +2,7 @@
 use Rattle.std.specs.Prelude.{◌≡◌, ◌⊎◌, ℕ, ◌+◌, ◌-◌, ◌<◌, ◌≤◌, ◌==◌, List, [], ◌∷◌, ◌++◌, Bool, true, false, not, Option, None, Some, length, map, slice_get, slice_index_or, count_by, if◌then◌else◌, nat_lt, IsPermutation}
 use Rattle.std.specs.List.{filter, AllByRecursion}
 use Rattle.ic_term.specs.Tree.{Tree, name, agent, Trees, no_trees, more_trees, trees_of, Pair}
-use Rattle.ic_term.specs.Configuration.{Configuration, occurrences}
+use Rattle.ic_term.specs.Configuration.{Configuration, configuration_names, occurrences}
 use Rattle.ic_rules.specs.Rule.{Rule, swapped}
 use Rattle.ic_rules.specs.RuleSet.{Rules, rule_for}
 use Rattle.ic_machine.specs.declared.plan.Link.{Link}
@@ -83,15 +83,17 @@ HasRegister arguments registers fresh count x =
     ⊎ ((i : ℕ) × (slice_get arguments i
     ≡ Some (record { register = registers x; term = name x })))
 
--- A plan stands for a rule, for symbols with these arities. Each name of the rule is read from a register, and each
--- agent that is made is used once. And whatever the registers hold, the equations of the plan are those of the
--- arguments with the rule's, except for a name against itself.
+-- A plan stands for a rule, for symbols with these arities. Each name of the rule is read from a register, each fresh name
+-- is read as one, and each agent that is made is used once. And whatever the registers hold, the equations of the plan are
+-- those of the arguments with the rule's, except for a name against itself.
 pub record StandsFor (arities : List ℕ) (r : Rule) (p : Planned) : Type 0 where
   pub registers : ℕ → ℕ
   pub read : (x : ℕ) → x < r.names
       → HasRegister (arguments_of (length arities) r) registers
       (length arities + length (rule_arguments r)) p.names x
   pub apart : (x y : ℕ) → x < r.names → y < r.names → registers x ≡ registers y → x ≡ y
+  pub fresh : (k : ℕ) → k < p.names
+      → (x : ℕ) × (x < r.names) × (registers x ≡ length arities + length (rule_arguments r) + k)
   pub used : (k : ℕ) → k < length p.made
       → count_by (λ m. m == first_made arities (length (rule_arguments r)) p + k) (operands_of p) ≡ 1
   pub equations : (held : ℕ → Tree) → HoldConstants (length arities) held
@@ -138,13 +140,14 @@ named_terms count names k =
     if nat_lt k count then agent k no_trees else name (slice_index_or names (k - count) 0)
 
 -- A plan stands for a configuration, with the words of these registers as its interface: its arguments are the names
--- that were given, the fresh names are the others, and the agents put together are its terms.
+-- that were given, the fresh names are the others, which occur in it, and the agents put together are its terms.
 pub record StandsForNet (arities given : List ℕ) (c : Configuration) (p : Planned)
     (interface : List ℕ) : Type 0 where
   pub names : List ℕ
   pub count : length names ≡ p.names
   pub below : AllByRecursion (λ x. x < c.next) (given ++ names)
   pub once : (x : ℕ) → occurrences x (given ++ names) ≤ 1
+  pub occur : AllByRecursion (λ x. 1 ≤ occurrences x (configuration_names c)) names
   pub within : AllByRecursion (λ k. k < first_made arities (length given) p + length p.made) interface
   pub constant : AllByRecursion (λ k. k < length arities → slice_get arities k ≡ Some 0) interface
   pub used : (k : ℕ) → k < length p.made

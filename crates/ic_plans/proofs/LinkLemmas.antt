@@ -1,11 +1,13 @@
 -- Links, one after another.
-use Rattle.std.proofs.Common.{◌≡◌, ℕ, zero, suc, ◌+◌, ◌≤◌, ◌<◌, ◌==◌, List, [], ◌∷◌, ◌++◌, Bool, true, false, cond, Option, Some, length, take, drop, refl, sym, ap, ◌∙◌, arith}
+use Rattle.std.proofs.Common.{◌≡◌, ℕ, zero, suc, ◌+◌, ◌≤◌, ◌<◌, ◌==◌, List, [], ◌∷◌, ◌++◌, Bool, true, false, cond, Option, Some, length, take, drop, refl, sym, ap, ◌∙◌, arith, inl, inr}
 use Rattle.std.specs.Prelude.{IsSome, is_some}
 use Rattle.std.specs.Cmp.{unsigned_Decides}
+use Rattle.std.proofs.lemmas.Bool.{ne_eqb}
+use Rattle.std.proofs.lemmas.Bool.Decides.{leb_tells}
 use Rattle.ic_term.specs.Tree.{Tree}
 use Rattle.ic_machine.specs.declared.plan.Link.{Link}
 use Rattle.ic_meaning.specs.Plans.{arguments_from, is_read}
-use Rattle.ic_plans.specs.inner.Registers.{Registers, found, links_of}
+use Rattle.ic_plans.specs.inner.Registers.{Registers, AreFreshNames, found, links_of}
 use Rattle.ic_plans.proofs.RuleLemmas.{not_same}
 
 -- the first argument is linked, or read from its own register
@@ -68,3 +70,24 @@ all-added n r old new updated all x low = at (n == x) refl
     at : (b : Bool) → (n == x) ≡ b → IsSome (found new x)
     at true e = rw (updated x, e) refl
     at false e = rw (updated x, e) (all x (below x n low (λ s. not_same n x e (sym s))))
+
+-- fresh registers of names so far are those of one name more
+pub used-kept : (n start fresh : ℕ) (registers : Registers) → AreFreshNames n start fresh registers
+    → AreFreshNames (n + 1) start fresh registers
+used-kept n start fresh registers used k low = let it = used k low in (it.0, omega (arith, it.1), it.2)
+
+pub used-added : (n start fresh : ℕ) (old new : Registers)
+    → ((q : ℕ) → found new q ≡ cond (n == q) (Some (start + fresh)) (found old q))
+    → AreFreshNames n start fresh old → AreFreshNames (n + 1) start (fresh + 1) new
+used-added n start fresh old new updated used k low = elim (leb_tells fresh k) [
+  | inl t ↦
+      (let same : k ≡ fresh = (let le : fresh ≤ k = t.1 in omega arith) in
+      let here : (n == n) ≡ true = (unsigned_Decides n n).1 refl in
+      let at : found new n ≡ Some (start + fresh) = updated n ∙ ap (λ b. cond b (Some (start + fresh)) (found old n)) here in
+      (n, omega arith, at ∙ ap (λ (j : ℕ). Some (start + j)) (sym same)))
+  | inr t ↦
+      (let lt : k < fresh = t.1 in
+      let it = used k lt in
+      let other : (n == it.0) ≡ false = ne_eqb n it.0 (λ e. omega (arith, e, it.1)) in
+      (it.0, omega (arith, it.1), updated it.0 ∙ (ap (λ b. cond b (Some (start + fresh)) (found old it.0)) other ∙ it.2)))
+]

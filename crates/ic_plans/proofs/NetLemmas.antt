@@ -422,6 +422,8 @@ module _ (ss : List Symbol) (c : Configuration) (given others : List ℕ) (mid a
     count = refl;
     below = all-places (λ x. x < c.next) (given ++ others) below;
     once = listed-once ns count given others mid all are_given are_fresh;
+    occur = All-back (λ x. 1 ≤ occurrences x (configuration_names c)) given others
+        (all-places (λ x. 1 ≤ occurrences x (configuration_names c)) (given ++ others) occurs);
     within = front (λ k. k < first + length made) flat.within;
     constant = front IsConstant (All-back IsConstant (made_operands made) operands flat.constant);
     used = λ k low.
@@ -434,6 +436,12 @@ module _ (ss : List Symbol) (c : Configuration) (given others : List ℕ) (mid a
     equations = subst (λ l. IsPermutation l c.equations) (sym equations_are) (IsPermutation-refl c.equations);
   }
     where
+      occurs : (j x : ℕ) → slice_get (given ++ others) j ≡ Some x → 1 ≤ occurrences x (configuration_names c)
+      occurs j x there =
+          let some = listed-occurs ns count given others mid all are_given are_fresh j x there in
+          let same = ap (occurrences x) (names-words c) in
+          omega arith
+
       below : (j x : ℕ) → slice_get (given ++ others) j ≡ Some x → x < c.next
       below j x there =
           let some = listed-occurs ns count given others mid all are_given are_fresh j x there in

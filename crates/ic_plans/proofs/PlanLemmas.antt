@@ -23,7 +23,7 @@ use Rattle.ic_flat.specs.lemmas.WordTests.{names-forest, over-forest}
 use Rattle.ic_machine.specs.declared.plan.Link.{Link}
 use Rattle.ic_machine.specs.Plan.{Made, Planned, IsPlan, allowance, link_operands, operands_of}
 use Rattle.ic_meaning.specs.Plans.{Argument, arguments_from, arguments_of, rule_arguments, filled, held_made, HasRegister, HoldConstants, linked_terms, is_read, StandsFor}
-use Rattle.ic_plans.specs.inner.Registers.{Registers, found, register_of, AreRegisters, links_of, IsPlanFor}
+use Rattle.ic_plans.specs.inner.Registers.{Registers, found, register_of, AreFreshNames, AreRegisters, links_of, IsPlanFor}
 use Rattle.ic_plans.specs.inner.Flattening.{IsRead, times_read, times_made, made_operands, AreFlat, WouldBeFlat}
 use Rattle.ic_plans.proofs.FlatLemmas.{count-append, times-below, times-within, times-above, held_below}
 use Rattle.ic_plans.proofs.RegisterLemmas.{arguments-at}
@@ -142,6 +142,7 @@ read_words ss registers first (Agent s n ∷ ws) names over =
 module _ (arities : List ℕ) (r : Rule) (map_of : Registers) (fresh : ℕ) (ws : List Word)
     (regs : AreRegisters (arguments_of (length arities) r) (length arities + length (rule_arguments r)) fresh map_of)
     (all_found : (x : ℕ) → x < r.names → IsSome (found map_of x))
+    (fresh_names : AreFreshNames r.names (length arities + length (rule_arguments r)) fresh map_of)
     (below : AllByRecursion (λ x. x < r.names) (flat_map word_names ws))
     (paired : AllByRecursion (λ x. occurrences x (flat_map word_names ws) ≡ 2) (flat_map word_names ws)) where
   abbrev count : ℕ
@@ -299,6 +300,8 @@ module _ (arities : List ℕ) (r : Rule) (map_of : Registers) (fresh : ℕ) (ws 
       registers = registers;
       read = read;
       apart = apart;
+      fresh = λ k low. let it = fresh_names k low in
+          (it.0, it.1, ap (λ o. unwrap_or o 0) it.2);
       used = λ k low. made_once (first + k) (omega arith) ∙ times-within first (length made) (first + k) (omega arith) (omega arith);
       equations = λ held holds.
           let same = links_matched registers held (held_made first made held) (λ x. held (registers x)) first count (rule_arguments r) operands (omega arith)
@@ -316,12 +319,13 @@ pub rule_planned : (ss : List Symbol) (r : Rule) (map_of : Registers) (fresh : �
     → ws ≡ flat_map tree_words (rule_arguments r)
     → AreRegisters (arguments_from (length (map (λ s. s.arity) ss)) (rule_arguments r)) (length (map (λ s. s.arity) ss) + length (rule_arguments r)) fresh map_of
     → ((x : ℕ) → x < r.names → IsSome (found map_of x))
+    → AreFreshNames r.names (length (map (λ s. s.arity) ss) + length (rule_arguments r)) fresh map_of
     → AllByRecursion (λ x. x < r.names) (rule_names r) → are_paired (rule_names r) ≡ true
     → list_all (is_tree_over ss) (rule_arguments r) ≡ true
     → WouldBeFlat (map (λ s. s.arity) ss) (register_of map_of) (length (map (λ s. s.arity) ss) + length (rule_arguments r) + fresh) ws made operands
     → IsPlanFor (map (λ s. s.arity) ss) r
     (record { names = fresh; made = made; links = links_of (register_of map_of) (arguments_from (length (map (λ s. s.arity) ss)) (rule_arguments r)) operands })
-rule_planned ss r map_of fresh ws made operands words regs all_found below paired over would =
+rule_planned ss r map_of fresh ws made operands words regs all_found fresh_names below paired over would =
     let arities : List ℕ = map (λ s. s.arity) ss in
     let terms : forest ws ≡ rule_arguments r = ap forest words ∙ forest-words (rule_arguments r) in
     let names_are : flat_map word_names ws ≡ rule_names r =
@@ -336,6 +340,6 @@ rule_planned ss r map_of fresh ws made operands words regs all_found below paire
     let first : ℕ = length arities + length (rule_arguments r) + fresh in
     let counted = length-map ss (λ (s : Symbol). s.arity) in
     let places = all_imply (λ x. x < r.names) (λ x. (length ss ≤ register_of map_of x) × (register_of map_of x < first)) (flat_map word_names ws)
-    (λ x low. let b = bounds arities r map_of fresh ws regs all_found each twice x low in (omega (arith, b.0, counted), b.1)) each in
+    (λ x low. let b = bounds arities r map_of fresh ws regs all_found fresh_names each twice x low in (omega (arith, b.0, counted), b.1)) each in
     let flat = would (omega arith) (read_words ss (register_of map_of) first ws places known) in
-    plan_for arities r map_of fresh ws regs all_found each twice made operands terms flat
+    plan_for arities r map_of fresh ws regs all_found fresh_names each twice made operands terms flat

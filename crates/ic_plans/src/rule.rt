@@ -10,7 +10,7 @@ ghost use Rattle.ic_rules.specs.Renaming.{are_paired};
 ghost use Rattle.ic_flat.specs.Words.{tree_words};
 ghost use Rattle.ic_machine.specs.Plan.{planned};
 ghost use Rattle.ic_meaning.specs.Plans.{Argument, arguments_from, is_read};
-ghost use Rattle.ic_plans.specs.inner.Registers.{AreRegisters, IsPlanFor, found, links_of, register_of};
+ghost use Rattle.ic_plans.specs.inner.Registers.{AreFreshNames, AreRegisters, IsPlanFor, found, links_of, register_of};
 
 use crate::flattening::flatten;
 use ic_flat::{Word, write_terms};
@@ -59,6 +59,7 @@ fn add_fresh(names: usize, start: u32, registers: &mut HashMap<u64, u32>) -> Res
     requires { start + names ≤ u32.MAX }
     ensures few { IfOk result (λ fresh. fresh ≤ names) }
     ensures all { OnOk result ((x : ℕ) → x < names → IsSome (found registers.new x)) }
+    ensures used { IfOk result (λ fresh. AreFreshNames names start fresh registers.new) }
     ensures registers { IfOk result
         (λ fresh. (arguments : List Argument) → AllByRecursion (λ a. a.register < start) arguments
         → AreRegisters arguments start 0 registers.old
@@ -152,6 +153,8 @@ fn registers_of(
     requires room { constants + length left.now + length right.now + names ≤ u32.MAX }
     ensures few { IfOk result (λ made. made.1 ≤ names) }
     ensures all { IfOk result (λ made. (x : ℕ) → x < names → IsSome (found made.0 x)) }
+    ensures used { IfOk result (λ made. AreFreshNames names
+        (constants + length left.now + length right.now) made.1 made.0) }
     ensures registers { IfOk result (λ made. AreRegisters
         (arguments_from constants (map tree left.now ++ map tree right.now))
         (constants + length left.now + length right.now) made.1 made.0) }

@@ -59,7 +59,7 @@ fn time_since(rt: &HostRuntime, begun: io::Result<Instant>) -> Duration {
     }
 }
 
-/// Tells on standard error how many interactions were made, how fast, and how many by each rule.
+/// Tells on standard error how many steps were made, how fast, and how many interactions by each rule.
 fn tell_stats(rt: &HostRuntime, outcome: &Outcome, time: Duration) {
     if let Ok(line) = stats_line(rt.alloc(), outcome, time) {
         let _ = rt.stderr().write_all(&line);
@@ -71,29 +71,38 @@ fn tell_stats(rt: &HostRuntime, outcome: &Outcome, time: Duration) {
 
 /// The line of how many interactions each rule made, which is named by its number from 1. Rules that made none are left out.
 fn rules_line(alloc: Global, by_rule: &[u64]) -> Result<Vec<u8>, AllocError> {
-    let mut line = b"icserve: interactions by rule".to_vec(alloc)?;
+    let mut line = b"icserve: ".to_vec(alloc)?;
     let fired = by_rule.iter().enumerate().filter(|(_, count)| **count > 0);
     for (place, (rule, count)) in fired.enumerate() {
-        let comma = if place > 0 { "," } else { "" };
+        let comma = if place > 0 { ", " } else { "" };
         let rule = rule.saturating_add(1);
-        line.extend_from_slice(format!(in alloc; "{comma} {rule}: {count}")?.as_bytes())?;
+        let plural = if *count == 1 { "" } else { "s" };
+        let told = format!(in alloc; "{comma}rule {rule}: {count} interaction{plural}")?;
+        line.extend_from_slice(told.as_bytes())?;
+    }
+    if by_rule.iter().all(|count| *count == 0) {
+        line.extend_from_slice(b"no interactions")?;
     }
     line.push(b'\n')?;
     Ok(line)
 }
 
-/// The line of so many interactions in this time.
+/// The line of so many steps in this time. Name steps are told if all have been made.
 fn stats_line(alloc: Global, outcome: &Outcome, time: Duration) -> Result<Vec<u8>, AllocError> {
     let Outcome {
         interactions,
         places,
         ..
     } = outcome;
+    let names = match outcome.name_steps {
+        Some(count) => format!(in alloc; ", name steps {count}")?,
+        None => String::new(alloc),
+    };
     let millis = u64::try_from(time.as_millis()).unwrap_or(u64::MAX);
     let (seconds, thousandths) = (millis / 1_000, millis % 1_000);
     let pace = a_second(*interactions, time);
     let line = format!(in alloc;
-        "icserve: interactions {interactions}, places {places}, seconds {seconds}.{thousandths:03}, \
+        "icserve: interactions {interactions}{names}, places {places}, seconds {seconds}.{thousandths:03}, \
          interactions a second {pace}\n"
     )?;
     line.as_bytes().to_vec(alloc)

@@ -1,5 +1,5 @@
 -- For private functions: a machine that begins with the configuration of a system, and where it stops.
-use Rattle.std.specs.Prelude.{◌≡◌, ℕ, ◌+◌, ◌^◌, ◌<◌, ◌≤◌, List, [], IsTrue, length, map, sum}
+use Rattle.std.specs.Prelude.{◌≡◌, ℕ, suc, ◌+◌, ◌*◌, ◌^◌, ◌<◌, ◌≤◌, List, [], ◌++◌, IsTrue, length, map, sum}
 use Rattle.std.specs.List.{AllByRecursion}
 use Rattle.ic_term.specs.Configuration.{configuration_nodes}
 use Rattle.ic_term.specs.Symbol.{is_over}
@@ -8,15 +8,16 @@ use Rattle.ic_rules.specs.RuleSet.{IsRuleSet}
 use Rattle.ic_rules.specs.System.{SystemParts}
 use Rattle.ic_round.specs.Naming.{HasNames}
 use Rattle.ic_arena.specs.declared.word.TheConstants.{GIVEN}
-use Rattle.ic_machine.specs.Net.{Net, pieces, HasNext, IsStuck}
+use Rattle.ic_machine.specs.Net.{Net, pieces, HasNext, IsPair, IsStuck}
 use Rattle.ic_machine.specs.Plan.{Planned, Plans}
 use Rattle.ic_machine.specs.Runs.{Starts}
 use Rattle.ic_machine.specs.Separate.{IsSeparate}
-use Rattle.ic_meaning.specs.Plans.{ArePlansOf}
+use Rattle.ic_meaning.specs.Plans.{rule_number}
+use Rattle.ic_in_place.specs.declared.running.TheConstants.{PIECE}
 use Rattle.ic_in_place.specs.declared.running.Bounds.{Bounds}
 use Rattle.ic_in_place.specs.declared.running.End.{End}
 use Rattle.ic_in_place.specs.Counting.{AreCounts}
-use Rattle.ic_in_place.specs.Holding.{Holds}
+use Rattle.ic_in_place.specs.Holding.{AreCompiled, Holds}
 use Rattle.ic_in_place.specs.declared.running.End.TheVariants.{Quiet, Steps, Nodes, Limit, Memory}
 use Rattle.ic_in_place.specs.Running.{IsWatched}
 
@@ -44,9 +45,10 @@ pub record IsBegun (p : Plans) (given : ℕ) (plan : Planned) (operands : List �
 
 -- what a stop says of the net that a machine holds, and of the pairs that are left
 abbrev pub StopsBy : Bounds → Plans → Net → ℕ → End → Type 0
-StopsBy bounds p m places Quiet = (m.pending ≡ []) × AllByRecursion (IsStuck p) m.aside
+StopsBy bounds p m places Quiet = m.pending ≡ []
 StopsBy bounds p m places Steps = (m.interactions ≡ bounds.steps) × HasNext p m.pending
-StopsBy bounds p m places Nodes = bounds.nodes < places
+StopsBy bounds p m places Nodes =
+    (bounds.nodes < places) × ((looks : ℕ) × (m.interactions ≡ suc looks * PIECE)) × HasNext p m.pending
 StopsBy bounds p m places Limit = Unit {0}
 StopsBy bounds p m places Memory = Unit {0}
 
@@ -57,18 +59,24 @@ pub record HasStopped (s : SystemParts) (bounds : Bounds) (given by_rule : List 
   pub below : AllByRecursion (λ x. x < 2 ^ 62) given
   pub plans : Plans
   pub rule_numbers : List ℕ
-  pub of_rules : ArePlansOf s.rules rule_numbers plans
+  pub plan : Planned
+  pub operands : List ℕ
+  pub compiled : AreCompiled s.rules rule_numbers plans s.config given plan operands
   pub arities : plans.arities ≡ arities_of s
   pub own_arities : m.arities ≡ arities_of s
+  pub first : Net
+  pub starts : Starts plans (length given) plan operands first
+  pub none : first.interactions ≡ 0
+  pub watched : IsWatched plans bounds.nodes first m
   pub fired : List ℕ
+  pub by_plans : fired ≡ map (rule_number rule_numbers) (watched.before.fired ++ watched.after.fired)
   pub held : Holds s.rules plans s.config given fired m
+  pub begun : Holds s.rules plans s.config given [] first
   pub counted : m.interactions ≡ length fired
   pub counts : AreCounts (length s.rules.rules) fired by_rule
   pub within : m.interactions ≤ bounds.steps
   pub all : places ≡ m.names + sum m.agents
   pub enough : length m.places ≤ places
-  pub first : Net
-  pub begun : Holds s.rules plans s.config given [] first
-  pub none : first.interactions ≡ 0
-  pub watched : IsWatched plans bounds.nodes first m
+  pub pairs : AllByRecursion IsPair m.pending
+  pub aside : AllByRecursion (IsStuck plans) m.aside
   pub ended : StopsBy bounds plans m places end

@@ -2,12 +2,13 @@
 use Rattle.std.specs.Prelude.{◌≡◌, ℕ, ◌+◌, ◌<◌, ◌≤◌, List, [], ◌∷◌, ◌++◌, length, map, sum_by}
 use Rattle.std.specs.List.{AllByRecursion, flat_map}
 use Rattle.ic_arena.specs.declared.word.Word.{Word}
-use Rattle.ic_arena.specs.declared.word.TheConstants.{IDLE, NAME}
+use Rattle.ic_arena.specs.declared.word.TheConstants.{IDLE}
 use Rattle.ic_arena.specs.Word.{name_word, count}
 use Rattle.ic_arena.specs.Piece.{Piece, equated, room, uses}
 use Rattle.ic_arena.specs.Tables.{names_pieces}
 use Rattle.ic_machine.specs.declared.equation.Equation.{Equation}
 use Rattle.ic_machine.specs.declared.plan.Link.{Link}
+use Rattle.ic_machine.specs.Net.{IsPair}
 use Rattle.ic_machine.specs.Plan.{Plans, linked, link_operands}
 use Rattle.ic_machine.specs.Steps.{Steps}
 
@@ -34,10 +35,6 @@ pub record Meeting (name word waiting : Word) (old new : List Word) : Type 0 whe
       (equated name word ∷ (names_pieces 0 old ++ rest)) (equated waiting word ∷ (names_pieces 0 new ++ rest))
   pub named : AreNamed waiting word new
   pub fewer : length (names_pieces 0 new) + 1 ≡ length (names_pieces 0 old)
-
--- neither side is a name
-abbrev pub IsPair : Equation → Type 0
-IsPair e = (¬ (e.left.tag ≡ NAME)) × (¬ (e.right.tag ≡ NAME))
 
 -- Equations whose sides are no names were put after the others.
 pub record Pushed (old new : List Equation) : Type 0 where

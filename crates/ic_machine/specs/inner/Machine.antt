@@ -5,10 +5,9 @@ use Rattle.ic_arena.specs.declared.word.TheConstants.{GIVEN}
 use Rattle.ic_arena.specs.Tables.{names_pieces}
 use Rattle.ic_machine.specs.declared.machine.Machine.TheInside.{Inside}
 use Rattle.ic_machine.specs.Plan.{constants}
-use Rattle.ic_machine.specs.Net.{Net, pieces}
+use Rattle.ic_machine.specs.Net.{Net, pieces, IsPair}
 use Rattle.ic_machine.specs.Separate.{IsSeparate}
 use Rattle.ic_machine.specs.inner.Firing.{heaps_pieces, arities_of}
-use Rattle.ic_machine.specs.inner.Linking.{IsPair}
 use Rattle.ic_machine.specs.inner.Tables.{HasSpare}
 
 abbrev pub net_of : Inside → Net

@@ -1,5 +1,5 @@
 -- The tables of a machine, and what a firing does to them.
-use Rattle.std.specs.Prelude.{◌≡◌, ℕ, ◌+◌, ◌^◌, ◌<◌, ◌≤◌, ◌⊎◌, Contains, List, [], ◌++◌, Some, length, map, slice_get, sum_by, vec_capacity}
+use Rattle.std.specs.Prelude.{◌≡◌, ℕ, zero, suc, ◌+◌, ◌^◌, ◌<◌, ◌≤◌, ◌⊎◌, Contains, List, [], ◌∷◌, ◌++◌, Some, length, map, max, slice_get, sum_by, vec_capacity}
 use Rattle.std.specs.List.{AllByRecursion}
 use Rattle.ic_arena.specs.declared.word.Word.{Word}
 use Rattle.ic_arena.specs.declared.word.TheConstants.{NAME, IDLE, GIVEN}
@@ -9,7 +9,8 @@ use Rattle.ic_arena.specs.Tables.{Blocks, names_pieces}
 use Rattle.ic_machine.specs.declared.equation.Equation.{Equation}
 use Rattle.ic_machine.specs.declared.tables.Tables.{Tables}
 use Rattle.ic_machine.specs.Plan.{Made, Planned, Plans, IsPlan, constants, number_of, pieces_made}
-use Rattle.ic_machine.specs.Net.{equated_of}
+use Rattle.ic_machine.specs.Net.{equated_of, in_use}
+use Rattle.ic_machine.specs.Runs.{Way}
 use Rattle.ic_machine.specs.Steps.{AreFresh, Steps}
 use Rattle.ic_machine.specs.inner.Firing.{heaps_pieces, arities_of, table, HasBlocks, HasRoom}
 
@@ -23,6 +24,11 @@ held t rest = names_pieces 0 t.names.entries
 abbrev pub IsTooMuch : Planned → ℕ → List Blocks → Type 0
 IsTooMuch p names hs = (2 ^ 32 ≤ names + p.names)
     ⊎ ((m : Made) × Contains p.made m × (2 ^ 32 ≤ (table hs m.symbol).count + length p.made))
+
+-- how many places of this kind the tables have
+abbrev pub size_at : ℕ → Tables → ℕ
+size_at zero t = length t.names.entries
+size_at (suc s) t = (table t.heaps.items s).count
 
 -- there is memory for what a plan makes, after so many arguments
 pub record HasMemory (p : Planned) (arguments : ℕ) (t : Tables) : Type 0 where
@@ -70,8 +76,17 @@ pub record IsMade (p : Planned) (old new : Tables) : Type 0 where
   pub fresh : (rest : List Equation) → AreFresh (names ++ made) (held old (map equated_of rest))
   pub steps : (q : Plans) (rest : List Piece) → Steps q []
       (pieces_made p (old.registers.items ++ (names ++ made)) names made ++ held old rest) (held new rest)
+  pub places : (kind : ℕ) (rest : List Equation) → size_at kind new
+      ≡ max (size_at kind old) (in_use kind
+      (pieces_made p (old.registers.items ++ (names ++ made)) names made ++ held old (map equated_of rest)))
 
 -- The plan of these symbols has this number in a program.
 pub record IsNumbered (p : Plans) (i : ℕ) (left right : ℕ) (plan : Planned) : Type 0 where
   pub number : number_of p left right ≡ Some i
   pub has_plan : slice_get p.plans i ≡ Some plan
+
+-- A pair fires by this plan, and what it makes is linked. There are as many places as before, or as are in use as it has fired.
+pub record FiresBy (p : Plans) (fired : ℕ) (old new : Tables) (rest : List Equation) : Type 0 where
+  pub moment : List Piece
+  pub way : Way p (fired ∷ []) (moment ∷ []) (held old (map equated_of rest)) (held new (map equated_of rest))
+  pub places : (kind : ℕ) → size_at kind new ≡ max (size_at kind old) (in_use kind moment)

@@ -29,6 +29,11 @@ pub record AreRegisters (arguments : List Argument) (start fresh : ℕ) (registe
       ⊎ ((i : ℕ) × (slice_get arguments i ≡ Some (record { register = r; term = name x })))
   pub apart : (x y r : ℕ) → found registers x ≡ Some r → found registers y ≡ Some r → x ≡ y
 
+-- each of so many fresh registers is that of one of so many names
+abbrev pub AreFreshNames : (names start fresh : ℕ) → Registers → Type 0
+AreFreshNames names start fresh registers = (k : ℕ) → k < fresh
+    → (x : ℕ) × (x < names) × (found registers x ≡ Some (start + k))
+
 -- arguments linked with the registers of their terms, except for a name that is read from its own register
 abbrev pub links_of : (ℕ → ℕ) → List Argument → List ℕ → List Link
 links_of registers [] operands = []

@@ -26,5 +26,5 @@ returns g c =
     run.result.0 run.result.1 c.systems_are_sound.ensures
     (c.in_ok-program.ensures.arities ∙ ap (λ (r : Rules). map (λ x. x.arity) r.symbols) same) c.in_ok-program.ensures.sound
     (subst (λ (r : Rules). ArePlansOf r numbers p) same c.in_ok-program.ensures.plans)
-    c.in_ok-first.ensures.start c.in_ok-first.ensures.stands c.in_ok-first.ensures.given c.in_ok-machine.ensures run.ensures.ran run.ensures.ends
-    run.ensures.nodes run.ensures.count run.ensures.enough run.ensures.watched by_rule summed c.in_ok-program.ensures.numbers low
+    c.in_ok-first.ensures.start c.in_ok-first.ensures.stands c.in_ok-first.ensures.given c.in_ok-machine.ensures run.ensures.ends
+    run.ensures.nodes run.ensures.looked run.ensures.count run.ensures.enough run.ensures.pairs run.ensures.watched by_rule summed c.in_ok-program.ensures.numbers low

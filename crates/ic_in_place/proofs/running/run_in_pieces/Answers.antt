@@ -1,10 +1,10 @@
 use Rattle.std.proofs.Common.{arith, refl, inl, inr}
 use Rattle.ic_in_place.proofs.Onward.{ran_nothing, ran_through}
-use Rattle.ic_in_place.proofs.Pieces.{too_many, goes_on}
+use Rattle.ic_in_place.proofs.Pieces.{too_many, goes_on, looked_at, one_more_piece}
 use Rattle.ic_in_place.proofs.running.run_in_pieces.Goals as goal
 
 pub pieces-init : goal.pieces-init
-pieces-init g c = record { ran = ran_nothing c.args.program.now c.args.machine.now; counted = refl; few = inl refl }
+pieces-init g c = record { ran = ran_nothing c.args.program.now c.args.machine.now; counted = refl; whole = (0, omega arith); few = inl refl }
 
 pub pieces-smaller : goal.pieces-smaller
 pieces-smaller g c = omega (arith, c.min-steps.ensures, c.if-left-eq0.false)
@@ -14,6 +14,8 @@ pieces-preserved g c = record {
   ran = ran_through c.args.program.now c.args.machine.now c.pieces.machine c.run_piece-ended.new.machine c.pieces.invariant.ran c.run_piece-ended.ensures.ran;
   counted = goes_on c.args.program.now c.args.bounds.steps c.pieces.left c.min-steps.result c.args.machine.now c.pieces.machine c.run_piece-ended.new.machine
       c.pieces.invariant.counted (omega (arith, c.min-steps.ensures)) c.in_default.ensures.none;
+  whole = one_more_piece c.args.program.now c.min-steps.result c.args.machine.now c.pieces.machine c.run_piece-ended.new.machine
+      c.pieces.invariant.whole c.in_default.ensures.none (omega (arith, c.min-steps.ensures, c.if-left-eq0.false));
   few = inr (record {
     places = omega (arith, c.places-places.ensures.count, c.if-places-bounds.false);
     pieces = omega (arith, c.places-places.ensures.pieces, c.if-places-bounds.false);
@@ -63,3 +65,8 @@ returns-then-places-bounds-clause-watched g c = record {
   few = c.pieces.invariant.few;
   near = omega (arith, c.run_piece-ended.ensures.within, c.min-steps.ensures);
 }
+
+pub returns-then-places-bounds-clause-looked : goal.returns-then-places-bounds-clause-looked
+returns-then-places-bounds-clause-looked g c = λ e.
+    looked_at c.args.program.now c.min-steps.result c.args.machine.now c.pieces.machine c.run_piece-ended.new.machine
+    c.pieces.invariant.whole c.in_default.ensures.none (omega (arith, c.min-steps.ensures, c.if-left-eq0.false))

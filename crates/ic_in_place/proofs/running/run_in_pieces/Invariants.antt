@@ -1,5 +1,6 @@
-use Rattle.std.proofs.Common.{◌≡◌, ◌+◌, ◌⊎◌}
+use Rattle.std.proofs.Common.{◌≡◌, ℕ, ◌+◌, ◌*◌, ◌⊎◌}
 use Rattle.ic_machine.specs.Runs.{Ran}
+use Rattle.ic_in_place.specs.declared.running.TheConstants.{PIECE}
 use Rattle.ic_in_place.specs.Running.{IsWithin}
 use Rattle.ic_in_place.proofs.running.run_in_pieces.Given as goal
 
@@ -8,6 +9,7 @@ abbrev pub invariant-pieces : goal.invariant-pieces
 invariant-pieces g l = record {
   ran : Ran l.program l.initial.machine l.machine;
   counted : l.machine.interactions + l.left ≡ l.initial.machine.interactions + l.bounds.steps;
+  whole : (looks : ℕ) × (l.machine.interactions ≡ l.initial.machine.interactions + looks * PIECE);
   few : (l.machine ≡ l.initial.machine) ⊎ IsWithin l.bounds.nodes l.machine;
 }
 

@@ -1,10 +1,12 @@
-use Rattle.std.proofs.Common.{◌≡◌, ℕ, IsTrue, false, sym, ap, ◌∙◌, subst}
+use Rattle.std.proofs.Common.{◌≡◌, ℕ, IsTrue, None, false, length, sym, ap, ◌∙◌, subst}
+use Rattle.std.proofs.lemmas.Bool.{false≢true}
 use Rattle.std.specs.List.{list_all}
 use Rattle.ic_rules.specs.RuleSet.{Rules}
 use Rattle.ic_flat.specs.Words.{is_word_over}
 use Rattle.ic_text.specs.SystemSource.{IsSystemPhrase, system_words}
 use Rattle.ic_text.specs.Words.{written_system}
 use Rattle.ic_text.specs.lemmas.PlacedWithin.{placed-within}
+use Rattle.ic_in_place.specs.Counting.{TellsNameSteps}
 use Rattle.ic_in_place.specs.Reducing.{IsReachedBy}
 use Rattle.ic_in_place.proofs.Answering.{unread_so}
 use Rattle.ic_in_place.proofs.Written.{line_so, stuck_so}
@@ -16,12 +18,12 @@ refused_within-requires g c = placed-within c.args.limits IsSystemPhrase system_
 pub line_reached-requires-clause-over : goal.line_reached-requires-clause-over
 line_reached-requires-clause-over g c =
     let same = c.symbols-symbols.ensures.symbols ∙ ap (λ (r : Rules). r.symbols) (c.deref.ensures ∙ c.rules.ensures.rules) in
-    subst (λ ss. IsTrue (list_all (is_word_over ss) c.in_ok-reduced.reduced.words.items)) (sym same) (c.in_ok-reduced.ensures.reached c.args.bounds c.in_ok-stopped.ensures).2.over
+    subst (λ ss. IsTrue (list_all (is_word_over ss) c.in_ok-reduced.reduced.words.items)) (sym same) (c.in_ok-reduced.ensures.reached c.args.bounds c.in_ok-stopped.ensures).4.over
 
 pub stuck_at_end-requires-clause-over : goal.stuck_at_end-requires-clause-over
 stuck_at_end-requires-clause-over g c =
     let same = c.symbols-symbols.ensures.symbols ∙ ap (λ (r : Rules). r.symbols) (c.deref.ensures ∙ c.rules.ensures.rules) in
-    subst (λ ss. IsTrue (list_all (is_word_over ss) c.in_ok-reduced.reduced.words.items)) (sym same) (c.in_ok-reduced.ensures.reached c.args.bounds c.in_ok-stopped.ensures).2.over
+    subst (λ ss. IsTrue (list_all (is_word_over ss) c.in_ok-reduced.reduced.words.items)) (sym same) (c.in_ok-reduced.ensures.reached c.args.bounds c.in_ok-stopped.ensures).4.over
 
 pub returns-clause-line : goal.returns-clause-line
 returns-clause-line g c =
@@ -30,12 +32,14 @@ returns-clause-line g c =
     let ss = c.symbols-symbols.result.now in
     let other = c.in-Ok.found.rules.symbols in
     let answer = (c.in_ok-reduced.ensures.reached c.args.bounds c.in_ok-stopped.ensures).0 in
-    let written = (c.in_ok-reduced.ensures.reached c.args.bounds c.in_ok-stopped.ensures).2.written in
+    let written = (c.in_ok-reduced.ensures.reached c.args.bounds c.in_ok-stopped.ensures).4.written in
     record {
       system = c.in-Ok.found;
       answer = answer;
       reads = c.in-Ok.ensures.read;
       reached = (c.in_ok-reduced.ensures.reached c.args.bounds c.in_ok-stopped.ensures).1;
+      name_steps = (c.in_ok-reduced.ensures.reached c.args.bounds c.in_ok-stopped.ensures).3;
+      together = λ written. (c.in_ok-reduced.ensures.reached c.args.bounds c.in_ok-stopped.ensures).2;
       prints = line_so c.args.partial reduced.end ss other reduced.words.items reduced.terms answer _ c.in_ok-line.ensures same written;
       stuck = stuck_so reduced.end ss other reduced.words.items reduced.terms answer _ c.in_ok-stuck.ensures same written;
     }
@@ -51,6 +55,8 @@ returns-then-not-is_written-clause-line g c =
       answer = unread.answer;
       reads = c.in-Ok.ensures.read;
       reached = subst (λ (k : ℕ). IsReachedBy s c.args.bounds unread.answer stopped.end k stopped.places stopped.by_rule.items) (sym c.interactions.ensures) unread.reached;
+      name_steps = subst (λ (k : ℕ). TellsNameSteps s.rules.rules s.config k (length unread.answer.equations) stopped.end None) (sym c.interactions.ensures) unread.name_steps;
+      together = λ written. absurd (false≢true (sym (sym c.is_written.ensures ∙ unwritten) ∙ written));
       prints = c.new.ensures.items ∙ unread.prints;
       stuck = unread.stuck;
     }

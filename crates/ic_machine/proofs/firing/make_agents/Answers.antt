@@ -1,6 +1,6 @@
-use Rattle.std.proofs.Common.{◌≡◌, ◌+◌, ◌-◌, ◌*◌, ◌^◌, ◌<◌, ◌≤◌, ℕ, suc, List, [], ◌∷◌, ◌++◌, length, map, take, slice_get, slice_set, sum_by, zero-add, ap, sym, subst, ◌∙◌, refl, arith}
+use Rattle.std.proofs.Common.{◌≡◌, ◌+◌, ◌-◌, ◌*◌, ◌^◌, ◌<◌, ◌≤◌, ℕ, suc, List, [], ◌∷◌, ◌++◌, length, map, max, take, slice_get, slice_set, sum_by, zero-add, ap, sym, subst, ◌∙◌, refl, arith}
 use Rattle.std.specs.List.{AllByRecursion}
-use Rattle.std.proofs.Math.Nat.{suc-mul}
+use Rattle.std.proofs.Math.Nat.{max-eq_left, suc-mul}
 use Rattle.std.proofs.lemmas.List.{length-map}
 use Rattle.ic_arena.specs.declared.word.Word.{Word}
 use Rattle.ic_arena.specs.declared.word.TheConstants.{GIVEN, IDLE}
@@ -11,9 +11,11 @@ use Rattle.ic_machine.specs.declared.plan.Make.{Make}
 use Rattle.ic_machine.specs.Plan.{Made, made_of}
 use Rattle.ic_machine.specs.inner.Firing.{arities_of, heaps_pieces, table, HasRoom, Makes}
 use Rattle.ic_machine.specs.lemmas.FiringKeeps.{all_append, all_of}
-use Rattle.ic_machine.proofs.Fresh.{earlier_within, fact_now, front_more, makes_more, planned_now, IsMadeOf}
-use Rattle.ic_machine.proofs.Heaps.{arities_set, arity_known, room_taken, table_read, table_replaced, table_room}
+use Rattle.ic_machine.proofs.Fresh.{earlier_within, fact_now, front_more, makes_more, makes_none, planned_now, IsMadeOf}
+use Rattle.ic_machine.proofs.Heaps.{arities_set, arity_known, room_taken, set_at, table_read, table_replaced, table_room}
+use Rattle.ic_machine.proofs.InUse.{greatest_on, one_longer, one_more}
 use Rattle.ic_machine.proofs.Spare.{grown_set}
+use Rattle.ic_machine.proofs.Standing.{blocks_few}
 use Rattle.ic_machine.proofs.firing.make_agents.Goals as goal
 
 -- the symbol of an agent that is made has a table of its arity
@@ -200,8 +202,14 @@ loop-make-preserved c =
     (table_replaced hs 0 s s b' [] (agent_of w (map (register rs) item.operands.items) ∷ []) (sym (zero-add s))
     there.0 block) none refl in
     let arity : b'.arity ≡ (table hs s).arity = c.put-block.ensures.arity ∙ ap (λ (x : Blocks). x.arity) same in
+    let counted : b'.count ≡ max (table hs s).count (length (blocks_pieces s b')) =
+    subst (λ (x : Blocks). b'.count ≡ max x.count (length (blocks_pieces s b'))) same (c.put-block.ensures.count s) in
+    let longer : length (blocks_pieces s b') ≡ length (blocks_pieces s (table hs s)) + 1 =
+    one_longer (agent_of w (map (register rs) item.operands.items)) (blocks_pieces s (table hs s)) (blocks_pieces s b') block in
+    let in_use : length (blocks_pieces s (table hs s)) ≤ (table hs s).count =
+    blocks_few s (table hs s).arity 0 (table hs s).count (table hs s).words in
     let fewer : b'.count ≤ (table hs s).count + 1 =
-    subst (λ (x : Blocks). b'.count ≤ x.count + 1) same c.put-block.ensures.count in
+    one_more b'.count (table hs s).count (length (blocks_pieces s (table hs s))) (length (blocks_pieces s b')) counted longer in_use in
     let shorter : length b'.words ≤ length (table hs s).words + (table hs s).arity =
     subst (λ (x : Blocks). length b'.words ≤ length x.words + x.arity) same c.put-block.ensures.len in
     let capacity : b'.capacity ≡ (table hs s).capacity =
@@ -220,6 +228,25 @@ loop-make-preserved c =
           (λ m h. room_taken hs s (length ms - (i + 1)) b' m arity fewer shorter capacity
           (subst (λ (k : ℕ). HasRoom hs k m) left h)) c.loop-make.invariant.room;
       sizes = grown_set h0 hs i s b' c.loop-make.invariant.sizes arity fewer shorter capacity;
+      places = set_at (λ k x. x.count ≡ max (table h0 k).count (length (blocks_pieces k x))) hs s b'
+          c.loop-make.invariant.places
+          (greatest_on (table hs s).count b'.count (table h0 s).count (length (blocks_pieces s (table hs s)))
+          (length (blocks_pieces s b')) (c.loop-make.invariant.places s) counted (omega arith));
       len = omega (arith, c.push_reserved.ensures.len);
       capacity = c.push_reserved.ensures.capacity ∙ c.loop-make.invariant.capacity;
+    }
+
+pub loop-make-init : goal.loop-make-init
+loop-make-init c =
+    let hs : List Blocks = c.args.heaps.now.items in
+    record {
+      made = makes_none (heaps_pieces 0 hs) c.args.registers.now.items;
+      words = c.requires.words;
+      arities = refl;
+      room = subst (λ (n : ℕ). AllByRecursion (HasRoom hs n) (map made_of c.args.makes.now))
+          (let same : length c.args.makes.now ≡ length c.args.makes.now - 0 = omega arith in same) c.requires.room;
+      sizes = λ s. record { arity = refl; count = omega arith; len = omega arith; capacity = refl };
+      places = λ s. sym (max-eq_left (blocks_few s (table hs s).arity 0 (table hs s).count (table hs s).words));
+      len = omega arith;
+      capacity = refl;
     }

@@ -1,6 +1,7 @@
-use Rattle.std.proofs.Common.{◌≡◌, ◌+◌, ◌-◌, ◌<◌, ℕ, length, map, take, vec_len, vec_capacity}
+use Rattle.std.proofs.Common.{◌≡◌, ◌+◌, ◌-◌, ◌<◌, ℕ, length, map, max, take, vec_len, vec_capacity}
 use Rattle.std.specs.List.{AllByRecursion}
 use Rattle.ic_arena.specs.declared.word.TheConstants.{IDLE}
+use Rattle.ic_arena.specs.Tables.{blocks_pieces}
 use Rattle.ic_machine.specs.Plan.{made_of}
 use Rattle.ic_machine.specs.inner.Firing.{heaps_pieces, arities_of, table, HasRoom, IsGrown, Makes}
 use Rattle.ic_machine.proofs.firing.make_agents.Given as goal
@@ -14,6 +15,8 @@ invariant-loop-make l = record {
   arities : arities_of l.heaps.items ≡ arities_of l.initial.heaps.items;
   room : AllByRecursion (HasRoom l.heaps.items (length l.makes - l.make-index)) (map made_of l.makes);
   sizes : (s : ℕ) → IsGrown l.make-index (table l.initial.heaps.items s) (table l.heaps.items s);
+  places : (s : ℕ) → (table l.heaps.items s).count
+      ≡ max (table l.initial.heaps.items s).count (length (blocks_pieces s (table l.heaps.items s)));
   len : vec_len l.registers ≡ vec_len l.initial.registers + l.make-index;
   capacity : vec_capacity l.registers ≡ vec_capacity l.initial.registers;
 }

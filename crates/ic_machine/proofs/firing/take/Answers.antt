@@ -1,8 +1,9 @@
 use Rattle.std.proofs.Common.{◌≡◌, ◌+◌, ◌-◌, ◌<◌, ◌≤◌, ℕ, List, length, ap, sym, subst, ◌∙◌, arith}
 use Rattle.ic_arena.specs.declared.word.Word.{Word}
-use Rattle.ic_arena.specs.Tables.{Blocks}
+use Rattle.ic_arena.specs.declared.word.TheConstants.{FREE}
+use Rattle.ic_arena.specs.Tables.{Blocks, first_word}
 use Rattle.ic_machine.specs.inner.Firing.{table}
-use Rattle.ic_machine.proofs.Heaps.{agent_block, arities_set, in_block, table_read, taken_args}
+use Rattle.ic_machine.proofs.Heaps.{agent_block, arities_set, in_block, not_free, table_read, taken_args}
 use Rattle.ic_machine.proofs.firing.take.Goals as goal
 
 pub take-requires-clause-there : goal.take-requires-clause-there
@@ -19,6 +20,19 @@ take-requires-clause-there c =
     let below : w.index < (table hs s).count =
     in_block s w.index (table hs s) (agent_block hs w s tag (c.requires.there some)) in
     subst (λ (x : Blocks). w.index < x.count) (sym same) below
+
+pub take-requires-clause-used : goal.take-requires-clause-used
+take-requires-clause-used c =
+    let hs : List Blocks = c.args.heaps.now.items in
+    let w : Word = c.args.agent in
+    let s : ℕ = w.tag - 1 in
+    let b : Blocks = c.index_mut-heap.result.now in
+    let tag : w.tag ≡ s + 1 = omega arith in
+    let lt : s < length hs = omega arith in
+    let same : b ≡ table hs s = table_read hs s b lt c.index_mut-heap.ensures.value in
+    let arity : b.arity ≡ (table hs s).arity = ap (λ (x : Blocks). x.arity) same in
+    let some : 1 ≤ (table hs s).arity = omega arith in
+    subst (λ (x : Blocks). ¬ ((first_word x w.index).tag ≡ FREE)) (sym same) (not_free hs w s tag (c.requires.there some))
 
 pub returns-then-arity-gt0-clause-taken : goal.returns-then-arity-gt0-clause-taken
 returns-then-arity-gt0-clause-taken c =

@@ -1,7 +1,7 @@
 use Rattle.std.proofs.Common.{◌≡◌, ◌+◌, ◌-◌, ℕ, List, [], ◌∷◌, ◌++◌, Bool, true, cond, length, take, slice_get, Some, ap, not, refl, sym, subst, ◌∙◌}
 use Rattle.std.specs.List.{AllByRecursion}
 use Rattle.ic_machine.specs.declared.equation.Equation.{Equation}
-use Rattle.ic_machine.specs.inner.Linking.{IsPair}
+use Rattle.ic_machine.specs.Net.{IsPair}
 use Rattle.ic_machine.specs.inner.Pairs.{IsLast, Passed}
 use Rattle.ic_machine.proofs.Fresh.{all_back, all_front}
 use Rattle.ic_machine.proofs.Running.{last_here, passed_more, passed_none, popped}

@@ -1,6 +1,6 @@
 use Rattle.std.proofs.Common.{◌≡◌, vec_capacity, vec_len}
 use Rattle.std.specs.List.{AllByRecursion}
-use Rattle.ic_machine.specs.inner.Linking.{IsPair}
+use Rattle.ic_machine.specs.Net.{IsPair}
 use Rattle.ic_machine.specs.inner.Pairs.{Passed}
 use Rattle.ic_machine.proofs.machine.find_plan.Given as goal
 

@@ -9,7 +9,7 @@ use Rattle.ic_flat.specs.Words.{forest, tree_words, IsWhole}
 use Rattle.ic_flat.specs.lemmas.WordLaws.{forest-words, whole-words, nodes-forest}
 use Rattle.ic_machine.specs.Plan.{made_of}
 use Rattle.ic_meaning.specs.Plans.{arguments_from, rule_arguments}
-use Rattle.ic_plans.specs.inner.Registers.{AreRegisters, IsPlanFor, links_of, register_of}
+use Rattle.ic_plans.specs.inner.Registers.{AreFreshNames, AreRegisters, IsPlanFor, links_of, register_of}
 use Rattle.ic_plans.specs.inner.Flattening.{WouldBeFlat}
 use Rattle.ic_plans.proofs.PlanLemmas.{rule_planned}
 use Rattle.ic_plans.proofs.rule.plan_of_arguments.Goals as goal
@@ -55,7 +55,9 @@ returns c = λ ss r count_is names_is left_is right_is below paired over.
     let flat = subst (λ l. WouldBeFlat arities (register_of registers) (start + fresh) l made operands) c.deref.ensures.value (c.in_ok-makes.ensures.flat arities) in
     let would = subst (λ n. WouldBeFlat arities (register_of registers) (n + fresh) ws made operands) start_is flat in
     let all = λ (x : ℕ) (low : x < r.names). c.in_ok-registers.ensures.all x (omega (arith, names_is, low)) in
+    let fresh_names = subst (λ n. AreFreshNames n (length arities + length (rule_arguments r)) fresh registers) (sym names_is)
+    (subst (λ n. AreFreshNames c.args.names n fresh registers) start_is c.in_ok-registers.ensures.used) in
     let low = subst (λ n. AllByRecursion (λ x. x < n) (rule_names r)) (sym names_is) below in
-    let planned = rule_planned ss r registers fresh ws made operands words regs all low paired over would in
+    let planned = rule_planned ss r registers fresh ws made operands words regs all fresh_names low paired over would in
     let links = c.in_ok-links.ensures ∙ (λ i. links_of (register_of registers) (arguments_from (same i) (args_are i)) (c.deref-2.ensures.value i)) in
     subst (λ l. IsPlanFor arities r (record { names = fresh; made = made; links = l })) (sym links) planned

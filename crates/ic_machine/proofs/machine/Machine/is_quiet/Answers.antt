@@ -21,7 +21,7 @@ pub returns-in_err-found-clause-ran : goal.returns-in_err-found-clause-ran
 returns-in_err-found-clause-ran c =
     let new : Inside = record c.self.inside { aside = c.find_plan.new.aside; tables = record c.self.inside.tables { pending = c.find_plan.new.pending } } in
     subst (λ (n : Net). Ran c.args.program.now n (net_of new)) c.self.view_is
-    (passed_ran c.args.program.now (net_of c.self.inside) (net_of new) c.find_plan.ensures.passed refl refl refl refl refl)
+    (passed_ran c.args.program.now (net_of c.self.inside) (net_of new) c.find_plan.ensures.passed refl refl refl refl refl refl refl)
 
 pub invariant_of-self-2 : goal.invariant_of-self-2
 invariant_of-self-2 c =
@@ -32,7 +32,7 @@ pub returns-clause-ran : goal.returns-clause-ran
 returns-clause-ran c =
     let new : Inside = record c.self.inside { aside = c.find_plan.new.aside; tables = record c.self.inside.tables { pending = c.find_plan.new.pending } } in
     subst (λ (n : Net). Ran c.args.program.now n (net_of new)) c.self.view_is
-    (passed_ran c.args.program.now (net_of c.self.inside) (net_of new) c.find_plan.ensures.passed refl refl refl refl refl)
+    (passed_ran c.args.program.now (net_of c.self.inside) (net_of new) c.find_plan.ensures.passed refl refl refl refl refl refl refl)
 
 pub returns-in_err-found-clause-separate : goal.returns-in_err-found-clause-separate
 returns-in_err-found-clause-separate c =
@@ -55,3 +55,13 @@ returns-clause-more c = λ e.
     found_next (λ f. f.0) (λ f. f.1) c.args.program.now c.find_plan.new.pending.items c.in_ok-found.found
     c.in_ok-found.ensures.found
     (ap not c.is_none.ensures ∙ ap (λ (b : Bool). not (not b)) (answered c.is_none.result e))
+
+pub returns-in_err-found-clause-pairs : goal.returns-in_err-found-clause-pairs
+returns-in_err-found-clause-pairs c =
+    let new : Inside = record c.self.inside { aside = c.find_plan.new.aside; tables = record c.self.inside.tables { pending = c.find_plan.new.pending } } in
+    (passed_sound c.args.program.now c.self.inside new c.self.invariant c.find_plan.ensures.passed refl refl refl refl c.find_plan.ensures.memory).pairs
+
+pub returns-clause-pairs : goal.returns-clause-pairs
+returns-clause-pairs c =
+    let new : Inside = record c.self.inside { aside = c.find_plan.new.aside; tables = record c.self.inside.tables { pending = c.find_plan.new.pending } } in
+    (passed_sound c.args.program.now c.self.inside new c.self.invariant c.find_plan.ensures.passed refl refl refl refl c.find_plan.ensures.memory).pairs

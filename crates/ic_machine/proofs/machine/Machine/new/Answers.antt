@@ -11,20 +11,19 @@ use Rattle.ic_machine.specs.declared.equation.Equation.{Equation}
 use Rattle.ic_machine.specs.declared.machine.MachineFault.TheVariants.{Limit}
 use Rattle.ic_machine.specs.declared.tables.Tables.{Tables}
 use Rattle.ic_machine.specs.Plan.{AreMade, IsPlan, Planned, Plans, constants, made_of, pieces_made, planned}
-use Rattle.ic_machine.specs.Net.{equated_of}
+use Rattle.ic_machine.specs.Net.{equated_of, IsPair}
 use Rattle.ic_machine.specs.Runs.{given_words}
 use Rattle.ic_machine.specs.Separate.{IsSeparate}
 use Rattle.ic_machine.specs.Steps.{Steps}
 use Rattle.ic_machine.specs.inner.Firing.{arities_of, heaps_pieces, table}
 use Rattle.ic_machine.specs.inner.Tables.{HasMemory, IsTooMuch}
-use Rattle.ic_machine.specs.inner.Linking.{IsPair}
 use Rattle.ic_machine.specs.lemmas.FiresKeep.{steps_keep}
 use Rattle.ic_machine.specs.lemmas.FiringKeeps.{all_of}
 use Rattle.ic_machine.proofs.Heaps.{made_known, same_arities, same_at, same_pieces}
 use Rattle.ic_machine.proofs.Limits.{none_yet, same_fault}
 use Rattle.ic_machine.proofs.Making.{filled_count}
 use Rattle.ic_machine.proofs.Sound.{all_none, first_of, first_registers, none_counted}
-use Rattle.ic_machine.proofs.Starting.{given_length, given_marks, given_none, start_fresh, start_separate, start_steps}
+use Rattle.ic_machine.proofs.Starting.{given_length, given_marks, given_none, places_at_start, start_fresh, start_separate, start_steps}
 use Rattle.ic_machine.proofs.machine.Machine.new.Goals as goal
 
 pub reserve-requires-clause-known : goal.reserve-requires-clause-known
@@ -313,6 +312,17 @@ returns-clause-starts c =
         pieces = refl;
       };
       steps = steps;
+      places = λ kind. places_at_start kind p t1 t2 (record {
+        interface = c.in_ok-interface.interface;
+        aside = c.new-2.result;
+        tables = t2;
+        interactions = 0;
+        counts = c.in_ok-counts.counts;
+      }) regs made refl names1 pieces1 pending1
+          (λ s. (same_at h0 h1 c.reserve.ensures.heaps s).1 ∙ none_yet h0 s c.in_ok-tables.ensures.counts)
+          (ap (λ (l : List Word). l ++ (made.names ++ made.made)) registers1
+          ∙ append_assoc (constants n) gs (made.names ++ made.made));
+      symbols = length-map h2 (λ b. b.count) ∙ many2;
     }
 
 pub returns-clause-separate : goal.returns-clause-separate

@@ -1,4 +1,5 @@
-use Rattle.std.proofs.Common.{◌≡◌, ◌+◌, ◌<◌, ℕ, List, [], ◌∷◌, ◌++◌, Err, length, map, ap, sym, subst, refl, ◌∙◌, add-zero, arith}
+use Rattle.std.proofs.Common.{◌≡◌, ◌+◌, ◌<◌, ℕ, List, [], ◌∷◌, ◌++◌, Err, length, map, max, ap, sym, subst, refl, ◌∙◌, add-zero, arith}
+use Rattle.std.proofs.lemmas.List.{length-map}
 use Rattle.std.proofs.lemmas.List.Sorted.{IsPermutation-refl}
 use Rattle.std.proofs.lemmas.Result.{err_from_is_err_and}
 use Rattle.ic_arena.specs.declared.word.TheConstants.{GIVEN}
@@ -8,7 +9,7 @@ use Rattle.ic_machine.specs.declared.equation.Equation.{Equation}
 use Rattle.ic_machine.specs.declared.machine.Machine.TheInside.{Inside}
 use Rattle.ic_machine.specs.declared.machine.MachineFault.TheVariants.{Limit}
 use Rattle.ic_machine.specs.Plan.{Planned, Plans, planned}
-use Rattle.ic_machine.specs.Net.{Net, equated_of}
+use Rattle.ic_machine.specs.Net.{Net, equated_of, in_use}
 use Rattle.ic_machine.specs.Runs.{Ran}
 use Rattle.ic_machine.specs.Separate.{IsSeparate}
 use Rattle.ic_machine.specs.Steps.{Steps, no_step}
@@ -16,11 +17,12 @@ use Rattle.ic_machine.specs.inner.Firing.{arities_of, heaps_pieces}
 use Rattle.ic_machine.specs.inner.Machine.{net_of}
 use Rattle.ic_machine.specs.inner.Pairs.{CanFire, HasPlan, IsLast}
 use Rattle.ic_machine.specs.inner.Tables.{IsNumbered, IsTooMuch}
-use Rattle.ic_machine.specs.lemmas.RunsOn.{counted_none}
+use Rattle.ic_machine.specs.lemmas.RunsOn.{counted_none, way_steps}
 use Rattle.ic_machine.proofs.Heaps.{as_many}
 use Rattle.ic_machine.proofs.AtPlaces.{tables_at_places}
+use Rattle.ic_machine.proofs.InUse.{net_size, size_net}
 use Rattle.ic_machine.proofs.Limits.{full_net, same_fault}
-use Rattle.ic_machine.proofs.Running.{can_fire, held_separate, held_steps_separate, next_pair, numbered, numbered_plan, passed_pairs, passed_ran, passed_separate, passed_then}
+use Rattle.ic_machine.proofs.Running.{can_fire, held_separate, held_steps_separate, next_pair, numbered, numbered_plan, passed_pairs, passed_ran, passed_separate, passed_then, passed_way}
 use Rattle.ic_machine.proofs.Sound.{counts_below, counts_within, passed_sound}
 use Rattle.ic_machine.proofs.Spare.{passed_spare}
 use Rattle.ic_machine.proofs.machine.Machine.step.Goals as goal
@@ -39,13 +41,13 @@ pub returns-in_err-found-clause-ran : goal.returns-in_err-found-clause-ran
 returns-in_err-found-clause-ran c =
     let new : Inside = record c.self.inside { aside = c.find_plan.new.aside; tables = record c.self.inside.tables { pending = c.find_plan.new.pending } } in
     subst (λ (n : Net). Ran c.args.program.now n (net_of new)) c.self.view_is
-    (passed_ran c.args.program.now (net_of c.self.inside) (net_of new) c.find_plan.ensures.passed refl refl refl refl refl)
+    (passed_ran c.args.program.now (net_of c.self.inside) (net_of new) c.find_plan.ensures.passed refl refl refl refl refl refl refl)
 
 pub returns-in_default-clause-ran : goal.returns-in_default-clause-ran
 returns-in_default-clause-ran c =
     let new : Inside = record c.self.inside { aside = c.find_plan.new.aside; tables = record c.self.inside.tables { pending = c.find_plan.new.pending } } in
     subst (λ (n : Net). Ran c.args.program.now n (net_of new)) c.self.view_is
-    (passed_ran c.args.program.now (net_of c.self.inside) (net_of new) c.find_plan.ensures.passed refl refl refl refl refl)
+    (passed_ran c.args.program.now (net_of c.self.inside) (net_of new) c.find_plan.ensures.passed refl refl refl refl refl refl refl)
 
 pub returns-in_err-found-clause-separate : goal.returns-in_err-found-clause-separate
 returns-in_err-found-clause-separate c =
@@ -173,8 +175,12 @@ returns-in_err-fire-clause-ran c =
     subst (λ (l : List Piece). Steps q [] start l) (sym stays) (no_step start start (IsPermutation-refl start)) in
     subst (λ (o : Net). Ran q o (net_of after)) c.self.view_is (record {
       fired = [];
-      steps = passed_then q ([]) m.tables.pending.items m.aside.items ps us qs n h n' h'
+      moments = [];
+      way = passed_then q ([]) m.tables.pending.items m.aside.items ps us qs n h n' h'
           c.find_plan.ensures.passed steps;
+      places = λ kind. net_size after kind
+          ∙ (c.in_err-fire.ensures.places kind ∙ size_net m (record m.tables { pending = c.find_plan.new.pending }) refl refl kind);
+      symbols = length-map gs (λ b. b.count) ∙ (many ∙ sym (length-map hs (λ b. b.count)));
       counted = sym (add-zero m.interactions);
       counts = counted_none m.counts.items;
       arities = same;
@@ -247,8 +253,8 @@ invariant_of-self-2 c =
     let number : IsNumbered q i has.left has.right plan = numbered q e i plan found.1 c.plan_at.ensures in
     let start : List Piece = n ++ (h ++ (map equated_of ps ++ map equated_of us)) in
     let end : List Piece = n' ++ (h' ++ (map equated_of qs ++ map equated_of us)) in
-    let steps : Steps q (i ∷ []) start end =
-    c.in_ok-fire.ensures.fires q i has.left has.right us has.left_tag has.right_tag (sym known) number in
+    let by = c.in_ok-fire.ensures.fires q i has.left has.right us has.left_tag has.right_tag (sym known) number in
+    let steps : Steps q (i ∷ []) start end = way_steps q (i ∷ []) (by.moment ∷ []) start end by.way in
     let whole : IsSeparate (arities_of hs) m.interface.items (map equated_of qs ++ (map equated_of us ++ (n' ++ h'))) =
     held_steps_separate q (i ∷ []) (arities_of hs) m.interface.items ps us qs n h n' h' has.sound known steps separate in
     record {
@@ -291,12 +297,16 @@ returns-clause-ran c =
     let number : IsNumbered q i has.left has.right plan = numbered q e i plan found.1 c.plan_at.ensures in
     let start : List Piece = n ++ (h ++ (map equated_of ps ++ map equated_of us)) in
     let end : List Piece = n' ++ (h' ++ (map equated_of qs ++ map equated_of us)) in
-    let steps : Steps q (i ∷ []) start end =
-    c.in_ok-fire.ensures.fires q i has.left has.right us has.left_tag has.right_tag (sym known) number in
+    let by = c.in_ok-fire.ensures.fires q i has.left has.right us has.left_tag has.right_tag (sym known) number in
     subst (λ (o : Net). Ran q o (net_of after)) c.self.view_is (record {
       fired = i ∷ [];
-      steps = passed_then q (i ∷ []) m.tables.pending.items m.aside.items ps us qs n h n' h'
-          c.find_plan.ensures.passed steps;
+      moments = by.moment ∷ [];
+      way = passed_way q (i ∷ []) (by.moment ∷ []) m.tables.pending.items m.aside.items ps us qs n h n' h'
+          c.find_plan.ensures.passed by.way;
+      places = λ kind. net_size after kind
+          ∙ (by.places kind ∙ ap (λ (k : ℕ). max k (in_use kind by.moment))
+          (size_net m (record m.tables { pending = c.find_plan.new.pending }) refl refl kind));
+      symbols = length-map gs (λ b. b.count) ∙ (many ∙ sym (length-map hs (λ b. b.count)));
       counted = refl;
       counts = c.count.ensures;
       arities = same;
@@ -334,8 +344,8 @@ returns-clause-separate c =
     let number : IsNumbered q i has.left has.right plan = numbered q e i plan found.1 c.plan_at.ensures in
     let start : List Piece = n ++ (h ++ (map equated_of ps ++ map equated_of us)) in
     let end : List Piece = n' ++ (h' ++ (map equated_of qs ++ map equated_of us)) in
-    let steps : Steps q (i ∷ []) start end =
-    c.in_ok-fire.ensures.fires q i has.left has.right us has.left_tag has.right_tag (sym known) number in
+    let by = c.in_ok-fire.ensures.fires q i has.left has.right us has.left_tag has.right_tag (sym known) number in
+    let steps : Steps q (i ∷ []) start end = way_steps q (i ∷ []) (by.moment ∷ []) start end by.way in
     let whole : IsSeparate (arities_of hs) m.interface.items (map equated_of qs ++ (map equated_of us ++ (n' ++ h'))) =
     held_steps_separate q (i ∷ []) (arities_of hs) m.interface.items ps us qs n h n' h' has.sound known steps separate in
     subst (λ (a : List ℕ). IsSeparate a m.interface.items (map equated_of qs ++ (map equated_of us ++ (n' ++ h'))))
@@ -388,3 +398,23 @@ fire-requires-clause-spare c =
     let m : Inside = c.self.inside in
     passed_spare c.args.program.now m.tables c.find_plan.new.pending m.aside.items c.find_plan.new.aside.items
     c.find_plan.ensures.passed c.find_plan.ensures.memory c.self.invariant.spare
+
+pub returns-in_err-found-clause-pairs : goal.returns-in_err-found-clause-pairs
+returns-in_err-found-clause-pairs c =
+    let new : Inside = record c.self.inside { aside = c.find_plan.new.aside; tables = record c.self.inside.tables { pending = c.find_plan.new.pending } } in
+    (passed_sound c.args.program.now c.self.inside new c.self.invariant c.find_plan.ensures.passed refl refl refl refl c.find_plan.ensures.memory).pairs
+
+pub returns-in_default-clause-pairs : goal.returns-in_default-clause-pairs
+returns-in_default-clause-pairs c =
+    let new : Inside = record c.self.inside { aside = c.find_plan.new.aside; tables = record c.self.inside.tables { pending = c.find_plan.new.pending } } in
+    (passed_sound c.args.program.now c.self.inside new c.self.invariant c.find_plan.ensures.passed refl refl refl refl c.find_plan.ensures.memory).pairs
+
+pub returns-in_err-fire-clause-pairs : goal.returns-in_err-fire-clause-pairs
+returns-in_err-fire-clause-pairs c =
+    c.fire.ensures.pairs (passed_pairs c.args.program.now c.self.inside.tables.pending.items c.self.inside.aside.items
+    c.find_plan.new.pending.items c.find_plan.new.aside.items c.find_plan.ensures.passed c.self.invariant.pairs)
+
+pub returns-clause-pairs : goal.returns-clause-pairs
+returns-clause-pairs c =
+    c.fire.ensures.pairs (passed_pairs c.args.program.now c.self.inside.tables.pending.items c.self.inside.aside.items
+    c.find_plan.new.pending.items c.find_plan.new.aside.items c.find_plan.ensures.passed c.self.invariant.pairs)

@@ -1,4 +1,4 @@
-use Rattle.std.proofs.Common.{◌≡◌, ◌+◌, ◌-◌, ◌<◌, ◌≤◌, ℕ, List, [], ◌∷◌, ◌++◌, Some, length, map, take, slice_get, slice_index_or, vec_capacity, ap, sym, subst, refl, ◌∙◌, append_assoc, arith}
+use Rattle.std.proofs.Common.{◌≡◌, ◌+◌, ◌-◌, ◌<◌, ◌≤◌, ℕ, List, [], ◌∷◌, ◌++◌, Some, length, map, max, take, slice_get, slice_index_or, vec_capacity, ap, sym, subst, refl, ◌∙◌, append_assoc, arith}
 use Rattle.std.proofs.Math.Seq.{take-append_seam}
 use Rattle.std.proofs.lemmas.Result.{err_from_is_err_and}
 use Rattle.std.proofs.lemmas.List.{length-append, length-map, length_push}
@@ -9,14 +9,16 @@ use Rattle.ic_arena.specs.Tables.{Blocks, names_pieces}
 use Rattle.ic_machine.specs.declared.equation.Equation.{Equation}
 use Rattle.ic_machine.specs.declared.tables.Tables.{Tables}
 use Rattle.ic_machine.specs.Plan.{Planned, IsPlan, constants, pieces_made, planned}
-use Rattle.ic_machine.specs.Net.{equated_of}
+use Rattle.ic_machine.specs.Net.{equated_of, in_use}
+use Rattle.ic_machine.specs.Runs.{Way}
 use Rattle.ic_machine.specs.Separate.{IsSeparate}
 use Rattle.ic_machine.specs.Steps.{AreFresh, Steps}
 use Rattle.ic_machine.specs.inner.Firing.{AreSame, HasRoom, arities_of, heaps_pieces, table}
-use Rattle.ic_machine.specs.inner.Tables.{HasRoomFor, held}
+use Rattle.ic_machine.specs.inner.Tables.{HasRoomFor, held, size_at}
 use Rattle.ic_machine.specs.lemmas.FiringKeeps.{all_of}
-use Rattle.ic_machine.proofs.Firings.{args_named, args_words, fire_separate, fire_steps, left_there, right_there}
-use Rattle.ic_machine.proofs.Heaps.{arity_known, as_many, made_known, room_same, same_arities, same_length, same_pieces, same_sizes_on, table_read}
+use Rattle.ic_machine.proofs.Firings.{args_named, args_words, fire_separate, fire_way, left_there, right_there}
+use Rattle.ic_machine.proofs.Heaps.{arity_known, as_many, made_known, room_same, same_arities, same_at, same_length, same_pieces, same_sizes_on, table_read}
+use Rattle.ic_machine.proofs.InUse.{same_size}
 use Rattle.ic_machine.proofs.Sound.{first_of, first_registers}
 use Rattle.ic_machine.proofs.Spare.{blocks_same}
 use Rattle.ic_machine.proofs.tables.Tables.fire.Goals as goal
@@ -486,18 +488,42 @@ returns-clause-fires c = λ q i a b rest left_tag right_tag arities number.
     subst (λ (f : List Equation). Steps q [] (pieces_made (planned c.args.plan.now)
     (c.take-2.new.registers.items ++ (made.names ++ made.made)) made.names made.made ++ others f) end) front
     (made.steps q (map equated_of rest)) in
-    let after : Steps q (i ∷ []) (names_pieces 0 t1.names.entries
+    let moment : List Piece = pieces_made (planned c.args.plan.now)
+    (c.take-2.new.registers.items ++ (made.names ++ made.made)) made.names made.made ++ others last.front in
+    let after : Way q (i ∷ []) (moment ∷ []) (names_pieces 0 t1.names.entries
     ++ (heaps_pieces 0 h1 ++ (map equated_of (last.front ++ e ∷ []) ++ map equated_of rest))) end =
-    fire_steps q i a b (planned c.args.plan.now) last.front e (table h1 (e.left.tag - 1)).arity
+    fire_way q i a b (planned c.args.plan.now) last.front e (table h1 (e.left.tag - 1)).arity
     (table h2 (e.right.tag - 1)).arity t1.names.entries h1 h2 h3 t1.registers.items c.take.new.registers.items
     c.take-2.new.registers.items made.names made.made (map equated_of rest) end l r left_tag right_tag ka kb number r0
     made.names_count made.made_count made.name_tags made.made_tags fresh links in
-    subst (λ (n : List Word). Steps q (i ∷ []) (names_pieces 0 n ++ (heaps_pieces 0 h0 ++ (map equated_of t.pending.items ++ map equated_of rest))) end)
-    c.prepare.ensures.names
-    (subst (λ (x : List Piece). Steps q (i ∷ []) (names_pieces 0 t1.names.entries ++ (x ++ (map equated_of t.pending.items ++ map equated_of rest))) end)
-    (same_pieces h0 h1 0 same)
-    (subst (λ (x : List Equation). Steps q (i ∷ []) (names_pieces 0 t1.names.entries ++ (heaps_pieces 0 h1 ++ (map equated_of x ++ map equated_of rest))) end)
-    (sym last.is) after))
+    record {
+      moment = moment;
+      way = subst (λ (n : List Word). Way q (i ∷ []) (moment ∷ []) (names_pieces 0 n ++ (heaps_pieces 0 h0 ++ (map equated_of t.pending.items ++ map equated_of rest))) end)
+          c.prepare.ensures.names
+          (subst (λ (x : List Piece). Way q (i ∷ []) (moment ∷ []) (names_pieces 0 t1.names.entries ++ (x ++ (map equated_of t.pending.items ++ map equated_of rest))) end)
+          (same_pieces h0 h1 0 same)
+          (subst (λ (x : List Equation). Way q (i ∷ []) (moment ∷ []) (names_pieces 0 t1.names.entries ++ (heaps_pieces 0 h1 ++ (map equated_of x ++ map equated_of rest))) end)
+          (sym last.is) after));
+      places = λ kind.
+          let t3 : Tables = record t1 { heaps = c.take-2.new.heaps; pending = c.pop.new.self; registers = c.take-2.new.registers } in
+          let sizes3 = same_sizes_on h1 h2 h3 c.take.ensures.sizes c.take-2.ensures.sizes in
+          let was : size_at kind t3 ≡ size_at kind t =
+          same_size t t3 (ap length c.prepare.ensures.names)
+          (λ s. (sizes3 s).count ∙ (same_at h0 h1 same s).1) kind in
+          subst (λ (f : List Equation). size_at kind c.make.new.self
+          ≡ max (size_at kind t) (in_use kind (pieces_made (planned c.args.plan.now)
+          (c.take-2.new.registers.items ++ (made.names ++ made.made)) made.names made.made ++ others f))) front
+          (made.places kind rest ∙ ap (λ (k : ℕ). max k (in_use kind (pieces_made (planned c.args.plan.now)
+          (c.take-2.new.registers.items ++ (made.names ++ made.made)) made.names made.made ++ others c.pop.new.self.items))) was);
+    }
+
+pub returns-in_err-prepare-clause-places : goal.returns-in_err-prepare-clause-places
+returns-in_err-prepare-clause-places c =
+    let same : (kind : ℕ) → size_at kind c.prepare.new.self ≡ size_at kind c.args.self.now =
+    same_size c.args.self.now c.prepare.new.self (ap length c.prepare.ensures.names)
+    (λ s. (same_at c.args.self.now.heaps.items c.prepare.new.self.heaps.items c.prepare.ensures.heaps s).1) in
+    let e = err_from_is_err_and c.from_residual.result c.from_residual.ensures.1 in
+    rw e.1 same
 
 pub returns-clause-arities : goal.returns-clause-arities
 returns-clause-arities c =

@@ -1,4 +1,4 @@
-use Rattle.std.proofs.Common.{◌≡◌, ◌+◌, ◌^◌, ◌<◌, ◌≤◌, ℕ, List, [], ◌++◌, length, map, ap, sym, subst, ◌∙◌, append_assoc, arith, vec_capacity}
+use Rattle.std.proofs.Common.{◌≡◌, ◌+◌, ◌^◌, ◌<◌, ◌≤◌, ℕ, List, [], ◌++◌, length, map, max, ap, sym, subst, ◌∙◌, append_assoc, arith, vec_capacity}
 use Rattle.std.specs.List.{AllByRecursion}
 use Rattle.std.proofs.lemmas.List.{length-append, length-map}
 use Rattle.ic_arena.specs.declared.word.Word.{Word}
@@ -9,13 +9,15 @@ use Rattle.ic_machine.specs.declared.plan.Link.{Link}
 use Rattle.ic_machine.specs.declared.plan.Make.{Make}
 use Rattle.ic_machine.specs.declared.tables.Tables.{Tables}
 use Rattle.ic_machine.specs.Plan.{Planned, AreMade, constants, linked, made_of, pieces_made, planned}
-use Rattle.ic_machine.specs.Net.{equated_of}
+use Rattle.ic_machine.specs.Net.{equated_of, in_use}
 use Rattle.ic_machine.specs.Steps.{Steps}
 use Rattle.ic_machine.specs.inner.Firing.{arities_of, heaps_pieces, table, HasRoom, Makes, Opened}
 use Rattle.ic_machine.specs.inner.Linking.{AreLinks}
+use Rattle.ic_machine.specs.inner.Tables.{size_at}
 use Rattle.ic_machine.specs.lemmas.FiringKeeps.{all_append}
 use Rattle.ic_machine.proofs.Fresh.{agent_tags}
 use Rattle.ic_machine.proofs.Heaps.{as_many}
+use Rattle.ic_machine.proofs.InUse.{as_used, made_in_use, used_at}
 use Rattle.ic_machine.proofs.Making.{constant_words, filled_count, made_fresh, made_steps, name_words, plan_links}
 use Rattle.ic_machine.proofs.Spare.{blocks_fewer, blocks_left}
 use Rattle.ic_machine.proofs.tables.Tables.make.Goals as goal
@@ -153,6 +155,12 @@ returns-clause-made c =
           (map (linked l) c.deref-2.result.now ++ (names_pieces 0 ns' ++ (map equated_of ps ++ others)))
           (names_pieces 0 ns'' ++ (map equated_of qs ++ others))) c.deref-3.ensures.value
           (c.link_each.ensures.steps q others))));
+      places = λ kind rest. as_used t (record { names = c.link_each.new.names; heaps = c.make_agents.new.heaps; pending = c.link_each.new.pending; registers = c.make_agents.new.registers; spare = t.spare }) ns' hs' (c.link_each.ensures.names ∙ c.open_names.ensures.places)
+          c.make_agents.ensures.places kind
+          ∙ ap (max (size_at kind t))
+          (sym (subst (λ (l : List Word). in_use kind (pieces_made p l opened.names makes.places
+          ++ (names_pieces 0 ns ++ (heaps_pieces 0 hs ++ (map equated_of ps ++ map equated_of rest)))) ≡ used_at kind ns' hs') is
+          (made_in_use kind p p.names ns ns' hs hs' r0 r1 r2 ps rest opened makes)));
     }
 
 pub returns-clause-few : goal.returns-clause-few

@@ -1,0 +1,19 @@
+use Rattle.std.proofs.Common.{◌≡◌, ◌∙◌}
+use Rattle.ic_in_place.proofs.NameSteps.{CountLaws, as_many_name_steps, chain_counts}
+use Rattle.ic_in_place.proofs.laws.name_steps_are_those_of_every_order.Goals as goal
+
+pub returns-clause-every_order : goal.returns-clause-every_order
+returns-clause-every_order c = λ rs d e n kinds set over named are chain still.
+    as_many_name_steps are.kinds kinds
+    (c.every_order_ends_in_the_same_net.ensures.ends rs are.kinds kinds d are.end e set over named are.chain are.quiet chain still).1
+    ∙ are.count
+
+pub returns-clause-equations : goal.returns-clause-equations
+returns-clause-equations c = λ rs d e kinds set over named chain.
+    let laws : CountLaws = record {
+      itself = c.what_is_reached_is_one_net.ensures.itself;
+      names = c.what_is_reached_is_one_net.ensures.names;
+      over = c.what_is_reached_is_one_net.ensures.over;
+      chain = c.what_is_reached_goes_on.ensures.chain;
+    } in
+    (chain_counts laws rs kinds d e set over named chain).equations
