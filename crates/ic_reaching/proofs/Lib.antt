@@ -11,3 +11,10 @@ pub mod Reached
 pub mod Ends
 pub mod Pieces
 pub mod InTurn
+pub mod Beside
+pub mod FarNames
+pub mod Renamings
+pub mod Frames
+pub mod Parts
+pub mod Sides
+pub mod Many

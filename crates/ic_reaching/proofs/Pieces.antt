@@ -79,11 +79,11 @@ mutual
 whole_names : (x : ℕ) (u : Tree) (ts : List Tree) (es : List Pair) → names_of (subst_all x u (whole ts es)) ≡ names_in (map (subst x u) ts) (map (subst_pair x u) es)
 whole_names x u ts es = ap names_of (subst_all-whole x u ts es) ∙ names_of-whole (map (subst x u) ts) (map (subst_pair x u) es)
 
-occurrences-put_in : (n x : ℕ) (u : Tree) (ts : List Tree) (es : List Pair) → (x == n) ≡ false
+pub occurrences-put_in : (n x : ℕ) (u : Tree) (ts : List Tree) (es : List Pair) → (x == n) ≡ false
     → occurrences n (names_in (map (subst x u) ts) (map (subst_pair x u) es)) ≡ occurrences n (names_in ts es) + occurrences x (names_in ts es) * occurrences n (names u)
 occurrences-put_in n x u ts es apart = rw (← whole_names x u ts es, ← names_of-whole ts es) (occurrences-put_all n x u (whole ts es) apart)
 
-occurrences-gone_in : (x : ℕ) (u : Tree) (ts : List Tree) (es : List Pair)
+pub occurrences-gone_in : (x : ℕ) (u : Tree) (ts : List Tree) (es : List Pair)
     → occurrences x (names_in (map (subst x u) ts) (map (subst_pair x u) es)) ≡ occurrences x (names_in ts es) * occurrences x (names u)
 occurrences-gone_in x u ts es = rw (← whole_names x u ts es, ← names_of-whole ts es) (occurrences-gone_all x u (whole ts es))
 
@@ -112,7 +112,7 @@ pairs_absent x u (p ∷ es) none =
     let rest : occurrences x (flat_map pair_names es) ≡ 0 = omega (arith, both, none) in
     λ i. pair_absent x u p here i ∷ pairs_absent x u es rest i
 
-occurs_some : (n : ℕ) (ns : List ℕ) → 1 ≤ occurrences n ns → occurs n ns ≡ true
+pub occurs_some : (n : ℕ) (ns : List ℕ) → 1 ≤ occurrences n ns → occurs n ns ≡ true
 occurs_some n ns some = true_from_ne_false (occurs n ns) (λ e. let none = occurrences_none n ns e in absurd (omega (arith, none, some)))
 
 -- ---- putting a piece

@@ -117,3 +117,10 @@ goes_on_fresh laws nets rs i c d e fired set sound r s =
     let alike = fires_alike laws.nets rs d e i set sound_d s in
     goes_to_net nets rs.rules c ordinary e (fired ++ i ∷ []) on
     (from_but_next ordinary e (reached_sound rs c ordinary (fired ++ i ∷ []) set sound on).named alike.1 alike.0)
+
+-- and what is reached from what is reached
+pub reaches_joined : StepLaws → SettlingLaws → (rs : Rules) (c d e : Configuration) (fired also : List ℕ) → IsRuleSet rs → Sound rs c → Reaches rs.rules c d fired → Reaches rs.rules d e also
+    → Reaches rs.rules c e (fired ++ also)
+reaches_joined laws nets rs c d e fired also set sound one two =
+    let P : List ℕ → Type 0 = λ is. Reaches rs.rules c two.end (fired ++ is) in
+    goes_to_net nets rs.rules c two.end e (fired ++ also) (transport P two.interactions (goes_on_so laws nets rs two.kinds c d two.end fired set sound one two.chain)) two.net

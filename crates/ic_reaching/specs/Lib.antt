@@ -2,3 +2,4 @@ pub mod OneNet
 pub mod Reaching
 pub mod FreshNames
 pub mod Pieces
+pub mod Beside

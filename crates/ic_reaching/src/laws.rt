@@ -1,7 +1,7 @@
 //! Laws of what is reached.
 
 ghost use Rattle.std.specs.Prelude.{◌≡◌, ◌↔◌, ◌≤◌, ◌<◌, ◌++◌, ◌∷◌, ℕ, Bool, List, [], IsPermutation, IsTrue, length, map};
-ghost use Rattle.std.specs.List.{flat_map};
+ghost use Rattle.std.specs.List.{flat_map, AllByRecursion};
 ghost use Rattle.ic_term.specs.Tree.{Tree, Pair, names, pair_names};
 ghost use Rattle.ic_term.specs.Configuration.{Configuration, configuration_names, configuration_nodes, names_in, occurrences};
 ghost use Rattle.ic_term.specs.Symbol.{is_over};
@@ -18,6 +18,7 @@ ghost use Rattle.ic_confluence.specs.Sameness.{Same, turned};
 ghost use Rattle.ic_reaching.specs.OneNet.{OneNet, SameButNext, raised};
 ghost use Rattle.ic_reaching.specs.Reaching.{Reaches, rules_fired};
 ghost use Rattle.ic_reaching.specs.FreshNames.{Fires};
+ghost use Rattle.ic_reaching.specs.Beside.{beside, together, all_together, IsApart, PartRun, HasRun};
 ghost use Rattle.ic_reaching.specs.Pieces.{AreNew, OccurInTurn, piece, piece_of, put_in_turn};
 
 /// To be one net, wherever terms stand, is an equivalence of configurations that have names.
@@ -99,8 +100,8 @@ pub fn what_is_reached_is_one_net()
     ic_confluence::laws::every_order_settles_to_the_same_net();
 }
 
-/// What is reached goes on: by an interaction, whichever fresh names that takes, and by any chain
-/// of steps.
+/// What is reached goes on: by an interaction, whichever fresh names that takes, by any chain of
+/// steps, and by what is reached from it.
 pub fn what_is_reached_goes_on()
     ensures interaction { (rs : Rules) (c d e : Configuration) (fired : List ℕ) (place : ℕ)
         → IsRuleSet rs → IsTrue (is_over rs.symbols c) → HasNames c → Reaches rs.rules c d fired
@@ -112,6 +113,9 @@ pub fn what_is_reached_goes_on()
     ensures chain { (rs : Rules) (c d e : Configuration) (fired : List ℕ) (kinds : List Kind)
         → IsRuleSet rs → IsTrue (is_over rs.symbols c) → HasNames c → Reaches rs.rules c d fired
         → Chain rs.rules kinds d e → Reaches rs.rules c e (fired ++ rules_fired kinds) }
+    ensures reached { (rs : Rules) (c d e : Configuration) (fired also : List ℕ)
+        → IsRuleSet rs → IsTrue (is_over rs.symbols c) → HasNames c → Reaches rs.rules c d fired
+        → Reaches rs.rules d e also → Reaches rs.rules c e (fired ++ also) }
 {
     ic_confluence::laws::same_is_an_equivalence();
     ic_confluence::laws::same_nets_take_the_same_name_steps();
@@ -246,4 +250,64 @@ pub fn pieces_are_put_in_turn()
     ic_confluence::laws::same_is_an_equivalence();
     ic_confluence::laws::same_nets_take_the_same_name_steps();
     ic_confluence::laws::every_order_settles_to_the_same_net();
+}
+
+/// One net has the same free names, which occur once, and so has what is reached.
+pub fn free_names_stay()
+    ensures net { (c d : Configuration) → OneNet c d → (n : ℕ)
+        → (occurrences n (configuration_names c) ≡ 1)
+        ↔ (occurrences n (configuration_names d) ≡ 1) }
+    ensures reached { (rs : Rules) (c d : Configuration) (fired : List ℕ) → IsRuleSet rs
+        → IsTrue (is_over rs.symbols c) → HasNames c → Reaches rs.rules c d fired → (n : ℕ)
+        → (occurrences n (configuration_names c) ≡ 1)
+        ↔ (occurrences n (configuration_names d) ≡ 1) }
+{
+    ic_confluence::laws::same_is_an_equivalence();
+    ic_confluence::laws::same_nets_have_one_shape();
+    ic_confluence::laws::steps_keep_free_names();
+    ic_confluence::laws::same_nets_take_the_same_name_steps();
+}
+
+/// What a part reaches by itself, the whole reaches by the same interactions: with these terms and
+/// equations beside both, where none of their names occurs twice in what is reached. And with them
+/// beside both, one net is one net.
+pub fn what_a_part_reaches_the_whole_reaches()
+    ensures reaches { (rs : Rules) (c d : Configuration) (ts : List Tree) (es : List Pair)
+        (fired : List ℕ) → IsRuleSet rs → IsTrue (is_over rs.symbols c) → HasNames c
+        → Reaches rs.rules c d fired → HasNames (beside c ts es) → IsApart d ts es
+        → Reaches rs.rules (beside c ts es) (beside d ts es) fired }
+    ensures net { (c d : Configuration) (ts : List Tree) (es : List Pair) → OneNet c d
+        → HasNames (beside c ts es) → IsApart d ts es → OneNet (beside c ts es) (beside d ts es) }
+{
+    ic_confluence::laws::same_is_an_equivalence();
+    ic_confluence::laws::same_nets_have_one_shape();
+    ic_confluence::laws::same_nets_take_the_same_name_steps();
+    ic_confluence::laws::every_order_settles_to_the_same_net();
+    ic_confluence::laws::same_nets_take_the_same_steps();
+    ic_confluence::laws::two_steps_meet();
+}
+
+/// Parts run side by side, each by itself. The whole reaches what they have reached, by the
+/// interactions of the first, then those of the second, and so on. Of two parts it is enough that
+/// a name of both occurs in each once.
+pub fn parts_run_side_by_side()
+    ensures all { (rs : Rules) (runs : List PartRun) → IsRuleSet rs
+        → AllByRecursion (HasRun rs) runs
+        → HasNames (all_together (map (λ run. run.given) runs))
+        → HasNames (all_together (map (λ run. run.reached) runs))
+        → Reaches rs.rules (all_together (map (λ run. run.given) runs))
+        (all_together (map (λ run. run.reached) runs)) (flat_map (λ run. run.fired) runs) }
+    ensures two { (rs : Rules) (c d e f : Configuration) (fired also : List ℕ) → IsRuleSet rs
+        → IsTrue (is_over rs.symbols c) → IsTrue (is_over rs.symbols d) → HasNames c → HasNames d
+        → Reaches rs.rules c e fired → Reaches rs.rules d f also → HasNames (together c d)
+        → IsApart e f.interface f.equations → IsApart f e.interface e.equations
+        → Reaches rs.rules (together c d) (together e f) (fired ++ also) }
+{
+    ic_confluence::laws::same_is_an_equivalence();
+    ic_confluence::laws::same_nets_have_one_shape();
+    ic_confluence::laws::steps_keep_free_names();
+    ic_confluence::laws::same_nets_take_the_same_name_steps();
+    ic_confluence::laws::every_order_settles_to_the_same_net();
+    ic_confluence::laws::same_nets_take_the_same_steps();
+    ic_confluence::laws::two_steps_meet();
 }
