@@ -5,6 +5,7 @@ ghost use Rattle.std.specs.Arc.{arc_value};
 ghost use Rattle.ic_term.specs.Configuration.{configuration_nodes};
 ghost use Rattle.ic_term.specs.Symbol.{is_over};
 ghost use Rattle.ic_term.specs.declared.limits.TheConstants.{MAX_NODES, MAX_INTERFACE};
+ghost use Rattle.ic_rules.specs.RuleSet.{AreServed};
 
 use crate::arities::over;
 use crate::flat::Flat;
@@ -14,7 +15,8 @@ use std::alloc::{AllocError, Global};
 use std::marker::Model;
 use std::sync::Arc;
 
-/// Rules, and a configuration in flat form over their symbols. The rules are shared, never changed.
+/// Rules within the limits of what is served, and a configuration in flat form over their symbols. The rules are
+/// shared, never changed.
 #[derive(Debug, Drop)]
 pub struct FlatSystem {
     rules: Arc<RuleSet>,
@@ -25,6 +27,7 @@ impl Model for FlatSystem {
     ghost use Rattle.std.specs.Prelude.{◌≡◌, true};
     ghost use Rattle.std.specs.Arc.{arc_value};
     ghost use Rattle.ic_term.specs.Symbol.{is_over};
+    ghost use Rattle.ic_rules.specs.RuleSet.{AreServed};
     ghost use Rattle.ic_rules.specs.System.{SystemParts, coded_system};
 
     ghost Value = { SystemParts };
@@ -33,29 +36,35 @@ impl Model for FlatSystem {
 
     ghost view = { λ s. record { rules = arc_value s.rules; config = s.config } };
 
-    ghost invariant = { λ s. is_over (arc_value s.rules).symbols s.config ≡ true };
+    ghost invariant = { λ s. (is_over (arc_value s.rules).symbols s.config ≡ true)
+        × AreServed (arc_value s.rules) };
 }
 
 impl FlatSystem {
-    /// The system of these parts, if the configuration is over the symbols of the rules.
+    /// The system of these parts, if the rules are served and the configuration is over their symbols.
     pub fn new(rules: Arc<RuleSet>, config: Flat) -> Option<FlatSystem>
-        ensures over { IsSome result ↔ IsTrue (is_over (arc_value rules).symbols config) }
+        ensures over { IsSome result
+            ↔ (IsTrue (is_over (arc_value rules).symbols config) × AreServed (arc_value rules)) }
         ensures system { IfSome result
             (λ system. system ≡ record { rules = arc_value rules; config = config }) }
     {
-        if !over(rules.symbols(), &config) {
+        if !rules.are_served() || !over(rules.symbols(), &config) {
             return None;
         }
         Some(FlatSystem { rules, config })
     }
 
-    /// The same system in flat form, which shares the rules.
-    pub fn from_system(alloc: Global, system: &System) -> Result<FlatSystem, AllocError>
-        ensures { IfOk result (λ flat. flat ≡ system.now) }
+    /// The same system in flat form, which shares the rules, if they are served.
+    pub fn from_system(alloc: Global, system: &System) -> Result<Option<FlatSystem>, AllocError>
+        ensures served { IfOk result (λ made. IsSome made ↔ AreServed system.now.rules) }
+        ensures system { IfOk result (λ made. IfSome made (λ flat. flat ≡ system.now)) }
     {
+        if !system.rules().are_served() {
+            return Ok(None);
+        }
         let rules = system.rules().clone()?;
         let config = Flat::from_config(alloc, system.config())?;
-        Ok(FlatSystem { rules, config })
+        Ok(Some(FlatSystem { rules, config }))
     }
 
     /// The same system with its configuration as terms and equations, which shares the rules.
@@ -67,10 +76,11 @@ impl FlatSystem {
         Ok(System::from_parts(rules, config))
     }
 
-    /// The same system, if its configuration keeps the limits of a configuration. Moves it.
+    /// The same system, if its rules are served and its configuration keeps the limits of a configuration. Moves it.
     pub fn from_wide(system: WideSystem) -> FlatSystem
         requires few { configuration_nodes system.config ≤ MAX_NODES }
         requires interface { length system.config.interface ≤ MAX_INTERFACE }
+        requires served { AreServed system.rules }
         ensures { result ≡ system }
     {
         let (rules, config) = system.into_parts();
@@ -88,6 +98,7 @@ impl FlatSystem {
     pub fn rules(&self) -> &Arc<RuleSet>
         ensures rules { arc_value result.now ≡ self.now.rules }
         ensures sound { IsTrue (is_over self.now.rules.symbols self.now.config) }
+        ensures served { AreServed self.now.rules }
     {
         &self.rules
     }
@@ -95,6 +106,7 @@ impl FlatSystem {
     pub fn config(&self) -> &Flat
         ensures config { result.now ≡ self.now.config }
         ensures sound { IsTrue (is_over self.now.rules.symbols self.now.config) }
+        ensures served { AreServed self.now.rules }
     {
         &self.config
     }
@@ -104,6 +116,7 @@ impl FlatSystem {
         ensures rules { arc_value result.0 ≡ self.rules }
         ensures config { result.1 ≡ self.config }
         ensures sound { IsTrue (is_over self.rules.symbols self.config) }
+        ensures served { AreServed self.rules }
     {
         (self.rules, self.config)
     }

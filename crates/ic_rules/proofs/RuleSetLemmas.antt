@@ -5,12 +5,12 @@ use Rattle.std.specs.Cmp.{unsigned_Decides}
 use Rattle.std.specs.HashMap.{HashMap, get}
 use Rattle.std.specs.declared.hash.FoldHasher.{FoldHasher}
 use Rattle.std.specs.declared.hash.BuildHasherDefault.{BuildHasherDefault}
-use Rattle.std.specs.List.{position_from, list_any, flat_map, AllByRecursion}
+use Rattle.std.specs.List.{position_from, list_any, list_all, flat_map, AllByRecursion}
 use Rattle.ic_term.specs.declared.term.Cell.{Cell}
 use Rattle.ic_rules.specs.declared.rule_set.SymbolPair.{SymbolPair}
 use Rattle.ic_term.specs.Tree.{Tree, name, agent, Trees, no_trees, more_trees, trees_of, list_of, nodes, nodes_of}
 use Rattle.ic_term.specs.Symbol.{Symbol}
-use Rattle.ic_rules.specs.declared.limits.TheConstants.{MAX_RULES, MAX_RULE_NODES}
+use Rattle.ic_rules.specs.declared.limits.TheConstants.{MAX_WIDE_RULES, MAX_RULE_NODES}
 use Rattle.ic_rules.specs.Renaming.{renamed, renamed_trees, number_among, first_occurrences}
 use Rattle.ic_rules.specs.Rule.{Rule, stands_for, same_pair, agents, agents_of, rule_agents, rule_names, rule_nodes, numbered, IsRule}
 use Rattle.ic_rules.specs.RuleSet.{repeated_behind, first_repeated, first_unfit, unfit_among, are_few, IsRuleSet}
@@ -152,10 +152,9 @@ sum_nodes-renamed f (t ∷ ts) = sum_by-cons nodes (renamed f t) (map (renamed f
 rule_nodes-numbered : (r : Rule) → rule_nodes (numbered r) ≡ rule_nodes r
 rule_nodes-numbered r = λ i. sum_nodes-renamed (number_among (first_occurrences (rule_names r))) r.left_args i + sum_nodes-renamed (number_among (first_occurrences (rule_names r))) r.right_args i
 
-sum_rule_nodes-numbered : (rs : List Rule) → sum_by rule_nodes (map numbered rs) ≡ sum_by rule_nodes rs
-sum_rule_nodes-numbered [] = refl
-sum_rule_nodes-numbered (r ∷ rs) =
-    sum_by-cons rule_nodes (numbered r) (map numbered rs) ∙ (λ i. rule_nodes-numbered r i + sum_rule_nodes-numbered rs i) ∙ sym (sum_by-cons rule_nodes r rs)
+short-numbered : (rs : List Rule) → list_all (λ r. nat_le (rule_nodes r) MAX_RULE_NODES) (map numbered rs) ≡ list_all (λ r. nat_le (rule_nodes r) MAX_RULE_NODES) rs
+short-numbered [] = refl
+short-numbered (r ∷ rs) = λ i. nat_le (rule_nodes-numbered r i) MAX_RULE_NODES && short-numbered rs i
 
 agents_of-map : (f : ℕ → ℕ) (ts : List Tree) → agents_of (trees_of (map (renamed f) ts)) ≡ agents_of (trees_of ts)
 agents_of-map f [] = refl
@@ -190,7 +189,7 @@ pub IsRuleSet-numbered : (ss : List Symbol) (rs : List Rule) → AllByRecursion 
     → IsRuleSet (record { symbols = ss; rules = map numbered rs })
 IsRuleSet-numbered ss rs each few fitting single = record {
   each = each;
-  few = (λ i. nat_le (length-map rs numbered i) MAX_RULES && nat_le (sum_rule_nodes-numbered rs i) MAX_RULE_NODES) ∙ few;
+  few = (λ i. nat_le (length-map rs numbered i) MAX_WIDE_RULES && short-numbered rs i) ∙ few;
   fitting = ap (unfit_among ss) (agents-numbered rs) ∙ fitting;
   single = repeated-numbered [] rs ∙ single;
 }

@@ -1,12 +1,13 @@
-use Rattle.std.specs.Prelude.{◌≡◌, ℕ, List, [], ◌∷◌, ◌++◌, Bool, true, false, ◌&&◌, not, Option, None, Some, Result, Ok, Err, length, map, sum_by, nat_le, slice_get, if◌then◌else◌, refl}
+use Rattle.std.specs.Prelude.{◌≡◌, ℕ, ◌≤◌, List, [], ◌∷◌, ◌++◌, Bool, true, false, ◌&&◌, not, Option, None, Some, Result, Ok, Err, length, map, sum_by, nat_le, slice_get, if◌then◌else◌, refl}
 use Rattle.std.specs.List.{flat_map, list_all, list_any, position_from, AllByRecursion}
 use Rattle.std.specs.Prelude.{◌<◌, ◌||◌, IfSome, IsTrue}
 use Rattle.std.specs.Coded.{Coded, code_by, coded×, coded_list}
 use Rattle.ic_term.specs.Symbol.{Symbol, has_arity, is_tree_over, symbols_eq, coded_symbol}
 use Rattle.std.specs.Cmp.Lexicographic.{pointwise}
+use Rattle.ic_term.specs.declared.limits.TheConstants.{MAX_SYMBOLS}
 use Rattle.ic_rules.specs.Renaming.{are_paired}
 use Rattle.ic_rules.specs.Rule.{Rule, rule_names, rule_nodes, rule_agents, numbered, is_lopsided, stands_for, same_pair, rule_eq, IsRule, coded_rule}
-use Rattle.ic_rules.specs.declared.limits.TheConstants.{MAX_RULES, MAX_RULE_NODES}
+use Rattle.ic_rules.specs.declared.limits.TheConstants.{MAX_RULES, MAX_RULE_NODES, MAX_WIDE_RULES}
 use Rattle.ic_rules.specs.declared.rule_set.RuleFault.{RuleFault}
 use Rattle.ic_rules.specs.declared.rule_set.RuleFault.TheVariants.{Limit, Arity, NameCount, Twice, Lopsided}
 
@@ -15,9 +16,10 @@ pub record Rules : Type 0 where
   pub symbols : List Symbol
   pub rules : List Rule
 
--- neither the rules nor the nodes of their arguments are too many (this project's choice)
+-- neither the rules nor the nodes of one rule's arguments are too many (this project's choice)
 abbrev pub are_few : List Rule → Bool
-are_few rs = nat_le (length rs) MAX_RULES && nat_le (sum_by rule_nodes rs) MAX_RULE_NODES
+are_few rs = nat_le (length rs) MAX_WIDE_RULES
+    && list_all (λ r. nat_le (rule_nodes r) MAX_RULE_NODES) rs
 
 -- the symbol of the first agent of a list that is unknown or has another arity
 abbrev pub unfit_among : List Symbol → List (ℕ × ℕ) → Option ℕ
@@ -76,6 +78,13 @@ pub record IsRuleSet (rs : Rules) : Type 0 where
   pub few : are_few rs.rules ≡ true
   pub fitting : first_unfit rs.symbols rs.rules ≡ None
   pub single : first_repeated rs.rules ≡ None
+
+-- The rules of what is served: few symbols, few rules, and few nodes of all arguments together (this project's
+-- choice).
+pub record AreServed (rs : Rules) : Type 0 where
+  pub symbols : length rs.symbols ≤ MAX_SYMBOLS
+  pub rules : length rs.rules ≤ MAX_RULES
+  pub nodes : sum_by rule_nodes rs.rules ≤ MAX_RULE_NODES
 
 -- a rule that was found, and whether the pair was turned round
 abbrev pub found_or : Bool → Option ℕ → Option (ℕ × Bool) → Option (ℕ × Bool)

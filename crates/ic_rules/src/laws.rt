@@ -1,6 +1,6 @@
 //! Laws of the definitions that the contracts of this crate cite.
 
-ghost use Rattle.std.specs.Prelude.{◌≡◌, ◌↔◌, ℕ, ◌+◌, ◌==◌, List, [], Bool, None, Some, Ok, Err, ◌∷◌, ◌++◌, true, false, slice_get, length, map, IsTrue};
+ghost use Rattle.std.specs.Prelude.{◌≡◌, ◌↔◌, ℕ, ◌+◌, ◌^◌, ◌==◌, List, [], Bool, None, Some, Ok, Err, ◌∷◌, ◌++◌, true, false, slice_get, length, map, IsTrue};
 ghost use Rattle.std.specs.List.{list_any, range_with_len, AllByRecursion};
 ghost use Rattle.ic_term.specs.Tree.{name, agent, no_trees, trees_of, nodes};
 ghost use Rattle.ic_term.specs.Symbol.{Symbol};
@@ -11,7 +11,7 @@ ghost use Rattle.ic_rules.specs.Refusals.{IsRefusal, IsTaken};
 ghost use Rattle.ic_rules.specs.declared.rule_set.RuleFault.{RuleFault};
 ghost use Rattle.ic_rules.specs.RuleSet.{Rules, rules_eq, rule_for, first_unfit, IsRuleFor, IsRuleSet, IsRuleOver, built, first_repeated, has_pair};
 ghost use Rattle.ic_rules.specs.FirstRepeated.{IsFirstRepeated};
-ghost use Rattle.ic_rules.specs.declared.limits.TheConstants.{MAX_RULES, MAX_RULE_NODES};
+ghost use Rattle.ic_rules.specs.declared.limits.TheConstants.{MAX_RULES, MAX_RULE_NODES, MAX_WIDE_RULES};
 
 /// The rule that `find` answers has the pair of symbols, turned round or not; where it answers none, no rule has the
 /// pair; and in a rule set no other rule has it.
@@ -29,6 +29,7 @@ pub fn find_is_the_one_rule()
 pub fn limits_are()
     ensures rules { MAX_RULES ≡ 256 }
     ensures nodes { MAX_RULE_NODES ≡ 2048 }
+    ensures wide { MAX_WIDE_RULES ≡ 2 ^ 31 }
 {}
 
 /// The nodes of a rule are those of the arguments of both its sides, however deep they nest: as terms, its two agents

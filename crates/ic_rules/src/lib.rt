@@ -15,7 +15,7 @@ mod rule_set;
 mod system;
 
 pub use job_name::{JobName, MAX_JOB_NAME, is_job_word};
-pub use limits::{MAX_RULE_NODES, MAX_RULES};
+pub use limits::{MAX_RULE_NODES, MAX_RULES, MAX_WIDE_RULES};
 pub use renaming::has_numbered_names;
 pub use rule::Rule;
 pub use rule_set::{RuleFault, RuleSet};

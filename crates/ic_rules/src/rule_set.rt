@@ -1,7 +1,9 @@
 //! Rule sets: how they are built, why rules make none, and the rule of two symbols.
 
-ghost use Rattle.std.specs.Prelude.{◌≡◌, ◌≤◌, length, map, min, sum_by, None, is_some, ◌||◌, IfOk, IfErr, OnOk, Ok, Err};
-ghost use Rattle.std.specs.List.{AllByRecursion};
+ghost use Rattle.std.specs.Prelude.{◌≡◌, ◌≤◌, ◌+◌, ◌↔◌, IsTrue, nat_le, length, map, min, sum_by, None, is_some, ◌||◌, IfOk, IfErr, OnOk, Ok, Err};
+ghost use Rattle.std.specs.List.{list_all, AllByRecursion};
+ghost use Rattle.ic_term.specs.Tree.{nodes};
+ghost use Rattle.ic_term.specs.Term.{tree};
 ghost use Rattle.ic_rules.specs.Rule.{rule_nodes, numbered, IsRule};
 ghost use Rattle.ic_rules.specs.RuleFault.{Answers};
 ghost use Rattle.ic_rules.specs.RuleSet.{built, are_few, IsRuleSet, first_uncounted, first_repeated, first_lopsided};
@@ -12,10 +14,10 @@ ghost use Rattle.std.specs.HashMap.{get};
 ghost use Rattle.ic_rules.specs.declared.rule_set.RuleFault.TheVariants.{Memory};
 
 use crate::fit::first_unfit;
-use crate::limits::{MAX_RULE_NODES, MAX_RULES};
+use crate::limits::{MAX_RULE_NODES, MAX_RULES, MAX_WIDE_RULES};
 use crate::renaming::{are_paired, names_of};
 use crate::rule::Rule;
-use ic_term::{Cell, Symbols, nodes_of_terms};
+use ic_term::{Cell, MAX_SYMBOLS, Symbols, Term, nodes_of_terms};
 use std::alloc::{AllocError, AllocFailed, Global};
 use std::collections::HashMap;
 use std::marker::Model;
@@ -23,7 +25,7 @@ use std::marker::Model;
 /// Why rules make no rule set, in the order in which it is tried. A rule is named by its place from 0.
 #[derive(Clone, Copy, Debug, PartialEq, Eq)]
 pub enum RuleFault {
-    /// There are too many rules, or too many nodes in their arguments.
+    /// There are too many rules, or too many nodes in the arguments of one.
     Limit,
     /// The symbol of the first agent that is unknown or has another arity.
     Arity(u32),
@@ -86,7 +88,7 @@ impl Model for RuleSet {
 }
 
 impl RuleSet {
-    ghost use Rattle.ic_rules.specs.RuleSet.{rule_for};
+    ghost use Rattle.ic_rules.specs.RuleSet.{rule_for, AreServed};
 
     /// The rule set of these rules, the names of each numbered by first occurrence.
     pub fn build(
@@ -116,6 +118,17 @@ impl RuleSet {
         ensures sound { IsRuleSet self.now }
     {
         self.rules.as_slice()
+    }
+
+    /// Whether symbols, rules and the nodes of all arguments together keep the limits of what is served. Takes a step
+    /// for each node.
+    pub fn are_served(&self) -> bool
+        ensures served { IsTrue result ↔ AreServed self.now }
+        ensures sound { IsRuleSet self.now }
+    {
+        self.symbols.len() <= MAX_SYMBOLS
+            && self.rules.len() <= MAX_RULES
+            && argument_nodes(&self.rules) <= MAX_RULE_NODES
     }
 
     /// The place of the rule of two symbols, and whether `a` is its right symbol only. Takes two look-ups at most.
@@ -189,29 +202,48 @@ fn prepared(
     Ok((rules, places))
 }
 
-/// Whether neither the rules nor the nodes of their arguments are too many.
+/// Whether neither the rules nor the nodes of one rule's arguments are too many.
 fn are_few(rules: &[(Cell, Cell)]) -> bool
     ensures { result ≡ are_few (map written rules.now) }
 {
-    rules.len() <= MAX_RULES && argument_nodes(rules) <= MAX_RULE_NODES
+    rules.len() <= MAX_WIDE_RULES && are_short(rules)
 }
 
-/// How many nodes the arguments have, or 2^64 - 1 where there are more.
-fn argument_nodes(rules: &[(Cell, Cell)]) -> u64
-    ensures { result ≡ min (sum_by rule_nodes (map written rules.now)) u64.MAX }
+/// Whether the arguments of no rule have too many nodes.
+fn are_short(rules: &[(Cell, Cell)]) -> bool
+    ensures { result
+        ≡ list_all (λ r. nat_le (rule_nodes r) MAX_RULE_NODES) (map written rules.now) }
+{
+    for (left, right) in rules {
+        if nodes_of_sides(&left.args, &right.args) > MAX_RULE_NODES {
+            return false;
+        }
+    }
+    true
+}
+
+/// How many nodes the arguments of all rules have, or 2^64 - 1 where there are more.
+fn argument_nodes(rules: &[Rule]) -> u64
+    ensures { result ≡ min (sum_by rule_nodes rules.now) u64.MAX }
 {
     let mut count = 0u64;
-    for (left, right) in rules {
-        count = count
-            .saturating_add(nodes_of_terms(&left.args))
-            .saturating_add(nodes_of_terms(&right.args));
+    for rule in rules {
+        count = count.saturating_add(nodes_of_sides(rule.left_args(), rule.right_args()));
     }
     count
 }
 
+/// How many nodes the arguments of a rule have, or 2^64 - 1 where there are more.
+fn nodes_of_sides(left: &[Term], right: &[Term]) -> u64
+    ensures { result
+        ≡ min (sum_by nodes (map tree left.now) + sum_by nodes (map tree right.now)) u64.MAX }
+{
+    nodes_of_terms(left).saturating_add(nodes_of_terms(right))
+}
+
 /// The first rule with a name that doesn't occur exactly twice.
 fn first_uncounted(alloc: Global, rules: &[(Cell, Cell)]) -> Result<Option<u32>, AllocError>
-    requires { length rules.now ≤ MAX_RULES }
+    requires { length rules.now ≤ MAX_WIDE_RULES }
     ensures { IfOk result (λ place. place ≡ first_uncounted (map written rules.now)) }
 {
     for (i, (left, right)) in rules.iter().enumerate() {
@@ -225,7 +257,7 @@ fn first_uncounted(alloc: Global, rules: &[(Cell, Cell)]) -> Result<Option<u32>,
 
 /// The place of each rule by its symbols, or `Twice` for the first whose unordered pair an earlier rule has.
 fn places_of(alloc: Global, rules: &[(Cell, Cell)]) -> Result<HashMap<SymbolPair, usize>, RuleFault>
-    requires { length rules.now ≤ MAX_RULES }
+    requires { length rules.now ≤ MAX_WIDE_RULES }
     ensures places { IfOk result (λ places. ArePlaces places (map written rules.now)) }
     ensures single { OnOk result (first_repeated (map written rules.now) ≡ None) }
     ensures twice { IfErr result (IsTwice (map written rules.now)) }
@@ -259,7 +291,7 @@ fn has_pair(places: &HashMap<SymbolPair, usize>, pair: SymbolPair) -> bool
 
 /// The rules with their names numbered, or `Lopsided` for the first of a symbol with itself that isn't its own swap.
 fn number_rules(alloc: Global, rules: &[(Cell, Cell)]) -> Result<Vec<Rule>, RuleFault>
-    requires few { length rules.now ≤ MAX_RULES }
+    requires few { length rules.now ≤ MAX_WIDE_RULES }
     requires counted { first_uncounted (map written rules.now) ≡ None }
     ensures rules { IfOk result (λ out. out.items ≡ map numbered (map written rules.now)) }
     ensures each { IfOk result (λ out. AllByRecursion IsRule out.items) }

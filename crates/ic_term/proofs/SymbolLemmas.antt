@@ -13,7 +13,7 @@ use Rattle.std.specs.declared.hash.BuildHasherDefault.{BuildHasherDefault}
 use Rattle.indexmap.specs.IndexMap.{IndexMap, insert_entry, get, get_by}
 use Rattle.indexmap.proofs.CallerLemmas.{insert_entry-new}
 use Rattle.ic_term.specs.Symbol.{Symbol, AreSymbols, texts, number_of_text, numbered, with_symbol, has_arity, fits_limits, is_symbol_text, Answers}
-use Rattle.ic_term.specs.declared.limits.TheConstants.{MAX_SYMBOLS, MAX_SYMBOL_TEXT, MAX_ARITY}
+use Rattle.ic_term.specs.declared.limits.TheConstants.{MAX_WIDE_SYMBOLS, MAX_SYMBOL_TEXT, MAX_ARITY}
 use Rattle.ic_term.specs.declared.symbols.SymbolFault.TheVariants.{Limit, Arity, Memory}
 use Rattle.ic_term.specs.declared.symbols.SymbolFault.{SymbolFault}
 
@@ -57,7 +57,7 @@ numbered-found ss text arity known n short few found has =
     has-known (Some s) h = let e : s.arity ≡ known = cc in rw e refl
 
 pub numbered-new : (ss : List Symbol) (text : List ℕ) (arity : ℕ) → length text ≤ MAX_SYMBOL_TEXT → arity ≤ MAX_ARITY
-    → number_of_text ss text ≡ None → numbered ss text arity ≡ cond (nat_lt (length ss) MAX_SYMBOLS) (Ok (length ss)) (Err Limit)
+    → number_of_text ss text ≡ None → numbered ss text arity ≡ cond (nat_lt (length ss) MAX_WIDE_SYMBOLS) (Ok (length ss)) (Err Limit)
 numbered-new ss text arity short few none =
     let fits : fits_limits text arity ≡ true = grind (arith, common_steps) in
     rw (fits, none) refl
@@ -91,7 +91,7 @@ list_any-none : {X : Type 0} (p : X → Bool) (xs : List X) → position p xs �
 list_any-none p [] h = refl
 list_any-none p (x ∷ xs) h = passed (p x) (prefix_len (λ y. not (p y)) xs) (length xs) (list_any p xs) h (list_any-none p xs)
 
-pub AreSymbols-push : (ss : List Symbol) (text : List ℕ) (arity : ℕ) → AreSymbols ss → length ss < MAX_SYMBOLS → IsTrue (is_symbol_text text)
+pub AreSymbols-push : (ss : List Symbol) (text : List ℕ) (arity : ℕ) → AreSymbols ss → length ss < MAX_WIDE_SYMBOLS → IsTrue (is_symbol_text text)
     → length text ≤ MAX_SYMBOL_TEXT → arity ≤ MAX_ARITY → number_of_text ss text ≡ None → AreSymbols (ss ++ record { text = text; arity = arity } ∷ [])
 AreSymbols-push ss text arity old room is_text short few none = record {
   few = omega (arith, length-append ss (record { text = text; arity = arity } ∷ []), old.few);

@@ -1,21 +1,20 @@
 -- Lists of symbols are exactly those that numbering makes.
-use Rattle.std.proofs.Common.{◌≡◌, ℕ, ◌+◌, ◌<◌, ◌≤◌, Bool, true, false, not, List, [], ◌∷◌, ◌++◌, Option, None, Some, Result, Ok, Err, length, map, cond, IsTrue, nat_lt, refl, sym, ap, ◌∙◌, subst, arith, length-append}
+use Rattle.std.proofs.Common.{◌≡◌, ℕ, ◌<◌, ◌≤◌, Bool, true, false, not, List, [], ◌∷◌, ◌++◌, Option, None, Some, Ok, Err, length, cond, IsTrue, nat_lt, refl, sym, subst, arith, length-append}
 use Rattle.std.proofs.lemmas.Grind.{common_steps}
 use Rattle.std.proofs.lemmas.List.{map-append}
 use Rattle.std.specs.List.{position, prefix_len, AllByRecursion, IsDistinct}
 use Rattle.std.specs.Str.{bytes_eq}
 use Rattle.std.specs.Cmp.Lexicographic.{bytes_decides}
 use Rattle.ic_term.specs.Symbol.{Symbol, AreSymbols, texts, number_of_text, number_found, numbered, with_symbol, fits_limits, is_symbol_text}
-use Rattle.ic_term.specs.declared.limits.TheConstants.{MAX_SYMBOLS, MAX_SYMBOL_TEXT, MAX_ARITY}
-use Rattle.ic_term.specs.declared.symbols.SymbolFault.{SymbolFault}
+use Rattle.ic_term.specs.declared.limits.TheConstants.{MAX_WIDE_SYMBOLS, MAX_SYMBOL_TEXT, MAX_ARITY}
 use Rattle.ic_term.specs.declared.symbols.SymbolFault.TheVariants.{Limit}
-use Rattle.ic_term.proofs.SymbolLemmas.{AreSymbols-push, numbered-new, with_symbol-found, with_symbol-new}
+use Rattle.ic_term.proofs.SymbolLemmas.{AreSymbols-push, with_symbol-found, with_symbol-new}
 
 -- a text that gets a number
 pub AreSymbols-numbered : (ss : List Symbol) (text : List ℕ) (arity n : ℕ) → AreSymbols ss → IsTrue (is_symbol_text text) → numbered ss text arity ≡ Ok n → AreSymbols (with_symbol ss text arity)
 AreSymbols-numbered ss text arity n are is_text ok = by (fits_limits text arity) (number_of_text ss text) refl refl ok
   where
-    has_room : (b : Bool) → nat_lt (length ss) MAX_SYMBOLS ≡ b → cond b (Ok (length ss)) (Err Limit) ≡ Ok n → length ss < MAX_SYMBOLS
+    has_room : (b : Bool) → nat_lt (length ss) MAX_WIDE_SYMBOLS ≡ b → cond b (Ok (length ss)) (Err Limit) ≡ Ok n → length ss < MAX_WIDE_SYMBOLS
     has_room true e h = grind (arith, common_steps, e)
     has_room false e h = cc
 
@@ -23,7 +22,7 @@ AreSymbols-numbered ss text arity n are is_text ok = by (fits_limits text arity)
     by false found fits is h = cc
     by true (Some m) fits is h = subst AreSymbols (sym (with_symbol-found ss text arity m is)) are
     by true None fits is h =
-        let room = has_room (nat_lt (length ss) MAX_SYMBOLS) refl h in
+        let room = has_room (nat_lt (length ss) MAX_WIDE_SYMBOLS) refl h in
         let short : length text ≤ MAX_SYMBOL_TEXT = grind (arith, common_steps, fits) in
         let few : arity ≤ MAX_ARITY = grind (arith, common_steps, fits) in
         subst AreSymbols (sym (with_symbol-new ss text arity is)) (AreSymbols-push ss text arity are room is_text short few is)
@@ -72,8 +71,8 @@ is_new ss s are = no_place s.text (texts ss) (distinct_parts ss s are).1
 pub numbered-last : (ss : List Symbol) (s : Symbol) → AreSymbols (ss ++ s ∷ []) → numbered ss s.text s.arity ≡ Ok (length ss)
 numbered-last ss s are =
     let fits : fits_limits s.text s.arity ≡ true = (split_all (λ t. IsTrue (is_symbol_text t.text) × IsTrue (fits_limits t.text t.arity)) ss s are.each).1.1 in
-    let less : length ss < MAX_SYMBOLS = omega (arith, length-append ss (s ∷ []), are.few) in
-    let room : nat_lt (length ss) MAX_SYMBOLS ≡ true = grind (arith, common_steps, less) in
+    let less : length ss < MAX_WIDE_SYMBOLS = omega (arith, length-append ss (s ∷ []), are.few) in
+    let room : nat_lt (length ss) MAX_WIDE_SYMBOLS ≡ true = grind (arith, common_steps, less) in
     rw (fits, is_new ss s are, room) refl
 
 pub with_symbol-last : (ss : List Symbol) (s : Symbol) → AreSymbols (ss ++ s ∷ []) → with_symbol ss s.text s.arity ≡ ss ++ s ∷ []

@@ -7,7 +7,7 @@ use Rattle.std.specs.Option.{option_map}
 use Rattle.std.specs.Coded.{Coded, code_by, coded×, coded_ℕ, coded_list}
 use Rattle.ic_term.specs.Tree.{Tree, name, agent, Trees, no_trees, more_trees, Pair, list_of}
 use Rattle.ic_term.specs.Configuration.{Configuration}
-use Rattle.ic_term.specs.declared.limits.TheConstants.{MAX_SYMBOLS, MAX_SYMBOL_TEXT, MAX_ARITY}
+use Rattle.ic_term.specs.declared.limits.TheConstants.{MAX_WIDE_SYMBOLS, MAX_SYMBOL_TEXT, MAX_ARITY}
 use Rattle.ic_term.specs.declared.symbols.SymbolFault.{SymbolFault}
 use Rattle.ic_term.specs.declared.symbols.SymbolFault.TheVariants.{Limit, Arity, Memory}
 
@@ -31,7 +31,7 @@ texts ss = map (λ s. s.text) ss
 
 -- What each list of symbols keeps: the limits, and that no two have one text.
 pub record AreSymbols (ss : List Symbol) : Type 0 where
-  pub few : length ss ≤ MAX_SYMBOLS
+  pub few : length ss ≤ MAX_WIDE_SYMBOLS
   pub each : AllByRecursion
       (λ s. IsTrue (is_symbol_text s.text) × IsTrue (fits_limits s.text s.arity)) ss
   pub distinct : IsDistinct bytes_eq (texts ss)
@@ -55,7 +55,7 @@ has_arity arity (Some s) = s.arity == arity
 
 -- the number of a symbol that was looked up: the old one, or the next one, or the refusal
 abbrev pub number_found : List Symbol → ℕ → Option ℕ → Result ℕ SymbolFault
-number_found ss arity None = if nat_lt (length ss) MAX_SYMBOLS then Ok (length ss) else Err Limit
+number_found ss arity None = if nat_lt (length ss) MAX_WIDE_SYMBOLS then Ok (length ss) else Err Limit
 number_found ss arity (Some n) = if has_arity arity (slice_get ss n) then Ok n else Err (Arity n)
 
 -- the number of a text with this arity among the symbols, or the first refusal in the order of `SymbolFault`

@@ -3,7 +3,7 @@
 ghost use Rattle.std.specs.Prelude.{◌≡◌, ℕ, ◌+◌, ◌<◌, ◌≤◌, ◌==◌, ◌^◌, ◌↔◌, ◌⊎◌, List, [], ◌∷◌, ◌++◌, length, None, Some, Ok, Err, IsTrue};
 ghost use Rattle.std.specs.List.{list_any, AllByRecursion};
 ghost use Rattle.ic_term.specs.Tree.{Tree, Pair, tree_eq, pair_eq};
-ghost use Rattle.ic_term.specs.declared.limits.TheConstants.{MAX_NODES, MAX_INTERFACE, MAX_NEXT, MAX_WIDE_NODES, MAX_SYMBOLS, MAX_SYMBOL_TEXT, MAX_ARITY};
+ghost use Rattle.ic_term.specs.declared.limits.TheConstants.{MAX_NODES, MAX_INTERFACE, MAX_NEXT, MAX_WIDE_NODES, MAX_SYMBOLS, MAX_WIDE_SYMBOLS, MAX_SYMBOL_TEXT, MAX_ARITY};
 ghost use Rattle.ic_term.specs.Configuration.{configuration_eq, Configuration, IsConfiguration, IsWide, IsFirstThird, configuration_nodes, occurrences, one_above, restored, third_occurrence, wide_restored};
 ghost use Rattle.ic_term.specs.declared.config.ConfigFault.TheVariants.{Limit};
 ghost use Rattle.ic_term.specs.Symbol.{Symbol, AreSymbols, is_symbol_text, numbered, with_symbol, symbols_eq};
@@ -15,6 +15,7 @@ pub fn limits_are()
     ensures next { MAX_NEXT ≡ 2 ^ 62 }
     ensures wide { MAX_WIDE_NODES ≡ 2 ^ 31 }
     ensures symbols { MAX_SYMBOLS ≡ 64 }
+    ensures wide_symbols { MAX_WIDE_SYMBOLS ≡ 2 ^ 16 }
     ensures text { MAX_SYMBOL_TEXT ≡ 32 }
     ensures arity { MAX_ARITY ≡ 15 }
 {}

@@ -18,6 +18,7 @@ pub use arities::over;
 pub use config::{Config, ConfigFault};
 pub use limits::{
     MAX_ARITY, MAX_INTERFACE, MAX_NEXT, MAX_NODES, MAX_SYMBOL_TEXT, MAX_SYMBOLS, MAX_WIDE_NODES,
+    MAX_WIDE_SYMBOLS,
 };
 pub use occurrences::third_occurrence;
 pub use symbols::{SymbolFault, Symbols, is_symbol};

@@ -12,8 +12,11 @@ pub const MAX_INTERFACE: usize = 64;
 /// The number from which fresh names are taken.
 pub const MAX_NEXT: u64 = 1 << 62;
 
-/// Symbols of a table.
+/// Symbols of what is served.
 pub const MAX_SYMBOLS: usize = 64;
+
+/// Symbols of any table.
+pub const MAX_WIDE_SYMBOLS: usize = 65_536;
 
 /// Bytes of a symbol's text.
 pub const MAX_SYMBOL_TEXT: usize = 32;

@@ -9,7 +9,7 @@ ghost use Rattle.ic_term.specs.Symbol.{symbol_eq, symbols_eq, AreSymbols};
 ghost use Rattle.ic_term.specs.lemmas.SymbolLaws.{symbols_eq-equivalence};
 ghost use Rattle.ic_term.specs.declared.symbols.SymbolFault.TheVariants.{Memory};
 
-use crate::limits::{MAX_ARITY, MAX_SYMBOL_TEXT, MAX_SYMBOLS};
+use crate::limits::{MAX_ARITY, MAX_SYMBOL_TEXT, MAX_WIDE_SYMBOLS};
 use indexmap::IndexMap;
 use std::alloc::{AllocError, AllocFailed, Global};
 use std::marker::Model;
@@ -99,7 +99,7 @@ impl Symbols {
             return known_number(number as u32, *known, arity);
         }
         let number = self.arities.len();
-        if number >= MAX_SYMBOLS {
+        if number >= MAX_WIDE_SYMBOLS {
             return Err(SymbolFault::Limit);
         }
         let text = Vec::from_slice(*self.arities.allocator(), text)?;

@@ -1,6 +1,6 @@
 -- Lemmas, which a reader of the contracts doesn't need: how terms as plain data are stored, their arguments as
 -- lists, and that the test of equality is equality.
-use Rattle.std.specs.Prelude.{◌≡◌, ◌+◌, ◌==◌, List, [], ◌∷◌, Bool, true, false, ◌&&◌, sum_by, refl}
+use Rattle.std.specs.Prelude.{◌≡◌, ◌+◌, ◌==◌, List, [], ◌∷◌, true, sum_by, refl}
 use Rattle.std.specs.Bool.{Decides}
 use Rattle.std.specs.Cmp.{IsEquivalence, decided, unsigned_Decides}
 use Rattle.std.specs.Coded.{Coded, code_by, coded×}
