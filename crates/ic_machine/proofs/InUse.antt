@@ -1,5 +1,5 @@
 -- How many places are in use, of each kind.
-use Rattle.std.proofs.Common.{◌≡◌, ℕ, zero, suc, ◌+◌, ◌<◌, ◌≤◌, ◌==◌, inl, inr, List, [], ◌∷◌, ◌++◌, Bool, true, false, cond, length, map, max, take, drop, slice_index_or, refl, ap, sym, subst, ◌∙◌, arith, sum_by, zero-add}
+use Rattle.std.proofs.Common.{◌≡◌, ℕ, zero, suc, ◌+◌, ◌<◌, ◌≤◌, ◌==◌, inl, inr, List, [], ◌∷◌, ◌++◌, Bool, true, false, cond, length, map, max, take, drop, slice_index_or, refl, ap, sym, ◌∙◌, arith, sum_by, zero-add}
 use Rattle.std.specs.List.{AllByRecursion}
 use Rattle.std.proofs.Math.ListN.{get_or-map}
 use Rattle.std.proofs.Math.Nat.{max-eq_left, max-eq_right, max-le}

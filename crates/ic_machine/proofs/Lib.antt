@@ -7,6 +7,7 @@ pub mod Making
 pub mod Firings
 pub mod Spare
 pub mod Numbers
+pub mod PairIndexLemmas
 pub mod Running
 pub mod Starting
 pub mod Sound

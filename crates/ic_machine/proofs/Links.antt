@@ -114,7 +114,7 @@ links_on l ls rs old new ps qs steps pushed links = record {
   words = links.words;
   named = λ i.
       let w : Word = name_word i in
-      let no_plans : Plans = record { arities = []; table = []; plans = [] } in
+      let no_plans : Plans = record { arities = []; pairs = []; plans = [] } in
       let before = links.named i in
       let balance = steps_balance no_plans [] w (linked rs l ∷ (names_pieces 0 old ++ (map equated_of ps ++ [])))
       (names_pieces 0 new ++ (map equated_of qs ++ [])) refl (steps no_plans []) in

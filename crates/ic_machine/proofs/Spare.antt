@@ -1,6 +1,6 @@
 -- Memory that is spare.
 use Rattle.std.specs.Global.{Vec}
-use Rattle.std.proofs.Common.{◌≡◌, false, Result, Ok, Err, OnOk, is_err, ℕ, zero, suc, ◌+◌, ◌*◌, ◌^◌, ◌<◌, ◌≤◌, inl, inr, List, [], ◌∷◌, length, map, slice_set, ap, refl, sym, subst, ◌∙◌, arith, vec_capacity}
+use Rattle.std.proofs.Common.{◌≡◌, false, Result, Ok, Err, OnOk, is_err, ℕ, zero, suc, ◌+◌, ◌*◌, ◌^◌, ◌<◌, ◌≤◌, inl, inr, List, [], ◌∷◌, length, slice_set, ap, refl, sym, subst, ◌∙◌, arith, vec_capacity}
 use Rattle.std.specs.List.{AllByRecursion}
 use Rattle.std.proofs.Math.Nat.{eq-or-lt_of_le, mul-le-mul_right}
 use Rattle.std.proofs.lemmas.List.{length-append}
@@ -11,7 +11,7 @@ use Rattle.ic_machine.specs.declared.tables.Tables.{Tables}
 use Rattle.ic_machine.specs.Plan.{Planned, Plans}
 use Rattle.ic_machine.specs.inner.Firing.{AreSame, HasBlocks, HasRoom, IsGrown, SameSize, table}
 use Rattle.ic_machine.specs.inner.Pairs.{Passed}
-use Rattle.ic_machine.specs.inner.Tables.{HasMemory, HasRoomFor, HasSpare, size_of}
+use Rattle.ic_machine.specs.inner.Tables.{HasMemory, HasRoomFor, HasSpare}
 use Rattle.ic_machine.specs.lemmas.FiringKeeps.{all_of}
 use Rattle.ic_machine.proofs.Heaps.{same_at, set_at, table_set}
 

@@ -1,6 +1,6 @@
 -- What a rule makes of two agents, ready to be made.
-use Rattle.std.specs.Prelude.{◌≡◌, ℕ, ◌+◌, ◌*◌, ◌<◌, ◌≤◌, List, [], ◌∷◌, ◌++◌, Option, None, Some, length, map, slice_get, slice_index_or, count_by, ◌==◌, if◌then◌else◌, nat_lt, IfSome}
-use Rattle.std.specs.List.{flat_map, range_with_len, AllByRecursion}
+use Rattle.std.specs.Prelude.{◌≡◌, ℕ, ◌+◌, ◌&&◌, ◌<◌, ◌≤◌, List, [], ◌∷◌, ◌++◌, Option, None, Some, length, map, slice_get, count_by, ◌==◌, if◌then◌else◌, nat_lt, IfSome}
+use Rattle.std.specs.List.{flat_map, position_from, range_with_len, AllByRecursion}
 use Rattle.ic_arena.specs.declared.word.Word.{Word}
 use Rattle.ic_arena.specs.Word.{agent_word}
 use Rattle.ic_arena.specs.Piece.{Piece, equated, idle, agent_of}
@@ -83,16 +83,19 @@ pub record IsPlan (arities : List ℕ) (arguments : ℕ) (p : Planned) : Type 0 
   pub linear : (k : ℕ) → length arities ≤ k
       → count_by (λ m. m == k) (operands_of p) ≤ allowance (length arities + arguments) p.names k
 
--- Plans for pairs of symbols: the arities of the symbols, and for each pair the place of its plan, the pairs of the first
--- symbol before those of the second.
+-- Plans for pairs of symbols: the arities of the symbols, the plans by their numbers, and the pair of symbols of each.
 pub record Plans : Type 0 where
   pub arities : List ℕ
-  pub table : List (Option ℕ)
+  pub pairs : List (ℕ × ℕ)
   pub plans : List Planned
+
+-- the place of a pair among others, if it is one of them
+abbrev pub place_of : ℕ → ℕ → List (ℕ × ℕ) → Option ℕ
+place_of a b pairs = position_from (λ q. q.0 == a && q.1 == b) 0 pairs
 
 -- the number of the plan of two symbols, if they have one
 abbrev pub number_of : Plans → ℕ → ℕ → Option ℕ
-number_of p a b = slice_index_or p.table (a * length p.arities + b) None
+number_of p a b = place_of a b p.pairs
 
 abbrev pub plan_at : List Planned → Option ℕ → Option Planned
 plan_at ps None = None
@@ -102,9 +105,9 @@ plan_at ps (Some i) = slice_get ps i
 abbrev pub plan_of : Plans → ℕ → ℕ → Option Planned
 plan_of p a b = plan_at p.plans (number_of p a b)
 
--- What plans keep: that of each pair of symbols is one for their arguments.
+-- What plans keep: each has a pair of known symbols, and the plan of a pair is one for their arguments.
 pub record ArePlans (p : Plans) : Type 0 where
-  pub there : AllByRecursion (λ i. IfSome i (λ k. k < length p.plans)) p.table
-  pub square : length p.table ≡ length p.arities * length p.arities
+  pub counted : length p.pairs ≡ length p.plans
+  pub known : AllByRecursion (λ q. (q.0 < length p.arities) × (q.1 < length p.arities)) p.pairs
   pub each : (a b left right : ℕ) → slice_get p.arities a ≡ Some left
       → slice_get p.arities b ≡ Some right → IfSome (plan_of p a b) (IsPlan p.arities (left + right))

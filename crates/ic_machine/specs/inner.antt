@@ -2,6 +2,7 @@
 pub mod Linking
 pub mod Firing
 pub mod Pairs
+pub mod PairIndex
 pub mod Tables
 pub mod Machine
 pub mod Places

@@ -5,6 +5,7 @@ pub mod Separation
 pub mod Counting
 pub mod FiringKeeps
 pub mod FiresKeep
+pub mod PairLaws
 pub mod Balance
 pub mod Active
 pub mod RunsOn

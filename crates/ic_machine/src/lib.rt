@@ -9,6 +9,7 @@ mod firing;
 pub mod laws;
 mod linking;
 mod machine;
+mod pairs;
 mod places;
 mod plan;
 mod tables;

@@ -1,12 +1,14 @@
 //! Plans: what a rule makes of two agents, ready to be made.
 
-ghost use Rattle.std.specs.Prelude.{◌≡◌, ◌<◌, Some, length, map, slice_get, IfSome, IfNone};
+ghost use Rattle.std.specs.Prelude.{◌≡◌, ℕ, ◌+◌, ◌^◌, ◌<◌, [], ◌∷◌, ◌++◌, None, Some, length, map, slice_get, IfSome, IfNone, IfOk, OnOk, OnErr};
 ghost use Rattle.std.specs.Option.{option_map};
-ghost use Rattle.ic_machine.specs.Plan.{planned, plan_of, ArePlans};
+ghost use Rattle.ic_machine.specs.Plan.{planned, plan_of, IsPlan, ArePlans};
 ghost use Rattle.ic_machine.specs.Net.{IsStuck, IsPair};
 ghost use Rattle.ic_machine.specs.inner.Pairs.{HasNumber};
 
 use crate::equation::Equation;
+use crate::pairs::PairIndex;
+use std::alloc::{AllocError, Global};
 use std::marker::Model;
 
 /// The registers of two words that are to be made equal.
@@ -35,7 +37,7 @@ pub struct Plan {
 #[derive(Debug, Drop)]
 pub struct Program {
     arities: Vec<u32>,
-    table: Vec<Option<u32>>,
+    pairs: PairIndex,
     plans: Vec<Plan>,
 }
 
@@ -47,39 +49,52 @@ impl Model for Program {
 
     ghost view = { λ p. record {
       arities = p.arities.items;
-      table = p.table.items;
+      pairs = p.pairs;
       plans = map planned p.plans.items;
     } };
 
     ghost invariant = { λ p. ArePlans
         (record {
           arities = p.arities.items;
-          table = p.table.items;
+          pairs = p.pairs;
           plans = map planned p.plans.items;
         }) };
 }
 
 impl Program {
-    /// The program of plans that are known to be those of pairs of symbols.
-    pub fn from_parts(arities: Vec<u32>, table: Vec<Option<u32>>, plans: Vec<Plan>) -> Program
-        requires { ArePlans
-            (record {
-              arities = arities.items;
-              table = table.items;
-              plans = map planned plans.items;
-            }) }
-        ensures { result
-            ≡ record {
-              arities = arities.items;
-              table = table.items;
-              plans = map planned plans.items;
-            } }
+    /// No plans, for symbols of these arities.
+    pub fn new(alloc: Global, arities: Vec<u32>) -> Result<Program, AllocError>
+        ensures { IfOk result (λ p. p ≡ record { arities = arities.items; pairs = []; plans = [] }) }
     {
-        Program {
+        let pairs = PairIndex::new(alloc, arities.len())?;
+        Ok(Program {
             arities,
-            table,
-            plans,
-        }
+            pairs,
+            plans: Vec::new(alloc),
+        })
+    }
+
+    /// Adds the plan of two symbols that have none, as they meet in this order.
+    pub fn add(&mut self, a: u32, b: u32, plan: Plan) -> Result<(), AllocError>
+        requires a { a < length self.old.arities }
+        requires b { b < length self.old.arities }
+        requires new { plan_of self.old a b ≡ None }
+        requires plan { (left right : ℕ) → slice_get self.old.arities a ≡ Some left
+            → slice_get self.old.arities b ≡ Some right
+            → IsPlan self.old.arities (left + right) (planned plan) }
+        requires few { length self.old.plans < 2 ^ 32 }
+        ensures added { OnOk result (self.new ≡ record {
+          arities = self.old.arities;
+          pairs = self.old.pairs ++ (a, b) ∷ [];
+          plans = self.old.plans ++ planned plan ∷ [];
+        }) }
+        ensures same { OnErr result (self.new ≡ self.old) }
+        ensures sound { ArePlans self.new }
+    {
+        self.plans.reserve(1)?;
+        self.pairs.push(a, b)?;
+        self.plans.push_reserved(plan);
+        Ok(())
     }
 
     /// How many arguments an agent of each symbol has.
@@ -97,10 +112,9 @@ impl Program {
         ensures plan { option_map (λ p. planned p.now) result ≡ plan_of self.now a b }
         ensures sound { ArePlans self.now }
     {
-        let place = a as usize * self.arities.len() + b as usize;
-        match self.table[place] {
+        match self.pairs.get(a, b) {
             None => None,
-            Some(plan) => self.plans.get(plan as usize),
+            Some(number) => self.plans.get(number as usize),
         }
     }
 
@@ -126,11 +140,10 @@ impl Program {
         ensures found { IfSome result (HasNumber self.now equation) }
         ensures none { IfNone result (IsPair equation → IsStuck self.now equation) }
     {
-        let count = self.arities.len();
         let (left, right) = (equation.left.tag, equation.right.tag);
-        if left == 0 || right == 0 || count < left as usize || count < right as usize {
+        if left == 0 || right == 0 {
             return None;
         }
-        self.table[(left as usize - 1) * count + (right as usize - 1)]
+        self.pairs.get(left - 1, right - 1)
     }
 }

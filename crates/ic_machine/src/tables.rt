@@ -21,6 +21,9 @@ use std::alloc::{AllocError, Global};
 /// How much of each kind plans may make before more memory is taken.
 const SPARE: usize = 1_024;
 
+/// Symbols up to which memory is taken before plans need it: it is taken for each of them.
+const SPARE_SYMBOLS: usize = 1_024;
+
 /// What is at each place, the pairs that are still to be looked at, and the registers of the plan that is made.
 #[derive(Drop)]
 pub(crate) struct Tables {
@@ -95,7 +98,7 @@ impl Tables {
     }
 
     /// Takes memory for the plans to come, after one that makes so many names and agents, and so many links. Answers how much of
-    /// each kind they may make: nothing where it is refused, or there are no numbers for so much.
+    /// each kind they may make: nothing where it is refused, there are no numbers for so much, or there are many symbols.
     fn take_spare(&mut self, size: usize, links: usize) -> usize
         requires { length self.old.names.entries < 2 ^ 32 }
         ensures names { self.new.names.entries ≡ self.old.names.entries }
@@ -106,7 +109,7 @@ impl Tables {
         ensures registers { self.new.registers ≡ self.old.registers }
         ensures room { 1 ≤ result → HasRoomFor (result + (size + links)) self.new }
     {
-        if size > SPARE || links > SPARE {
+        if size > SPARE || links > SPARE || self.heaps.len() > SPARE_SYMBOLS {
             return 0;
         }
         let more = SPARE + size + links;

@@ -1,6 +1,6 @@
 use Rattle.std.proofs.Common.{◌≡◌, ◌+◌, ◌*◌, ◌^◌, ◌<◌, ◌≤◌, ℕ, List, length, ap, sym, subst, ◌∙◌, arith}
 use Rattle.ic_arena.specs.Tables.{Blocks}
-use Rattle.ic_machine.specs.inner.Firing.{AreSame, HasBlocks, table}
+use Rattle.ic_machine.specs.inner.Firing.{table}
 use Rattle.ic_machine.proofs.Heaps.{same_all, same_length, same_set, table_read}
 use Rattle.ic_machine.proofs.Spare.{fine, room_next}
 use Rattle.ic_machine.proofs.firing.reserve_each.Goals as goal

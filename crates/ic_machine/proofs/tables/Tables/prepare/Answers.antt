@@ -1,6 +1,5 @@
-use Rattle.std.proofs.Common.{◌≡◌, ◌+◌, ◌-◌, ◌^◌, ◌<◌, ◌≤◌, ℕ, List, length, map, arith, vec_len, vec_capacity}
+use Rattle.std.proofs.Common.{◌≡◌, ◌+◌, ◌^◌, ◌<◌, ◌≤◌, length, arith, vec_capacity}
 use Rattle.std.proofs.lemmas.List.{length-map}
-use Rattle.ic_arena.specs.Tables.{Blocks}
 use Rattle.ic_machine.specs.declared.tables.Tables.{Tables}
 use Rattle.ic_machine.specs.Plan.{Planned, made_of, planned}
 use Rattle.ic_machine.specs.inner.Tables.{HasRoomFor}

@@ -1,5 +1,3 @@
-use Rattle.std.proofs.Common.{◌≡◌, List, refl}
-use Rattle.ic_arena.specs.Tables.{Blocks}
 use Rattle.ic_machine.proofs.Heaps.{same_all}
 use Rattle.ic_machine.proofs.tables.Tables.take_spare.Goals as goal
 use Rattle.ic_machine.proofs.tables.Tables.take_spare.Goals.{then-is_err-via-then-is_err, then-is_err-via-else-is_err+then-is_err-2}
