@@ -11,7 +11,7 @@ use Rattle.ic_term.specs.Tree.{agent, Trees, no_trees, more_trees, list_of, name
 use Rattle.ic_rules.specs.Renaming.{first_occurrences}
 use Rattle.ic_rules.specs.Rule.{agents, agents_of, rule_agents, rule_nodes as nodes_of_rule}
 use Rattle.ic_rules.specs.RuleSet.{are_few, unfit_among, first_unfit}
-use Rattle.ic_rules.specs.declared.limits.TheConstants.{MAX_RULES, MAX_RULE_NODES}
+use Rattle.ic_rules.specs.declared.limits.TheConstants.{MAX_WIDE_RULES, MAX_RULE_NODES}
 use Rattle.ic_text.specs.Source.{Source, leaf, node, Sources, no_sources, more_sources, source_symbols, symbols_of_sources, count_of}
 use Rattle.ic_text.specs.Sense.{has_its_arity, number_in_table, numbered_tree, numbered_trees}
 use Rattle.ic_text.specs.SystemSource.{RulePhrase, agent_source, rule_symbols, rule_nodes}
@@ -55,11 +55,16 @@ module _ (table : List Symbol) where
       let right = sum_nodes (numbered_trees table r.right.arguments) ∙ nodes-numbered_trees table r.right.arguments in
       λ i. left i + right i
 
-  pub few-rules_over : (rs : List RulePhrase) → are_few (map (rule_over table) rs) ≡ (nat_le (length rs) MAX_RULES && nat_le (sum_by rule_nodes rs) MAX_RULE_NODES)
-  few-rules_over rs =
-      let count = length-map rs (rule_over table) in
-      let sum = sum_by-map nodes_of_rule (rule_over table) rs ∙ (λ i. sum_by (λ r. nodes-rule_over r i) rs) in
-      λ i. nat_le (count i) MAX_RULES && nat_le (sum i) MAX_RULE_NODES
+  short-rules_over : (rs : List RulePhrase) → list_all (λ r. nat_le (nodes_of_rule r) MAX_RULE_NODES) (map (rule_over table) rs) ≡ list_all (λ r. nat_le (rule_nodes r) MAX_RULE_NODES) rs
+  short-rules_over [] = refl
+  short-rules_over (r ∷ rs) = λ i. nat_le (nodes-rule_over r i) MAX_RULE_NODES && short-rules_over rs i
+
+  pub few-rules_over : (rs : List RulePhrase) → are_few (map (rule_over table) rs) ≡ (nat_le (length rs) MAX_WIDE_RULES && list_all (λ r. nat_le (rule_nodes r) MAX_RULE_NODES) rs)
+  few-rules_over rs = λ i. nat_le (length-map rs (rule_over table) i) MAX_WIDE_RULES && short-rules_over rs i
+
+  -- rules that are few by the limits of what is served
+  pub sum-rules_over : (rs : List RulePhrase) → sum_by nodes_of_rule (map (rule_over table) rs) ≡ sum_by rule_nodes rs
+  sum-rules_over rs = sum_by-map nodes_of_rule (rule_over table) rs ∙ (λ i. sum_by (λ r. nodes-rule_over r i) rs)
 
   -- agents that have their arities are fit
   unfit-append : (xs ys : List (ℕ × ℕ)) → unfit_among table xs ≡ None → unfit_among table ys ≡ None → unfit_among table (xs ++ ys) ≡ None

@@ -4,12 +4,13 @@ use Rattle.std.specs.Prelude.{nat_le, nat_lt}
 use Rattle.std.proofs.lemmas.Bool.{and_from, ltb-true, ltb-false}
 use Rattle.std.proofs.lemmas.List.{length-take, length-take-le}
 use Rattle.ic_term.specs.Symbol.{Symbol}
-use Rattle.ic_rules.specs.declared.limits.TheConstants.{MAX_RULES, MAX_RULE_NODES}
+use Rattle.ic_rules.specs.declared.limits.TheConstants.{MAX_RULE_NODES}
 use Rattle.ic_text.specs.declared.excess.Excess.{Excess}
 use Rattle.ic_text.specs.declared.limits.Limits.{Limits}
+use Rattle.ic_text.specs.declared.limits.Limits.TheVariants.{Served}
 use Rattle.ic_text.specs.declared.misread.Limit.{Limit as Bound}
 use Rattle.ic_text.specs.declared.misread.Limit.TheVariants.{TextBytes, SymbolBytes, Arguments, NameNumber, Symbols, Rules, RuleNodes, Interface, Nodes}
-use Rattle.ic_text.specs.Limits.{most_interface, most_nodes}
+use Rattle.ic_text.specs.Limits.{most_interface, most_nodes, most_rules}
 use Rattle.ic_text.specs.Words.{Written, all_words, in_a_row}
 use Rattle.ic_text.specs.WordFaults.{IsFirstWord, config_keeps, count_words, counts_keep, rank, rules_keep}
 use Rattle.ic_text.specs.inner.Counted.{IsExcess, IsExcessTest, IsFirstExcess, earlier}
@@ -73,16 +74,16 @@ module _ (keep : Bound → List Symbol → Bool) (a b : Bound) (others : (c : Bo
   earlier-first (Some e) None is_o is_p = this_one a e is_o.0 is_o.1 (λ j le. both_kept j (is_o.0.innocent j le) (is_p j)) (λ c lower. before_first c lower (e.word + 1))
   earlier-first (Some e) (Some f) is_o is_p = by_order e f (nat_lt f.word e.word) refl is_o.0 is_o.1 is_p.0 is_p.1
 
-pub rules_others : (c : Bound) → OneOf rules_keep Rules RuleNodes c
-rules_others Rules = inl refl
-rules_others RuleNodes = inr (inl refl)
-rules_others TextBytes = inr (inr (λ ws. refl))
-rules_others SymbolBytes = inr (inr (λ ws. refl))
-rules_others Arguments = inr (inr (λ ws. refl))
-rules_others NameNumber = inr (inr (λ ws. refl))
-rules_others Symbols = inr (inr (λ ws. refl))
-rules_others Interface = inr (inr (λ ws. refl))
-rules_others Nodes = inr (inr (λ ws. refl))
+pub rules_others : (limits : Limits) (c : Bound) → OneOf (rules_keep limits) Rules RuleNodes c
+rules_others limits Rules = inl refl
+rules_others limits RuleNodes = inr (inl refl)
+rules_others limits TextBytes = inr (inr (λ ws. refl))
+rules_others limits SymbolBytes = inr (inr (λ ws. refl))
+rules_others limits Arguments = inr (inr (λ ws. refl))
+rules_others limits NameNumber = inr (inr (λ ws. refl))
+rules_others limits Symbols = inr (inr (λ ws. refl))
+rules_others limits Interface = inr (inr (λ ws. refl))
+rules_others limits Nodes = inr (inr (λ ws. refl))
 
 pub config_others : (limits : Limits) (terms : ℕ) (c : Bound) → OneOf (config_keeps limits terms) Interface Nodes c
 config_others limits terms Interface = inl refl
@@ -129,10 +130,10 @@ pub nodes_fit : (limits : Limits) (terms : ℕ) (ws : List Symbol) → length ws
 nodes_fit limits terms ws few = λ j. le_test (length (take j ws)) (most_nodes limits) (omega (arith, length-take j ws, few))
 
 -- rules that aren't too many
-pub rules_fit : (ws : List Symbol) (agents : ℕ) → agents ≡ count_words true 0 ws → agents ≤ 2 * MAX_RULES → IsExcessTest (rules_keep Rules) Rules ws None
-rules_fit ws agents all few = λ j. all-few ws true (2 * MAX_RULES) (omega (arith, all, few)) j
+pub rules_fit : (limits : Limits) (ws : List Symbol) (agents : ℕ) → agents ≡ count_words true 0 ws → agents ≤ 2 * most_rules limits → IsExcessTest (rules_keep limits Rules) Rules ws None
+rules_fit limits ws agents all few = λ j. all-few ws true (2 * most_rules limits) (omega (arith, all, few)) j
 
-pub within_fit : (ws : List Symbol) (agents size : ℕ) → agents ≡ count_words true 0 ws → size ≡ length ws → size - agents ≤ MAX_RULE_NODES → IsExcessTest (rules_keep RuleNodes) RuleNodes ws None
+pub within_fit : (ws : List Symbol) (agents size : ℕ) → agents ≡ count_words true 0 ws → size ≡ length ws → size - agents ≤ MAX_RULE_NODES → IsExcessTest (rules_keep Served RuleNodes) RuleNodes ws None
 within_fit ws agents size all long few = λ j. all-few ws false MAX_RULE_NODES (omega (arith, all, few, long, count-both ws 0)) j
 
 -- both parts of what is written
@@ -163,34 +164,34 @@ module _ (limits : Limits) (w : Written) where
   size : length (all_words w) ≡ length the_rules + length w.config
   size = length-append the_rules w.config
 
-  pub excess_in_rules : (e : Excess) → IsExcess (λ b j. rules_keep b (take j the_rules)) (length the_rules) e → IsExcess (λ b j. counts_keep limits b w j) (length (all_words w)) e
+  pub excess_in_rules : (e : Excess) → IsExcess (λ b j. rules_keep limits b (take j the_rules)) (length the_rules) e → IsExcess (λ b j. counts_keep limits b w j) (length (all_words w)) e
   excess_in_rules e is = record {
     inside = omega (arith, is.inside, size);
     kept = λ j le b.
         let none : j - length the_rules ≡ 0 = omega (arith, le, is.inside) in
-        and_from (rules_keep b (take j the_rules)) _ (is.kept j le b) (ap (λ n. config_keeps limits w.terms b (take n w.config)) none ∙ nothing_kept limits w.terms b);
+        and_from (rules_keep limits b (take j the_rules)) _ (is.kept j le b) (ap (λ n. config_keeps limits w.terms b (take n w.config)) none ∙ nothing_kept limits w.terms b);
     passed = ap (λ x. x && config_keeps limits w.terms e.limit (take (e.word + 1 - length the_rules) w.config)) is.passed;
     first = λ b less.
         let none : e.word + 1 - length the_rules ≡ 0 = omega (arith, is.inside) in
-        and_from (rules_keep b (take (e.word + 1) the_rules)) _ (is.first b less) (ap (λ n. config_keeps limits w.terms b (take n w.config)) none ∙ nothing_kept limits w.terms b);
+        and_from (rules_keep limits b (take (e.word + 1) the_rules)) _ (is.first b less) (ap (λ n. config_keeps limits w.terms b (take n w.config)) none ∙ nothing_kept limits w.terms b);
   }
 
-  module _ (rules_kept : (j : ℕ) (b : Bound) → rules_keep b (take j the_rules) ≡ true) where
+  module _ (rules_kept : (j : ℕ) (b : Bound) → rules_keep limits b (take j the_rules) ≡ true) where
     pub excess_in_config : (e f : Excess) → IsExcess (λ b j. config_keeps limits w.terms b (take j w.config)) (length w.config) e → f.word ≡ length the_rules + e.word → f.limit ≡ e.limit
         → IsExcess (λ b j. counts_keep limits b w j) (length (all_words w)) f
     excess_in_config e f is at same =
         let behind : f.word + 1 - length the_rules ≡ e.word + 1 = omega (arith, at) in
         record {
           inside = omega (arith, is.inside, size, at);
-          kept = λ j le b. and_from (rules_keep b (take j the_rules)) _ (rules_kept j b) (is.kept (j - length the_rules) (omega (arith, le, at)) b);
+          kept = λ j le b. and_from (rules_keep limits b (take j the_rules)) _ (rules_kept j b) (is.kept (j - length the_rules) (omega (arith, le, at)) b);
           passed =
-              (λ i. rules_keep f.limit (take (f.word + 1) the_rules) && config_keeps limits w.terms (same i) (take (behind i) w.config))
-              ∙ ap (λ x. rules_keep f.limit (take (f.word + 1) the_rules) && x) is.passed
-              ∙ and_false (rules_keep f.limit (take (f.word + 1) the_rules));
+              (λ i. rules_keep limits f.limit (take (f.word + 1) the_rules) && config_keeps limits w.terms (same i) (take (behind i) w.config))
+              ∙ ap (λ x. rules_keep limits f.limit (take (f.word + 1) the_rules) && x) is.passed
+              ∙ and_false (rules_keep limits f.limit (take (f.word + 1) the_rules));
           first = λ b less.
-              and_from (rules_keep b (take (f.word + 1) the_rules)) _ (rules_kept (f.word + 1) b)
+              and_from (rules_keep limits b (take (f.word + 1) the_rules)) _ (rules_kept (f.word + 1) b)
               (ap (λ n. config_keeps limits w.terms b (take n w.config)) behind ∙ is.first b (subst (λ y. rank b < rank y) same less));
         }
 
     pub no_excess : ((j : ℕ) (b : Bound) → config_keeps limits w.terms b (take j w.config) ≡ true) → IsFirstExcess (λ b j. counts_keep limits b w j) (length (all_words w)) None
-    no_excess config_kept = λ j b. and_from (rules_keep b (take j the_rules)) _ (rules_kept j b) (config_kept (j - length the_rules) b)
+    no_excess config_kept = λ j b. and_from (rules_keep limits b (take j the_rules)) _ (rules_kept j b) (config_kept (j - length the_rules) b)

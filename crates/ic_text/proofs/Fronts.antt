@@ -1,5 +1,5 @@
 -- The first words of a configuration that has too many tell how it is refused.
-use Rattle.std.proofs.Common.{◌≡◌, ℕ, zero, suc, ◌+◌, ◌-◌, ◌<◌, ◌≤◌, ◌^◌, inl, inr, Bool, true, List, [], ◌∷◌, Option, None, Some, Ok, length, take, refl, sym, ap, ◌∙◌, subst, arith}
+use Rattle.std.proofs.Common.{◌≡◌, ℕ, zero, suc, ◌+◌, ◌-◌, ◌*◌, ◌<◌, ◌≤◌, ◌^◌, inl, inr, Bool, true, List, [], ◌∷◌, Option, None, Some, Ok, length, take, refl, sym, ap, ◌∙◌, subst, arith}
 use Rattle.std.specs.Prelude.{IsTrue}
 use Rattle.std.specs.List.{AllByRecursion}
 use Rattle.std.proofs.lemmas.Bool.{leb-true}
@@ -10,6 +10,7 @@ use Rattle.ic_text.specs.declared.excess.Excess.{Excess}
 use Rattle.ic_text.specs.declared.fault.TextFault.{TextFault}
 use Rattle.ic_text.specs.declared.fault.TextFault.TheVariants.{Limit, Arity, Memory}
 use Rattle.ic_text.specs.declared.limits.Limits.{Limits}
+use Rattle.ic_text.specs.declared.limits.Limits.TheVariants.{Served, Wide}
 use Rattle.ic_text.specs.declared.misread.Detail.{Detail}
 use Rattle.ic_text.specs.declared.misread.Detail.TheVariants.{Nothing, Passed, Arities}
 use Rattle.ic_text.specs.declared.misread.Limit.{Limit as Bound}
@@ -18,15 +19,15 @@ use Rattle.ic_flat.specs.declared.word.Word.{Word}
 use Rattle.ic_text.specs.declared.refusal.Refusal.{Refusal}
 use Rattle.ic_text.specs.Sense.{has_its_arity}
 use Rattle.ic_text.specs.Source.{Phrase, phrase_words}
-use Rattle.ic_text.specs.Limits.{most_nodes}
+use Rattle.ic_text.specs.Limits.{most_nodes, most_rules}
 use Rattle.ic_text.specs.Token.{words_among}
 use Rattle.ic_text.specs.Words.{phrase_prefix, written_system}
-use Rattle.ic_text.specs.WordFaults.{IsFirstWord, IsSecondUse, agree, config_keeps, keeps, rules_keep, word_table}
+use Rattle.ic_text.specs.WordFaults.{IsFirstWord, IsSecondUse, agree, config_keeps, keeps, rule_nodes_keep, rules_keep, word_table}
 use Rattle.ic_text.specs.inner.Counted.{IsExcess, IsFirstExcess}
 use Rattle.ic_text.specs.inner.Numbered.{IsWord, counted_words, numbered_words}
 use Rattle.ic_text.specs.inner.Prefix.{IsEnough, Scanned, scan}
 use Rattle.ic_text.specs.inner.Refused.{IsStoppedIn, IsWordIn, are_within}
-use Rattle.ic_text.proofs.Counting.{arities, arities-phrase, arities-take}
+use Rattle.ic_text.proofs.Counting.{arities, arities-phrase, arities-take, le_test}
 use Rattle.ic_text.proofs.Excesses.{excess_in_config, no_excess}
 use Rattle.ic_text.proofs.Fitting.{Kept}
 use Rattle.ic_text.proofs.HasFaults.{alone}
@@ -51,12 +52,12 @@ module _ (limits : Limits) (terms : ℕ) (ws : List Symbol) (k : ℕ) (enough : 
     | inr many ↦ absurd (omega (arith, many, leb-true (length (take k front)) (most_nodes limits) (kept k Nodes), ap length (take-take k k ws (omega arith)), length-front))
   ]
 
-  pub numbered-whole : (o : Option Excess) → InFront o → (v : List Symbol × List Word) → Ok v ≡ counted_words o front → front ≡ ws
+  pub numbered-whole : (o : Option Excess) → InFront o → (v : List Symbol × List Word) → Ok v ≡ counted_words limits o front → front ≡ ws
   numbered-whole None kept v e = all_words_here kept
   numbered-whole (Some x) is v e = cc
 
-  pub counted-front : (o : Option Excess) → InFront o → counted_words o front ≡ counted_words o ws
-  counted-front None kept = ap numbered_words (all_words_here kept)
+  pub counted-front : (o : Option Excess) → InFront o → counted_words limits o front ≡ counted_words limits o ws
+  counted-front None kept = ap (numbered_words limits) (all_words_here kept)
   counted-front (Some x) is = refl
 
   -- the word with which one is passed is the same
@@ -99,41 +100,45 @@ module _ (limits : Limits) (terms : ℕ) (ws : List Symbol) (k : ℕ) (enough : 
         arity = is.arity;
       }
 
-  word_in : (f : TextFault) (w : Option ℕ) (d : Detail) → IsWordIn front f w d → IsWordIn ws f w d
+  word_in : (f : TextFault) (w : Option ℕ) (d : Detail) → IsWordIn limits front f w d → IsWordIn limits ws f w d
   word_in Limit (Some j) (Passed bound) is =
       let low : j + 1 ≤ k = omega (arith, is.first.inside, length-front) in
       record {
-        first = first_word are_within j is.first;
-        passed = ap (keeps bound) (sym (take-take (j + 1) k ws low)) ∙ is.passed;
-        before = λ b less. ap (keeps b) (sym (take-take (j + 1) k ws low)) ∙ is.before b less;
+        first = first_word (are_within limits) j is.first;
+        passed = ap (keeps limits bound) (sym (take-take (j + 1) k ws low)) ∙ is.passed;
+        before = λ b less. ap (keeps limits b) (sym (take-take (j + 1) k ws low)) ∙ is.before b less;
       }
   word_in Arity (Some j) (Arities before here) is = second_use before here j is
   word_in Memory None Nothing is = tt
   word_in f w d is = absurd is
 
-  pub stopped-front : (o : Option Excess) → InFront o → (r : Refusal) → IsStoppedIn front o r → IsStoppedIn ws o r
+  pub stopped-front : (o : Option Excess) → InFront o → (r : Refusal) → IsStoppedIn limits front o r → IsStoppedIn limits ws o r
   stopped-front o in_front r (inl is) = inl (word_in r.fault r.word r.detail is.0, is.1)
   stopped-front None in_front r (inr is) = absurd is
   stopped-front (Some x) in_front r (inr is) = inr (
     is.0,
-    λ j le. ap are_within (sym (take-take j k ws (omega (arith, le, in_front.inside, length-front)))) ∙ is.1 j le,
+    λ j le. ap (are_within limits) (sym (take-take j k ws (omega (arith, le, in_front.inside, length-front)))) ∙ is.1 j le,
   )
 
 -- no rule passes a limit where there is none
-no_rules : (b : Bound) → rules_keep b [] ≡ true
-no_rules TextBytes = refl
-no_rules Rules = refl
-no_rules RuleNodes = refl
-no_rules Interface = refl
-no_rules Nodes = refl
-no_rules SymbolBytes = refl
-no_rules Arguments = refl
-no_rules NameNumber = refl
-no_rules Symbols = refl
+no_nodes : (limits : Limits) → rule_nodes_keep limits [] ≡ true
+no_nodes Served = refl
+no_nodes Wide = refl
 
-no_rules_yet : (j : ℕ) (b : Bound) → rules_keep b (take j []) ≡ true
-no_rules_yet zero b = no_rules b
-no_rules_yet (suc j) b = no_rules b
+no_rules : (limits : Limits) (b : Bound) → rules_keep limits b [] ≡ true
+no_rules limits TextBytes = refl
+no_rules limits Rules = le_test 0 (2 * most_rules limits) (omega arith)
+no_rules limits RuleNodes = no_nodes limits
+no_rules limits Interface = refl
+no_rules limits Nodes = refl
+no_rules limits SymbolBytes = refl
+no_rules limits Arguments = refl
+no_rules limits NameNumber = refl
+no_rules limits Symbols = refl
+
+no_rules_yet : (limits : Limits) (j : ℕ) (b : Bound) → rules_keep limits b (take j []) ≡ true
+no_rules_yet limits zero b = no_rules limits b
+no_rules_yet limits (suc j) b = no_rules limits b
 
 pub words-take : (k : ℕ) (ws : List Symbol) → AllByRecursion IsWord ws → AllByRecursion IsWord (take k ws)
 words-take zero ws are = tt
@@ -161,6 +166,6 @@ module _ (limits : Limits) (p : Phrase) (words k skip : ℕ) (many : words ≡ l
 
 pub kept_alone : (limits : Limits) (p : Phrase) (terms : ℕ) → terms ≡ length p.interface → (o : Option Excess) → IsFirstExcess (λ b j. config_keeps limits terms b (take j (phrase_prefix p))) (length (phrase_prefix p)) o
     → Kept limits (alone p) o
-kept_alone limits p terms same None kept = no_excess limits (written_system (alone p)) no_rules_yet (λ j b. ap (λ n. config_keeps limits n b (take j (phrase_prefix p))) (sym same) ∙ kept j b)
+kept_alone limits p terms same None kept = no_excess limits (written_system (alone p)) (no_rules_yet limits) (λ j b. ap (λ n. config_keeps limits n b (take j (phrase_prefix p))) (sym same) ∙ kept j b)
 kept_alone limits p terms same (Some x) is =
-    excess_in_config limits (written_system (alone p)) no_rules_yet x x (subst (λ n. IsExcess (λ b j. config_keeps limits n b (take j (phrase_prefix p))) (length (phrase_prefix p)) x) same is) (omega arith) refl
+    excess_in_config limits (written_system (alone p)) (no_rules_yet limits) x x (subst (λ n. IsExcess (λ b j. config_keeps limits n b (take j (phrase_prefix p))) (length (phrase_prefix p)) x) same is) (omega arith) refl

@@ -6,10 +6,12 @@ use Rattle.std.proofs.lemmas.Bool.{and_parts, and_from, ltb-false}
 use Rattle.std.proofs.lemmas.Bool.Decides.{nat_tests}
 use Rattle.std.proofs.lemmas.List.Folds.{list_all-append}
 use Rattle.ic_term.specs.Symbol.{Symbol, fits_limits}
-use Rattle.ic_term.specs.declared.limits.TheConstants.{MAX_SYMBOLS, MAX_SYMBOL_TEXT, MAX_ARITY}
+use Rattle.ic_term.specs.declared.limits.TheConstants.{MAX_SYMBOL_TEXT, MAX_ARITY}
 use Rattle.ic_text.specs.declared.limits.TheConstants.{MAX_NAME}
 use Rattle.ic_text.specs.declared.misread.Limit.{Limit as Bound}
 use Rattle.ic_text.specs.declared.misread.Limit.TheVariants.{TextBytes, SymbolBytes, Arguments, NameNumber, Symbols, Rules, RuleNodes, Interface, Nodes}
+use Rattle.ic_text.specs.declared.limits.Limits.{Limits}
+use Rattle.ic_text.specs.Limits.{most_symbols}
 use Rattle.ic_text.specs.Name.{is_name}
 use Rattle.ic_text.specs.Words.{names_among, symbols_among}
 use Rattle.ic_text.specs.WordFaults.{keeps, rank, word_table}
@@ -23,20 +25,20 @@ all_of p q each (w ∷ ws) all =
     let parts = and_parts (p w) (list_all p ws) all in
     and_from (q w) _ (each w parts.0) (all_of p q each ws parts.1)
 
-module _ (ws : List Symbol) (within : are_within ws ≡ true) where
-  limits : (list_all (λ (s : Symbol). fits_limits s.text s.arity) (symbols_among ws) && list_all (λ n. nat_le n MAX_NAME) (names_among ws)) ≡ true
-  limits = (and_parts _ (nat_le (length (word_table ws)) MAX_SYMBOLS) within).0
+module _ (limits : Limits) (ws : List Symbol) (within : are_within limits ws ≡ true) where
+  of_words : (list_all (λ (s : Symbol). fits_limits s.text s.arity) (symbols_among ws) && list_all (λ n. nat_le n MAX_NAME) (names_among ws)) ≡ true
+  of_words = (and_parts _ (nat_le (length (word_table ws)) (most_symbols limits)) within).0
 
   symbols : list_all (λ (s : Symbol). fits_limits s.text s.arity) (symbols_among ws) ≡ true
-  symbols = (and_parts _ (list_all (λ n. nat_le n MAX_NAME) (names_among ws)) limits).0
+  symbols = (and_parts _ (list_all (λ n. nat_le n MAX_NAME) (names_among ws)) of_words).0
 
-  pub keeps_each : (b : Bound) → keeps b ws ≡ true
+  pub keeps_each : (b : Bound) → keeps limits b ws ≡ true
   keeps_each SymbolBytes =
       all_of (λ s. fits_limits s.text s.arity) (λ s. nat_le (length s.text) MAX_SYMBOL_TEXT) (λ s is. (and_parts (nat_le (length s.text) MAX_SYMBOL_TEXT) (nat_le s.arity MAX_ARITY) is).0) (symbols_among ws) symbols
   keeps_each Arguments =
       all_of (λ s. fits_limits s.text s.arity) (λ s. nat_le s.arity MAX_ARITY) (λ s is. (and_parts (nat_le (length s.text) MAX_SYMBOL_TEXT) (nat_le s.arity MAX_ARITY) is).1) (symbols_among ws) symbols
-  keeps_each NameNumber = (and_parts (list_all (λ (s : Symbol). fits_limits s.text s.arity) (symbols_among ws)) (list_all (λ n. nat_le n MAX_NAME) (names_among ws)) limits).1
-  keeps_each Symbols = (and_parts (list_all (λ (s : Symbol). fits_limits s.text s.arity) (symbols_among ws) && list_all (λ n. nat_le n MAX_NAME) (names_among ws)) (nat_le (length (word_table ws)) MAX_SYMBOLS) within).1
+  keeps_each NameNumber = (and_parts (list_all (λ (s : Symbol). fits_limits s.text s.arity) (symbols_among ws)) (list_all (λ n. nat_le n MAX_NAME) (names_among ws)) of_words).1
+  keeps_each Symbols = (and_parts (list_all (λ (s : Symbol). fits_limits s.text s.arity) (symbols_among ws) && list_all (λ n. nat_le n MAX_NAME) (names_among ws)) (nat_le (length (word_table ws)) (most_symbols limits)) within).1
   keeps_each TextBytes = refl
   keeps_each Rules = refl
   keeps_each RuleNodes = refl
@@ -47,7 +49,7 @@ le_test : (n m : ℕ) → n ≤ m → nat_le n m ≡ true
 le_test n m le = grind (arith, nat_tests)
 
 -- one word more
-module _ (front : List Symbol) (w : Symbol) (within : are_within front ≡ true) where
+module _ (limits : Limits) (front : List Symbol) (w : Symbol) (within : are_within limits front ≡ true) where
   abbrev more : List Symbol
   more = front ++ w ∷ []
 
@@ -65,47 +67,47 @@ module _ (front : List Symbol) (w : Symbol) (within : are_within front ≡ true)
       ∙ list_all-append f (symbols_among front) (w ∷ [])
       ∙ and_from _ _ kept (and_from _ _ is refl)
 
-  few_bytes : is_name w.text ≡ false → nat_lt MAX_SYMBOL_TEXT (length w.text) ≡ false → keeps SymbolBytes more ≡ true
+  few_bytes : is_name w.text ≡ false → nat_lt MAX_SYMBOL_TEXT (length w.text) ≡ false → keeps limits SymbolBytes more ≡ true
   few_bytes none long =
-      more_symbols (λ s. nat_le (length s.text) MAX_SYMBOL_TEXT) none (keeps_each front within SymbolBytes) (le_test (length w.text) MAX_SYMBOL_TEXT (ltb-false MAX_SYMBOL_TEXT (length w.text) long))
+      more_symbols (λ s. nat_le (length s.text) MAX_SYMBOL_TEXT) none (keeps_each limits front within SymbolBytes) (le_test (length w.text) MAX_SYMBOL_TEXT (ltb-false MAX_SYMBOL_TEXT (length w.text) long))
 
-  few_arguments : is_name w.text ≡ false → nat_lt MAX_ARITY w.arity ≡ false → keeps Arguments more ≡ true
+  few_arguments : is_name w.text ≡ false → nat_lt MAX_ARITY w.arity ≡ false → keeps limits Arguments more ≡ true
   few_arguments none many =
-      more_symbols (λ s. nat_le s.arity MAX_ARITY) none (keeps_each front within Arguments) (le_test w.arity MAX_ARITY (ltb-false MAX_ARITY w.arity many))
+      more_symbols (λ s. nat_le s.arity MAX_ARITY) none (keeps_each limits front within Arguments) (le_test w.arity MAX_ARITY (ltb-false MAX_ARITY w.arity many))
 
-  of_name : is_name w.text ≡ true → (b : Bound) → rank b < 7 → keeps b more ≡ true
-  of_name named SymbolBytes less = ap (list_all (λ (s : Symbol). nat_le (length s.text) MAX_SYMBOL_TEXT)) (same_symbols named) ∙ keeps_each front within SymbolBytes
-  of_name named Arguments less = ap (list_all (λ (s : Symbol). nat_le s.arity MAX_ARITY)) (same_symbols named) ∙ keeps_each front within Arguments
+  of_name : is_name w.text ≡ true → (b : Bound) → rank b < 7 → keeps limits b more ≡ true
+  of_name named SymbolBytes less = ap (list_all (λ (s : Symbol). nat_le (length s.text) MAX_SYMBOL_TEXT)) (same_symbols named) ∙ keeps_each limits front within SymbolBytes
+  of_name named Arguments less = ap (list_all (λ (s : Symbol). nat_le s.arity MAX_ARITY)) (same_symbols named) ∙ keeps_each limits front within Arguments
   of_name named NameNumber less = absurd (omega (arith, less))
   of_name named Symbols less = absurd (omega (arith, less))
   of_name named b less = refl
 
-  of_bytes : (b : Bound) → rank b < 5 → keeps b more ≡ true
+  of_bytes : (b : Bound) → rank b < 5 → keeps limits b more ≡ true
   of_bytes SymbolBytes less = absurd (omega (arith, less))
   of_bytes Arguments less = absurd (omega (arith, less))
   of_bytes NameNumber less = absurd (omega (arith, less))
   of_bytes Symbols less = absurd (omega (arith, less))
   of_bytes b less = refl
 
-  of_arguments : keeps SymbolBytes more ≡ true → (b : Bound) → rank b < 6 → keeps b more ≡ true
+  of_arguments : keeps limits SymbolBytes more ≡ true → (b : Bound) → rank b < 6 → keeps limits b more ≡ true
   of_arguments short SymbolBytes less = short
   of_arguments short Arguments less = absurd (omega (arith, less))
   of_arguments short NameNumber less = absurd (omega (arith, less))
   of_arguments short Symbols less = absurd (omega (arith, less))
   of_arguments short b less = refl
 
-  of_symbols : keeps SymbolBytes more ≡ true → keeps Arguments more ≡ true → is_name w.text ≡ false → (b : Bound) → rank b < 8 → keeps b more ≡ true
+  of_symbols : keeps limits SymbolBytes more ≡ true → keeps limits Arguments more ≡ true → is_name w.text ≡ false → (b : Bound) → rank b < 8 → keeps limits b more ≡ true
   of_symbols short few none SymbolBytes less = short
   of_symbols short few none Arguments less = few
-  of_symbols short few none NameNumber less = ap (list_all (λ n. nat_le n MAX_NAME)) (same_names none) ∙ keeps_each front within NameNumber
+  of_symbols short few none NameNumber less = ap (list_all (λ n. nat_le n MAX_NAME)) (same_names none) ∙ keeps_each limits front within NameNumber
   of_symbols short few none Symbols less = absurd (omega (arith, less))
   of_symbols short few none b less = refl
 
-  pub kept_before : (b : Bound) → rank b < rank (limit_of w) → keeps b more ≡ true
+  pub kept_before : (b : Bound) → rank b < rank (limit_of w) → keeps limits b more ≡ true
   kept_before b less = by_name (is_name w.text) (nat_lt MAX_SYMBOL_TEXT (length w.text)) (nat_lt MAX_ARITY w.arity) refl refl refl less
     where
       by_name : (n l a : Bool) → is_name w.text ≡ n → nat_lt MAX_SYMBOL_TEXT (length w.text) ≡ l → nat_lt MAX_ARITY w.arity ≡ a
-          → rank b < rank (cond n NameNumber (cond l SymbolBytes (cond a Arguments Symbols))) → keeps b more ≡ true
+          → rank b < rank (cond n NameNumber (cond l SymbolBytes (cond a Arguments Symbols))) → keeps limits b more ≡ true
       by_name true l a named long many less = of_name named b less
       by_name false true a named long many less = of_bytes b less
       by_name false false true named long many less = of_arguments (few_bytes named long) b less

@@ -50,6 +50,7 @@ pub mod RulePlaces
 pub mod Innocence
 pub mod Counting
 pub mod Excesses
+pub mod RuleNodes
 pub mod Fitting
 pub mod Stopping
 pub mod OnePlace

@@ -31,21 +31,24 @@ abbrev parts_or : SystemParts → Result SystemParts TextFault → SystemParts
 parts_or d (Ok v) = v
 parts_or d (Err e) = d
 
-pub config_of_sense : (limits : Limits) (s : SystemPhrase) (v : SystemParts) → system_sense_within limits s ≡ Ok v → numbered_phrase (system_table s) s.config ≡ v.config
-config_of_sense limits s v =
+pub parts_of_sense : (limits : Limits) (s : SystemPhrase) (v : SystemParts) → system_sense_within limits s ≡ Ok v → system_parts s ≡ v
+parts_of_sense limits s v =
     by_cases (is_system_in_limits_within limits s) (list_all (has_its_arity (system_table s)) (system_symbols s))
     (first_uncounted (rules_over s)) (third_occurrence (phrase_names s.config)) (first_repeated (rules_over s)) (first_lopsided (rules_over s))
   where
     by_cases : (a b : Bool) (counted third repeated uneven : Option ℕ)
         → cond a (cond b (unless_found counted NameCount (unless_found third Name (unless_found repeated Twice (unless_found uneven Lopsided (Ok (system_parts s)))))) (Err Arity)) (Err Limit) ≡ Ok v
-        → numbered_phrase (system_table s) s.config ≡ v.config
+        → system_parts s ≡ v
     by_cases false b counted third repeated uneven e = cc
     by_cases true false counted third repeated uneven e = cc
     by_cases true true (Some n) third repeated uneven e = cc
     by_cases true true None (Some n) repeated uneven e = cc
     by_cases true true None None (Some n) uneven e = cc
     by_cases true true None None None (Some n) e = cc
-    by_cases true true None None None None e = ap (λ r. (parts_or (system_parts s) r).config) e
+    by_cases true true None None None None e = ap (parts_or (system_parts s)) e
+
+pub config_of_sense : (limits : Limits) (s : SystemPhrase) (v : SystemParts) → system_sense_within limits s ≡ Ok v → numbered_phrase (system_table s) s.config ≡ v.config
+config_of_sense limits s v means = ap (λ (p : SystemParts). p.config) (parts_of_sense limits s v means)
 
 pub next_of_system : (limits : Limits) (text : List ℕ) (v : SystemParts) → ReadsSystemWithin limits text (Ok v) → IsNext v.config
 next_of_system limits text v reads =

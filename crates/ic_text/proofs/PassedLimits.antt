@@ -9,22 +9,23 @@ use Rattle.std.proofs.lemmas.Option.{slice_get-map}
 use Rattle.std.proofs.lemmas.List.Elements.{Contains-append_right}
 use Rattle.std.proofs.lemmas.List.Folds.{list_all-append}
 use Rattle.std.proofs.lemmas.List.Sums.{sum_by-cons}
-use Rattle.ic_rules.specs.declared.limits.TheConstants.{MAX_RULES, MAX_RULE_NODES}
+use Rattle.ic_rules.specs.declared.limits.TheConstants.{MAX_RULE_NODES}
 use Rattle.ic_term.specs.Symbol.{Symbol, texts}
-use Rattle.ic_term.specs.declared.limits.TheConstants.{MAX_SYMBOLS, MAX_SYMBOL_TEXT, MAX_ARITY}
+use Rattle.ic_term.specs.declared.limits.TheConstants.{MAX_SYMBOL_TEXT, MAX_ARITY}
 use Rattle.ic_text.specs.declared.limits.TheConstants.{MAX_NAME}
 use Rattle.ic_text.specs.declared.limits.Limits.{Limits}
+use Rattle.ic_text.specs.declared.limits.Limits.TheVariants.{Served, Wide}
 use Rattle.ic_text.specs.declared.misread.Limit.{Limit as Bound}
 use Rattle.ic_text.specs.declared.misread.Limit.TheVariants.{SymbolBytes, Arguments, NameNumber, Symbols, Rules, RuleNodes, Interface, Nodes}
 use Rattle.ic_text.specs.Agents.{agents, nodes_within}
-use Rattle.ic_text.specs.Limits.{most_interface, most_nodes}
+use Rattle.ic_text.specs.Limits.{most_interface, most_nodes, most_rules, most_symbols}
 use Rattle.ic_text.specs.Name.{is_name, name_number, name_text}
 use Rattle.ic_text.specs.Sense.{symbols_after}
 use Rattle.ic_text.specs.Source.{Sides, phrase_nodes, nodes_of_sources}
 use Rattle.ic_text.specs.SystemSource.{AgentPhrase, RulePhrase, SystemPhrase, IsSystemPhrase, agent_source, rule_nodes, system_names, system_symbols}
 use Rattle.ic_text.specs.SystemSense.{system_table}
-use Rattle.ic_text.specs.Words.{all_words, in_a_row, names_among, phrase_prefix, prefix, rules_prefix, symbols_among, system_prefix, written_system}
-use Rattle.ic_text.specs.WordFaults.{IsLimitWordWithin, count_words, counts_keep, keeps, keeps_so_far}
+use Rattle.ic_text.specs.Words.{all_words, in_a_row, names_among, phrase_prefix, prefix, rule_prefix, rules_prefix, symbols_among, system_prefix, written_system}
+use Rattle.ic_text.specs.WordFaults.{IsLimitWordWithin, count_words, counts_keep, each_keeps, keeps, keeps_so_far}
 use Rattle.ic_text.specs.lemmas.NameLemmas.{name_text-name_number}
 use Rattle.ic_text.proofs.Blaming.{Standing}
 use Rattle.ic_text.proofs.Counting.{count-both, count-rules, count-take}
@@ -33,6 +34,7 @@ use Rattle.ic_text.proofs.Heads.{behind_term, heads, more_heads, one_too_many, w
 use Rattle.ic_text.proofs.JoinedPhrase.{is-joined, joined_phrase, length-rules_prefix, length-sides_of_rules, names-joined, prefix-joined, sides_of_rules, sides_through, symbols-joined}
 use Rattle.ic_text.proofs.PrefixWords.{length-phrase_prefix, length-prefix, names_among-append, names_among-phrase, symbols_among-append, symbols_among-phrase}
 use Rattle.ic_text.proofs.Refusing.{written-system}
+use Rattle.ic_text.proofs.RuleNodes.{long_rule}
 use Rattle.ic_text.proofs.SymbolOrder.{grows, symbols_after-append}
 use Rattle.ic_text.proofs.Uses.{standing_in}
 
@@ -156,21 +158,11 @@ module _ (limits : Limits) (s : SystemPhrase) (k : ℕ) where
   same_count : (outer : Bool) (j : ℕ) → count_words outer 0 (take j row_of) ≡ count_words outer 0 (take j (rules_prefix s.rules))
   same_count outer j = ap (λ l. count_words outer 0 (take j l)) (rules_row s)
 
-  pub rules_passed : IsLimitWordWithin limits Rules (written_system s) k → (MAX_RULES < length s.rules) × (k ≡ length (rules_prefix (take MAX_RULES s.rules)))
+  pub rules_passed : IsLimitWordWithin limits Rules (written_system s) k → (most_rules limits < length s.rules) × (k ≡ length (rules_prefix (take (most_rules limits) s.rules)))
   rules_passed is =
-      let over = leb-false (count_words true 0 (take (k + 1) row_of)) (2 * MAX_RULES) (and_first _ is.passed) in
-      let within = leb-true (count_words true 0 (take k row_of)) (2 * MAX_RULES) (and_parts _ true (is.innocent k (omega arith) Rules)).0 in
-      rule_too_many s.rules MAX_RULES k (omega (arith, within, same_count true k)) (omega (arith, over, same_count true (k + 1)))
-
-  pub rule_nodes_passed : IsLimitWordWithin limits RuleNodes (written_system s) k
-      → (n : ℕ) × (k ≡ MAX_RULE_NODES + n + 1) × (nodes_within (take n (agents s.rules)) ≤ MAX_RULE_NODES) × (MAX_RULE_NODES < nodes_within (take (n + 1) (agents s.rules))) × (MAX_RULE_NODES < sum_by rule_nodes s.rules)
-  rule_nodes_passed is =
-      let over = leb-false (count_words false 0 (take (k + 1) row_of)) MAX_RULE_NODES (and_first _ is.passed) in
-      let within = leb-true (count_words false 0 (take k row_of)) MAX_RULE_NODES (and_parts _ true (is.innocent k (omega arith) RuleNodes)).0 in
-      let kept : count_words false 0 (take k (rules_prefix s.rules)) ≤ MAX_RULE_NODES = omega (arith, within, same_count false k) in
-      let passed : MAX_RULE_NODES < count_words false 0 (take (k + 1) (rules_prefix s.rules)) = omega (arith, over, same_count false (k + 1)) in
-      let node = node_too_many s.rules MAX_RULE_NODES k kept passed in
-      (node.0, node.1, node.2, node.3, nodes_are_more s.rules MAX_RULE_NODES k kept passed)
+      let over = leb-false (count_words true 0 (take (k + 1) row_of)) (2 * most_rules limits) (and_first _ is.passed) in
+      let within = leb-true (count_words true 0 (take k row_of)) (2 * most_rules limits) (and_parts _ true (is.innocent k (omega arith) Rules)).0 in
+      rule_too_many s.rules (most_rules limits) k (omega (arith, within, same_count true k)) (omega (arith, over, same_count true (k + 1)))
 
   -- a word of the configuration
   behind_rules : (j : ℕ) → length row_of < j → j ≡ length row_of + (j - length row_of)
@@ -205,6 +197,30 @@ module _ (limits : Limits) (s : SystemPhrase) (k : ℕ) where
         omega (arith, over, length-take (k + 1 - length row_of) (phrase_prefix s.config), length-phrase_prefix s.config),
         omega (arith, over, within, inside, long, length-take (k + 1 - length row_of) (phrase_prefix s.config), length-take (k - length row_of) (phrase_prefix s.config), ap length (rules_row s)),
       )
+
+-- a node of rules too many, of all of them or of one
+module _ (s : SystemPhrase) (k : ℕ) where
+  pub rule_nodes_passed : IsLimitWordWithin Served RuleNodes (written_system s) k
+      → (n : ℕ) × (k ≡ MAX_RULE_NODES + n + 1) × (nodes_within (take n (agents s.rules)) ≤ MAX_RULE_NODES) × (MAX_RULE_NODES < nodes_within (take (n + 1) (agents s.rules))) × (MAX_RULE_NODES < sum_by rule_nodes s.rules)
+  rule_nodes_passed is =
+      let row = in_a_row (written_system s).rules in
+      let over = leb-false (count_words false 0 (take (k + 1) row)) MAX_RULE_NODES (and_first _ is.passed) in
+      let within = leb-true (count_words false 0 (take k row)) MAX_RULE_NODES (and_parts _ true (is.innocent k (omega arith) RuleNodes)).0 in
+      let same = same_count Served s k false in
+      let kept : count_words false 0 (take k (rules_prefix s.rules)) ≤ MAX_RULE_NODES = omega (arith, within, same k) in
+      let passed : MAX_RULE_NODES < count_words false 0 (take (k + 1) (rules_prefix s.rules)) = omega (arith, over, same (k + 1)) in
+      let node = node_too_many s.rules MAX_RULE_NODES k kept passed in
+      (node.0, node.1, node.2, node.3, nodes_are_more s.rules MAX_RULE_NODES k kept passed)
+
+  pub long_rule_passed : IsLimitWordWithin Wide RuleNodes (written_system s) k → (i : ℕ) × (r : RulePhrase) × (slice_get s.rules i ≡ Some r) × (MAX_RULE_NODES < rule_nodes r) × (length (rules_prefix (take i s.rules)) ≤ k) × (k < length (rules_prefix (take i s.rules)) + length (rule_prefix r))
+  long_rule_passed is =
+      let row = in_a_row (written_system s).rules in
+      let same = rules_row s in
+      let kept : each_keeps 0 true 0 (take k row) ≡ true = (and_parts _ true (is.innocent k (omega arith) RuleNodes)).0 in
+      let passed : each_keeps 0 true 0 (take (k + 1) row) ≡ false = and_first _ is.passed in
+      let found = long_rule s.rules 0 k (ap (λ l. each_keeps 0 true 0 (take k l)) (sym same) ∙ kept) (ap (λ l. each_keeps 0 true 0 (take (k + 1) l)) (sym same) ∙ passed) in
+      let is_long = found.2 in
+      (found.0, found.1, is_long.0, is_long.1, is_long.2, is_long.3)
 
 -- a word with which symbols or names no longer pass a test
 module _ (ws : List Symbol) (k : ℕ) (inside : k < length ws) where
@@ -284,15 +300,15 @@ module _ (limits : Limits) (s : SystemPhrase) (is : IsSystemPhrase s) (k : ℕ) 
   inside_of inside = omega (arith, inside, ap length same_words)
 
   -- a limit of words is passed by the words themselves
-  passed_at : (bound : Bound) → counts_keep limits bound (written_system s) (k + 1) ≡ true → keeps_so_far limits bound (written_system s) (k + 1) ≡ false → keeps bound (take (k + 1) words_are) ≡ false
-  passed_at bound none e = ap (λ l. keeps bound (take (k + 1) l)) (sym same_words) ∙ first (keeps bound (take (k + 1) (all_words (written_system s)))) (counts_keep limits bound (written_system s) (k + 1)) none e
+  passed_at : (bound : Bound) → counts_keep limits bound (written_system s) (k + 1) ≡ true → keeps_so_far limits bound (written_system s) (k + 1) ≡ false → keeps limits bound (take (k + 1) words_are) ≡ false
+  passed_at bound none e = ap (λ l. keeps limits bound (take (k + 1) l)) (sym same_words) ∙ first (keeps limits bound (take (k + 1) (all_words (written_system s)))) (counts_keep limits bound (written_system s) (k + 1)) none e
     where
       first : (x y : Bool) → y ≡ true → (x && y) ≡ false → x ≡ false
       first true y is e = absurd (false≢true (sym e ∙ is))
       first false y is e = refl
 
-  kept_at : (bound : Bound) → keeps_so_far limits bound (written_system s) k ≡ true → keeps bound (take k words_are) ≡ true
-  kept_at bound e = ap (λ l. keeps bound (take k l)) (sym same_words) ∙ (and_parts (keeps bound (take k (all_words (written_system s)))) (counts_keep limits bound (written_system s) k) e).0
+  kept_at : (bound : Bound) → keeps_so_far limits bound (written_system s) k ≡ true → keeps limits bound (take k words_are) ≡ true
+  kept_at bound e = ap (λ l. keeps limits bound (take k l)) (sym same_words) ∙ (and_parts (keeps limits bound (take k (all_words (written_system s)))) (counts_keep limits bound (written_system s) k) e).0
 
   pub symbol_bytes_passed : IsLimitWordWithin limits SymbolBytes (written_system s) k → (x : Symbol) × (slice_get words_are k ≡ Some x) × Contains (system_symbols s) x × (MAX_SYMBOL_TEXT < length x.text)
   symbol_bytes_passed passed =
@@ -320,8 +336,8 @@ module _ (limits : Limits) (s : SystemPhrase) (is : IsSystemPhrase s) (k : ℕ) 
         leb-false n MAX_NAME at.1,
       )
 
-  pub symbols_passed : IsLimitWordWithin limits Symbols (written_system s) k → MAX_SYMBOLS < length (system_table s)
+  pub symbols_passed : IsLimitWordWithin limits Symbols (written_system s) k → most_symbols limits < length (system_table s)
   symbols_passed passed =
       let inside = inside_of passed.inside in
-      let over = leb-false (length (symbols_after [] (symbols_among (take (k + 1) words_are)))) MAX_SYMBOLS (passed_at Symbols refl passed.passed) in
+      let over = leb-false (length (symbols_after [] (symbols_among (take (k + 1) words_are)))) (most_symbols limits) (passed_at Symbols refl passed.passed) in
       omega (arith, over, table_grows words_are k inside, ap (λ l. length (symbols_after [] l)) (symbols_of_system s is))

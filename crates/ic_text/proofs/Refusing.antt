@@ -6,7 +6,6 @@ use Rattle.std.proofs.lemmas.Bool.{false≢true}
 use Rattle.std.proofs.lemmas.List.{length-map}
 use Rattle.std.proofs.lemmas.List.Folds.{flat_map-map}
 use Rattle.ic_term.specs.Symbol.{Symbol, texts}
-use Rattle.ic_term.specs.declared.limits.TheConstants.{MAX_SYMBOLS}
 use Rattle.ic_term.specs.Configuration.{Configuration, third_occurrence}
 use Rattle.ic_term.specs.declared.config.ConfigFault.{ConfigFault}
 use Rattle.ic_term.specs.declared.config.ConfigFault.TheVariants.{Limit as TooMuch, Name as Third, Memory as NoRoom}
@@ -19,7 +18,7 @@ use Rattle.ic_text.specs.declared.misread.Detail.{Detail}
 use Rattle.ic_text.specs.declared.misread.Detail.TheVariants.{Nothing, Passed, Arities}
 use Rattle.ic_text.specs.declared.misread.Limit.TheVariants.{TextBytes, SymbolBytes, Arguments, NameNumber, Symbols, Rules, RuleNodes, Interface, Nodes}
 use Rattle.ic_flat.specs.declared.word.Word.{Word}
-use Rattle.ic_text.specs.Limits.{most_bytes}
+use Rattle.ic_text.specs.Limits.{most_bytes, most_symbols}
 use Rattle.ic_text.specs.Token.{Token, words_among}
 use Rattle.ic_text.specs.Reading.{IsSpelling}
 use Rattle.ic_text.specs.Sense.{symbols_after, has_its_arity}
@@ -89,20 +88,20 @@ system_limit limits s low = by_cases (is_system_in_limits_within limits s) (list
     by_cases true true is e = neither_behind Limit (λ i x. cc) (λ i x. cc) (λ i x. cc) (λ i x. cc) _ _ _ _ _ e
 
 -- where words are numbered, their arities agree
-numbered_agree : (ws : List Symbol) (v : List Symbol × List Word) → Ok v ≡ numbered_words ws → agree ws ≡ true
-numbered_agree ws v e =
-    agree-words ws ∙ by_cases (list_all is_word_in_limits ws && nat_le (length (table_over [] ws)) MAX_SYMBOLS) (list_all (is_word_over (table_over [] ws)) ws) e
+numbered_agree : (limits : Limits) (ws : List Symbol) (v : List Symbol × List Word) → Ok v ≡ numbered_words limits ws → agree ws ≡ true
+numbered_agree limits ws v e =
+    agree-words ws ∙ by_cases (list_all is_word_in_limits ws && nat_le (length (table_over [] ws)) (most_symbols limits)) (list_all (is_word_over (table_over [] ws)) ws) e
   where
     by_cases : (l o : Bool) → Ok v ≡ unless_refused {A = List Symbol × List Word} l o (table_over [] ws, map (word_from (table_over [] ws)) ws) → o ≡ true
     by_cases true true e = refl
     by_cases true false e = cc
     by_cases false o e = cc
 
-pub system_agrees : (s : SystemPhrase) → IsSystemPhrase s → (v : List Symbol × List Word) → Ok v ≡ numbered_words (phrase_prefix (joined_phrase s))
+pub system_agrees : (limits : Limits) (s : SystemPhrase) → IsSystemPhrase s → (v : List Symbol × List Word) → Ok v ≡ numbered_words limits (phrase_prefix (joined_phrase s))
     → list_all (has_its_arity (system_table s)) (system_symbols s) ≡ true
-system_agrees s is v e =
+system_agrees limits s is v e =
     let same : symbols_among (phrase_prefix (joined_phrase s)) ≡ system_symbols s = symbols_among-phrase (joined_phrase s) (is-joined s is) ∙ symbols-joined s in
-    (λ i. list_all (has_its_arity (symbols_after [] (sym same i))) (sym same i)) ∙ numbered_agree (phrase_prefix (joined_phrase s)) v e
+    (λ i. list_all (has_its_arity (symbols_after [] (sym same i))) (sym same i)) ∙ numbered_agree limits (phrase_prefix (joined_phrase s)) v e
 
 -- the word of a refusal is one of the words, and those of a list stand within those of all lists
 one_of_all : (wss : List (List Symbol)) (i : ℕ) (ws : List Symbol) → slice_get wss i ≡ Some ws → length (in_a_row (take i wss)) + length ws ≤ length (in_a_row wss)

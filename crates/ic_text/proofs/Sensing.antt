@@ -9,13 +9,13 @@ use Rattle.ic_term.specs.Symbol.{Symbol, fits_limits}
 use Rattle.ic_term.specs.Tree.{names, names_of, nodes, nodes_of, pair_names, pair_nodes}
 use Rattle.ic_term.specs.Configuration.{Configuration, configuration_names, configuration_nodes, one_above, third_occurrence, is_within_wide, unless_third, wide_restored}
 use Rattle.ic_term.specs.declared.config.ConfigFault.TheVariants.{Limit as TooMuch}
-use Rattle.ic_term.specs.declared.limits.TheConstants.{MAX_SYMBOLS, MAX_NEXT, MAX_WIDE_NODES}
+use Rattle.ic_term.specs.declared.limits.TheConstants.{MAX_NEXT, MAX_WIDE_NODES}
 use Rattle.ic_flat.specs.declared.word.Word.{Word}
 use Rattle.ic_text.specs.declared.limits.Limits.{Limits}
 use Rattle.ic_text.specs.declared.limits.TheConstants.{MAX_NAME}
 use Rattle.ic_text.specs.declared.fault.TextFault.{TextFault}
 use Rattle.ic_text.specs.declared.fault.TextFault.TheVariants.{Syntax, Limit, Arity, NameCount, Name, Twice, Lopsided, Memory}
-use Rattle.ic_text.specs.Limits.{most_interface, most_nodes}
+use Rattle.ic_text.specs.Limits.{most_interface, most_nodes, most_symbols}
 use Rattle.ic_text.specs.Source.{Source, leaf, node, Sources, no_sources, more_sources, Sides, Phrase, IsPhrase, source_names, names_of_sources, source_nodes, nodes_of_sources, phrase_names, phrase_symbols, phrase_nodes}
 use Rattle.ic_text.specs.Sense.{symbols_after, symbol_table, has_its_arity, numbered_tree, numbered_trees, numbered_pair, numbered_phrase, unless_third_name, sense_within}
 use Rattle.ic_text.specs.declared.prefix.Node.{Node}
@@ -129,8 +129,8 @@ module _ (p : Phrase) (is : IsPhrase p) where
   items = map (word_from table) (phrase_prefix p)
 
   -- the limits of words and of their table
-  abbrev pub in_limits : Bool
-  in_limits = (list_all (λ s. fits_limits s.text s.arity) (phrase_symbols p) && list_all (λ n. nat_le n MAX_NAME) (phrase_names p)) && nat_le (length table) MAX_SYMBOLS
+  abbrev pub in_limits : Limits → Bool
+  in_limits limits = (list_all (λ s. fits_limits s.text s.arity) (phrase_symbols p) && list_all (λ n. nat_le n MAX_NAME) (phrase_names p)) && nat_le (length table) (most_symbols limits)
 
   abbrev pub agree : Bool
   agree = list_all (has_its_arity table) (phrase_symbols p)
@@ -138,40 +138,40 @@ module _ (p : Phrase) (is : IsPhrase p) where
   abbrev value : Result (List Symbol × Configuration) TextFault
   value = unless_third_name {A = List Symbol × Configuration} (table, numbered_phrase table p) (third_occurrence (phrase_names p))
 
-  pub numbered_words-phrase : numbered_words (phrase_prefix p) ≡ unless_refused {A = List Symbol × List Word} in_limits agree (table, items)
-  numbered_words-phrase =
+  pub numbered_words-phrase : (limits : Limits) → numbered_words limits (phrase_prefix p) ≡ unless_refused {A = List Symbol × List Word} (in_limits limits) agree (table, items)
+  numbered_words-phrase limits =
       let ws = phrase_prefix p in
       let same_table : table_over [] ws ≡ table = table-words ws [] ∙ ap (symbols_after []) (symbols_among-phrase p is) in
       let same_limits : list_all is_word_in_limits ws ≡ (list_all (λ s. fits_limits s.text s.arity) (phrase_symbols p) && list_all (λ n. nat_le n MAX_NAME) (phrase_names p)) =
       limits-words ws ∙ (λ i. list_all (λ s. fits_limits s.text s.arity) (symbols_among-phrase p is i) && list_all (λ n. nat_le n MAX_NAME) (names_among-phrase p is i)) in
       let same_arities : list_all (is_word_over table) ws ≡ agree = arities-words table ws ∙ ap (list_all (has_its_arity table)) (symbols_among-phrase p is) in
-      ap (λ t. unless_refused {A = List Symbol × List Word} (list_all is_word_in_limits ws && nat_le (length t) MAX_SYMBOLS) (list_all (is_word_over t) ws) (t, map (word_from t) ws)) same_table
-      ∙ (λ i. unless_refused {A = List Symbol × List Word} (same_limits i && nat_le (length table) MAX_SYMBOLS) (same_arities i) (table, items))
+      ap (λ t. unless_refused {A = List Symbol × List Word} (list_all is_word_in_limits ws && nat_le (length t) (most_symbols limits)) (list_all (is_word_over t) ws) (t, map (word_from t) ws)) same_table
+      ∙ (λ i. unless_refused {A = List Symbol × List Word} (same_limits i && nat_le (length table) (most_symbols limits)) (same_arities i) (table, items))
 
-  pub phrase_within : (v : List Symbol × List Word) → Ok v ≡ numbered_words (phrase_prefix p) → in_limits ≡ true
-  phrase_within v e = numbered_within in_limits agree (table, items) v (e ∙ numbered_words-phrase)
+  pub phrase_within : (limits : Limits) (v : List Symbol × List Word) → Ok v ≡ numbered_words limits (phrase_prefix p) → in_limits limits ≡ true
+  phrase_within limits v e = numbered_within (in_limits limits) agree (table, items) v (e ∙ numbered_words-phrase limits)
 
   -- where they have numbers, they write the configuration
-  pub paired_words : (v : List Symbol × List Word) → Ok v ≡ numbered_words (phrase_prefix p) → IsPaired v.1 (length p.interface)
-  paired_words v e =
-      let same : v.1 ≡ items = ap (λ (x : List Symbol × List Word). x.1) (numbered_is in_limits agree (table, items) v (e ∙ numbered_words-phrase)) in
+  pub paired_words : (limits : Limits) (v : List Symbol × List Word) → Ok v ≡ numbered_words limits (phrase_prefix p) → IsPaired v.1 (length p.interface)
+  paired_words limits v e =
+      let same : v.1 ≡ items = ap (λ (x : List Symbol × List Word). x.1) (numbered_is (in_limits limits) agree (table, items) v (e ∙ numbered_words-phrase limits)) in
       rw same (paired-phrase table p is)
 
   -- where neither nodes nor terms of the interface are too many, the sense is that of the words
-  pub sense-words : (limits : Limits) → nat_le (phrase_nodes p) (most_nodes limits) ≡ true → nat_le (length p.interface) (most_interface limits) ≡ true → sense_within limits p ≡ finished (length p.interface) (numbered_words (phrase_prefix p))
-  sense-words limits few short = whole ∙ by_cases in_limits agree refl ∙ ap (finished (length p.interface)) (sym numbered_words-phrase)
+  pub sense-words : (limits : Limits) → nat_le (phrase_nodes p) (most_nodes limits) ≡ true → nat_le (length p.interface) (most_interface limits) ≡ true → sense_within limits p ≡ finished (length p.interface) (numbered_words limits (phrase_prefix p))
+  sense-words limits few short = whole ∙ by_cases (in_limits limits) agree refl ∙ ap (finished (length p.interface)) (sym (numbered_words-phrase limits))
     where
-      whole : sense_within limits p ≡ cond in_limits (cond agree value (Err Arity)) (Err Limit)
-      whole = rw (few, short) (by_limits in_limits)
+      whole : sense_within limits p ≡ cond (in_limits limits) (cond agree value (Err Arity)) (Err Limit)
+      whole = rw (few, short) (by_limits (in_limits limits))
         where
           by_limits : (a : Bool) → cond ((a && true) && true) (cond agree value (Err Arity)) (Err Limit) ≡ cond a (cond agree value (Err Arity)) (Err Limit)
           by_limits true = refl
           by_limits false = refl
 
-      low : in_limits ≡ true → list_all (λ n. nat_le n MAX_NAME) (phrase_names p) ≡ true
-      low all = (and_parts (list_all (λ s. fits_limits s.text s.arity) (phrase_symbols p)) (list_all (λ n. nat_le n MAX_NAME) (phrase_names p)) (and_parts (list_all (λ s. fits_limits s.text s.arity) (phrase_symbols p) && list_all (λ n. nat_le n MAX_NAME) (phrase_names p)) (nat_le (length table) MAX_SYMBOLS) all).0).1
+      low : in_limits limits ≡ true → list_all (λ n. nat_le n MAX_NAME) (phrase_names p) ≡ true
+      low all = (and_parts (list_all (λ s. fits_limits s.text s.arity) (phrase_symbols p)) (list_all (λ n. nat_le n MAX_NAME) (phrase_names p)) (and_parts (list_all (λ s. fits_limits s.text s.arity) (phrase_symbols p) && list_all (λ n. nat_le n MAX_NAME) (phrase_names p)) (nat_le (length table) (most_symbols limits)) all).0).1
 
-      by_cases : (a o : Bool) → in_limits ≡ a → cond a (cond o value (Err Arity)) (Err Limit) ≡ finished (length p.interface) (unless_refused {A = List Symbol × List Word} a o (table, items))
+      by_cases : (a o : Bool) → in_limits limits ≡ a → cond a (cond o value (Err Arity)) (Err Limit) ≡ finished (length p.interface) (unless_refused {A = List Symbol × List Word} a o (table, items))
       by_cases true true all =
           third_beside table (numbered_phrase table p) (third_occurrence (phrase_names p))
           ∙ ap (λ r. beside_table table (as_text_answer r)) (sym (restored-numbered limits table p few (low all)) ∙ ap wide_restored (sym (configuration_from-built table p is)))

@@ -4,14 +4,13 @@ use Rattle.std.specs.Prelude.{nat_le, sum_by}
 use Rattle.std.specs.List.{flat_map, list_all}
 use Rattle.std.proofs.lemmas.List.{length-map, map-append, take_at, drop_at}
 use Rattle.std.proofs.lemmas.List.Folds.{list_all-append}
-use Rattle.std.proofs.lemmas.Bool.{false≢true, and_parts}
+use Rattle.std.proofs.lemmas.Bool.{false≢true, and_from, and_parts, le-leb, leb-true}
 use Rattle.ic_term.specs.Symbol.{Symbol, fits_limits, is_over}
 use Rattle.ic_term.specs.Configuration.{Configuration, third_occurrence, unless_third, wide_restored}
-use Rattle.ic_term.specs.declared.limits.TheConstants.{MAX_SYMBOLS}
 use Rattle.ic_rules.specs.Rule.{numbered}
 use Rattle.ic_rules.specs.RuleSet.{Rules, first_uncounted, first_repeated, first_lopsided, unless, built as built_rules}
 use Rattle.ic_rules.specs.System.{SystemParts}
-use Rattle.ic_rules.specs.declared.limits.TheConstants.{MAX_RULES, MAX_RULE_NODES}
+use Rattle.ic_rules.specs.declared.limits.TheConstants.{MAX_RULE_NODES, MAX_WIDE_RULES}
 use Rattle.ic_rules.specs.declared.rule_set.RuleFault.{RuleFault}
 use Rattle.ic_rules.specs.declared.rule_set.RuleFault.TheVariants.{NameCount as Uncounted, Twice as Repeated, Lopsided as Uneven}
 use Rattle.ic_text.specs.declared.limits.Limits.{Limits}
@@ -19,11 +18,11 @@ use Rattle.ic_text.specs.declared.limits.TheConstants.{MAX_NAME}
 use Rattle.ic_flat.specs.declared.word.Word.{Word}
 use Rattle.ic_text.specs.declared.fault.TextFault.{TextFault}
 use Rattle.ic_text.specs.declared.fault.TextFault.TheVariants.{Limit, Arity, NameCount, Name, Twice, Lopsided}
-use Rattle.ic_text.specs.Limits.{most_interface, most_nodes}
+use Rattle.ic_text.specs.Limits.{most_interface, most_nodes, most_rules, most_symbols}
 use Rattle.ic_text.specs.Source.{phrase_names, phrase_symbols, phrase_nodes}
 use Rattle.ic_text.specs.Sense.{symbols_after, has_its_arity, numbered_phrase}
 use Rattle.ic_text.specs.SystemSource.{SystemPhrase, IsSystemPhrase, rule_symbols, rule_names, rule_nodes, system_symbols, system_names}
-use Rattle.ic_text.specs.SystemSense.{system_table, rules_over, system_parts, unless_found, system_sense_within}
+use Rattle.ic_text.specs.SystemSense.{system_table, rules_are_small, rules_over, system_parts, unless_found, system_sense_within}
 use Rattle.ic_text.specs.Words.{prefix, phrase_prefix, rules_prefix}
 use Rattle.ic_text.specs.inner.Numbered.{word_from, unless_refused, numbered_words, as_text_answer}
 use Rattle.ic_flat.specs.Words.{forest}
@@ -31,7 +30,9 @@ use Rattle.ic_text.specs.inner.Built.{IsPaired, configuration_from, rules_in, jo
 use Rattle.ic_text.proofs.BuiltTrees.{built-terms, configuration_from-built, paired-phrase}
 use Rattle.ic_text.proofs.BuiltRules.{rules_in-sides, few-rules_over, fit-rules_over}
 use Rattle.ic_text.proofs.JoinedPhrase.{are-sides, sides_of_rules, sides_through, joined_phrase, prefix-joined, symbols-joined, names-joined, is-joined}
+use Rattle.ic_text.proofs.LimitLemmas.{rules-low}
 use Rattle.ic_text.proofs.Over.{over-numbered_phrase}
+use Rattle.ic_text.proofs.RuleNodes.{each_small}
 use Rattle.ic_text.proofs.Sensing.{numbered_is, numbered_within, numbered_words-phrase, restored-numbered}
 
 -- numbered words as a system, so many of them those of rules
@@ -50,22 +51,22 @@ module _ (s : SystemPhrase) (is : IsSystemPhrase s) where
   abbrev items : List Word
   items = map (word_from table) words
 
-  abbrev pub in_limits : Bool
-  in_limits = (list_all (λ x. fits_limits x.text x.arity) (system_symbols s) && list_all (λ n. nat_le n MAX_NAME) (system_names s)) && nat_le (length table) MAX_SYMBOLS
+  abbrev pub in_limits : Limits → Bool
+  in_limits limits = (list_all (λ x. fits_limits x.text x.arity) (system_symbols s) && list_all (λ n. nat_le n MAX_NAME) (system_names s)) && nat_le (length table) (most_symbols limits)
 
   abbrev agree : Bool
   agree = list_all (has_its_arity table) (system_symbols s)
 
-  numbered_words-system : numbered_words words ≡ unless_refused {A = List Symbol × List Word} in_limits agree (table, items)
-  numbered_words-system = numbered_words-phrase (joined_phrase s) (is-joined s is) ∙ (λ i. over (symbols-joined s i) (names-joined s i))
+  numbered_words-system : (limits : Limits) → numbered_words limits words ≡ unless_refused {A = List Symbol × List Word} (in_limits limits) agree (table, items)
+  numbered_words-system limits = numbered_words-phrase (joined_phrase s) (is-joined s is) limits ∙ (λ i. over (symbols-joined s i) (names-joined s i))
     where
       over : List Symbol → List ℕ → Result (List Symbol × List Word) TextFault
       over ss ns = unless_refused {A = List Symbol × List Word}
-          ((list_all (λ x. fits_limits x.text x.arity) ss && list_all (λ n. nat_le n MAX_NAME) ns) && nat_le (length (symbols_after [] ss)) MAX_SYMBOLS)
+          ((list_all (λ x. fits_limits x.text x.arity) ss && list_all (λ n. nat_le n MAX_NAME) ns) && nat_le (length (symbols_after [] ss)) (most_symbols limits))
           (list_all (has_its_arity (symbols_after [] ss)) ss) (symbols_after [] ss, map (word_from (symbols_after [] ss)) words)
 
-  pub system_within : (v : List Symbol × List Word) → Ok v ≡ numbered_words words → in_limits ≡ true
-  system_within v e = numbered_within in_limits agree (table, items) v (e ∙ numbered_words-system)
+  pub system_within : (limits : Limits) (v : List Symbol × List Word) → Ok v ≡ numbered_words limits words → in_limits limits ≡ true
+  system_within limits v e = numbered_within (in_limits limits) agree (table, items) v (e ∙ numbered_words-system limits)
 
   -- the words of the rules, and behind them those of the configuration
   abbrev before : ℕ
@@ -99,9 +100,9 @@ module _ (s : SystemPhrase) (is : IsSystemPhrase s) where
   config-built = ap (λ l. configuration_from (length s.config.interface) (forest l)) rest-is ∙ configuration_from-built table s.config is.config
 
   -- where they have numbers, those of the configuration write it
-  pub paired-system : (v : List Symbol × List Word) → Ok v ≡ numbered_words words → (before ≤ length v.1) × IsPaired (drop before v.1) (length s.config.interface)
-  paired-system v e =
-      let same : v.1 ≡ items = ap (λ (x : List Symbol × List Word). x.1) (numbered_is in_limits agree (table, items) v (e ∙ numbered_words-system)) in
+  pub paired-system : (limits : Limits) (v : List Symbol × List Word) → Ok v ≡ numbered_words limits words → (before ≤ length v.1) × IsPaired (drop before v.1) (length s.config.interface)
+  paired-system limits v e =
+      let same : v.1 ≡ items = ap (λ (x : List Symbol × List Word). x.1) (numbered_is (in_limits limits) agree (table, items) v (e ∙ numbered_words-system limits)) in
       rw same (
         omega (arith, ap length items-parted, length-append items_before items_behind, size),
         rw rest-is (paired-phrase table s.config is.config),
@@ -130,36 +131,37 @@ module _ (s : SystemPhrase) (is : IsSystemPhrase s) where
   joined-is over None None None (Some i) = refl
   joined-is over None None None None = rw over refl
 
-  rules-are : nat_le (length s.rules) MAX_RULES ≡ true → nat_le (sum_by rule_nodes s.rules) MAX_RULE_NODES ≡ true → agree ≡ true
+  rules-are : (limits : Limits) → nat_le (length s.rules) (most_rules limits) ≡ true → rules_are_small limits s.rules ≡ true → agree ≡ true
       → built_rules table (rules_over s) ≡ rules_or (first_uncounted (rules_over s)) (first_repeated (rules_over s)) (first_lopsided (rules_over s))
-  rules-are few small agreed =
+  rules-are limits few small agreed =
+      let few_too : nat_le (length s.rules) MAX_WIDE_RULES ≡ true = le-leb (length s.rules) MAX_WIDE_RULES (omega (arith, leb-true (length s.rules) (most_rules limits) few, rules-low limits)) in
+      let both : (nat_le (length s.rules) MAX_WIDE_RULES && list_all (λ r. nat_le (rule_nodes r) MAX_RULE_NODES) s.rules) ≡ true = and_from _ _ few_too (each_small limits s.rules small) in
       let parts = and_parts _ _ (sym (list_all-append (has_its_arity table) (flat_map rule_symbols s.rules) (phrase_symbols s.config)) ∙ agreed) in
-      let limits : (nat_le (length s.rules) MAX_RULES && nat_le (sum_by rule_nodes s.rules) MAX_RULE_NODES) ≡ true = rw (few, small) refl in
-      rw (few-rules_over table s.rules ∙ limits, fit-rules_over table s.rules parts.0) refl
+      rw (few-rules_over table s.rules ∙ both, fit-rules_over table s.rules parts.0) refl
 
   -- where neither rules, their nodes, terms of the interface nor nodes are too many, the sense is that of the words
-  pub sense-system : (limits : Limits) → nat_le (length s.rules) MAX_RULES ≡ true → nat_le (sum_by rule_nodes s.rules) MAX_RULE_NODES ≡ true → nat_le (length s.config.interface) (most_interface limits) ≡ true
-      → nat_le (phrase_nodes s.config) (most_nodes limits) ≡ true → system_sense_within limits s ≡ finished_system before (length s.config.interface) (numbered_words words)
-  sense-system limits few small short low = whole ∙ by_cases in_limits agree refl refl ∙ ap (finished_system before (length s.config.interface)) (sym numbered_words-system)
+  pub sense-system : (limits : Limits) → nat_le (length s.rules) (most_rules limits) ≡ true → rules_are_small limits s.rules ≡ true → nat_le (length s.config.interface) (most_interface limits) ≡ true
+      → nat_le (phrase_nodes s.config) (most_nodes limits) ≡ true → system_sense_within limits s ≡ finished_system before (length s.config.interface) (numbered_words limits words)
+  sense-system limits few small short low = whole ∙ by_cases (in_limits limits) agree refl refl ∙ ap (finished_system before (length s.config.interface)) (sym (numbered_words-system limits))
     where
-      whole : system_sense_within limits s ≡ cond in_limits (cond agree value (Err Arity)) (Err Limit)
-      whole = rw (few, small, short, low) (by_limits in_limits)
+      whole : system_sense_within limits s ≡ cond (in_limits limits) (cond agree value (Err Arity)) (Err Limit)
+      whole = rw (few, small, short, low) (by_limits (in_limits limits))
         where
           by_limits : (a : Bool) → cond ((((a && true) && true) && true) && true) (cond agree value (Err Arity)) (Err Limit) ≡ cond a (cond agree value (Err Arity)) (Err Limit)
           by_limits true = refl
           by_limits false = refl
 
-      low_names : in_limits ≡ true → list_all (λ n. nat_le n MAX_NAME) (phrase_names s.config) ≡ true
+      low_names : in_limits limits ≡ true → list_all (λ n. nat_le n MAX_NAME) (phrase_names s.config) ≡ true
       low_names all =
-          let names = (and_parts (list_all (λ x. fits_limits x.text x.arity) (system_symbols s)) (list_all (λ n. nat_le n MAX_NAME) (system_names s)) (and_parts (list_all (λ x. fits_limits x.text x.arity) (system_symbols s) && list_all (λ n. nat_le n MAX_NAME) (system_names s)) (nat_le (length table) MAX_SYMBOLS) all).0).1 in
+          let names = (and_parts (list_all (λ x. fits_limits x.text x.arity) (system_symbols s)) (list_all (λ n. nat_le n MAX_NAME) (system_names s)) (and_parts (list_all (λ x. fits_limits x.text x.arity) (system_symbols s) && list_all (λ n. nat_le n MAX_NAME) (system_names s)) (nat_le (length table) (most_symbols limits)) all).0).1 in
           (and_parts (list_all (λ n. nat_le n MAX_NAME) (flat_map rule_names s.rules)) (list_all (λ n. nat_le n MAX_NAME) (phrase_names s.config)) (sym (list_all-append (λ n. nat_le n MAX_NAME) (flat_map rule_names s.rules) (phrase_names s.config)) ∙ names)).1
 
       over : agree ≡ true → is_over table config ≡ true
       over agreed = over-numbered_phrase table s.config (and_parts (list_all (has_its_arity table) (flat_map rule_symbols s.rules)) (list_all (has_its_arity table) (phrase_symbols s.config)) (sym (list_all-append (has_its_arity table) (flat_map rule_symbols s.rules) (phrase_symbols s.config)) ∙ agreed)).1
 
-      by_cases : (a o : Bool) → in_limits ≡ a → agree ≡ o → cond a (cond o value (Err Arity)) (Err Limit) ≡ finished_system before (length s.config.interface) (unless_refused {A = List Symbol × List Word} a o (table, items))
+      by_cases : (a o : Bool) → in_limits limits ≡ a → agree ≡ o → cond a (cond o value (Err Arity)) (Err Limit) ≡ finished_system before (length s.config.interface) (unless_refused {A = List Symbol × List Word} a o (table, items))
       by_cases true true all agreed =
-          let rules = ap (built_rules table) rules-built ∙ rules-are few small agreed in
+          let rules = ap (built_rules table) rules-built ∙ rules-are limits few small agreed in
           let restored_is = ap wide_restored config-built ∙ restored-numbered limits table s.config low (low_names all) in
           joined-is (over agreed) (first_uncounted (rules_over s)) (third_occurrence (phrase_names s.config)) (first_repeated (rules_over s)) (first_lopsided (rules_over s))
           ∙ (λ i. joined (sym rules i) (as_text_answer (sym restored_is i)))
@@ -168,10 +170,10 @@ module _ (s : SystemPhrase) (is : IsSystemPhrase s) where
 
 -- a system with too many rules, nodes of their arguments, terms of the interface or nodes is beyond the limits
 pub system-unfit : (limits : Limits) (s : SystemPhrase)
-    → ((nat_le (length s.rules) MAX_RULES && nat_le (sum_by rule_nodes s.rules) MAX_RULE_NODES) && (nat_le (phrase_nodes s.config) (most_nodes limits) && nat_le (length s.config.interface) (most_interface limits))) ≡ false
+    → ((nat_le (length s.rules) (most_rules limits) && rules_are_small limits s.rules) && (nat_le (phrase_nodes s.config) (most_nodes limits) && nat_le (length s.config.interface) (most_interface limits))) ≡ false
     → system_sense_within limits s ≡ Err Limit
 system-unfit limits s =
-    by_cases _ (nat_le (length s.rules) MAX_RULES) (nat_le (sum_by rule_nodes s.rules) MAX_RULE_NODES) (nat_le (length s.config.interface) (most_interface limits)) (nat_le (phrase_nodes s.config) (most_nodes limits)) _
+    by_cases _ (nat_le (length s.rules) (most_rules limits)) (rules_are_small limits s.rules) (nat_le (length s.config.interface) (most_interface limits)) (nat_le (phrase_nodes s.config) (most_nodes limits)) _
   where
     by_cases : (a r m i k : Bool) (v : Result SystemParts TextFault) → ((r && m) && (k && i)) ≡ false → cond ((((a && r) && m) && i) && k) v (Err Limit) ≡ Err Limit
     by_cases true true true true true v unfit = absurd (false≢true (sym unfit))

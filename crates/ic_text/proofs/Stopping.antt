@@ -45,17 +45,17 @@ there (Some x) k l e = by_word (eqb x.word k) refl e
     by_word true at e = record { excess = x; is = refl; word = equal x.word k at; limit = let same : x.limit ≡ l = cc in same }
     by_word false at e = cc
 
-module _ (ws : List Symbol) (k : ℕ) (o : Option Excess) (l : Bound) (found : limit_at o k ≡ Some l) where
-  pub stops_there : (r : Refusal) → r ≡ record { fault = Limit; word = Some k; detail = Passed l } → ((j : ℕ) → j ≤ k → are_within (take j ws) ≡ true) → IsStoppedIn ws o r
+module _ (limits : Limits) (ws : List Symbol) (k : ℕ) (o : Option Excess) (l : Bound) (found : limit_at o k ≡ Some l) where
+  pub stops_there : (r : Refusal) → r ≡ record { fault = Limit; word = Some k; detail = Passed l } → ((j : ℕ) → j ≤ k → are_within limits (take j ws) ≡ true) → IsStoppedIn limits ws o r
   stops_there r is within =
       let t = there o k l found in
-      inr (subst (λ x. IsExcessAt ws x r) (sym t.is) (
+      inr (subst (λ x. IsExcessAt limits ws x r) (sym t.is) (
         is ∙ (λ i. record { fault = Limit; word = Some (sym t.word i); detail = Passed (sym t.limit i) }),
         λ j le. within j (omega (arith, le, t.word)),
       ))
 
-  pub stops_counted : Err Limit ≡ counted_words o ws
-  stops_counted = ap (λ x. counted_words x ws) (sym (there o k l found).is)
+  pub stops_counted : Err Limit ≡ counted_words limits o ws
+  stops_counted = ap (λ x. counted_words limits x ws) (sym (there o k l found).is)
 
 -- it doesn't stand so far
 pub none_there : (o : Option Excess) (k : ℕ) → limit_at o k ≡ None → IfSome o (λ e. k ≤ e.word) → IfSome o (λ e. k + 1 ≤ e.word)
@@ -76,13 +76,13 @@ module _ (nodes : List Node) (k : ℕ) (d : Node) (found : Result Word SymbolFau
       by_stop (inl memory) = subst (λ (y : Refusal). IsBefore (Some x) y.word) (sym memory) tt
       by_stop (inr limit) = subst (λ (y : Refusal). IsBefore (Some x) y.word) (sym limit.1) (omega (arith, before))
 
-  pub refused_counted : (o : Option Excess) → Refuses r.fault (numbered_words (nodes_of nodes)) → Refuses r.fault (counted_words o (nodes_of nodes))
-  refused_counted None refuses = refuses
-  refused_counted (Some x) refuses = by_stop stops
+  pub refused_counted : (limits : Limits) (o : Option Excess) → Refuses r.fault (numbered_words limits (nodes_of nodes)) → Refuses r.fault (counted_words limits o (nodes_of nodes))
+  refused_counted limits None refuses = refuses
+  refused_counted limits (Some x) refuses = by_stop stops
     where
-      by_stop : Stops k (node_of (get_or nodes k d)) found r → Refuses r.fault (counted_words (Some x) (nodes_of nodes))
-      by_stop (inl memory) = subst (λ (y : Refusal). Refuses y.fault (counted_words (Some x) (nodes_of nodes))) (sym memory) tt
-      by_stop (inr limit) = subst (λ (y : Refusal). Refuses y.fault (counted_words (Some x) (nodes_of nodes))) (sym limit.1) refl
+      by_stop : Stops k (node_of (get_or nodes k d)) found r → Refuses r.fault (counted_words limits (Some x) (nodes_of nodes))
+      by_stop (inl memory) = subst (λ (y : Refusal). Refuses y.fault (counted_words limits (Some x) (nodes_of nodes))) (sym memory) tt
+      by_stop (inr limit) = subst (λ (y : Refusal). Refuses y.fault (counted_words limits (Some x) (nodes_of nodes))) (sym limit.1) refl
 
 -- behind all words it isn't
 pub none_behind : (o : Option Excess) (size k : ℕ) → size ≤ k → IfSome o (λ e. e.word < size) → IfSome o (λ e. k ≤ e.word) → o ≡ None
@@ -94,16 +94,16 @@ and_false true = refl
 and_false false = refl
 
 -- the limits of counts come before those of words
-no_word_limit : (b : Bound) (ws : List Symbol) → rank b < 5 → keeps b ws ≡ true
-no_word_limit TextBytes ws less = refl
-no_word_limit Rules ws less = refl
-no_word_limit RuleNodes ws less = refl
-no_word_limit Interface ws less = refl
-no_word_limit Nodes ws less = refl
-no_word_limit SymbolBytes ws less = absurd (omega (arith, less))
-no_word_limit Arguments ws less = absurd (omega (arith, less))
-no_word_limit NameNumber ws less = absurd (omega (arith, less))
-no_word_limit Symbols ws less = absurd (omega (arith, less))
+no_word_limit : (limits : Limits) (b : Bound) (ws : List Symbol) → rank b < 5 → keeps limits b ws ≡ true
+no_word_limit limits TextBytes ws less = refl
+no_word_limit limits Rules ws less = refl
+no_word_limit limits RuleNodes ws less = refl
+no_word_limit limits Interface ws less = refl
+no_word_limit limits Nodes ws less = refl
+no_word_limit limits SymbolBytes ws less = absurd (omega (arith, less))
+no_word_limit limits Arguments ws less = absurd (omega (arith, less))
+no_word_limit limits NameNumber ws less = absurd (omega (arith, less))
+no_word_limit limits Symbols ws less = absurd (omega (arith, less))
 
 of_counts : (limits : Limits) (w : Written) (j : ℕ) (b : Bound) → counts_keep limits b w j ≡ false → rank b ≤ 4
 of_counts limits w j TextBytes e = omega arith
@@ -129,33 +129,33 @@ module _ (limits : Limits) (w : Written) where
   counts_on None first k before b = first (k + 1) b
   counts_on (Some x) first k before b = first.kept (k + 1) (omega (arith, before)) b
 
-  word_limit : (o : Option Excess) → Counts o → (bound : Bound) (k : ℕ) → IsWordLimit bound (all_words w) k → IsBefore o (Some k) → IsLimitWordWithin limits bound w k
+  word_limit : (o : Option Excess) → Counts o → (bound : Bound) (k : ℕ) → IsWordLimit limits bound (all_words w) k → IsBefore o (Some k) → IsLimitWordWithin limits bound w k
   word_limit o first bound k is before = record {
     inside = is.first.inside;
-    innocent = λ j le b. and_from (keeps b (take j (all_words w))) _ (keeps_each (take j (all_words w)) (is.first.innocent j le) b) (counts_kept o first k before j le b);
+    innocent = λ j le b. and_from (keeps limits b (take j (all_words w))) _ (keeps_each limits (take j (all_words w)) (is.first.innocent j le) b) (counts_kept o first k before j le b);
     passed = ap (λ x. x && counts_keep limits bound w (k + 1)) is.passed;
-    first = λ b less. and_from (keeps b (take (k + 1) (all_words w))) _ (is.before b less) (counts_on o first k before b);
+    first = λ b less. and_from (keeps limits b (take (k + 1) (all_words w))) _ (is.before b less) (counts_on o first k before b);
   }
 
-  count_limit : (x : Excess) → IsExcess (λ b j. counts_keep limits b w j) (length (all_words w)) x → ((j : ℕ) → j ≤ x.word → are_within (take j (all_words w)) ≡ true) → IsLimitWordWithin limits x.limit w x.word
+  count_limit : (x : Excess) → IsExcess (λ b j. counts_keep limits b w j) (length (all_words w)) x → ((j : ℕ) → j ≤ x.word → are_within limits (take j (all_words w)) ≡ true) → IsLimitWordWithin limits x.limit w x.word
   count_limit x is within = record {
     inside = is.inside;
-    innocent = λ j le b. and_from (keeps b (take j (all_words w))) _ (keeps_each (take j (all_words w)) (within j le) b) (is.kept j le b);
-    passed = ap (λ y. keeps x.limit (take (x.word + 1) (all_words w)) && y) is.passed ∙ and_false (keeps x.limit (take (x.word + 1) (all_words w)));
+    innocent = λ j le b. and_from (keeps limits b (take j (all_words w))) _ (keeps_each limits (take j (all_words w)) (within j le) b) (is.kept j le b);
+    passed = ap (λ y. keeps limits x.limit (take (x.word + 1) (all_words w)) && y) is.passed ∙ and_false (keeps limits x.limit (take (x.word + 1) (all_words w)));
     first = λ b less.
-        and_from (keeps b (take (x.word + 1) (all_words w))) _ (no_word_limit b (take (x.word + 1) (all_words w)) (omega (arith, less, of_counts limits w (x.word + 1) x.limit is.passed))) (is.first b less);
+        and_from (keeps limits b (take (x.word + 1) (all_words w))) _ (no_word_limit limits b (take (x.word + 1) (all_words w)) (omega (arith, less, of_counts limits w (x.word + 1) x.limit is.passed))) (is.first b less);
   }
 
-  told_word : (o : Option Excess) → Counts o → (f : TextFault) (k : Option ℕ) (d : Detail) → IsWordIn (all_words w) f k d → IsBefore o k → IsToldWord limits w f k d
+  told_word : (o : Option Excess) → Counts o → (f : TextFault) (k : Option ℕ) (d : Detail) → IsWordIn limits (all_words w) f k d → IsBefore o k → IsToldWord limits w f k d
   told_word o first Limit (Some k) (Passed bound) is before = word_limit o first bound k is before
   told_word o first Arity (Some k) (Arities first_arity here) is before = is
   told_word o first Memory None Nothing is before = tt
   told_word o first f k d is before = absurd is
 
-  told_excess : (o : Option Excess) → Counts o → (r : Refusal) → IsExcessAt (all_words w) o r → IsToldIn limits w r
+  told_excess : (o : Option Excess) → Counts o → (r : Refusal) → IsExcessAt limits (all_words w) o r → IsToldIn limits w r
   told_excess None first r is = absurd is
   told_excess (Some x) first r is = subst (IsToldIn limits w) (sym is.0) (count_limit x first is.1)
 
-  pub told_in : (o : Option Excess) → Counts o → (r : Refusal) → IsStoppedIn (all_words w) o r → IsToldIn limits w r
+  pub told_in : (o : Option Excess) → Counts o → (r : Refusal) → IsStoppedIn limits (all_words w) o r → IsToldIn limits w r
   told_in o first r (inl is) = told_word o first r.fault r.word r.detail is.0 is.1
   told_in o first r (inr is) = told_excess o first r is

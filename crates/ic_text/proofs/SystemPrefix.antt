@@ -56,6 +56,6 @@ module _ (s : SystemPhrase) (rules config : Prefix) (known : Known s rules confi
   counted = record { words = system_words_are; before = rules_before; sides = known.agents_are; interface = known.terms_are }
 
   -- the sense is that of the words as far as they are counted
-  pub sense-known : (limits : Limits) → IsSystemPhrase s → (o : Option Excess) → Kept limits s o → system_sense_within limits s ≡ finished_system (length rules.nodes.items) config.terms (counted_words o (nodes_of (rules.nodes.items ++ config.nodes.items)))
+  pub sense-known : (limits : Limits) → IsSystemPhrase s → (o : Option Excess) → Kept limits s o → system_sense_within limits s ≡ finished_system (length rules.nodes.items) config.terms (counted_words limits o (nodes_of (rules.nodes.items ++ config.nodes.items)))
   sense-known limits is o kept =
-      system-counted limits s is o kept ∙ (λ i. finished_system (sym rules_before i) (sym known.terms_are i) (counted_words o (sym all_words i)))
+      system-counted limits s is o kept ∙ (λ i. finished_system (sym rules_before i) (sym known.terms_are i) (counted_words limits o (sym all_words i)))

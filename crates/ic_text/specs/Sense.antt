@@ -4,13 +4,12 @@ use Rattle.std.specs.List.{list_all}
 use Rattle.ic_term.specs.Tree.{Tree, name, agent, Trees, no_trees, more_trees, Pair}
 use Rattle.ic_term.specs.Symbol.{Symbol, fits_limits, number_of_text, has_arity, with_symbol}
 use Rattle.ic_term.specs.Configuration.{Configuration, configured, third_occurrence}
-use Rattle.ic_term.specs.declared.limits.TheConstants.{MAX_SYMBOLS}
 use Rattle.ic_text.specs.declared.limits.Limits.{Limits}
 use Rattle.ic_text.specs.declared.limits.Limits.TheVariants.{Served}
 use Rattle.ic_text.specs.declared.limits.TheConstants.{MAX_NAME}
 use Rattle.ic_text.specs.declared.fault.TextFault.{TextFault}
 use Rattle.ic_text.specs.declared.fault.TextFault.TheVariants.{Limit, Arity, Name}
-use Rattle.ic_text.specs.Limits.{most_interface, most_nodes}
+use Rattle.ic_text.specs.Limits.{most_interface, most_nodes, most_symbols}
 use Rattle.ic_text.specs.Source.{Source, leaf, node, Sources, no_sources, more_sources, Sides, Phrase, phrase_names, phrase_symbols, phrase_nodes}
 
 -- Symbols in the order in which their texts first occur, after those seen. A symbol has the arity
@@ -33,7 +32,7 @@ abbrev pub is_in_limits_within : Limits → Phrase → Bool
 is_in_limits_within limits p =
     list_all (λ s. fits_limits s.text s.arity) (phrase_symbols p)
     && list_all (λ n. nat_le n MAX_NAME) (phrase_names p)
-    && nat_le (length (symbol_table p)) MAX_SYMBOLS
+    && nat_le (length (symbol_table p)) (most_symbols limits)
     && nat_le (length p.interface) (most_interface limits)
     && nat_le (phrase_nodes p) (most_nodes limits)
 

@@ -4,18 +4,17 @@ use Rattle.std.specs.List.{list_all}
 use Rattle.ic_term.specs.Tree.{list_of}
 use Rattle.ic_term.specs.Symbol.{Symbol, fits_limits}
 use Rattle.ic_term.specs.Configuration.{third_occurrence}
-use Rattle.ic_term.specs.declared.limits.TheConstants.{MAX_SYMBOLS}
 use Rattle.ic_rules.specs.Renaming.{first_occurrences}
 use Rattle.ic_rules.specs.Rule.{Rule, numbered}
 use Rattle.ic_rules.specs.RuleSet.{first_uncounted, first_repeated, first_lopsided}
 use Rattle.ic_rules.specs.System.{SystemParts}
-use Rattle.ic_rules.specs.declared.limits.TheConstants.{MAX_RULES, MAX_RULE_NODES}
+use Rattle.ic_rules.specs.declared.limits.TheConstants.{MAX_RULE_NODES}
 use Rattle.ic_text.specs.declared.limits.Limits.{Limits}
-use Rattle.ic_text.specs.declared.limits.Limits.TheVariants.{Served}
+use Rattle.ic_text.specs.declared.limits.Limits.TheVariants.{Served, Wide}
 use Rattle.ic_text.specs.declared.limits.TheConstants.{MAX_NAME}
 use Rattle.ic_text.specs.declared.fault.TextFault.{TextFault}
 use Rattle.ic_text.specs.declared.fault.TextFault.TheVariants.{Limit, Arity, NameCount, Name, Twice, Lopsided}
-use Rattle.ic_text.specs.Limits.{most_interface, most_nodes}
+use Rattle.ic_text.specs.Limits.{most_interface, most_nodes, most_rules, most_symbols}
 use Rattle.ic_text.specs.Source.{phrase_names, phrase_nodes}
 use Rattle.ic_text.specs.Sense.{symbols_after, has_its_arity, number_in_table, numbered_trees, numbered_phrase}
 use Rattle.ic_text.specs.SystemSource.{RulePhrase, SystemPhrase, system_symbols, rule_names, system_names, rule_nodes}
@@ -24,14 +23,20 @@ use Rattle.ic_text.specs.SystemSource.{RulePhrase, SystemPhrase, system_symbols,
 abbrev pub system_table : SystemPhrase → List Symbol
 system_table s = symbols_after [] (system_symbols s)
 
+-- The arguments of rules have few nodes: those of all rules together where they are served, and otherwise those of each
+-- rule (this project's choice).
+abbrev pub rules_are_small : Limits → List RulePhrase → Bool
+rules_are_small Served rs = nat_le (sum_by rule_nodes rs) MAX_RULE_NODES
+rules_are_small Wide rs = list_all (λ r. nat_le (rule_nodes r) MAX_RULE_NODES) rs
+
 -- no limit is passed (the limits are this project's choice)
 abbrev pub is_system_in_limits_within : Limits → SystemPhrase → Bool
 is_system_in_limits_within limits s =
     list_all (λ s. fits_limits s.text s.arity) (system_symbols s)
     && list_all (λ n. nat_le n MAX_NAME) (system_names s)
-    && nat_le (length (system_table s)) MAX_SYMBOLS
-    && nat_le (length s.rules) MAX_RULES
-    && nat_le (sum_by rule_nodes s.rules) MAX_RULE_NODES
+    && nat_le (length (system_table s)) (most_symbols limits)
+    && nat_le (length s.rules) (most_rules limits)
+    && rules_are_small limits s.rules
     && nat_le (length s.config.interface) (most_interface limits)
     && nat_le (phrase_nodes s.config) (most_nodes limits)
 

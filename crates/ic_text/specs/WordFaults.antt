@@ -1,12 +1,12 @@
 -- To be believed: at which word of what is written a refusal is found.
-use Rattle.std.specs.Prelude.{◌≡◌, ℕ, zero, suc, ◌+◌, ◌-◌, ◌*◌, ◌<◌, ◌≤◌, ◌==◌, List, [], ◌∷◌, Bool, true, false, ◌&&◌, ◌||◌, Option, None, Some, IsTrue, length, take, nat_le, count_by, slice_get, if◌then◌else◌}
+use Rattle.std.specs.Prelude.{◌≡◌, ℕ, zero, suc, ◌+◌, ◌-◌, ◌*◌, ◌<◌, ◌≤◌, ◌==◌, List, [], ◌∷◌, Bool, true, false, not, ◌&&◌, ◌||◌, Option, None, Some, IsTrue, length, take, nat_le, nat_lt, count_by, slice_get, if◌then◌else◌}
 use Rattle.std.specs.List.{list_all}
 use Rattle.std.specs.Str.{bytes_eq}
-use Rattle.ic_rules.specs.declared.limits.TheConstants.{MAX_RULES, MAX_RULE_NODES}
+use Rattle.ic_rules.specs.declared.limits.TheConstants.{MAX_RULE_NODES}
 use Rattle.ic_term.specs.Symbol.{Symbol}
-use Rattle.ic_term.specs.declared.limits.TheConstants.{MAX_SYMBOLS, MAX_SYMBOL_TEXT, MAX_ARITY}
+use Rattle.ic_term.specs.declared.limits.TheConstants.{MAX_SYMBOL_TEXT, MAX_ARITY}
 use Rattle.ic_text.specs.declared.limits.Limits.{Limits}
-use Rattle.ic_text.specs.declared.limits.Limits.TheVariants.{Served}
+use Rattle.ic_text.specs.declared.limits.Limits.TheVariants.{Served, Wide}
 use Rattle.ic_text.specs.declared.limits.TheConstants.{MAX_NAME}
 use Rattle.ic_text.specs.declared.fault.TextFault.{TextFault}
 use Rattle.ic_text.specs.declared.fault.TextFault.TheVariants.{Limit, Arity, NameCount, Name, Twice, Lopsided}
@@ -14,7 +14,7 @@ use Rattle.ic_text.specs.declared.misread.Detail.{Detail}
 use Rattle.ic_text.specs.declared.misread.Detail.TheVariants.{Nothing, Passed, Arities}
 use Rattle.ic_text.specs.declared.misread.Limit.{Limit as Bound}
 use Rattle.ic_text.specs.declared.misread.Limit.TheVariants.{TextBytes, SymbolBytes, Arguments, NameNumber, Symbols, Rules, RuleNodes, Interface, Nodes}
-use Rattle.ic_text.specs.Limits.{most_interface, most_nodes}
+use Rattle.ic_text.specs.Limits.{most_interface, most_nodes, most_rules, most_symbols}
 use Rattle.ic_text.specs.Name.{is_name, name_text}
 use Rattle.ic_text.specs.Sense.{symbols_after, has_its_arity}
 use Rattle.ic_text.specs.Words.{Written, all_words, in_a_row, symbols_among, names_among}
@@ -24,12 +24,12 @@ abbrev pub word_table : List Symbol → List Symbol
 word_table ws = symbols_after [] (symbols_among ws)
 
 -- words keep one limit of words
-abbrev pub keeps : Bound → List Symbol → Bool
-keeps SymbolBytes ws = list_all (λ s. nat_le (length s.text) MAX_SYMBOL_TEXT) (symbols_among ws)
-keeps Arguments ws = list_all (λ s. nat_le s.arity MAX_ARITY) (symbols_among ws)
-keeps NameNumber ws = list_all (λ n. nat_le n MAX_NAME) (names_among ws)
-keeps Symbols ws = nat_le (length (word_table ws)) MAX_SYMBOLS
-keeps bound ws = true
+abbrev pub keeps : Limits → Bound → List Symbol → Bool
+keeps limits SymbolBytes ws = list_all (λ s. nat_le (length s.text) MAX_SYMBOL_TEXT) (symbols_among ws)
+keeps limits Arguments ws = list_all (λ s. nat_le s.arity MAX_ARITY) (symbols_among ws)
+keeps limits NameNumber ws = list_all (λ n. nat_le n MAX_NAME) (names_among ws)
+keeps limits Symbols ws = nat_le (length (word_table ws)) (most_symbols limits)
+keeps limits bound ws = true
 
 -- How many terms are due after a word in prefix notation, if so many were due before it: none in front
 -- of a term that no other one holds.
@@ -51,12 +51,26 @@ count_words outer due [] = 0
 count_words outer due (w ∷ ws) =
     (if is_counted outer due then 1 else 0) + count_words outer (due_behind due w.arity) ws
 
+-- In words of rules no rule has too many nodes. So many terms are due in front of them, the agent before them is the second
+-- one of a rule or its first, and the rule has so many nodes so far.
+abbrev pub each_keeps : ℕ → Bool → ℕ → List Symbol → Bool
+each_keeps due second nodes [] = true
+each_keeps zero second nodes (w ∷ ws) =
+    each_keeps w.arity (not second) (if second then 0 else nodes) ws
+each_keeps (suc due) second nodes (w ∷ ws) =
+    nat_lt nodes MAX_RULE_NODES && each_keeps (due + w.arity) second (nodes + 1) ws
+
+-- words of rules have few nodes: of all rules where they are served, and otherwise of each rule
+abbrev pub rule_nodes_keep : Limits → List Symbol → Bool
+rule_nodes_keep Served ws = nat_le (count_words false 0 ws) MAX_RULE_NODES
+rule_nodes_keep Wide ws = each_keeps 0 true 0 ws
+
 -- Words of rules keep one limit of those: two agents are the sides of a rule, and the words within
 -- agents are its nodes.
-abbrev pub rules_keep : Bound → List Symbol → Bool
-rules_keep Rules ws = nat_le (count_words true 0 ws) (2 * MAX_RULES)
-rules_keep RuleNodes ws = nat_le (count_words false 0 ws) MAX_RULE_NODES
-rules_keep bound ws = true
+abbrev pub rules_keep : Limits → Bound → List Symbol → Bool
+rules_keep limits Rules ws = nat_le (count_words true 0 ws) (2 * most_rules limits)
+rules_keep limits RuleNodes ws = rule_nodes_keep limits ws
+rules_keep limits bound ws = true
 
 -- Words of a configuration keep one limit of those, where so many terms are its interface, which
 -- stands first.
@@ -70,13 +84,13 @@ config_keeps limits terms bound ws = true
 -- what is written keeps one limit of how much it is as far as so many words
 abbrev pub counts_keep : Limits → Bound → Written → ℕ → Bool
 counts_keep limits bound w k =
-    rules_keep bound (take k (in_a_row w.rules))
+    rules_keep limits bound (take k (in_a_row w.rules))
     && config_keeps limits w.terms bound (take (k - length (in_a_row w.rules)) w.config)
 
 -- what is written keeps one limit as far as so many words
 abbrev pub keeps_so_far : Limits → Bound → Written → ℕ → Bool
 keeps_so_far limits bound w k =
-    keeps bound (take k (all_words w)) && counts_keep limits bound w k
+    keeps limits bound (take k (all_words w)) && counts_keep limits bound w k
 
 -- each symbol among words has the arity of its first use
 abbrev pub agree : List Symbol → Bool

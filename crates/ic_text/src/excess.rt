@@ -10,7 +10,7 @@ ghost use Rattle.ic_text.specs.inner.Prefix.{nodes_of};
 use crate::limits::Limits;
 use crate::misread::Limit;
 use crate::prefix::Node;
-use ic_rules::{MAX_RULE_NODES, MAX_RULES};
+use ic_rules::MAX_RULE_NODES;
 
 /// A limit that is passed, and how many words stand before the one that passes it.
 #[derive(Clone, Copy)]
@@ -82,23 +82,25 @@ fn first_excess(nodes: &[Node], outer: bool, most: usize, limit: Limit) -> Optio
 }
 
 /// The first word of the first rule too many, where so many agents are the sides of rules.
-fn too_many_rules(nodes: &[Node], agents: usize) -> Option<Excess>
+fn too_many_rules(limits: Limits, nodes: &[Node], agents: usize) -> Option<Excess>
     requires few { sum_by (λ w. w.arity) (nodes_of nodes.now) < 2 ^ 64 }
     requires agents { agents ≡ count_words true 0 (nodes_of nodes.now) }
-    ensures { IsExcessTest (rules_keep Limit.Rules) Limit.Rules (nodes_of nodes.now) result }
+    ensures { IsExcessTest (rules_keep limits Limit.Rules) Limit.Rules (nodes_of nodes.now)
+        result }
 {
-    if agents <= 2 * MAX_RULES {
+    let most = 2 * limits.rules();
+    if agents <= most {
         return None;
     }
-    first_excess(nodes, true, 2 * MAX_RULES, Limit::Rules)
+    first_excess(nodes, true, most, Limit::Rules)
 }
 
-/// The first node too many in the arguments of rules.
-fn too_many_rule_nodes(nodes: &[Node], agents: usize) -> Option<Excess>
+/// The first node too many in the arguments of all rules.
+fn too_many_served_nodes(nodes: &[Node], agents: usize) -> Option<Excess>
     requires few { sum_by (λ w. w.arity) (nodes_of nodes.now) < 2 ^ 64 }
     requires agents { agents ≡ count_words true 0 (nodes_of nodes.now) }
-    ensures { IsExcessTest (rules_keep Limit.RuleNodes) Limit.RuleNodes (nodes_of nodes.now)
-        result }
+    ensures { IsExcessTest (rules_keep Limits.Served Limit.RuleNodes) Limit.RuleNodes
+        (nodes_of nodes.now) result }
 {
     if nodes.len().saturating_sub(agents) <= MAX_RULE_NODES as usize {
         return None;
@@ -106,16 +108,58 @@ fn too_many_rule_nodes(nodes: &[Node], agents: usize) -> Option<Excess>
     first_excess(nodes, false, MAX_RULE_NODES as usize, Limit::RuleNodes)
 }
 
-/// The word with which rules pass a limit, the first one if there is one.
-fn rules_excess(nodes: &[Node], agents: usize) -> Option<Excess>
+/// The first node too many in the arguments of one rule.
+fn too_long_rule(nodes: &[Node]) -> Option<Excess>
+    requires { sum_by (λ w. w.arity) (nodes_of nodes.now) < 2 ^ 64 }
+    ensures { IsExcessTest (rules_keep Limits.Wide Limit.RuleNodes) Limit.RuleNodes
+        (nodes_of nodes.now) result }
+{
+    let mut due = 0;
+    let mut second = true;
+    let mut found = 0u64;
+    for (word, node) in nodes.iter().enumerate() {
+        if due > 0 {
+            if found == MAX_RULE_NODES {
+                return Some(Excess {
+                    word,
+                    limit: Limit::RuleNodes,
+                });
+            }
+            found += 1;
+        } else {
+            if second {
+                found = 0;
+            }
+            second = !second;
+        }
+        due = due_behind(due, node.arity);
+    }
+    None
+}
+
+/// The first node too many in the arguments of rules.
+fn too_many_rule_nodes(limits: Limits, nodes: &[Node], agents: usize) -> Option<Excess>
     requires few { sum_by (λ w. w.arity) (nodes_of nodes.now) < 2 ^ 64 }
     requires agents { agents ≡ count_words true 0 (nodes_of nodes.now) }
-    ensures { IsFirstExcess (λ bound j. rules_keep bound (take j (nodes_of nodes.now)))
+    ensures { IsExcessTest (rules_keep limits Limit.RuleNodes) Limit.RuleNodes
+        (nodes_of nodes.now) result }
+{
+    match limits {
+        Limits::Served => too_many_served_nodes(nodes, agents),
+        Limits::Wide => too_long_rule(nodes),
+    }
+}
+
+/// The word with which rules pass a limit, the first one if there is one.
+fn rules_excess(limits: Limits, nodes: &[Node], agents: usize) -> Option<Excess>
+    requires few { sum_by (λ w. w.arity) (nodes_of nodes.now) < 2 ^ 64 }
+    requires agents { agents ≡ count_words true 0 (nodes_of nodes.now) }
+    ensures { IsFirstExcess (λ bound j. rules_keep limits bound (take j (nodes_of nodes.now)))
         (length (nodes_of nodes.now)) result }
 {
     earlier(
-        too_many_rules(nodes, agents),
-        too_many_rule_nodes(nodes, agents),
+        too_many_rules(limits, nodes, agents),
+        too_many_rule_nodes(limits, nodes, agents),
     )
 }
 
@@ -174,7 +218,7 @@ pub(crate) fn excess_of(
         IsFirstExcess (λ bound j. counts_keep limits bound (written_system s) j)
         (length (all_words (written_system s))) result }
 {
-    match rules_excess(&nodes[..rules], agents) {
+    match rules_excess(limits, &nodes[..rules], agents) {
         Some(excess) => Some(excess),
         None => match config_excess(limits, &nodes[rules..], terms) {
             Some(excess) => Some(Excess {

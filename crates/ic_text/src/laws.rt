@@ -23,11 +23,11 @@ ghost use Rattle.ic_text.specs.FaultNumber.{all_faults, fault_number};
 ghost use Rattle.ic_text.specs.Places.{GoesOn, IsPlacedWithin, IsSyntaxPlace, IsWordPlace};
 ghost use Rattle.ic_text.specs.Sense.{symbols_after};
 ghost use Rattle.ic_text.specs.WordFaults.{IsFirstWord, IsLimitWordWithin, IsMiscount, IsRuleWord, IsSecondUse, IsThirdWord, keeps_so_far, rank, uses};
-ghost use Rattle.ic_text.specs.Words.{Written, all_words, names_among, phrase_prefix, prefix, rules_prefix, symbols_among, system_prefix, written_phrase, written_system};
+ghost use Rattle.ic_text.specs.Words.{Written, all_words, names_among, phrase_prefix, prefix, rule_prefix, rules_prefix, symbols_among, system_prefix, written_phrase, written_system};
 ghost use Rattle.ic_text.specs.Token.{Token, word, mark, is_blank, is_word_byte, mark_byte, mark_of, tokens_at, followed, tokens, words_among};
 ghost use Rattle.ic_text.specs.declared.token.Mark.{Mark};
 ghost use Rattle.ic_text.specs.declared.token.Mark.TheVariants.{LeftBrace, RightBrace, Less, Greater, Bar, Equals, Comma, Semicolon, Open, Close};
-ghost use Rattle.ic_text.specs.Limits.{most_bytes, most_interface, most_nodes};
+ghost use Rattle.ic_text.specs.Limits.{most_bytes, most_interface, most_nodes, most_rules, most_symbols};
 ghost use Rattle.ic_text.specs.declared.limits.Limits.{Limits};
 ghost use Rattle.ic_text.specs.declared.limits.Limits.TheVariants.{Served, Wide};
 ghost use Rattle.ic_text.specs.declared.limits.TheConstants.{MAX_TEXT, MAX_NAME};
@@ -129,18 +129,25 @@ pub fn words_before_a_passed_limit_are_innocent()
 {}
 
 /// A limit that is told is one that is passed, and its word the first one too many. That of rules is the first word of
-/// the first rule too many; that of nodes in rules stands within an agent, after so many nodes and the symbols of this
-/// agent and of those before. A configuration is written as a system without rules.
+/// the first rule too many; that of nodes in rules that are served stands within an agent, after so many nodes and the
+/// symbols of this agent and of those before, and with wide limits it stands in a rule that has too many. A
+/// configuration is written as a system without rules.
 pub fn a_limit_that_is_told_is_passed()
     ensures rules { (limits : Limits) (s : SystemPhrase) (k : ℕ) →
         IsLimitWordWithin limits Rules (written_system s) k →
-        (MAX_RULES < length s.rules) × (k ≡ length (rules_prefix (take MAX_RULES s.rules))) }
-    ensures rule_nodes { (limits : Limits) (s : SystemPhrase) (k : ℕ) →
-        IsLimitWordWithin limits RuleNodes (written_system s) k →
+        (most_rules limits < length s.rules)
+        × (k ≡ length (rules_prefix (take (most_rules limits) s.rules))) }
+    ensures rule_nodes { (s : SystemPhrase) (k : ℕ) →
+        IsLimitWordWithin Served RuleNodes (written_system s) k →
         (before : ℕ) × (k ≡ MAX_RULE_NODES + before + 1)
         × (nodes_within (take before (agents s.rules)) ≤ MAX_RULE_NODES)
         × (MAX_RULE_NODES < nodes_within (take (before + 1) (agents s.rules)))
         × (MAX_RULE_NODES < sum_by rule_nodes s.rules) }
+    ensures long_rule { (s : SystemPhrase) (k : ℕ) →
+        IsLimitWordWithin Wide RuleNodes (written_system s) k →
+        (i : ℕ) × (r : RulePhrase) × (slice_get s.rules i ≡ Some r)
+        × (MAX_RULE_NODES < rule_nodes r) × (length (rules_prefix (take i s.rules)) ≤ k)
+        × (k < length (rules_prefix (take i s.rules)) + length (rule_prefix r)) }
     ensures interface { (limits : Limits) (s : SystemPhrase) (k : ℕ) →
         IsLimitWordWithin limits Interface (written_system s) k →
         (most_interface limits < length s.config.interface)
@@ -164,7 +171,7 @@ pub fn a_limit_that_is_told_is_passed()
         × Contains (system_names s) n × (MAX_NAME < n) }
     ensures symbols { (limits : Limits) (s : SystemPhrase) (k : ℕ) → IsSystemPhrase s →
         IsLimitWordWithin limits Symbols (written_system s) k →
-        MAX_SYMBOLS < length (system_table s) }
+        most_symbols limits < length (system_table s) }
     ensures alone { (p : Phrase) →
         written_phrase p ≡ written_system (record { rules = []; config = p }) }
 {}
@@ -269,9 +276,11 @@ pub fn limits_are()
     ensures text { MAX_TEXT ≡ 262144 }
     ensures name { MAX_NAME ≡ 4294967295 }
     ensures served { (most_bytes Served ≡ MAX_TEXT) × (most_nodes Served ≡ MAX_NODES)
-        × (most_interface Served ≡ MAX_INTERFACE) }
+        × (most_interface Served ≡ MAX_INTERFACE) × (most_symbols Served ≡ MAX_SYMBOLS)
+        × (most_rules Served ≡ MAX_RULES) }
     ensures wide { (most_bytes Wide ≡ 2 ^ 33) × (most_nodes Wide ≡ 2 ^ 31)
-        × (most_interface Wide ≡ 2 ^ 31) }
+        × (most_interface Wide ≡ 2 ^ 31) × (most_symbols Wide ≡ 2 ^ 16)
+        × (most_rules Wide ≡ 2 ^ 31) }
 {}
 
 /// What a text is read as with the limits of what is served, it is read as with wide limits, unless it passes a limit.

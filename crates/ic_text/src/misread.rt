@@ -22,7 +22,7 @@ pub enum Limit {
     Symbols,
     /// Rules.
     Rules,
-    /// Nodes in the arguments of all rules.
+    /// Nodes in the arguments of all rules where they are served, and otherwise of one rule.
     RuleNodes,
     /// Terms of the interface.
     Interface,

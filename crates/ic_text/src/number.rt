@@ -1,14 +1,16 @@
 //! Words of a text as words in flat form, symbols as numbers: the limits of words, and the arities of symbols.
 
-ghost use Rattle.std.specs.Prelude.{◌≡◌, ◌<◌, is_ok, [], if◌then◌else◌, length, IfErr, IfSome, OnOk, Some, slice_get};
+ghost use Rattle.std.specs.Prelude.{◌≡◌, ◌≢◌, ◌<◌, ◌≤◌, [], length, IfErr, IfSome, OnOk, Some, slice_get};
 ghost use Rattle.std.specs.List.{AllByRecursion};
 ghost use Rattle.ic_term.specs.Symbol.{AreSymbols};
+ghost use Rattle.ic_text.specs.Limits.{most_symbols};
 ghost use Rattle.ic_text.specs.inner.Prefix.{node_of, nodes_of};
 ghost use Rattle.ic_text.specs.inner.Numbered.{IsWord, WordAnswers, word_found, table_with, counted_words, Gives};
 ghost use Rattle.ic_text.specs.inner.Refused.{IsStoppedIn, Takes, Stops, bare, limit_of};
 
 use crate::excess::{Excess, limit_at};
 use crate::fault::TextFault;
+use crate::limits::Limits;
 use crate::misread::Limit;
 use crate::name::{is_name, name_number};
 use crate::prefix::Node;
@@ -34,11 +36,17 @@ fn number_again(symbols: &Symbols, last: Option<&Word>, node: &Node) -> Option<u
 }
 
 /// A word with its number, which a symbol gets from the table; or from the word before, where that is the same symbol.
-fn number_word(symbols: &mut Symbols, last: Option<&Word>, node: &Node) -> Result<Word, SymbolFault>
-    requires { IsWord (node_of node.now) }
-    ensures word { WordAnswers result (word_found symbols.old (node_of node.now)) }
-    ensures symbols { symbols.new ≡
-        (if is_ok result then table_with symbols.old (node_of node.now) else symbols.old) }
+fn number_word(
+    limits: Limits,
+    symbols: &mut Symbols,
+    last: Option<&Word>,
+    node: &Node,
+) -> Result<Word, SymbolFault>
+    requires word { IsWord (node_of node.now) }
+    requires few { length symbols.old ≤ most_symbols limits }
+    ensures word { WordAnswers result (word_found limits symbols.old (node_of node.now)) }
+    ensures symbols { OnOk result (symbols.new ≡ table_with symbols.old (node_of node.now)) }
+    ensures same { IfErr result (λ fault. fault ≢ SymbolFault.Limit → symbols.new ≡ symbols.old) }
 {
     if is_name(node.text) {
         return match name_number(node.text) {
@@ -50,6 +58,9 @@ fn number_word(symbols: &mut Symbols, last: Option<&Word>, node: &Node) -> Resul
         return Ok(Word::Agent(number, node.arity));
     }
     let number = symbols.number(node.text, node.arity)?;
+    if number as usize >= limits.symbols() {
+        return Err(SymbolFault::Limit);
+    }
     Ok(Word::Agent(number, node.arity))
 }
 
@@ -87,14 +98,15 @@ pub(crate) struct Numbering {
 impl Numbering {
     /// Numbers the word after so many others. Goes on after a symbol that has two arities, since limits come before
     /// arities.
-    fn take(&mut self, word: usize, node: &Node) -> Result<(), Refusal>
-        requires { IsWord (node_of node.now) }
+    fn take(&mut self, limits: Limits, word: usize, node: &Node) -> Result<(), Refusal>
+        requires word { IsWord (node_of node.now) }
+        requires few { length self.old.symbols ≤ most_symbols limits }
         ensures went { OnOk result (Takes word (node_of node.now)
-            (word_found self.old.symbols (node_of node.now)) self.old self.new) }
+            (word_found limits self.old.symbols (node_of node.now)) self.old self.new) }
         ensures stopped { IfErr result (Stops word (node_of node.now)
-            (word_found self.old.symbols (node_of node.now))) }
+            (word_found limits self.old.symbols (node_of node.now))) }
     {
-        match number_word(&mut self.symbols, self.words.last(), node) {
+        match number_word(limits, &mut self.symbols, self.words.last(), node) {
             Ok(numbered) => {
                 self.words.push(numbered)?;
                 Ok(())
@@ -117,14 +129,15 @@ impl Numbering {
 /// numbered no further than to the word with which they do.
 pub(crate) fn number_words(
     alloc: Global,
+    limits: Limits,
     nodes: &[Node],
     excess: Option<Excess>,
 ) -> Result<(Symbols, Vec<Word>), Refusal>
     requires words { AllByRecursion IsWord (nodes_of nodes.now) }
     requires inside { IfSome excess (λ e. e.word < length nodes.now) }
     ensures numbers { Gives (λ v. (v.0, v.1.items)) (bare result)
-        (counted_words excess (nodes_of nodes.now)) }
-    ensures word { IfErr result (IsStoppedIn (nodes_of nodes.now) excess) }
+        (counted_words limits excess (nodes_of nodes.now)) }
+    ensures word { IfErr result (IsStoppedIn limits (nodes_of nodes.now) excess) }
 {
     let words = Vec::with_capacity(alloc, nodes.len())?;
     let symbols = Symbols::new(alloc);
@@ -137,7 +150,7 @@ pub(crate) fn number_words(
         if let Some(limit) = limit_at(excess, word) {
             return Err(Refusal::passed(word, limit));
         }
-        numbering.take(word, node)?;
+        numbering.take(limits, word, node)?;
     }
     let Numbering {
         symbols,

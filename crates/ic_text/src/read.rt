@@ -47,7 +47,7 @@ fn sense_of(
     let kept = enough_of(limits, counts.words);
     let prefix = front_of(alloc, text, kept, counts.words - kept)?;
     let excess = config_excess(limits, &prefix.nodes, prefix.terms);
-    let (symbols, words) = number_words(alloc, &prefix.nodes, excess)?;
+    let (symbols, words) = number_words(alloc, limits, &prefix.nodes, excess)?;
     match wide_of(alloc, words, prefix.terms) {
         Ok(config) => Ok((symbols, config)),
         Err(fault) => Err(refusal_of(fault, &prefix.nodes, 0)),

@@ -2,6 +2,7 @@
 
 ghost use Rattle.std.specs.Prelude.{◌≡◌, ◌≢◌, ◌≤◌, length, IfOk, IfErr, Ok, Err, Some};
 ghost use Rattle.ic_term.specs.Configuration.{configuration_nodes};
+ghost use Rattle.ic_rules.specs.RuleSet.{AreServed};
 ghost use Rattle.ic_text.specs.inner.Numbered.{Gives};
 ghost use Rattle.ic_text.specs.inner.Refused.{IsToldIn, bare, faulted};
 ghost use Rattle.ic_text.specs.inner.Survey.{Tells};
@@ -40,6 +41,7 @@ fn sense_of(
         Gives (λ system. system) (bare result) (system_sense_within limits s) }
     ensures nodes { IfOk result (λ s. configuration_nodes s.config ≤ most_nodes limits) }
     ensures interface { IfOk result (λ s. length s.config.interface ≤ most_interface limits) }
+    ensures served { IfOk result (λ s. limits ≡ Limits.Served → AreServed s.rules) }
     ensures word { (s : SystemPhrase) → SpellsSystem text.now s →
         IfErr result (IsToldIn limits (written_system s)) }
 {
@@ -51,7 +53,7 @@ fn sense_of(
     rules.nodes.append(&mut config.nodes)?;
     drop(config);
     let excess = excess_of(limits, &rules.nodes, before, rules.terms, terms);
-    let (symbols, words) = number_words(alloc, &rules.nodes, excess)?;
+    let (symbols, words) = number_words(alloc, limits, &rules.nodes, excess)?;
     match system_of(alloc, symbols, words, before, terms) {
         Ok(system) => Ok(system),
         Err(fault) => Err(refusal_of(fault, &rules.nodes, before)),
@@ -71,6 +73,7 @@ fn system_at(
         Gives (λ system. system) (faulted result) (system_sense_within limits s) }
     ensures nodes { IfOk result (λ s. configuration_nodes s.config ≤ most_nodes limits) }
     ensures interface { IfOk result (λ s. length s.config.interface ≤ most_interface limits) }
+    ensures served { IfOk result (λ s. limits ≡ Limits.Served → AreServed s.rules) }
     ensures placed { IfErr result
         (λ misread. IsPlacedWithin limits IsSystemPhrase system_words written_system text.now
         misread.fault misread.place misread.detail) }
@@ -91,6 +94,7 @@ pub fn find_wide_system(alloc: Global, limits: Limits, text: &[u8]) -> Result<Wi
         (λ system. configuration_nodes system.config ≤ most_nodes limits) }
     ensures interface { IfOk result
         (λ system. length system.config.interface ≤ most_interface limits) }
+    ensures served { IfOk result (λ system. limits ≡ Limits.Served → AreServed system.rules) }
     ensures refused { IfErr result (λ misread. misread.fault ≢ TextFault.Memory →
         ReadsSystemWithin limits text.now (Err misread.fault)) }
     ensures placed { IfErr result

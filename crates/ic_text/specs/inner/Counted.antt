@@ -1,5 +1,5 @@
 -- For private functions: the word with which too many are written.
-use Rattle.std.specs.Prelude.{◌≡◌, ℕ, ◌+◌, ◌*◌, ◌<◌, ◌≤◌, ◌==◌, List, [], ◌∷◌, Bool, true, false, Option, None, Some, length, take, nat_lt, if◌then◌else◌}
+use Rattle.std.specs.Prelude.{◌≡◌, ℕ, zero, suc, ◌+◌, ◌*◌, ◌<◌, ◌≤◌, ◌==◌, List, [], ◌∷◌, Bool, true, false, not, Option, None, Some, length, take, nat_lt, if◌then◌else◌}
 use Rattle.ic_term.specs.Symbol.{Symbol}
 use Rattle.ic_text.specs.declared.misread.Limit.{Limit}
 use Rattle.ic_text.specs.declared.excess.Excess.{Excess}
@@ -23,6 +23,19 @@ limit_at (Some excess) k = if excess.word == k then Some excess.limit else None
 abbrev pub due_over : ℕ → List Symbol → ℕ
 due_over due [] = due
 due_over due (w ∷ ws) = due_over (due_behind due w.arity) ws
+
+-- whether the last agent of words is a rule's second one, where the one before them is this
+abbrev pub side_over : ℕ → Bool → List Symbol → Bool
+side_over due second [] = second
+side_over zero second (w ∷ ws) = side_over w.arity (not second) ws
+side_over (suc due) second (w ∷ ws) = side_over (due + w.arity) second ws
+
+-- and how many nodes its rule has so far
+abbrev pub nodes_over : ℕ → Bool → ℕ → List Symbol → ℕ
+nodes_over due second nodes [] = nodes
+nodes_over zero second nodes (w ∷ ws) =
+    nodes_over w.arity (not second) (if second then 0 else nodes) ws
+nodes_over (suc due) second nodes (w ∷ ws) = nodes_over (due + w.arity) second (nodes + 1) ws
 
 -- the first word with which words fail a test, if there is one, and the limit that it stands for
 abbrev pub IsExcessTest : (List Symbol → Bool) → Limit → List Symbol → Option Excess → Type 0

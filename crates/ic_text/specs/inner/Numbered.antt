@@ -1,14 +1,15 @@
 -- For private functions: a configuration in prefix notation with its symbols as numbers.
-use Rattle.std.specs.Prelude.{◌≡◌, ℕ, List, [], ◌∷◌, Bool, true, ◌&&◌, ◌||◌, Option, None, Some, IsTrue, Result, Ok, Err, length, map, nat_le, if◌then◌else◌}
+use Rattle.std.specs.Prelude.{◌≡◌, ℕ, List, [], ◌∷◌, Bool, true, ◌&&◌, ◌||◌, Option, None, Some, IsTrue, Result, Ok, Err, length, map, nat_le, nat_lt, if◌then◌else◌}
 use Rattle.std.specs.List.{list_all}
 use Rattle.ic_term.specs.Symbol.{Symbol, is_symbol_text, fits_limits, numbered, with_symbol}
-use Rattle.ic_term.specs.declared.limits.TheConstants.{MAX_SYMBOLS}
 use Rattle.ic_term.specs.declared.symbols.SymbolFault.{SymbolFault}
 use Rattle.ic_term.specs.declared.symbols.SymbolFault.TheVariants.{Limit as OverLimit, Arity as OtherArity, Memory as NoMemory}
 use Rattle.ic_term.specs.Configuration.{Configuration}
 use Rattle.ic_term.specs.declared.config.ConfigFault.{ConfigFault}
 use Rattle.ic_term.specs.declared.config.ConfigFault.TheVariants.{Limit as TooMuch, Name as Third, Memory as NoRoom}
+use Rattle.ic_text.specs.declared.limits.Limits.{Limits}
 use Rattle.ic_text.specs.declared.limits.TheConstants.{MAX_NAME}
+use Rattle.ic_text.specs.Limits.{most_symbols}
 use Rattle.ic_flat.specs.declared.word.Word.{Word}
 use Rattle.ic_text.specs.declared.excess.Excess.{Excess}
 use Rattle.ic_flat.specs.declared.word.Word.TheVariants.{Name, Agent}
@@ -22,17 +23,18 @@ abbrev pub IsWord : Symbol → Type 0
 IsWord w = IsTrue (is_name w.text || is_symbol_text w.text)
 
 -- a symbol with its number, or why it has none
-abbrev pub agent_word : ℕ → Result ℕ SymbolFault → Result Word SymbolFault
-agent_word arity (Ok n) = Ok (Agent n arity)
-agent_word arity (Err e) = Err e
+abbrev pub agent_word : Limits → ℕ → Result ℕ SymbolFault → Result Word SymbolFault
+agent_word limits arity (Ok n) =
+    if nat_lt n (most_symbols limits) then Ok (Agent n arity) else Err OverLimit
+agent_word limits arity (Err e) = Err e
 
 -- a word with its number, where it comes after the symbols of a table
-abbrev pub word_found : List Symbol → Symbol → Result Word SymbolFault
-word_found table w =
+abbrev pub word_found : Limits → List Symbol → Symbol → Result Word SymbolFault
+word_found limits table w =
     if is_name w.text
     then (if nat_le (name_number w.text) MAX_NAME then Ok (Name (name_number w.text))
     else Err OverLimit)
-    else agent_word w.arity (numbered table w.text w.arity)
+    else agent_word limits w.arity (numbered table w.text w.arity)
 
 -- the table after a word, and after a list of words
 abbrev pub table_with : List Symbol → Symbol → List Symbol
@@ -63,16 +65,18 @@ unless_refused in_limits over v =
     if in_limits then (if over then Ok v else Err Arity) else Err Limit
 
 -- the words of a configuration with their numbers, and their table of symbols
-abbrev pub numbered_words : List Symbol → Result (List Symbol × List Word) TextFault
-numbered_words ws =
-    unless_refused (list_all is_word_in_limits ws && nat_le (length (table_over [] ws)) MAX_SYMBOLS)
+abbrev pub numbered_words : Limits → List Symbol → Result (List Symbol × List Word) TextFault
+numbered_words limits ws =
+    unless_refused
+    (list_all is_word_in_limits ws && nat_le (length (table_over [] ws)) (most_symbols limits))
     (list_all (is_word_over (table_over [] ws)) ws)
     (table_over [] ws, map (word_from (table_over [] ws)) ws)
 
 -- the same, unless a limit of how many they are is passed
-abbrev pub counted_words : Option Excess → List Symbol → Result (List Symbol × List Word) TextFault
-counted_words None ws = numbered_words ws
-counted_words (Some excess) ws = Err Limit
+abbrev pub counted_words : Limits → Option Excess → List Symbol
+    → Result (List Symbol × List Word) TextFault
+counted_words limits None ws = numbered_words limits ws
+counted_words limits (Some excess) ws = Err Limit
 
 -- a word with its number or a refusal, unless a growth was refused
 abbrev pub WordAnswers : Result Word SymbolFault → Result Word SymbolFault → Type 0

@@ -6,7 +6,7 @@ use Rattle.ic_term.specs.Symbol.{Symbol, fits_limits, symbol_arity}
 use Rattle.ic_rules.specs.Renaming.{are_paired}
 use Rattle.ic_term.specs.declared.symbols.SymbolFault.{SymbolFault}
 use Rattle.ic_term.specs.declared.symbols.SymbolFault.TheVariants.{Limit as OverLimit, Arity as OtherArity}
-use Rattle.ic_term.specs.declared.limits.TheConstants.{MAX_SYMBOL_TEXT, MAX_ARITY, MAX_SYMBOLS}
+use Rattle.ic_term.specs.declared.limits.TheConstants.{MAX_SYMBOL_TEXT, MAX_ARITY}
 use Rattle.ic_text.specs.declared.fault.TextFault.{TextFault}
 use Rattle.ic_text.specs.declared.fault.TextFault.TheVariants.{Limit as TooMuch, Arity, NameCount, Name, Twice, Lopsided, Memory}
 use Rattle.ic_text.specs.declared.limits.Limits.{Limits}
@@ -21,6 +21,7 @@ use Rattle.ic_text.specs.declared.excess.Excess.{Excess}
 use Rattle.ic_text.specs.declared.refusal.Refusal.{Refusal}
 use Rattle.ic_text.specs.inner.Numbered.{table_with}
 use Rattle.ic_text.specs.declared.limits.TheConstants.{MAX_NAME}
+use Rattle.ic_text.specs.Limits.{most_symbols}
 use Rattle.ic_text.specs.Name.{is_name, name_text}
 use Rattle.ic_text.specs.Places.{IsWordPlace}
 use Rattle.ic_text.specs.Token.{Token, tokens, words_among}
@@ -39,28 +40,28 @@ IsPlaceOf text (Some k) (Some at) = IsWordPlace text k at
 IsPlaceOf text _ _ = ⊥
 
 -- words keep all limits of words
-abbrev pub are_within : List Symbol → Bool
-are_within ws =
+abbrev pub are_within : Limits → List Symbol → Bool
+are_within limits ws =
     list_all (λ s. fits_limits s.text s.arity) (symbols_among ws)
     && list_all (λ n. nat_le n MAX_NAME) (names_among ws)
-    && nat_le (length (word_table ws)) MAX_SYMBOLS
+    && nat_le (length (word_table ws)) (most_symbols limits)
 
 -- the first word with which a limit of words is passed, and the first limit that it passes
-pub record IsWordLimit (bound : Limit) (ws : List Symbol) (k : ℕ) : Type 0 where
-  pub first : IsFirstWord are_within ws k
-  pub passed : keeps bound (take (k + 1) ws) ≡ false
-  pub before : (b : Limit) → rank b < rank bound → keeps b (take (k + 1) ws) ≡ true
+pub record IsWordLimit (limits : Limits) (bound : Limit) (ws : List Symbol) (k : ℕ) : Type 0 where
+  pub first : IsFirstWord (are_within limits) ws k
+  pub passed : keeps limits bound (take (k + 1) ws) ≡ false
+  pub before : (b : Limit) → rank b < rank bound → keeps limits b (take (k + 1) ws) ≡ true
 
 -- the word of a refusal by limits of words, arities or memory, where one is told
-abbrev pub IsWordIn : List Symbol → TextFault → Option ℕ → Detail → Type 0
-IsWordIn ws TooMuch (Some k) (Passed bound) = IsWordLimit bound ws k
-IsWordIn ws Arity (Some k) (Arities before here) = IsSecondUse before here ws k
-IsWordIn ws Memory None Nothing = Unit {0}
-IsWordIn ws fault k detail = ⊥
+abbrev pub IsWordIn : Limits → List Symbol → TextFault → Option ℕ → Detail → Type 0
+IsWordIn limits ws TooMuch (Some k) (Passed bound) = IsWordLimit limits bound ws k
+IsWordIn limits ws Arity (Some k) (Arities before here) = IsSecondUse before here ws k
+IsWordIn limits ws Memory None Nothing = Unit {0}
+IsWordIn limits ws fault k detail = ⊥
 
 -- the same of a whole refusal
-abbrev pub IsRefusedIn : List Symbol → Refusal → Type 0
-IsRefusedIn ws refusal = IsWordIn ws refusal.fault refusal.word refusal.detail
+abbrev pub IsRefusedIn : Limits → List Symbol → Refusal → Type 0
+IsRefusedIn limits ws refusal = IsWordIn limits ws refusal.fault refusal.word refusal.detail
 
 -- a word stands before the one with which too many are written, if there is one
 abbrev pub IsBefore : Option Excess → Option ℕ → Type 0
@@ -68,16 +69,17 @@ IsBefore (Some excess) (Some k) = k < excess.word
 IsBefore _ _ = Unit {0}
 
 -- too many are written with a word, before which limits of words are kept
-abbrev pub IsExcessAt : List Symbol → Option Excess → Refusal → Type 0
-IsExcessAt ws None refusal = ⊥
-IsExcessAt ws (Some excess) refusal =
+abbrev pub IsExcessAt : Limits → List Symbol → Option Excess → Refusal → Type 0
+IsExcessAt limits ws None refusal = ⊥
+IsExcessAt limits ws (Some excess) refusal =
     (refusal ≡ record { fault = TooMuch; word = Some excess.word; detail = Passed excess.limit })
-    × ((j : ℕ) → j ≤ excess.word → are_within (take j ws) ≡ true)
+    × ((j : ℕ) → j ≤ excess.word → are_within limits (take j ws) ≡ true)
 
 -- a refusal of words, with one of which too many are written, if there is one: that one or an earlier
-abbrev pub IsStoppedIn : List Symbol → Option Excess → Refusal → Type 0
-IsStoppedIn ws excess refusal =
-    (IsRefusedIn ws refusal × IsBefore excess refusal.word) ⊎ IsExcessAt ws excess refusal
+abbrev pub IsStoppedIn : Limits → List Symbol → Option Excess → Refusal → Type 0
+IsStoppedIn limits ws excess refusal =
+    (IsRefusedIn limits ws refusal × IsBefore excess refusal.word)
+    ⊎ IsExcessAt limits ws excess refusal
 
 -- the word of any refusal, where one is told, as it is of all but memory
 abbrev pub IsToldWord : Limits → Written → TextFault → Option ℕ → Detail → Type 0

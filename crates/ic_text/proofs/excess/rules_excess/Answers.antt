@@ -8,4 +8,4 @@ use Rattle.ic_text.proofs.excess.rules_excess.Goals as goal
 pub returns : goal.returns
 returns c =
     rw c.earlier.ensures
-    (earlier-first rules_keep Rules RuleNodes rules_others (omega arith) (nodes_of c.args.nodes.now) _ _ c.too_many_rules.ensures c.too_many_rule_nodes.ensures)
+    (earlier-first (rules_keep c.args.limits) Rules RuleNodes (rules_others c.args.limits) (omega arith) (nodes_of c.args.nodes.now) _ _ c.too_many_rules.ensures c.too_many_rule_nodes.ensures)

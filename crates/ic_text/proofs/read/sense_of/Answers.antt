@@ -82,18 +82,18 @@ kept_here c p spelled =
 
 -- all words are counted as these are
 counted_here : (c : After-deref-2) (p : Phrase) → tokens c.args.text.now ≡ Some (phrase_words p)
-    → counted_words c.config_excess-excess.result (nodes_of c.deref-2.result.now) ≡ counted_words c.config_excess-excess.result (phrase_prefix p)
+    → counted_words c.args.limits c.config_excess-excess.result (nodes_of c.deref-2.result.now) ≡ counted_words c.args.limits c.config_excess-excess.result (phrase_prefix p)
 counted_here c p spelled =
-    ap (counted_words c.config_excess-excess.result) (same_here c p spelled)
+    ap (counted_words c.args.limits c.config_excess-excess.result) (same_here c p spelled)
     ∙ counted-front c.args.limits c.in_ok-prefix.prefix.terms (phrase_prefix p) c.enough_of-kept.result (enough_here c p spelled) c.config_excess-excess.result (first_here c p spelled)
 
 -- where they have numbers, they are all
-whole_here : (c : After-deref-2) (p : Phrase) → tokens c.args.text.now ≡ Some (phrase_words p) → (v : List Symbol × List Word) → Ok v ≡ counted_words c.config_excess-excess.result (nodes_of c.deref-2.result.now)
+whole_here : (c : After-deref-2) (p : Phrase) → tokens c.args.text.now ≡ Some (phrase_words p) → (v : List Symbol × List Word) → Ok v ≡ counted_words c.args.limits c.config_excess-excess.result (nodes_of c.deref-2.result.now)
     → nodes_of c.in_ok-prefix.prefix.nodes.items ≡ phrase_prefix p
 whole_here c p spelled v number =
     words_here c p spelled
     ∙ numbered-whole c.args.limits c.in_ok-prefix.prefix.terms (phrase_prefix p) c.enough_of-kept.result (enough_here c p spelled) c.config_excess-excess.result (first_here c p spelled) v
-    (number ∙ ap (counted_words c.config_excess-excess.result) (same_here c p spelled))
+    (number ∙ ap (counted_words c.args.limits c.config_excess-excess.result) (same_here c p spelled))
 
 pub number_words-requires-clause-words : goal.number_words-requires-clause-words
 number_words-requires-clause-words c =
@@ -112,7 +112,7 @@ number_words-requires-clause-inside c =
 
 -- the sense is that of the words, as far as they are counted
 sense_here : (c : After-deref-2) (p : Phrase) → IsPhrase p → tokens c.args.text.now ≡ Some (phrase_words p)
-    → sense_within c.args.limits p ≡ finished c.in_ok-prefix.prefix.terms (counted_words c.config_excess-excess.result (nodes_of c.deref-2.result.now))
+    → sense_within c.args.limits p ≡ finished c.in_ok-prefix.prefix.terms (counted_words c.args.limits c.config_excess-excess.result (nodes_of c.deref-2.result.now))
 sense_here c p is spelled =
     sense-counted c.args.limits p is c.config_excess-excess.result (kept_here c p spelled)
     ∙ (λ i. finished (sym (terms_here c p spelled) i) (sym (counted_here c p spelled) i))
@@ -129,10 +129,10 @@ returns-in_err-symbols-clause-word c = λ p spells.
     rw (e.1, e.2)
     (told_in c.args.limits (written_phrase p) c.config_excess-excess.result (kept_here here p spells.tokens) c.in_err-symbols.field-0.0
     (stopped-front c.args.limits c.in_ok-prefix.prefix.terms (phrase_prefix p) c.enough_of-kept.result (enough_here here p spells.tokens) c.config_excess-excess.result (first_here here p spells.tokens) c.in_err-symbols.field-0.0
-    (subst (λ ws. IsStoppedIn ws c.config_excess-excess.result c.in_err-symbols.field-0.0) (same_here here p spells.tokens) c.in_err-symbols.ensures.word)))
+    (subst (λ ws. IsStoppedIn c.args.limits ws c.config_excess-excess.result c.in_err-symbols.field-0.0) (same_here here p spells.tokens) c.in_err-symbols.ensures.word)))
 
 limits_here : (c : After-deref-2) (p : Phrase) → IsPhrase p → tokens c.args.text.now ≡ Some (phrase_words p)
-    → (v : List Symbol × List Word) → Ok v ≡ counted_words c.config_excess-excess.result (nodes_of c.deref-2.result.now) → is_in_limits_within c.args.limits p ≡ true
+    → (v : List Symbol × List Word) → Ok v ≡ counted_words c.args.limits c.config_excess-excess.result (nodes_of c.deref-2.result.now) → is_in_limits_within c.args.limits p ≡ true
 limits_here c p is spelled v number =
     config_in_limits c.args.limits p is c.config_excess-excess.result (kept_here c p spelled) v (number ∙ counted_here c p spelled)
 
@@ -143,7 +143,7 @@ wide_of-requires c =
     let here = (goal.at.wide_of-requires c).After-deref-2 in
     let number = c.in_ok-symbols.ensures.numbers ∙ counted_here here p c.requires.1.tokens in
     subst (λ n. IsPaired c.in_ok-symbols.words.items n) (sym (terms_here here p c.requires.1.tokens))
-    (paired_words p c.requires.1.phrase _ (counted-numbered (phrase_prefix p) c.config_excess-excess.result _ number))
+    (paired_words p c.requires.1.phrase c.args.limits _ (counted-numbered c.args.limits (phrase_prefix p) c.config_excess-excess.result _ number))
 
 -- what is refused behind the numbering is so by the sense
 refused_here : (limits : Limits) (p : Phrase) (terms : ℕ) (r : Result (List Symbol × List Word) TextFault) (symbols : List Symbol) (items : List Word) (f : TextFault)
@@ -157,7 +157,7 @@ pub refusal_of-requires : goal.refusal_of-requires
 refusal_of-requires c =
     let p = c.requires.0 in
     let here = sense_here (goal.at.refusal_of-requires c).After-deref-2 p c.requires.1.phrase c.requires.1.tokens in
-    let refused = refused_here c.args.limits p c.in_ok-prefix.prefix.terms (counted_words c.config_excess-excess.result (nodes_of c.deref-2.result.now)) c.in_ok-symbols.symbols c.in_ok-symbols.words.items c.in-Err.fault here c.in_ok-symbols.ensures.numbers c.in-Err.ensures in (
+    let refused = refused_here c.args.limits p c.in_ok-prefix.prefix.terms (counted_words c.args.limits c.config_excess-excess.result (nodes_of c.deref-2.result.now)) c.in_ok-symbols.symbols c.in_ok-symbols.words.items c.in-Err.fault here c.in_ok-symbols.ensures.numbers c.in-Err.ensures in (
       alone p,
       record {
         words = ap nodes_of c.deref-in-Err.ensures.value ∙ whole_here (goal.at.refusal_of-requires c).After-deref-2 p c.requires.1.tokens _ c.in_ok-symbols.ensures.numbers;
@@ -169,12 +169,12 @@ refusal_of-requires c =
 pub returns-clause-sense : goal.returns-clause-sense
 returns-clause-sense c = λ p spells.
     let here = sense_here (goal.at.returns-clause-sense c).After-deref-2 p spells.phrase spells.tokens in
-    rw c.refusal_of.ensures.fault (refused_here c.args.limits p c.in_ok-prefix.prefix.terms (counted_words c.config_excess-excess.result (nodes_of c.deref-2.result.now)) c.in_ok-symbols.symbols c.in_ok-symbols.words.items c.in-Err.fault here c.in_ok-symbols.ensures.numbers c.in-Err.ensures)
+    rw c.refusal_of.ensures.fault (refused_here c.args.limits p c.in_ok-prefix.prefix.terms (counted_words c.args.limits c.config_excess-excess.result (nodes_of c.deref-2.result.now)) c.in_ok-symbols.symbols c.in_ok-symbols.words.items c.in-Err.fault here c.in_ok-symbols.ensures.numbers c.in-Err.ensures)
 
 pub returns-clause-word : goal.returns-clause-word
 returns-clause-word c = λ p spells.
     let here = sense_here (goal.at.returns-clause-word c).After-deref-2 p spells.phrase spells.tokens in
-    let refused = refused_here c.args.limits p c.in_ok-prefix.prefix.terms (counted_words c.config_excess-excess.result (nodes_of c.deref-2.result.now)) c.in_ok-symbols.symbols c.in_ok-symbols.words.items c.in-Err.fault here c.in_ok-symbols.ensures.numbers c.in-Err.ensures in
+    let refused = refused_here c.args.limits p c.in_ok-prefix.prefix.terms (counted_words c.args.limits c.config_excess-excess.result (nodes_of c.deref-2.result.now)) c.in_ok-symbols.symbols c.in_ok-symbols.words.items c.in-Err.fault here c.in_ok-symbols.ensures.numbers c.in-Err.ensures in
     c.refusal_of.ensures.word c.args.limits (alone p) (record {
       words = ap nodes_of c.deref-in-Err.ensures.value ∙ whole_here (goal.at.returns-clause-word c).After-deref-2 p spells.tokens _ c.in_ok-symbols.ensures.numbers;
       before = refl;
@@ -189,23 +189,23 @@ ok_is_sense limits p terms r symbols items config sense_is number built = ap (be
 
 pub returns-in-Ok-clause-sense : goal.returns-in-Ok-clause-sense
 returns-in-Ok-clause-sense c = λ p spells.
-    ok_is_sense c.args.limits p c.in_ok-prefix.prefix.terms (counted_words c.config_excess-excess.result (nodes_of c.deref-2.result.now)) c.in_ok-symbols.symbols c.in_ok-symbols.words.items c.in-Ok.config
+    ok_is_sense c.args.limits p c.in_ok-prefix.prefix.terms (counted_words c.args.limits c.config_excess-excess.result (nodes_of c.deref-2.result.now)) c.in_ok-symbols.symbols c.in_ok-symbols.words.items c.in-Ok.config
     (sense_here (goal.at.returns-in-Ok-clause-sense c).After-deref-2 p spells.phrase spells.tokens) c.in_ok-symbols.ensures.numbers c.in-Ok.ensures
 
 pub returns-in-Ok-clause-over : goal.returns-in-Ok-clause-over
 returns-in-Ok-clause-over c =
     let p = c.requires.0 in
-    sense-over c.args.limits p _ (sym (ok_is_sense c.args.limits p c.in_ok-prefix.prefix.terms (counted_words c.config_excess-excess.result (nodes_of c.deref-2.result.now)) c.in_ok-symbols.symbols c.in_ok-symbols.words.items c.in-Ok.config
+    sense-over c.args.limits p _ (sym (ok_is_sense c.args.limits p c.in_ok-prefix.prefix.terms (counted_words c.args.limits c.config_excess-excess.result (nodes_of c.deref-2.result.now)) c.in_ok-symbols.symbols c.in_ok-symbols.words.items c.in-Ok.config
     (sense_here (goal.at.returns-in-Ok-clause-over c).After-deref-2 p c.requires.1.phrase c.requires.1.tokens) c.in_ok-symbols.ensures.numbers c.in-Ok.ensures))
 
 pub returns-in-Ok-clause-nodes : goal.returns-in-Ok-clause-nodes
 returns-in-Ok-clause-nodes c =
     let p = c.requires.0 in
-    few_nodes c.args.limits p _ (sym (ok_is_sense c.args.limits p c.in_ok-prefix.prefix.terms (counted_words c.config_excess-excess.result (nodes_of c.deref-2.result.now)) c.in_ok-symbols.symbols c.in_ok-symbols.words.items c.in-Ok.config
+    few_nodes c.args.limits p _ (sym (ok_is_sense c.args.limits p c.in_ok-prefix.prefix.terms (counted_words c.args.limits c.config_excess-excess.result (nodes_of c.deref-2.result.now)) c.in_ok-symbols.symbols c.in_ok-symbols.words.items c.in-Ok.config
     (sense_here (goal.at.returns-in-Ok-clause-nodes c).After-deref-2 p c.requires.1.phrase c.requires.1.tokens) c.in_ok-symbols.ensures.numbers c.in-Ok.ensures))
 
 pub returns-in-Ok-clause-interface : goal.returns-in-Ok-clause-interface
 returns-in-Ok-clause-interface c =
     let p = c.requires.0 in
-    few_terms c.args.limits p _ (sym (ok_is_sense c.args.limits p c.in_ok-prefix.prefix.terms (counted_words c.config_excess-excess.result (nodes_of c.deref-2.result.now)) c.in_ok-symbols.symbols c.in_ok-symbols.words.items c.in-Ok.config
+    few_terms c.args.limits p _ (sym (ok_is_sense c.args.limits p c.in_ok-prefix.prefix.terms (counted_words c.args.limits c.config_excess-excess.result (nodes_of c.deref-2.result.now)) c.in_ok-symbols.symbols c.in_ok-symbols.words.items c.in-Ok.config
     (sense_here (goal.at.returns-in-Ok-clause-interface c).After-deref-2 p c.requires.1.phrase c.requires.1.tokens) c.in_ok-symbols.ensures.numbers c.in-Ok.ensures))

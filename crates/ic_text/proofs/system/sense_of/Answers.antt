@@ -25,7 +25,7 @@ use Rattle.ic_text.proofs.JoinedPhrase.{joined_phrase, prefix-joined}
 use Rattle.ic_text.proofs.Refusing.{system_agrees, written-system}
 use Rattle.ic_text.proofs.Fitting.{Kept, counted-numbered, one_of_words, system_in_limits}
 use Rattle.ic_text.proofs.Stopping.{told_in}
-use Rattle.ic_text.proofs.WithinLimits.{few_system_nodes, few_system_terms}
+use Rattle.ic_text.proofs.WithinLimits.{few_system_nodes, few_system_terms, served}
 use Rattle.ic_text.proofs.system.sense_of.Goals as goal
 use Rattle.ic_text.proofs.system.sense_of.Goals.{After-words-before, After-deref-2}
 
@@ -100,10 +100,10 @@ number_words-requires-clause-inside c =
 
 -- the sense is that of the words, as far as they are counted
 sense_here : (c : After-deref-2) (s : SystemPhrase) → IsSystemPhrase s → Known s c.in_ok-rules.rules c.in_ok-config.config
-    → system_sense_within c.args.limits s ≡ finished_system c.words-before.result c.in_ok-config.config.terms (counted_words c.excess_of-excess.result (nodes_of c.deref-2.result.now))
+    → system_sense_within c.args.limits s ≡ finished_system c.words-before.result c.in_ok-config.config.terms (counted_words c.args.limits c.excess_of-excess.result (nodes_of c.deref-2.result.now))
 sense_here c s is known =
     sense-known s c.in_ok-rules.rules c.in_ok-config.config known c.args.limits is c.excess_of-excess.result (kept_here c s known)
-    ∙ (λ i. finished_system (sym c.words-before.ensures i) c.in_ok-config.config.terms (counted_words c.excess_of-excess.result (nodes_of (sym (c.deref-2.ensures.value ∙ c.in_ok-append.ensures.items) i))))
+    ∙ (λ i. finished_system (sym c.words-before.ensures i) c.in_ok-config.config.terms (counted_words c.args.limits c.excess_of-excess.result (nodes_of (sym (c.deref-2.ensures.value ∙ c.in_ok-append.ensures.items) i))))
 
 pub returns-in_err-symbols-clause-sense : goal.returns-in_err-symbols-clause-sense
 returns-in_err-symbols-clause-sense c = λ s spells.
@@ -120,20 +120,20 @@ returns-in_err-symbols-clause-word c = λ s spells.
     let same = words_here here s known ∙ sym (written-system s) in
     rw (e.1, e.2)
     (told_in c.args.limits (written_system s) c.excess_of-excess.result (kept_here here s known) c.in_err-symbols.field-0.0
-    (subst (λ ws. IsStoppedIn ws c.excess_of-excess.result c.in_err-symbols.field-0.0) same c.in_err-symbols.ensures.word))
+    (subst (λ ws. IsStoppedIn c.args.limits ws c.excess_of-excess.result c.in_err-symbols.field-0.0) same c.in_err-symbols.ensures.word))
 
 limits_here : (c : After-deref-2) (s : SystemPhrase) → IsSystemPhrase s → Known s c.in_ok-rules.rules c.in_ok-config.config
-    → (v : List Symbol × List Word) → Ok v ≡ counted_words c.excess_of-excess.result (nodes_of c.deref-2.result.now) → is_system_in_limits_within c.args.limits s ≡ true
+    → (v : List Symbol × List Word) → Ok v ≡ counted_words c.args.limits c.excess_of-excess.result (nodes_of c.deref-2.result.now) → is_system_in_limits_within c.args.limits s ≡ true
 limits_here c s is known v number =
-    system_in_limits c.args.limits s is c.excess_of-excess.result (kept_here c s known) v (number ∙ ap (counted_words c.excess_of-excess.result) (words_here c s known ∙ sym (prefix-joined s)))
+    system_in_limits c.args.limits s is c.excess_of-excess.result (kept_here c s known) v (number ∙ ap (counted_words c.args.limits c.excess_of-excess.result) (words_here c s known ∙ sym (prefix-joined s)))
 
 -- and those of the configuration write it
 paired_here : (c : After-deref-2) (s : SystemPhrase) → IsSystemPhrase s → Known s c.in_ok-rules.rules c.in_ok-config.config
-    → (v : List Symbol × List Word) → Ok v ≡ counted_words c.excess_of-excess.result (nodes_of c.deref-2.result.now)
+    → (v : List Symbol × List Word) → Ok v ≡ counted_words c.args.limits c.excess_of-excess.result (nodes_of c.deref-2.result.now)
     → (c.words-before.result ≤ length v.1) × IsPaired (drop c.words-before.result v.1) c.in_ok-config.config.terms
 paired_here c s is known v number =
-    let own = number ∙ ap (counted_words c.excess_of-excess.result) (words_here c s known ∙ sym (prefix-joined s)) in
-    let found = paired-system s is v (counted-numbered (phrase_prefix (joined_phrase s)) c.excess_of-excess.result v own) in
+    let own = number ∙ ap (counted_words c.args.limits c.excess_of-excess.result) (words_here c s known ∙ sym (prefix-joined s)) in
+    let found = paired-system s is c.args.limits v (counted-numbered c.args.limits (phrase_prefix (joined_phrase s)) c.excess_of-excess.result v own) in
     rw (c.words-before.ensures ∙ rules_before s c.in_ok-rules.rules c.in_ok-config.config known, known.terms_are) found
 
 pub system_of-requires-clause-inside : goal.system_of-requires-clause-inside
@@ -156,10 +156,10 @@ refused_here limits s before terms r v f sense_is number refused = rw (sense_is 
 
 -- and so the system has what it is refused for
 faulty_here : (limits : Limits) (s : SystemPhrase) → IsSystemPhrase s → (before terms : ℕ) (o : Option Excess) (words : List Symbol) (v : List Symbol × List Word) (f : TextFault)
-    → system_sense_within limits s ≡ finished_system before terms (counted_words o words) → Ok v ≡ counted_words o words → words ≡ system_prefix s → is_system_in_limits_within limits s ≡ true
+    → system_sense_within limits s ≡ finished_system before terms (counted_words limits o words) → Ok v ≡ counted_words limits o words → words ≡ system_prefix s → is_system_in_limits_within limits s ≡ true
     → Refuses f (finished_system before terms (Ok v)) → HasFault s f
 faulty_here limits s is before terms o words v f sense_is number same low refused =
-    has_fault limits s is low (system_agrees s is v (counted-numbered words o v number ∙ ap numbered_words (same ∙ sym (prefix-joined s)))) f (refused_here limits s before terms (counted_words o words) v f sense_is number refused)
+    has_fault limits s is low (system_agrees limits s is v (counted-numbered limits words o v number ∙ ap (numbered_words limits) (same ∙ sym (prefix-joined s)))) f (refused_here limits s before terms (counted_words limits o words) v f sense_is number refused)
 
 pub refusal_of-requires : goal.refusal_of-requires
 refusal_of-requires c =
@@ -180,7 +180,7 @@ pub returns-clause-sense : goal.returns-clause-sense
 returns-clause-sense c = λ s spells.
     let known = known_here (goal.at.returns-clause-sense c).After-words-before s spells.tokens in
     let sense_is = sense_here (goal.at.returns-clause-sense c).After-deref-2 s spells.phrase known in
-    rw c.refusal_of.ensures.fault (refused_here c.args.limits s c.words-before.result c.in_ok-config.config.terms (counted_words c.excess_of-excess.result (nodes_of c.deref-2.result.now)) (c.in_ok-symbols.symbols, c.in_ok-symbols.words.items) c.in-Err.fault sense_is c.in_ok-symbols.ensures.numbers c.in-Err.ensures)
+    rw c.refusal_of.ensures.fault (refused_here c.args.limits s c.words-before.result c.in_ok-config.config.terms (counted_words c.args.limits c.excess_of-excess.result (nodes_of c.deref-2.result.now)) (c.in_ok-symbols.symbols, c.in_ok-symbols.words.items) c.in-Err.fault sense_is c.in_ok-symbols.ensures.numbers c.in-Err.ensures)
 
 pub returns-clause-word : goal.returns-clause-word
 returns-clause-word c = λ s spells.
@@ -203,7 +203,7 @@ ok_is_sense limits s before terms r v system sense_is number built = built ∙ a
 pub returns-in-Ok-clause-sense : goal.returns-in-Ok-clause-sense
 returns-in-Ok-clause-sense c = λ s spells.
     let known = known_here (goal.at.returns-in-Ok-clause-sense c).After-words-before s spells.tokens in
-    ok_is_sense c.args.limits s c.words-before.result c.in_ok-config.config.terms (counted_words c.excess_of-excess.result (nodes_of c.deref-2.result.now)) (c.in_ok-symbols.symbols, c.in_ok-symbols.words.items) _
+    ok_is_sense c.args.limits s c.words-before.result c.in_ok-config.config.terms (counted_words c.args.limits c.excess_of-excess.result (nodes_of c.deref-2.result.now)) (c.in_ok-symbols.symbols, c.in_ok-symbols.words.items) _
     (sense_here (goal.at.returns-in-Ok-clause-sense c).After-deref-2 s spells.phrase known) c.in_ok-symbols.ensures.numbers c.in-Ok.ensures
 
 pub returns-in-Ok-clause-nodes : goal.returns-in-Ok-clause-nodes
@@ -211,7 +211,7 @@ returns-in-Ok-clause-nodes c =
     let s = c.requires.0 in
     let known = known_here (goal.at.returns-in-Ok-clause-nodes c).After-words-before s c.requires.1.tokens in
     few_system_nodes c.args.limits s _
-    (sym (ok_is_sense c.args.limits s c.words-before.result c.in_ok-config.config.terms (counted_words c.excess_of-excess.result (nodes_of c.deref-2.result.now)) (c.in_ok-symbols.symbols, c.in_ok-symbols.words.items) _
+    (sym (ok_is_sense c.args.limits s c.words-before.result c.in_ok-config.config.terms (counted_words c.args.limits c.excess_of-excess.result (nodes_of c.deref-2.result.now)) (c.in_ok-symbols.symbols, c.in_ok-symbols.words.items) _
     (sense_here (goal.at.returns-in-Ok-clause-nodes c).After-deref-2 s c.requires.1.phrase known) c.in_ok-symbols.ensures.numbers c.in-Ok.ensures))
 
 pub returns-in-Ok-clause-interface : goal.returns-in-Ok-clause-interface
@@ -219,5 +219,13 @@ returns-in-Ok-clause-interface c =
     let s = c.requires.0 in
     let known = known_here (goal.at.returns-in-Ok-clause-interface c).After-words-before s c.requires.1.tokens in
     few_system_terms c.args.limits s _
-    (sym (ok_is_sense c.args.limits s c.words-before.result c.in_ok-config.config.terms (counted_words c.excess_of-excess.result (nodes_of c.deref-2.result.now)) (c.in_ok-symbols.symbols, c.in_ok-symbols.words.items) _
+    (sym (ok_is_sense c.args.limits s c.words-before.result c.in_ok-config.config.terms (counted_words c.args.limits c.excess_of-excess.result (nodes_of c.deref-2.result.now)) (c.in_ok-symbols.symbols, c.in_ok-symbols.words.items) _
     (sense_here (goal.at.returns-in-Ok-clause-interface c).After-deref-2 s c.requires.1.phrase known) c.in_ok-symbols.ensures.numbers c.in-Ok.ensures))
+
+pub returns-in-Ok-clause-served : goal.returns-in-Ok-clause-served
+returns-in-Ok-clause-served c =
+    let s = c.requires.0 in
+    let known = known_here (goal.at.returns-in-Ok-clause-served c).After-words-before s c.requires.1.tokens in
+    served c.args.limits s _
+    (sym (ok_is_sense c.args.limits s c.words-before.result c.in_ok-config.config.terms (counted_words c.args.limits c.excess_of-excess.result (nodes_of c.deref-2.result.now)) (c.in_ok-symbols.symbols, c.in_ok-symbols.words.items) _
+    (sense_here (goal.at.returns-in-Ok-clause-served c).After-deref-2 s c.requires.1.phrase known) c.in_ok-symbols.ensures.numbers c.in-Ok.ensures))

@@ -2,7 +2,7 @@ use Rattle.std.proofs.Common.{length, sym, arith}
 use Rattle.std.proofs.lemmas.List.{length-map}
 use Rattle.ic_text.specs.inner.Prefix.{node_of, nodes_of}
 use Rattle.ic_text.proofs.Excesses.{within_fit}
-use Rattle.ic_text.proofs.excess.too_many_rule_nodes.Goals as goal
+use Rattle.ic_text.proofs.excess.too_many_served_nodes.Goals as goal
 
 pub returns-then-saturating_sub : goal.returns-then-saturating_sub
 returns-then-saturating_sub c =
