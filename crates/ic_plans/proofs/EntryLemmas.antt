@@ -1,20 +1,25 @@
--- The table of plans, pair by pair: a pair more, and the plans once all pairs are there.
-use Rattle.std.proofs.Common.{◌≡◌, ◌⊎◌, ℕ, zero, suc, ◌+◌, ◌*◌, ◌/◌, ◌%◌, ◌≤◌, ◌<◌, List, [], ◌∷◌, ◌++◌, Bool, Option, None, Some, length, map, take, slice_get, refl, sym, ap, subst, ◌∙◌, arith, inl, inr}
-use Rattle.std.specs.Prelude.{IfSome}
-use Rattle.std.specs.List.{AllByRecursion}
-use Rattle.std.proofs.lemmas.Option.{none-some, same_Some, slice_get_within, slice_get-get_or}
-use Rattle.std.proofs.lemmas.List.{length-append, length-map}
-use Rattle.std.proofs.lemmas.Nat.{mul-add-lt, div-mul-add, mod-mul-add}
-use Rattle.ic_term.specs.Symbol.{Symbol, symbol_arity}
-use Rattle.ic_rules.specs.RuleSet.{Rules, IsRuleSet, rule_for, stands_turned}
-use Rattle.ic_rules.specs.lemmas.FindLaws.{rule_for-found}
+-- The plans of pairs of symbols: one more, and what they are once those of all rules are there.
+use Rattle.std.proofs.Common.{◌≡◌, ◌⊎◌, ℕ, zero, suc, ◌+◌, ◌≤◌, ◌<◌, ◌==◌, ◌&&◌, ◌||◌, List, [], ◌∷◌, ◌++◌, Bool, true, false, cond, Option, None, Some, Result, Ok, Err, is_some, length, map, take, slice_get, refl, sym, ap, subst, ◌∙◌, arith}
+use Rattle.std.specs.Prelude.{IfSome, IsSome, OnOk}
+use Rattle.std.specs.Option.{option_map}
+use Rattle.std.specs.List.{list_any, AllByRecursion}
+use Rattle.std.specs.Cmp.{unsigned_Decides}
+use Rattle.std.proofs.lemmas.Bool.{and_from, and_parts, false≢true}
+use Rattle.std.proofs.lemmas.Option.{none-some, same_Some, slice_get_within}
+use Rattle.std.proofs.lemmas.List.{length-append}
+use Rattle.ic_term.specs.Symbol.{Symbol, has_arity, symbol_arity}
+use Rattle.ic_rules.specs.Rule.{Rule, stands_for}
+use Rattle.ic_rules.specs.RuleSet.{Rules, IsRuleSet, rule_for, has_pair, stands_turned}
+use Rattle.ic_rules.specs.lemmas.FindLaws.{rule_for-found, rule_for-none}
 use Rattle.ic_rules.specs.lemmas.FitLaws.{rule_over_at}
-use Rattle.ic_machine.specs.Plan.{Planned, Plans, IsPlan, ArePlans, plan_at, number_of}
-use Rattle.ic_meaning.specs.Plans.{IsOfRule, ArePlansOf, met_as}
-use Rattle.ic_plans.specs.inner.Entries.{arities_of, plans_so_far, IsEntry, AreEntries, Continues}
+use Rattle.ic_machine.specs.Plan.{Planned, Plans, IsPlan, ArePlans, number_of, place_of, plan_of}
+use Rattle.ic_machine.specs.lemmas.PairLaws.{found_on, no_number, pair_same, place_pushed, plans_added, same_pair}
+use Rattle.ic_meaning.specs.Plans.{IsOfRule, ArePlansOf, StandsFor, met_as}
+use Rattle.ic_plans.specs.inner.Entries.{arities_of, ArePlanned, HasPlans, Continues}
 use Rattle.ic_plans.specs.inner.Registers.{IsPlanFor}
-use Rattle.ic_plans.proofs.RegisterLemmas.{there_front, there_last}
+use Rattle.ic_plans.proofs.RegisterLemmas.{all_there, there_front, there_last}
 use Rattle.ic_plans.proofs.MetLemmas.{met_arguments}
+use Rattle.ic_plans.proofs.PlanLemmas.{arity_there}
 
 -- ---- lists
 
@@ -29,26 +34,14 @@ read_at [] i within = absurd (omega arith)
 read_at (x ∷ xs) zero within = (x, refl)
 read_at (x ∷ xs) (suc i) within = read_at xs i (omega arith)
 
--- what is read once there is an element more
-front_or_last : {X : Type 0} (xs : List X) (x y : X) (k : ℕ) → slice_get (xs ++ x ∷ []) k ≡ Some y → (slice_get xs k ≡ Some y) ⊎ ((k ≡ length xs) × (x ≡ y))
-front_or_last [] x y zero there = inr (refl, same_Some x y there)
-front_or_last [] x y (suc k) there = absurd (none-some y there)
-front_or_last (z ∷ xs) x y zero there = inl there
-front_or_last (z ∷ xs) x y (suc k) there = at (front_or_last xs x y k there)
+any_there : {X : Type 0} (f : X → Bool) (xs : List X) (i : ℕ) (x : X) → slice_get xs i ≡ Some x → f x ≡ true → list_any f xs ≡ true
+any_there f [] i x there so = absurd (none-some x there)
+any_there f (y ∷ ys) zero x there so = ap (λ b. b || list_any f ys) (ap f (same_Some y x there) ∙ so)
+any_there f (y ∷ ys) (suc i) x there so = by (f y) (any_there f ys i x there so)
   where
-    at : (slice_get xs k ≡ Some y) ⊎ ((k ≡ length xs) × (x ≡ y)) → (slice_get xs k ≡ Some y) ⊎ ((suc k ≡ suc (length xs)) × (x ≡ y))
-    at (inl front) = inl front
-    at (inr last) = inr (ap suc last.0, last.1)
-
-each_there : {X : Type 0} (P : X → Type 0) (xs : List X) → ((k : ℕ) (x : X) → slice_get xs k ≡ Some x → P x) → AllByRecursion P xs
-each_there P [] all = tt
-each_there P (x ∷ xs) all = (all 0 x refl, each_there P xs (λ k y there. all (suc k) y there))
-
-continued : {X : Type 0} (xs ys : List X) (i : ℕ) (x : X) → Continues xs ys → slice_get xs i ≡ Some x → slice_get ys i ≡ Some x
-continued xs ys i x on there = ap (λ l. slice_get l i) on.is ∙ there_front xs on.more i x there
-
-longer : {X : Type 0} (xs ys : List X) → Continues xs ys → length xs ≤ length ys
-longer xs ys on = omega (arith, ap length on.is, length-append xs on.more)
+    by : (b : Bool) → list_any f ys ≡ true → (b || list_any f ys) ≡ true
+    by true rest = refl
+    by false rest = rest
 
 -- the arity of one symbol more
 pub arities_more : (ss : List Symbol) (i n : ℕ) → symbol_arity ss i ≡ Some n → map (λ (s : Symbol). s.arity) (take (i + 1) ss) ≡ map (λ (s : Symbol). s.arity) (take i ss) ++ n ∷ []
@@ -58,118 +51,163 @@ arities_more (s ∷ ss) (suc i) n is =
     let next : suc i + 1 ≡ suc (i + 1) = omega arith in
     ap (λ k. map (λ (s : Symbol). s.arity) (take k (s ∷ ss))) next ∙ ap (λ l. s.arity ∷ l) (arities_more ss i n is)
 
--- ---- an entry
+-- ---- a plan more
 
-module _ (rs : Rules) (numbers numbers_on : List ℕ) (plans plans_on : List Planned) (a b : ℕ) (more_numbers : Continues numbers numbers_on) (more_plans : Continues plans plans_on) where
-  -- an entry stays what it is once there are more plans
-  pub entry_stays : (entry : Option ℕ) → IsEntry rs numbers plans a b entry → IsEntry rs numbers_on plans_on a b entry
-  entry_stays None is = record { of_rule = none (rule_for rs.rules a b) is.of_rule; there = tt; fits = λ left right first second. tt }
-    where
-      none : (found : Option (ℕ × Bool)) → IsOfRule rs numbers (plans_so_far rs plans) None found → IsOfRule rs numbers_on (plans_so_far rs plans_on) None found
-      none None of = tt
-      none (Some found) of = absurd of
-  entry_stays (Some place) is = record {
-    of_rule = some (rule_for rs.rules a b) is.of_rule;
-    there = omega (arith, is.there, longer plans plans_on more_plans);
-    fits = λ left right first second.
-        let plan = read_at plans place is.there in
-        if_some (IsPlan (arities_of rs) (left + right)) (slice_get plans_on place) plan.0 (continued plans plans_on place plan.0 more_plans plan.1)
-        (if_there (IsPlan (arities_of rs) (left + right)) (slice_get plans place) plan.0 plan.1 (is.fits left right first second));
-  }
-    where
-      some : (found : Option (ℕ × Bool)) → IsOfRule rs numbers (plans_so_far rs plans) (Some place) found → IsOfRule rs numbers_on (plans_so_far rs plans_on) (Some place) found
-      some None of = absurd of
-      some (Some (rule, turned)) of = record {
-        number = continued numbers numbers_on place rule more_numbers of.number;
-        of_rule = of.of_rule;
-        rule_there = of.rule_there;
-        plan = of.plan;
-        plan_there = continued plans plans_on place of.plan more_plans of.plan_there;
-        stands = of.stands;
+-- a rule is found for its symbols, as they stand and turned round
+pub rule_some : (rs : List Rule) (i a b : ℕ) (r : Rule) → slice_get rs i ≡ Some r → has_pair a b r ≡ true → IsSome (rule_for rs a b)
+rule_some rs i a b r there so = by (rule_for rs a b) refl
+  where
+    by : (o : Option (ℕ × Bool)) → rule_for rs a b ≡ o → IsSome o
+    by (Some found) is = refl
+    by None is = absurd (false≢true (sym (rule_for-none rs a b is) ∙ any_there (has_pair a b) rs i r there so))
+
+pub own_pair : (r : Rule) → (has_pair r.left r.right r ≡ true) × (has_pair r.right r.left r ≡ true)
+own_pair r = (ap (λ t. t || stands_for r.right r.left r) stands, by (stands_for r.right r.left r))
+  where
+    stands : stands_for r.left r.right r ≡ true
+    stands = and_from (r.left == r.left) (r.right == r.right) ((unsigned_Decides r.left r.left).1 refl) ((unsigned_Decides r.right r.right).1 refl)
+
+    by : (b : Bool) → (b || stands_for r.left r.right r) ≡ true
+    by true = refl
+    by false = stands
+
+-- what has a number in a list has one in a longer list
+pub number_kept : (a b : ℕ) (xs ys : List (ℕ × ℕ)) → Continues xs ys → IsSome (place_of a b xs) → IsSome (place_of a b ys)
+number_kept a b xs ys on some = by (place_of a b xs) refl some
+  where
+    by : (o : Option ℕ) → place_of a b xs ≡ o → IsSome o → IsSome (place_of a b ys)
+    by None is some = absurd (false≢true some)
+    by (Some i) is some =
+        subst (λ o. IsSome o) (sym (ap (place_of a b) on.is ∙ found_on (λ q. q.0 == a && q.1 == b) xs on.more 0 i is)) refl
+
+module _ (rs : Rules) (numbers : List ℕ) (p : Plans) (a b number : ℕ) (turned : Bool) (plan : Planned)
+    (set : IsRuleSet rs) (so_far : ArePlanned rs numbers p) (la : a < length p.arities) (lb : b < length p.arities) (none : plan_of p a b ≡ None)
+    (found : rule_for rs.rules a b ≡ Some (number, turned))
+    (planned : IfSome (slice_get rs.rules number) (λ r. IsPlanFor (arities_of rs) (met_as turned r) plan)) where
+  abbrev more : Plans
+  more = record { arities = p.arities; pairs = p.pairs ++ (a, b) ∷ []; plans = p.plans ++ plan ∷ [] }
+
+  rule : (r : Rule) × (slice_get rs.rules number ≡ Some r)
+  rule = read_at rs.rules number (rule_for-found rs.rules a b number turned found).there
+
+  made : IsPlanFor (arities_of rs) (met_as turned rule.0) plan
+  made = if_there (λ r. IsPlanFor (arities_of rs) (met_as turned r) plan) (slice_get rs.rules number) rule.0 rule.1 planned
+
+  pub fits : (left right : ℕ) → slice_get p.arities a ≡ Some left → slice_get p.arities b ≡ Some right → IsPlan p.arities (left + right) plan
+  fits left right first second =
+      let of = rule_for-found rs.rules a b number turned found in
+      let stands = if_there (stands_turned a b turned) (slice_get rs.rules number) rule.0 rule.1 of.of_pair in
+      let same = so_far.arities in
+      let first_too = ap (λ l. slice_get l a) (sym same) ∙ first in
+      let second_too = ap (λ l. slice_get l b) (sym same) ∙ second in
+      subst (λ l. IsPlan l (left + right) plan) (sym same)
+      (subst (λ n. IsPlan (arities_of rs) n plan)
+      (met_arguments rs.symbols rule.0 a b left right turned (rule_over_at rs.symbols rs.rules number rule.0 set.fitting rule.1) stands first_too second_too) made.plan)
+
+  -- it stands for the rule of its pair
+  of_new : (i : ℕ) → i ≡ length p.pairs → IsOfRule rs (numbers ++ number ∷ []) more (Some i) (Some (number, turned))
+  of_new i last =
+      let counted = so_far.counted in
+      let as_many = so_far.sound.counted in
+      let last_number : i ≡ length numbers = omega (arith, last, counted, as_many) in
+      let last_plan : i ≡ length p.plans = omega (arith, last, as_many) in
+      record {
+        number = ap (slice_get (numbers ++ number ∷ [])) last_number ∙ there_last numbers number;
+        of_rule = rule.0;
+        rule_there = rule.1;
+        plan = plan;
+        plan_there = ap (slice_get (p.plans ++ plan ∷ [])) last_plan ∙ there_last p.plans plan;
+        stands = subst (λ l. StandsFor l (met_as turned rule.0) plan) (sym so_far.arities) made.stands;
       }
 
--- the entry of a pair whose plan is appended
-pub entry_added : (rs : Rules) (numbers numbers_on : List ℕ) (plans plans_on : List Planned) (a b place number : ℕ) (turned : Bool) (plan : Planned)
-    → IsRuleSet rs → rule_for rs.rules a b ≡ Some (number, turned) → length numbers ≡ length plans → place ≡ length plans
-    → numbers_on ≡ numbers ++ number ∷ [] → plans_on ≡ plans ++ plan ∷ []
-    → IfSome (slice_get rs.rules number) (λ r. IsPlanFor (arities_of rs) (met_as turned r) plan)
-    → IsEntry rs numbers_on plans_on a b (Some place)
-entry_added rs numbers numbers_on plans plans_on a b place number turned plan is found counted last numbers_are plans_are planned =
-    let of = rule_for-found rs.rules a b number turned found in
-    let rule = read_at rs.rules number of.there in
-    let r = rule.0 in
-    let stands = if_there (stands_turned a b turned) (slice_get rs.rules number) r rule.1 of.of_pair in
-    let made = if_there (λ r. IsPlanFor (arities_of rs) (met_as turned r) plan) (slice_get rs.rules number) r rule.1 planned in
-    let plan_there : slice_get plans_on place ≡ Some plan = (λ i. slice_get (plans_are i) (last i)) ∙ there_last plans plan in
-    let last_number : place ≡ length numbers = last ∙ sym counted in
-    let number_there : slice_get numbers_on place ≡ Some number = (λ i. slice_get (numbers_are i) (last_number i)) ∙ there_last numbers number in
-    record {
-      of_rule = subst (IsOfRule rs numbers_on (plans_so_far rs plans_on) (Some place)) (sym found)
-          (record { number = number_there; of_rule = r; rule_there = rule.1; plan = plan; plan_there = plan_there; stands = made.stands });
-      there = slice_get_within plans_on place plan plan_there;
-      fits = λ left right first second.
-          if_some (IsPlan (arities_of rs) (left + right)) (slice_get plans_on place) plan plan_there
-          (subst (λ n. IsPlan (arities_of rs) n plan)
-          (met_arguments rs.symbols r a b left right turned (rule_over_at rs.symbols rs.rules number r is.fitting rule.1) stands first second) made.plan);
-    }
+  -- the others stand for the rules that they stood for
+  of_old : (i : ℕ) (o : Option (ℕ × Bool)) → IsOfRule rs numbers p (Some i) o → IsOfRule rs (numbers ++ number ∷ []) more (Some i) o
+  of_old i None of = absurd of
+  of_old i (Some (n, t)) of = record {
+    number = there_front numbers (number ∷ []) i n of.number;
+    of_rule = of.of_rule;
+    rule_there = of.rule_there;
+    plan = of.plan;
+    plan_there = there_front p.plans (plan ∷ []) i of.plan of.plan_there;
+    stands = of.stands;
+  }
 
--- one pair more
-pub entries_more : (rs : Rules) (numbers numbers_on : List ℕ) (plans plans_on : List Planned) (table : List (Option ℕ)) (entry : Option ℕ)
-    → Continues numbers numbers_on → Continues plans plans_on → AreEntries rs numbers plans table
-    → IsEntry rs numbers_on plans_on (length table / length rs.symbols) (length table % length rs.symbols) entry
-    → AreEntries rs numbers_on plans_on (table ++ entry ∷ [])
-entries_more rs numbers numbers_on plans plans_on table entry more_numbers more_plans entries new k e there = at (front_or_last table entry e k there)
+  of_any : (x y i : ℕ) → number_of more x y ≡ Some i → IsOfRule rs (numbers ++ number ∷ []) more (Some i) (rule_for rs.rules x y)
+  of_any x y i is = by (a == x && b == y) refl (sym (place_pushed p.pairs a b (no_number p a b so_far.sound none) x y) ∙ is)
+    where
+      by : (c : Bool) → (a == x && b == y) ≡ c → cond (a == x && b == y) (Some (length p.pairs)) (number_of p x y) ≡ Some i
+          → IsOfRule rs (numbers ++ number ∷ []) more (Some i) (rule_for rs.rules x y)
+      by true e at =
+          let same = same_pair a b x y e in
+          let last = same_Some (length p.pairs) i (ap (λ c. cond c (Some (length p.pairs)) (number_of p x y)) (sym e) ∙ at) in
+          let is_found : Some (number, turned) ≡ rule_for rs.rules x y = sym ((λ j. rule_for rs.rules (same.0 j) (same.1 j)) ∙ found) in
+          subst (IsOfRule rs (numbers ++ number ∷ []) more (Some i)) is_found (of_new i (sym last))
+      by false e at =
+          let old : number_of p x y ≡ Some i = ap (λ c. cond c (Some (length p.pairs)) (number_of p x y)) (sym e) ∙ at in
+          of_old i (rule_for rs.rules x y) (so_far.entries x y i old)
+
+  pub planned_more : ArePlanned rs (numbers ++ number ∷ []) more
+  planned_more = record {
+    arities = so_far.arities;
+    counted = (let c = so_far.counted in omega (arith, c, length-append numbers (number ∷ []), length-append p.plans (plan ∷ [])));
+    sound = plans_added p a b plan so_far.sound la lb none fits;
+    entries = of_any;
+  }
+
+  -- and its pair has its number
+  pub number_new : IsSome (number_of more a b)
+  number_new =
+      let none_there = no_number p a b so_far.sound none in
+      subst (λ o. IsSome o) (sym (place_pushed p.pairs a b none_there a b ∙ ap (λ c. cond c (Some (length p.pairs)) (number_of p a b)) (pair_same a b a b refl refl))) refl
+
+-- ---- what a function has of these
+
+pub on_ok : {T E : Type 0} {P Q : Type 0} (r : Result T E) → (P → Q) → OnOk r P → OnOk r Q
+on_ok (Ok v) f p = f p
+on_ok (Err e) f p = tt
+
+pub none_mapped : {X Y : Type 0} (f : X → Y) (o : Option X) → is_some o ≡ false → option_map f o ≡ None
+none_mapped f None none = refl
+none_mapped f (Some x) none = absurd (false≢true (sym none))
+
+-- a symbol of a rule is known
+pub known_symbol : (rs : Rules) (p : Plans) (s n : ℕ) → p.arities ≡ arities_of rs → has_arity n (slice_get rs.symbols s) ≡ true → s < length p.arities
+known_symbol rs p s n same known = subst (λ l. s < length l) (sym same) (slice_get_within (arities_of rs) s n (arity_there rs.symbols s n known))
+
+-- ---- all of them
+
+pub are_plans_of : (rs : Rules) (numbers : List ℕ) (p : Plans) → ArePlanned rs numbers p → AllByRecursion (HasPlans p) rs.rules → ArePlansOf rs numbers p
+are_plans_of rs numbers p so_far all = record { arities = so_far.arities; each = λ a b low high. at a b (number_of p a b) refl }
   where
-    at : (slice_get table k ≡ Some e) ⊎ ((k ≡ length table) × (entry ≡ e)) → IsEntry rs numbers_on plans_on (k / length rs.symbols) (k % length rs.symbols) e
-    at (inl front) = entry_stays rs numbers numbers_on plans plans_on (k / length rs.symbols) (k % length rs.symbols) more_numbers more_plans e (entries k e front)
-    at (inr last) =
-        subst (λ n. IsEntry rs numbers_on plans_on (n / length rs.symbols) (n % length rs.symbols) e) (sym last.0)
-        (subst (IsEntry rs numbers_on plans_on (length table / length rs.symbols) (length table % length rs.symbols)) last.1 new)
+    stood : (a b : ℕ) (turned : Bool) (r : Rule) → stands_turned a b turned r → HasPlans p r → IsSome (number_of p a b)
+    stood a b false r stands plans =
+        let both = and_parts (r.left == a) (r.right == b) stands in
+        let left = (unsigned_Decides r.left a).0 both.0 in
+        let right = (unsigned_Decides r.right b).0 both.1 in
+        subst (λ o. IsSome o) (λ i. number_of p (left i) (right i)) plans.0
+    stood a b true r stands plans =
+        let both = and_parts (r.left == b) (r.right == a) stands.0 in
+        let left = (unsigned_Decides r.left b).0 both.0 in
+        let right = (unsigned_Decides r.right a).0 both.1 in
+        subst (λ o. IsSome o) (λ i. number_of p (right i) (left i)) plans.1
 
--- ---- all pairs
+    at_none : (a b : ℕ) → number_of p a b ≡ None → (q : Option (ℕ × Bool)) → rule_for rs.rules a b ≡ q → IsOfRule rs numbers p None q
+    at_none a b none None is = tt
+    at_none a b none (Some (n, turned)) is =
+        let of = rule_for-found rs.rules a b n turned is in
+        let rule = read_at rs.rules n of.there in
+        let stands = if_there (stands_turned a b turned) (slice_get rs.rules n) rule.0 rule.1 of.of_pair in
+        let plans = all_there (HasPlans p) rs.rules n rule.0 all rule.1 in
+        false≢true (subst (λ o. IsSome o) none (stood a b turned rule.0 stands plans))
 
-module _ (rs : Rules) (numbers : List ℕ) (plans : List Planned) (table : List (Option ℕ))
-    (square : length table ≡ length rs.symbols * length rs.symbols) (entries : AreEntries rs numbers plans table) where
-  abbrev whole : Plans
-  whole = record { arities = arities_of rs; table = table; plans = plans }
+    at : (a b : ℕ) (o : Option ℕ) → number_of p a b ≡ o → IsOfRule rs numbers p o (rule_for rs.rules a b)
+    at a b (Some i) is = so_far.entries a b i is
+    at a b None is = at_none a b is (rule_for rs.rules a b) refl
 
-  counted : length (arities_of rs) ≡ length rs.symbols
-  counted = length-map rs.symbols (λ (s : Symbol). s.arity)
-
-  -- the entry of a pair stands at its place
-  entry_of : (a b : ℕ) → a < length (arities_of rs) → b < length (arities_of rs) → IsEntry rs numbers plans a b (number_of whole a b)
-  entry_of a b low high =
-      let n = length rs.symbols in
-      let row : a < n = omega (arith, low, counted) in
-      let column : b < n = omega (arith, high, counted) in
-      let place = a * length (arities_of rs) + b in
-      let same : place ≡ a * n + b = ap (λ c. a * c + b) counted in
-      let within : place < length table = subst (λ k. k < length table) (sym same) (subst (λ l. a * n + b < l) (sym square) (mul-add-lt a n b n row column)) in
-      let is = entries place (number_of whole a b) (slice_get-get_or table place None within) in
-      subst (λ m. IsEntry rs numbers plans m b (number_of whole a b)) (ap (λ k. k / n) same ∙ div-mul-add a n b column)
-      (subst (λ m. IsEntry rs numbers plans (place / n) m (number_of whole a b)) (ap (λ k. k % n) same ∙ mod-mul-add a n b column) is)
-
-  plan_fits : (o : Option ℕ) (P : Planned → Type 0) → IfSome o (λ i. IfSome (slice_get plans i) P) → IfSome (plan_at plans o) P
-  plan_fits None P fits = tt
-  plan_fits (Some i) P fits = fits
-
-  pub are_plans : ArePlans whole
-  are_plans = record {
-    there = each_there (λ i. IfSome i (λ k. k < length plans)) table (λ k entry at. (entries k entry at).there);
-    square = square ∙ (λ i. sym counted i * sym counted i);
-    each = λ a b left right first second.
-        plan_fits (number_of whole a b) (IsPlan (arities_of rs) (left + right))
-        ((entry_of a b (slice_get_within (arities_of rs) a left first) (slice_get_within (arities_of rs) b right second)).fits left right first second);
-  }
-
-  of_pair : (entry : Option ℕ) (found : Option (ℕ × Bool)) → IsOfRule rs numbers (plans_so_far rs plans) entry found → IsOfRule rs numbers whole entry found
-  of_pair None None of = tt
-  of_pair None (Some found) of = absurd of
-  of_pair (Some place) None of = absurd of
-  of_pair (Some place) (Some (rule, turned)) of = record { number = of.number; of_rule = of.of_rule; rule_there = of.rule_there; plan = of.plan; plan_there = of.plan_there; stands = of.stands }
-
-  pub are_plans_of : ArePlansOf rs numbers whole
-  are_plans_of = record {
-    arities = refl;
-    each = λ a b low high. of_pair (number_of whole a b) (rule_for rs.rules a b) (entry_of a b low high).of_rule;
-  }
+-- the plans of both of its pairs are there, and those of the rules before
+pub plans_more : (p q : Plans) (rules : List Rule) → Continues p.pairs q.pairs → AllByRecursion (HasPlans p) rules → AllByRecursion (HasPlans q) rules
+plans_more p q [] on all = tt
+plans_more p q (r ∷ rules) on all = (
+  (number_kept r.left r.right p.pairs q.pairs on all.0.0, number_kept r.right r.left p.pairs q.pairs on all.0.1),
+  plans_more p q rules on all.1,
+)

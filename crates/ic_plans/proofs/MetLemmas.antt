@@ -1,5 +1,5 @@
 -- A rule of a rule set as two agents meet it: what a plan for it needs.
-use Rattle.std.proofs.Common.{◌≡◌, ℕ, zero, suc, ◌+◌, ◌≤◌, ◌<◌, ◌==◌, List, [], ◌∷◌, ◌++◌, Bool, true, false, cond, Some, length, map, slice_get, nat_le, sum_by, refl, sym, ap, ◌∙◌, arith}
+use Rattle.std.proofs.Common.{◌≡◌, ℕ, zero, suc, ◌+◌, ◌^◌, ◌≤◌, ◌<◌, ◌==◌, List, [], ◌∷◌, ◌++◌, Bool, true, false, cond, Some, length, map, slice_get, nat_le, sum_by, refl, sym, ap, ◌∙◌, arith}
 use Rattle.std.proofs.lemmas.Option.{none-some, same_Some}
 use Rattle.std.proofs.lemmas.Bool.{and_parts, and_from, leb-true}
 use Rattle.std.proofs.lemmas.List.{length-append}
@@ -107,18 +107,21 @@ pub met_names : (turned : Bool) (r : Rule) → (met_as turned r).names ≡ r.nam
 met_names false r = refl
 met_names true r = refl
 
-nodes_at : (rs : List Rule) (i : ℕ) (r : Rule) → slice_get rs i ≡ Some r → rule_nodes r ≤ sum_by rule_nodes rs
-nodes_at [] i r there = absurd (none-some r there)
-nodes_at (s ∷ rs) zero r there = let same : rule_nodes s ≡ rule_nodes r = ap rule_nodes (same_Some s r there) in omega (arith, same, sum_by-cons rule_nodes s rs)
-nodes_at (s ∷ rs) (suc i) r there = omega (arith, nodes_at rs i r there, sum_by-cons rule_nodes s rs)
+nodes_at : (rs : List Rule) (i : ℕ) (r : Rule) → list_all (λ r. nat_le (rule_nodes r) 2048) rs ≡ true → slice_get rs i ≡ Some r → rule_nodes r ≤ 2048
+nodes_at [] i r few there = absurd (none-some r there)
+nodes_at (s ∷ rs) zero r few there =
+    let same : rule_nodes s ≡ rule_nodes r = ap rule_nodes (same_Some s r there) in
+    let low = leb-true (rule_nodes s) 2048 (and_parts (nat_le (rule_nodes s) 2048) (list_all (λ r. nat_le (rule_nodes r) 2048) rs) few).0 in
+    omega (arith, same, low)
+nodes_at (s ∷ rs) (suc i) r few there = nodes_at rs i r (and_parts (nat_le (rule_nodes s) 2048) (list_all (λ r. nat_le (rule_nodes r) 2048) rs) few).1 there
 
 -- the limits of rules
-few_rules : (rs : List Rule) → are_few rs ≡ true → (length rs ≤ 256) × (sum_by rule_nodes rs ≤ 2048)
+few_rules : (rs : List Rule) → are_few rs ≡ true → (length rs ≤ 2 ^ 31) × (list_all (λ r. nat_le (rule_nodes r) 2048) rs ≡ true)
 few_rules rs few =
-    let parts = and_parts (nat_le (length rs) 256) (nat_le (sum_by rule_nodes rs) 2048) few in
-    (leb-true (length rs) 256 parts.0, leb-true (sum_by rule_nodes rs) 2048 parts.1)
+    let parts = and_parts (nat_le (length rs) (2 ^ 31)) (list_all (λ r. nat_le (rule_nodes r) 2048) rs) few in
+    (leb-true (length rs) (2 ^ 31) parts.0, parts.1)
 
-pub rules_within : (rs : Rules) → IsRuleSet rs → length rs.rules ≤ 256
+pub rules_within : (rs : Rules) → IsRuleSet rs → length rs.rules ≤ 2 ^ 31
 rules_within rs is = (few_rules rs.rules is.few).0
 
 -- a rule of a rule set, as two agents meet it
@@ -126,7 +129,7 @@ pub met_at : (rs : Rules) (i : ℕ) (r : Rule) (turned : Bool) → IsRuleSet rs 
 met_at rs i r turned is there =
     met_either rs.symbols turned r
     (is_met rs.symbols r (all_there IsRule rs.rules i r is.each there) (rule_over_at rs.symbols rs.rules i r is.fitting there)
-    (omega (arith, nodes_at rs.rules i r there, (few_rules rs.rules is.few).1)))
+    (nodes_at rs.rules i r (few_rules rs.rules is.few).1 there))
 
 -- ---- how many arguments it has
 

@@ -458,10 +458,10 @@ module _ (ss : List Symbol) (c : Configuration) (given others : List ℕ) (mid a
 -- ---- what a function has of these
 
 pub words-few : (c : Configuration) (ss : List Symbol) (ws : List Word) (n : ℕ) → IsWide c → AreSymbols ss → ws ≡ configuration_words c → n ≡ length ss
-    → (n ≤ 64) × (length ws ≤ 2 ^ 31)
+    → (n ≤ 65536) × (length ws ≤ 2 ^ 31)
 words-few c ss ws n sound symbols words counted =
     let nodes : configuration_nodes c ≤ 2 ^ 31 = sound.nodes in
-    let few : length ss ≤ 64 = symbols.few in
+    let few : length ss ≤ 65536 = symbols.few in
     (omega arith, omega (arith, ap length words, nodes-words c, nodes))
 
 pub enough-operands : (c : Configuration) (ws : List Word) (operands : List ℕ) (terms : ℕ) → ws ≡ configuration_words c → length operands ≡ length (forest ws)

@@ -1,10 +1,11 @@
 //! The plans of a rule set.
 
-ghost use Rattle.std.specs.Prelude.{◌≡◌, ℕ, ◌+◌, ◌*◌, ◌<◌, ◌≤◌, map, length, slice_get, IfOk, IfSome, OnOk};
+ghost use Rattle.std.specs.Prelude.{◌≡◌, ℕ, ◌+◌, ◌^◌, ◌<◌, ◌≤◌, map, length, slice_get, IfOk, IfSome, IsSome, OnOk};
 ghost use Rattle.ic_term.specs.Term.{tree};
-ghost use Rattle.ic_machine.specs.Plan.{planned, ArePlans};
+ghost use Rattle.ic_rules.specs.RuleSet.{rule_for};
+ghost use Rattle.ic_machine.specs.Plan.{planned, number_of, ArePlans};
 ghost use Rattle.ic_meaning.specs.Plans.{ArePlansOf, met_as};
-ghost use Rattle.ic_plans.specs.inner.Entries.{AreEntries, Continues, IsEntry, arities_of};
+ghost use Rattle.ic_plans.specs.inner.Entries.{ArePlanned, Continues, arities_of};
 ghost use Rattle.ic_plans.specs.inner.Registers.{IsPlanFor};
 
 use crate::rule::plan_of_arguments;
@@ -14,7 +15,8 @@ use ic_term::{Symbols, Term};
 use std::alloc::{AllocError, Global};
 
 /// The plans of all pairs of symbols that have a rule, and the numbers of the rules, by the places of their plans. A
-/// pair is met in both orders, so a rule of two symbols has two plans.
+/// pair is met in both orders, so a rule of two symbols has two plans. Takes time by the rules, each with its nodes, and
+/// by the symbols.
 pub fn compile(alloc: Global, rules: &RuleSet) -> Result<(Program, Vec<u32>), AllocError>
     ensures arities { IfOk result
         (λ made. made.0.arities ≡ map (λ s. s.arity) rules.now.symbols) }
@@ -23,10 +25,14 @@ pub fn compile(alloc: Global, rules: &RuleSet) -> Result<(Program, Vec<u32>), Al
     ensures plans { IfOk result (λ made. ArePlansOf rules.now made.1.items made.0) }
 {
     let arities = arities_of(alloc, rules.symbols())?;
-    let mut plans = Vec::new(alloc);
+    let mut program = Program::new(alloc, arities)?;
     let mut numbers = Vec::new(alloc);
-    let table = table_of(alloc, rules, &mut plans, &mut numbers)?;
-    Ok((Program::from_parts(arities, table, plans), numbers))
+    for rule in rules.rules() {
+        let (left, right) = (rule.left(), rule.right());
+        add_pair(alloc, rules, left, right, &mut program, &mut numbers)?;
+        add_pair(alloc, rules, right, left, &mut program, &mut numbers)?;
+    }
+    Ok((program, numbers))
 }
 
 /// How many arguments each symbol has.
@@ -40,60 +46,34 @@ fn arities_of(alloc: Global, symbols: &Symbols) -> Result<Vec<u32>, AllocError>
     Ok(arities)
 }
 
-/// The entries of all pairs of symbols, whose plans and numbers are appended.
-fn table_of(
-    alloc: Global,
-    rules: &RuleSet,
-    plans: &mut Vec<Plan>,
-    numbers: &mut Vec<u32>,
-) -> Result<Vec<Option<u32>>, AllocError>
-    requires plans { length plans.old.items ≡ 0 }
-    requires numbers { length numbers.old.items ≡ 0 }
-    ensures counted { OnOk result (length numbers.new.items ≡ length plans.new.items) }
-    ensures square { IfOk result (λ table. length table.items
-        ≡ length rules.now.symbols * length rules.now.symbols) }
-    ensures entries { IfOk result (λ table.
-        AreEntries rules.now numbers.new.items (map planned plans.new.items) table.items) }
-{
-    let count = rules.symbols().len();
-    let mut table = Vec::with_capacity(alloc, count * count)?;
-    for pair in 0..count * count {
-        let (a, b) = (pair / count, pair % count);
-        let entry = compile_pair(alloc, rules, a as u32, b as u32, plans, numbers)?;
-        table.push(entry)?;
-    }
-    Ok(table)
-}
-
-/// The entry of a pair of symbols, whose plan and number are appended.
-fn compile_pair(
+/// Adds the plan of two symbols, and the number of their rule, if they have a rule and no plan yet.
+fn add_pair(
     alloc: Global,
     rules: &RuleSet,
     a: u32,
     b: u32,
-    plans: &mut Vec<Plan>,
+    program: &mut Program,
     numbers: &mut Vec<u32>,
-) -> Result<Option<u32>, AllocError>
-    requires room { length plans.old.items < u32.MAX }
-    requires counted { length numbers.old.items ≡ length plans.old.items }
-    ensures counted { OnOk result (length numbers.new.items ≡ length plans.new.items) }
-    ensures few { OnOk result (length plans.new.items ≤ length plans.old.items + 1) }
-    ensures plans { OnOk result
-        (Continues (map planned plans.old.items) (map planned plans.new.items)) }
-    ensures numbers { OnOk result (Continues numbers.old.items numbers.new.items) }
-    ensures entry { IfOk result
-        (IsEntry rules.now numbers.new.items (map planned plans.new.items) a b) }
+) -> Result<(), AllocError>
+    requires planned { ArePlanned rules.now numbers.old.items program.old }
+    requires a { a < length program.old.arities }
+    requires b { b < length program.old.arities }
+    requires few { length program.old.plans < 2 ^ 32 }
+    ensures planned { OnOk result (ArePlanned rules.now numbers.new.items program.new) }
+    ensures pair { OnOk result
+        (IsSome (rule_for rules.now.rules a b) → IsSome (number_of program.new a b)) }
+    ensures pairs { OnOk result (Continues program.old.pairs program.new.pairs) }
+    ensures few { OnOk result (length program.new.plans ≤ length program.old.plans + 1) }
 {
-    match rules.find(a, b) {
-        None => Ok(None),
-        Some((number, turned)) => {
-            let plan = plan_of_rule(alloc, rules, number, turned)?;
-            let place = plans.len() as u32;
-            plans.push(plan)?;
-            numbers.push(number as u32)?;
-            Ok(Some(place))
-        }
+    if program.plan(a, b).is_some() {
+        return Ok(());
     }
+    let Some((number, turned)) = rules.find(a, b) else {
+        return Ok(());
+    };
+    let plan = plan_of_rule(alloc, rules, number, turned)?;
+    numbers.push(number as u32)?;
+    program.add(a, b, plan)
 }
 
 /// The plan of a rule as two agents meet it.

@@ -1,29 +1,25 @@
--- For private functions: the table of plans, pair by pair.
-use Rattle.std.specs.Prelude.{◌≡◌, ℕ, ◌+◌, ◌/◌, ◌%◌, ◌<◌, List, [], ◌++◌, Option, Some, length, map, slice_get, IfSome}
+-- For private functions: the plans of pairs of symbols, one after another.
+use Rattle.std.specs.Prelude.{◌≡◌, ℕ, List, ◌++◌, Some, length, map, IsSome}
+use Rattle.ic_rules.specs.Rule.{Rule}
 use Rattle.ic_rules.specs.RuleSet.{Rules, rule_for}
-use Rattle.ic_machine.specs.Plan.{Planned, Plans, IsPlan}
+use Rattle.ic_machine.specs.Plan.{Plans, ArePlans, number_of}
 use Rattle.ic_meaning.specs.Plans.{IsOfRule}
 
 -- how many arguments each symbol of a rule set has
 abbrev pub arities_of : Rules → List ℕ
 arities_of rs = map (λ s. s.arity) rs.symbols
 
--- these plans, with no table yet
-abbrev pub plans_so_far : Rules → List Planned → Plans
-plans_so_far rs plans = record { arities = arities_of rs; table = []; plans = plans }
+-- Plans of a rule set so far: each stands for the rule of its pair. The numbers are those of the rules, by the places of
+-- the plans.
+pub record ArePlanned (rs : Rules) (numbers : List ℕ) (p : Plans) : Type 0 where
+  pub arities : p.arities ≡ arities_of rs
+  pub counted : length numbers ≡ length p.plans
+  pub sound : ArePlans p
+  pub entries : (a b i : ℕ) → number_of p a b ≡ Some i → IsOfRule rs numbers p (Some i) (rule_for rs.rules a b)
 
--- The entry of a pair of symbols is the place of a plan for their arguments that stands for their rule, or none where they
--- have no rule. The numbers are those of the rules, by the places of the plans.
-pub record IsEntry (rs : Rules) (numbers : List ℕ) (plans : List Planned) (a b : ℕ) (entry : Option ℕ) : Type 0 where
-  pub of_rule : IsOfRule rs numbers (plans_so_far rs plans) entry (rule_for rs.rules a b)
-  pub there : IfSome entry (λ i. i < length plans)
-  pub fits : (left right : ℕ) → slice_get (arities_of rs) a ≡ Some left → slice_get (arities_of rs) b ≡ Some right
-      → IfSome entry (λ i. IfSome (slice_get plans i) (IsPlan (arities_of rs) (left + right)))
-
--- the table has the entries of the pairs so far, those of the first symbol before those of the second
-abbrev pub AreEntries : Rules → List ℕ → List Planned → List (Option ℕ) → Type 0
-AreEntries rs numbers plans table = (k : ℕ) (entry : Option ℕ) → slice_get table k ≡ Some entry
-    → IsEntry rs numbers plans (k / length rs.symbols) (k % length rs.symbols) entry
+-- the symbols of a rule have plans, as they stand and turned round
+abbrev pub HasPlans : Plans → Rule → Type 0
+HasPlans p r = IsSome (number_of p r.left r.right) × IsSome (number_of p r.right r.left)
 
 -- the second list begins with the first
 pub record Continues {X : Type 0} (xs ys : List X) : Type 0 where
