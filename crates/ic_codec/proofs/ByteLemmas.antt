@@ -172,17 +172,17 @@ job_are_bytes form j is =
     let config = configuration_bytes c in
     let symbols = symbols_bytes ss in
     let rules_are : AreBytes rules = bytes_both (two_bytes (length j.rules.rules)) (flat_map rule_bytes j.rules.rules) (two_are_bytes (length j.rules.rules))
-    (each_bytes (IsRuleOver ss) rule_bytes (rule_are_bytes ss is.symbols.few) j.rules.rules ((first_unfit-None ss j.rules.rules).0 is.rules.fitting)) in
+    (each_bytes (IsRuleOver ss) rule_bytes (rule_are_bytes ss is.served.symbols) j.rules.rules ((first_unfit-None ss j.rules.rules).0 is.rules.fitting)) in
     let terms_are : AreBytes (flat_map tree_bytes c.interface ++ flat_map pair_bytes c.equations) =
     bytes_both (flat_map tree_bytes c.interface) (flat_map pair_bytes c.equations)
-    (all_bytes (is_tree_over ss) tree_bytes (tree_are_bytes ss is.symbols.few) c.interface over.0)
-    (all_bytes (is_pair_over ss) pair_bytes (pair_are_bytes ss is.symbols.few) c.equations over.1) in
+    (all_bytes (is_tree_over ss) tree_bytes (tree_are_bytes ss is.served.symbols) c.interface over.0)
+    (all_bytes (is_pair_over ss) pair_bytes (pair_are_bytes ss is.served.symbols) c.equations over.1) in
     let config_are : AreBytes config = (
       omega (arith, is.config.interface),
       bytes_both (two_bytes (length c.equations)) (flat_map tree_bytes c.interface ++ flat_map pair_bytes c.equations) (two_are_bytes (length c.equations)) terms_are,
     ) in
     let symbols_are : AreBytes symbols = (
-      omega (arith, is.symbols.few),
+      omega (arith, is.served.symbols),
       each_bytes (λ s. IsTrue (is_symbol_text s.text) × IsTrue (fits_limits s.text s.arity)) symbol_bytes symbol_are_bytes ss is.symbols.each,
     ) in
     bytes_both (heading_bytes form (heading_of j)) (symbols ++ (rules ++ config)) (heading_are_bytes form (heading_of j) is.name)

@@ -56,7 +56,7 @@ heading_first form h b j rest bytes has is read e =
 
 -- the rule set and configuration of a job, over symbols and a `next` that are the job's
 pub set_of : (ss : List Symbol) (j : JobParts) → IsJob j → ss ≡ j.rules.symbols → IsRuleSetOver ss j.rules
-set_of ss j is same = record { rules = is.rules; over = sym same }
+set_of ss j is same = record { rules = is.rules; served = is.served; over = sym same }
 
 pub config_of : (ss : List Symbol) (next : ℕ) (j : JobParts) → IsJob j → ss ≡ j.rules.symbols → next ≡ j.config.next → IsConfigurationOver ss next j.config
 config_of ss next j is same same_next = record {
@@ -72,8 +72,8 @@ job_tells form j k a b has has_too e =
     let first = heading_tells form (heading_of j) (heading_of k) (behind_heading j a) (behind_heading k b) (heading_has form j has) (heading_has form k has_too)
     (sym (job_spread form j a) ∙ e ∙ job_spread form k b) in
     let second = symbols_front ss k.rules.symbols (behind_symbols j a) (behind_symbols k b) first.1 in
-    let third = set_tells ss v.symbols.few j.rules k.rules (behind_rules j a) (behind_rules k b) (set_of ss j v refl) (set_of ss k w second.0) second.1 in
-    let fourth = configuration_tells ss j.config.next v.symbols.few j.config k.config a b (config_of ss j.config.next j v refl refl)
+    let third = set_tells ss v.served.symbols j.rules k.rules (behind_rules j a) (behind_rules k b) (set_of ss j v refl) (set_of ss k w second.0) second.1 in
+    let fourth = configuration_tells ss j.config.next v.served.symbols j.config k.config a b (config_of ss j.config.next j v refl refl)
     (config_of ss j.config.next k w second.0 (ap (λ (h : Heading). h.next) first.0)) third.1 in
     let same = first.0 in (
       (λ i. record {

@@ -7,7 +7,7 @@ use Rattle.ic_term.specs.Tree.{Tree, names, nodes}
 use Rattle.ic_term.specs.Symbol.{Symbol, has_arity, symbol_arity, is_tree_over}
 use Rattle.ic_rules.specs.Renaming.{first_occurrences}
 use Rattle.ic_rules.specs.Rule.{Rule, rule_names, rule_nodes, IsNumbered}
-use Rattle.ic_rules.specs.RuleSet.{Rules, IsRuleSet, built}
+use Rattle.ic_rules.specs.RuleSet.{Rules, AreServed, IsRuleSet, built}
 use Rattle.ic_rules.specs.Refusals.{IsTaken}
 use Rattle.ic_rules.specs.lemmas.NumberingLaws.{map-numbered-same}
 use Rattle.ic_codec.specs.Numbers.{two_bytes}
@@ -18,7 +18,6 @@ use Rattle.ic_codec.specs.inner.Fronts.{BeginsWithTrees, BeginsWithNoTrees, Begi
 use Rattle.ic_codec.proofs.NumberLemmas.{length-two_bytes}
 use Rattle.ic_codec.proofs.TermLemmas.{known_below, one_arity}
 use Rattle.ic_codec.proofs.TermReading.{arity_known}
-use Rattle.ic_codec.proofs.Sizes.{few_rules}
 use Rattle.ic_codec.proofs.Items.{items_front}
 use Rattle.ic_codec.proofs.Unique.{two_front, AreSmall, all_both, tree_tells, left_have, right_have, names_counted, rule_tells, rule_set_has}
 
@@ -140,18 +139,22 @@ none_rules_count ss bytes short set rest is e =
 count_first : (ss : List Symbol) (n : ℕ) (bytes b : List ℕ) (set : Rules) (rest : List ℕ) → n < 2 ^ 16 → IsRuleSetOver ss set → bytes ≡ two_bytes n ++ b
     → bytes ≡ set_bytes set ++ rest → (n ≡ length set.rules) × (b ≡ flat_map rule_bytes set.rules ++ rest)
 count_first ss n bytes b set rest small is read e =
-    let few = (few_rules set.rules is.rules.few).0 in
-    two_front n (length set.rules) b (flat_map rule_bytes set.rules ++ rest) small (omega arith)
+    two_front n (length set.rules) b (flat_map rule_bytes set.rules ++ rest) small (omega (arith, is.served.rules))
     (sym read ∙ e ∙ append_assoc (two_bytes (length set.rules)) (flat_map rule_bytes set.rules) rest)
 
 set_has : (ss : List Symbol) (set : Rules) → IsRuleSetOver ss set → AllByRecursion (HasRuleBytes ss) set.rules
-set_has ss set is = subst (λ (l : List Symbol). AllByRecursion (HasRuleBytes l) set.rules) is.over (rule_set_has set is.rules)
+set_has ss set is = subst (λ (l : List Symbol). AllByRecursion (HasRuleBytes l) set.rules) is.over (rule_set_has set is.rules is.served)
 
 pub none_rules : (ss : List Symbol) (n : ℕ) (bytes b : List ℕ) → n < 2 ^ 16 → bytes ≡ two_bytes n ++ b
     → BeginsWithNoMany (HasRuleBytes ss) rule_bytes rule_nodes n 2048 b → BeginsWithNone (IsRuleSetOver ss) set_bytes bytes
 none_rules ss n bytes b small read none set rest is e =
     let first = count_first ss n bytes b set rest small is read e in
-    none set.rules rest (set_has ss set is) (sym first.0) (few_rules set.rules is.rules.few).1 first.1
+    none set.rules rest (set_has ss set is) (sym first.0) is.served.nodes first.1
+
+-- rules that are too many have no bytes
+pub too_many_rules : (ss : List Symbol) (n : ℕ) (bytes b : List ℕ) → n < 2 ^ 16 → bytes ≡ two_bytes n ++ b → 256 < n → BeginsWithNone (IsRuleSetOver ss) set_bytes bytes
+too_many_rules ss n bytes b small read many set rest is e =
+    omega (arith, many, is.served.rules, (count_first ss n bytes b set rest small is read e).0)
 
 pub none_set : ((set : Rules) → (built set.symbols set.rules ≡ Ok set) ↔ IsRuleSet set) → (ss : List Symbol) (n : ℕ) (bytes b : List ℕ) (rs : List Rule) (left : ℕ) (behind : List ℕ)
     → length ss ≤ 64 → n < 2 ^ 16 → bytes ≡ two_bytes n ++ b → BeginsWithMany (HasRuleBytes ss) rule_bytes rule_nodes n 2048 b rs left behind
@@ -170,14 +173,16 @@ numbered_each ss (r ∷ rs) all = (all.0.in_order, numbered_each ss rs all.1)
 pub set_begins : ((set : Rules) → (built set.symbols set.rules ≡ Ok set) ↔ IsRuleSet set)
     → ((ss : List Symbol) (rs : List Rule) (set : Rules) → built ss rs ≡ Ok set → IsTaken ss rs set)
     → (ss : List Symbol) (n : ℕ) (bytes b : List ℕ) (rs : List Rule) (left : ℕ) (rest : List ℕ) (set : Rules)
-    → bytes ≡ two_bytes n ++ b → BeginsWithMany (HasRuleBytes ss) rule_bytes rule_nodes n 2048 b rs left rest → Ok set ≡ built ss rs
+    → length ss ≤ 64 → n ≤ 256 → bytes ≡ two_bytes n ++ b → BeginsWithMany (HasRuleBytes ss) rule_bytes rule_nodes n 2048 b rs left rest → Ok set ≡ built ss rs
     → BeginsWith (IsRuleSetOver ss) set_bytes bytes set rest
-set_begins takes made ss n bytes b rs left rest set read begins ok =
+set_begins takes made ss n bytes b rs left rest set known few read begins ok =
     let whole : set ≡ record { symbols = ss; rules = rs } =
     (made ss rs set (sym ok)).made ∙ ap (λ (l : List Rule). record { symbols = ss; rules = l }) (map-numbered-same rs (numbered_each ss rs begins.each)) in
     let is : IsRuleSet (record { symbols = ss; rules = rs }) = (takes (record { symbols = ss; rules = rs })).0 (sym ok ∙ ap (λ (s : Rules). Ok s) whole) in
+    let served : AreServed (record { symbols = ss; rules = rs }) =
+    record { symbols = known; rules = omega (arith, few, begins.many); nodes = omega (arith, begins.counted) } in
     record {
       parts = read ∙ ap (λ (k : ℕ). two_bytes k ++ b) (sym begins.many) ∙ ap (λ (bs : List ℕ). two_bytes (length rs) ++ bs) begins.parts
           ∙ sym (append_assoc (two_bytes (length rs)) (flat_map rule_bytes rs) rest) ∙ ap (λ (s : Rules). set_bytes s ++ rest) (sym whole);
-      valid = record { rules = subst IsRuleSet (sym whole) is; over = ap (λ (s : Rules). s.symbols) whole };
+      valid = record { rules = subst IsRuleSet (sym whole) is; served = subst AreServed (sym whole) served; over = ap (λ (s : Rules). s.symbols) whole };
     }

@@ -10,7 +10,6 @@ use Rattle.ic_term.specs.Symbol.{Symbol, is_symbol_text, fits_limits}
 use Rattle.ic_term.specs.Configuration.{Configuration, IsConfiguration}
 use Rattle.ic_rules.specs.JobName.{is_job_name}
 use Rattle.ic_rules.specs.Rule.{Rule, rule_nodes}
-use Rattle.ic_rules.specs.RuleSet.{are_few}
 use Rattle.ic_codec.specs.Form.{state_byte, budget_bytes, budget_number, heading_bytes, heading_of}
 use Rattle.ic_codec.specs.declared.form.Form.{Form}
 use Rattle.ic_codec.specs.declared.form.Form.TheVariants.{Ict1, Ict2}
@@ -69,12 +68,6 @@ rules_length : (rs : List Rule) → length (flat_map rule_bytes rs) ≤ 2 * leng
 rules_length [] = omega arith
 rules_length (r ∷ rs) = omega (arith, rule_length r, rules_length rs, length-append (rule_bytes r) (flat_map rule_bytes rs), sum_by-cons rule_nodes r rs)
 
--- rules are at most 256, with at most 2,048 nodes
-pub few_rules : (rs : List Rule) → are_few rs ≡ true → (length rs ≤ 256) × (sum_by rule_nodes rs ≤ 2048)
-few_rules rs few =
-    let parts = and_parts (nat_le (length rs) 256) (nat_le (sum_by rule_nodes rs) 2048) few in
-    (leb-true (length rs) 256 parts.0, leb-true (sum_by rule_nodes rs) 2048 parts.1)
-
 -- a job's name has at most 16 bytes
 pub short_name : (text : List ℕ) → is_job_name text ≡ true → length text ≤ 16
 short_name [] is = cc
@@ -122,16 +115,15 @@ configuration_length c is =
 
 job_length : (form : Form) (j : JobParts) → IsJob j → length (job_bytes form j) ≤ 94896
 job_length form j is =
-    let few = few_rules j.rules.rules is.rules.few in
     let heading = heading_bytes form (heading_of j) in
     let symbols = symbols_bytes j.rules.symbols in
     let rules = rules_bytes j.rules.rules in
     let config = configuration_bytes j.config in
     omega (
       arith,
-      few.0,
-      few.1,
-      is.symbols.few,
+      is.served.rules,
+      is.served.nodes,
+      is.served.symbols,
       heading_length form (heading_of j) is.name,
       symbols_length j.rules.symbols is.symbols.each,
       rules_length j.rules.rules,

@@ -6,7 +6,8 @@ use Rattle.ic_term.specs.Symbol.{Symbol, AreSymbols, numbered, number_found, num
 use Rattle.ic_term.specs.declared.symbols.SymbolFault.TheVariants.{Limit, Arity}
 use Rattle.ic_codec.specs.Texts.{text_bytes}
 use Rattle.ic_codec.specs.Symbols.{symbol_bytes, symbols_bytes}
-use Rattle.ic_codec.specs.inner.Fronts.{BeginsWith, BeginsWithNone}
+use Rattle.ic_codec.specs.inner.Forms.{HaveSymbolBytes}
+use Rattle.ic_codec.specs.inner.Fronts.{BeginsWithNone}
 use Rattle.ic_codec.proofs.TermLemmas.{known_below}
 use Rattle.ic_codec.proofs.Items.{items_split, flat_map-push}
 use Rattle.ic_codec.proofs.Unique.{AnySymbol, any_symbols, symbol_tells, text_front}
@@ -44,19 +45,19 @@ one_further ss s bytes rest behind read e =
     ∙ ap (λ (bs : List ℕ). bs ++ behind) (sym (flat_map-push symbol_bytes ss s))
 
 pub symbols_none : (count : ℕ) (bytes rest : List ℕ) → bytes ≡ count ∷ rest → BeginsWithNone (AreSoManySymbols count) (flat_map symbol_bytes) rest
-    → BeginsWithNone AreSymbols symbols_bytes bytes
-symbols_none count bytes rest read none ss behind are e =
+    → BeginsWithNone HaveSymbolBytes symbols_bytes bytes
+symbols_none count bytes rest read none ss behind have e =
     let same : count ∷ rest ≡ length ss ∷ (flat_map symbol_bytes ss ++ behind) = sym read ∙ e in
     let counts : length ss ≡ count = cc in
     let tails : rest ≡ flat_map symbol_bytes ss ++ behind = cc in
-    none ss behind (record { symbols = are; many = counts }) tails
+    none ss behind (record { symbols = have.symbols; many = counts }) tails
 
-pub symbols_begin : (count : ℕ) (bytes rest : List ℕ) (ss : List Symbol) (behind : List ℕ) → bytes ≡ count ∷ rest
-    → BeginsWith (AreSoManySymbols count) (flat_map symbol_bytes) rest ss behind → BeginsWith AreSymbols symbols_bytes bytes ss behind
-symbols_begin count bytes rest ss behind read begins = record {
-  parts = read ∙ (let counts = sym begins.valid.many in λ i. counts i ∷ begins.parts i);
-  valid = begins.valid.symbols;
-}
+-- symbols that are too many have no bytes
+pub too_many_symbols : (count : ℕ) (bytes rest : List ℕ) → bytes ≡ count ∷ rest → 64 < count → BeginsWithNone HaveSymbolBytes symbols_bytes bytes
+too_many_symbols count bytes rest read many ss behind have e =
+    let same : count ∷ rest ≡ length ss ∷ (flat_map symbol_bytes ss ++ behind) = sym read ∙ e in
+    let counts : length ss ≡ count = cc in
+    omega (arith, many, have.few, counts)
 
 -- ---- one symbol
 

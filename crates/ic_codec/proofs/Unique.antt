@@ -11,7 +11,7 @@ use Rattle.ic_term.specs.Symbol.{Symbol, has_arity, is_tree_over, is_pair_over}
 use Rattle.ic_term.specs.Configuration.{Configuration, IsConfiguration}
 use Rattle.ic_rules.specs.Renaming.{first_behind, first_occurrences}
 use Rattle.ic_rules.specs.Rule.{Rule, rule_names, rule_nodes, IsNumbered, IsRule}
-use Rattle.ic_rules.specs.RuleSet.{Rules, IsRuleSet, IsRuleOver}
+use Rattle.ic_rules.specs.RuleSet.{Rules, AreServed, IsRuleSet, IsRuleOver}
 use Rattle.ic_rules.specs.lemmas.FitLaws.{first_unfit-None}
 use Rattle.ic_rules.specs.lemmas.NumberingLaws.{Among, each_among, length-range}
 use Rattle.ic_jobs.specs.declared.state.State.{State}
@@ -32,7 +32,7 @@ use Rattle.ic_codec.specs.Configurations.{configuration_bytes}
 use Rattle.ic_codec.specs.inner.Fronts.{IsConfigurationOver, IsRuleSetOver, set_bytes}
 use Rattle.ic_codec.proofs.NumberLemmas.{fronts, length-two_bytes, two_bytes-injective, length-eight_bytes, eight_bytes-injective}
 use Rattle.ic_codec.proofs.TermLemmas.{tree_front, one_arity}
-use Rattle.ic_codec.proofs.Sizes.{few_rules, pairs_few}
+use Rattle.ic_codec.proofs.Sizes.{pairs_few}
 use Rattle.ic_codec.proofs.Items.{Tells, items_front}
 
 -- ---- numbers, texts and symbols
@@ -230,9 +230,8 @@ rules_have ss (r ∷ rs) over each few =
     (record { over = over.0; names = names_small r each.0.in_order (omega arith); in_order = each.0.in_order }, rules_have ss rs over.1 each.1 (omega arith))
 
 -- the rules of a rule set have bytes
-pub rule_set_has : (set : Rules) → IsRuleSet set → AllByRecursion (HasRuleBytes set.symbols) set.rules
-rule_set_has set is =
-    rules_have set.symbols set.rules ((first_unfit-None set.symbols set.rules).0 is.fitting) is.each (few_rules set.rules is.few).1
+pub rule_set_has : (set : Rules) → IsRuleSet set → AreServed set → AllByRecursion (HasRuleBytes set.symbols) set.rules
+rule_set_has set is served = rules_have set.symbols set.rules ((first_unfit-None set.symbols set.rules).0 is.fitting) is.each served.nodes
 
 pub left_have : (ss : List Symbol) (r : Rule) → HasRuleBytes ss r → AllByRecursion (HasBytes ss) r.left_args
 left_have ss r has = terms_have ss r.left_args has.over.left_args (all_left _ (flat_map names r.left_args) (flat_map names r.right_args) has.names)
@@ -271,11 +270,9 @@ rules_front ss few rs qs a b v w small little e =
 
 pub set_tells : (ss : List Symbol) → length ss ≤ 64 → Tells (IsRuleSetOver ss) set_bytes
 set_tells ss few s t a b v w e =
-    let has = subst (λ (l : List Symbol). AllByRecursion (HasRuleBytes l) s.rules) v.over (rule_set_has s v.rules) in
-    let has_too = subst (λ (l : List Symbol). AllByRecursion (HasRuleBytes l) t.rules) w.over (rule_set_has t w.rules) in
-    let small = (few_rules s.rules v.rules.few).0 in
-    let little = (few_rules t.rules w.rules.few).0 in
-    let same = rules_front ss few s.rules t.rules a b has has_too (omega arith) (omega arith) e in
+    let has = subst (λ (l : List Symbol). AllByRecursion (HasRuleBytes l) s.rules) v.over (rule_set_has s v.rules v.served) in
+    let has_too = subst (λ (l : List Symbol). AllByRecursion (HasRuleBytes l) t.rules) w.over (rule_set_has t w.rules w.served) in
+    let same = rules_front ss few s.rules t.rules a b has has_too (omega (arith, v.served.rules)) (omega (arith, w.served.rules)) e in
     let symbols = v.over ∙ sym w.over in
     ((λ i. record { symbols = symbols i; rules = same.0 i }), same.1)
 

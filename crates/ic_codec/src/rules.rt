@@ -56,6 +56,9 @@ pub(crate) fn rule_set_at(
     build_takes_rule_sets();
     refusals_come_in_order();
     let (count, rest) = two_bytes_at(bytes)?;
+    if count as usize > MAX_RULES {
+        return Err(CodecFault::NotATable);
+    }
     let (rules, _, rest) = rules_at(alloc, &symbols, count as usize, rest)?;
     let set = build(alloc, symbols, rules)?;
     Ok((set, rest))

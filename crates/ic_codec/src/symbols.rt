@@ -3,6 +3,7 @@
 ghost use Rattle.std.specs.Prelude.{◌≡◌, ◌≢◌, ◌<◌, ◌∷◌, ◌++◌, [], ℕ, List, length, slice_get, IfSome, IfOk, IfErr, OnOk};
 ghost use Rattle.std.specs.List.{flat_map};
 ghost use Rattle.ic_term.specs.Symbol.{Symbol, AreSymbols};
+ghost use Rattle.ic_codec.specs.inner.Forms.{HaveSymbolBytes};
 ghost use Rattle.ic_codec.specs.inner.Fronts.{BeginsWith, BeginsWithNone};
 ghost use Rattle.ic_codec.specs.declared.fault.CodecFault.TheVariants.{NotATable};
 ghost use Rattle.ic_codec.specs.inner.Room.{Fits, Appended};
@@ -11,7 +12,7 @@ ghost use Rattle.ic_codec.specs.Symbols.{symbol_bytes, symbols_bytes};
 use crate::fault::CodecFault;
 use crate::fields::{byte_at, put_byte, put_text, text_at};
 use ic_term::laws::numbering_makes_exactly_such_symbols;
-use ic_term::{SymbolFault, Symbols, is_symbol};
+use ic_term::{MAX_SYMBOLS, SymbolFault, Symbols, is_symbol};
 use std::alloc::Global;
 
 /// Appends the number of symbols, then each of them in order.
@@ -37,17 +38,21 @@ fn put_symbol(symbols: &Symbols, sym: u32, out: &mut Vec<u8>)
 
 /// Symbols, their number first, and the bytes after them.
 pub(crate) fn symbols_at(alloc: Global, bytes: &[u8]) -> Result<(Symbols, &[u8]), CodecFault>
-    ensures read { IfOk result (λ r. BeginsWith AreSymbols symbols_bytes bytes.now r.0 r.1.now) }
+    ensures read { IfOk result
+        (λ r. BeginsWith HaveSymbolBytes symbols_bytes bytes.now r.0 r.1.now) }
     ensures refused { IfErr result (λ fault. fault ≡ NotATable
-        → BeginsWithNone AreSymbols symbols_bytes bytes.now) }
+        → BeginsWithNone HaveSymbolBytes symbols_bytes bytes.now) }
 {
     numbering_makes_exactly_such_symbols();
     let (count, mut rest) = byte_at(bytes)?;
+    if count as usize > MAX_SYMBOLS {
+        return Err(CodecFault::NotATable);
+    }
     let mut symbols = Symbols::new(alloc);
     for _ in 0..count {
         rest = append_symbol_at(&mut symbols, rest)?;
     }
-    // Read for the proof: that there are few is known of each value of the type.
+    // Read for the proof: what each value of the type keeps is known once it was read.
     let _count = symbols.len();
     Ok((symbols, rest))
 }

@@ -12,7 +12,7 @@ use Rattle.ic_term.specs.Configuration.{IsConfiguration, configuration_names, co
 use Rattle.ic_term.specs.declared.limits.TheConstants.{MAX_NODES, MAX_INTERFACE, MAX_SYMBOLS}
 use Rattle.ic_rules.specs.Renaming.{first_occurrences, number_among}
 use Rattle.ic_rules.specs.Rule.{Rule, IsRule, rule_names, rule_nodes, numbered, is_lopsided}
-use Rattle.ic_rules.specs.RuleSet.{IsRuleSet, IsRuleOver, first_uncounted, first_repeated, first_lopsided}
+use Rattle.ic_rules.specs.RuleSet.{AreServed, IsRuleSet, IsRuleOver, first_uncounted, first_repeated, first_lopsided}
 use Rattle.ic_rules.specs.System.{SystemParts}
 use Rattle.ic_rules.specs.Mirror.{IsOwnMirror}
 use Rattle.ic_rules.specs.declared.limits.TheConstants.{MAX_RULES, MAX_RULE_NODES}
@@ -39,6 +39,7 @@ use Rattle.ic_dump.proofs.Rules.{BothMoved, rules_moved, none_uncounted, none_re
 pub record IsWhole (s : SystemParts) : Type 0 where
   pub symbols : AreSymbols s.rules.symbols
   pub rules : IsRuleSet s.rules
+  pub served : AreServed s.rules
   pub config : IsConfiguration s.config
   pub over : IsTrue (is_over s.rules.symbols s.config)
   pub names : list_all (λ n. nat_le n MAX_NAME) (configuration_names s.config) ≡ true
@@ -129,15 +130,13 @@ module _ (s : SystemParts) (is : IsWhole s) where
   in_limits =
       let table = s.rules.symbols in
       let p = system_of s in
-      let few = and_parts (nat_le (length s.rules.rules) MAX_RULES) (nat_le (sum_by rule_nodes s.rules.rules) MAX_RULE_NODES) is.rules.few in
-      let low : sum_by rule_nodes s.rules.rules ≤ 2048 = leb-true (sum_by rule_nodes s.rules.rules) MAX_RULE_NODES few.1 in
       let fits : list_all (λ (x : Symbol). fits_limits x.text x.arity) (system_symbols p) ≡ true = fits_all table is.symbols (system_symbols p) known_all in
       let names : list_all (λ n. nat_le n MAX_NAME) (system_names p) ≡ true =
       list_all-append (λ n. nat_le n MAX_NAME) (flat_map written_names p.rules) (phrase_names p.config)
-      ∙ and_from _ _ (rules_low table s.rules.rules is.rules.each low) (ap (list_all (λ n. nat_le n MAX_NAME)) names_written ∙ is.names) in
-      let symbols : length (system_table p) ≤ MAX_SYMBOLS = omega (arith, no_more_symbols table is.symbols (system_symbols p) known_all, is.symbols.few) in
-      let rules : nat_le (length p.rules) MAX_RULES ≡ true = ap (λ n. nat_le n MAX_RULES) (length-map s.rules.rules (rule_of table)) ∙ few.0 in
-      let rule_sum : nat_le (sum_by written_nodes p.rules) MAX_RULE_NODES ≡ true = ap (λ n. nat_le n MAX_RULE_NODES) (rules_nodes table s.rules.rules) ∙ few.1 in
+      ∙ and_from _ _ (rules_low table s.rules.rules is.rules.each is.served.nodes) (ap (list_all (λ n. nat_le n MAX_NAME)) names_written ∙ is.names) in
+      let symbols : length (system_table p) ≤ MAX_SYMBOLS = omega (arith, no_more_symbols table is.symbols (system_symbols p) known_all, is.served.symbols) in
+      let rules : nat_le (length p.rules) MAX_RULES ≡ true = ap (λ n. nat_le n MAX_RULES) (length-map s.rules.rules (rule_of table)) ∙ le-leb (length s.rules.rules) MAX_RULES is.served.rules in
+      let rule_sum : nat_le (sum_by written_nodes p.rules) MAX_RULE_NODES ≡ true = ap (λ n. nat_le n MAX_RULE_NODES) (rules_nodes table s.rules.rules) ∙ le-leb (sum_by rule_nodes s.rules.rules) MAX_RULE_NODES is.served.nodes in
       let interface : length p.config.interface ≤ MAX_INTERFACE = omega (arith, length-map s.config.interface (source_of table), is.config.interface) in
       let count : phrase_nodes p.config ≡ configuration_nodes s.config = (λ i. interface_nodes_written table s.config.interface i + equation_nodes_written table s.config.equations i) in
       let nodes_few : phrase_nodes p.config ≤ MAX_NODES = omega (arith, count, is.config.nodes) in

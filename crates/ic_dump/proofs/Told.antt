@@ -76,12 +76,13 @@ low [] all = refl
 low (n ∷ ns) all = and_from _ _ (le-leb n MAX_NAME all.0) (low ns all.1)
 
 whole_by : (j : JobParts) → IsJob j → (b : Bool) → has_names_of_texts j.config ≡ b → IsWhole (record { rules = j.rules; config = cond b j.config (renumbered j.config) })
-whole_by j is true e = record { symbols = is.symbols; rules = is.rules; config = is.config; over = is.over; names = e }
+whole_by j is true e = record { symbols = is.symbols; rules = is.rules; served = is.served; config = is.config; over = is.over; names = e }
 whole_by j is false e =
     let ns = configuration_names j.config in
     record {
       symbols = is.symbols;
       rules = is.rules;
+      served = is.served;
       config = renumbered-is j.config is.config;
       over = renumbered-over j.rules.symbols j.config ∙ is.over;
       names = ap (list_all (λ n. nat_le n MAX_NAME)) (renumbered-names j.config) ∙ low (map (told_name ns) ns) (all_low ns (few_names j.config is.config));

@@ -1,7 +1,7 @@
 -- Events leave tables, and the jobs of names that they don't mention.
-use Rattle.std.proofs.Common.{◌≡◌, ℕ, ◌<◌, List, [], ◌∷◌, ◌++◌, Bool, true, false, cond, Option, None, Some, is_some, nat_lt, length, IsTrue, IfSome, ◌||◌, refl, sym, ap, subst, ◌∙◌, arith}
+use Rattle.std.proofs.Common.{◌≡◌, ℕ, ◌<◌, List, [], ◌∷◌, ◌++◌, Bool, true, false, cond, Option, None, Some, is_some, nat_lt, length, IsTrue, IfSome, ◌||◌, refl, sym, ap, subst, ◌∙◌}
 use Rattle.std.proofs.lemmas.Bool.{ltb-true}
-use Rattle.std.specs.Option.{option_map, option_map_or, option_or}
+use Rattle.std.specs.Option.{option_map_or, option_or}
 use Rattle.std.specs.Str.{bytes_eq}
 use Rattle.ic_rules.specs.JobName.{is_job_name}
 use Rattle.ic_rules.specs.System.{SystemParts}
@@ -17,10 +17,10 @@ use Rattle.ic_jobs.specs.declared.event.Event.TheVariants.{Command as by_command
 use Rattle.ic_jobs.specs.State.{is_running, is_paused}
 use Rattle.ic_jobs.specs.inner.States.{is_finished}
 use Rattle.ic_jobs.specs.Job.{JobParts, IsJob, begun, system_of, can_move, moved, in_state}
-use Rattle.ic_jobs.specs.Table.{IsTable, is_named, job_named, with_changed, without}
-use Rattle.ic_jobs.specs.Events.{Outcome, outcome, submitted, copied, unless_missing, paused, resumed, after_command, after_round, where_running, apply}
+use Rattle.ic_jobs.specs.Table.{IsTable, job_named, with_changed, without}
+use Rattle.ic_jobs.specs.Events.{Outcome, outcome, copied, unless_missing, paused, resumed, after_command, after_round, where_running, apply}
 use Rattle.ic_jobs.specs.History.{table_after}
-use Rattle.ic_jobs.specs.Commands.{IsEvent, IsCommand, IsSubmit}
+use Rattle.ic_jobs.specs.Commands.{IsEvent, IsCommand}
 use Rattle.ic_jobs.specs.Names.{mentions}
 use Rattle.ic_jobs.proofs.JobLemmas.{IsJob-in_state, IsJob-moved, IsJob-begun, IsJob-branched}
 use Rattle.ic_jobs.proofs.TableLemmas.{All-split, StandsAlone, named_stands, changed_alone, without_alone, IsTable-with, IsTable-without, IsTable-push}
@@ -109,7 +109,7 @@ fetch_keeps t what (Some j) same is = subst (λ (l : List JobParts). IsTable l) 
 
 pub command_keeps : (t : List JobParts) (c : Command) → IsTable t → IsCommand c → IsTable (after_command t c).table
 command_keeps t (Submit name s most) is ok =
-    submit_keeps name s most t (is_some (job_named name t)) (nat_lt (length t) MAX_JOBS) refl refl is (IsJob-begun name s most ok.name ok.symbols ok.rules ok.config ok.over ok.budget)
+    submit_keeps name s most t (is_some (job_named name t)) (nat_lt (length t) MAX_JOBS) refl refl is (IsJob-begun name s most ok.name ok.symbols ok.rules ok.served ok.config ok.over ok.budget)
 command_keeps t (CopyJob old new) is ok = copy_keeps old new t (job_named old t) refl is ok
 command_keeps t (Pause name) is ok = pause_keeps name t (job_named name t) refl is
 command_keeps t (Resume name) is ok = resume_keeps name t (job_named name t) refl is

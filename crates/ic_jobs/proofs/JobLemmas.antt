@@ -1,11 +1,11 @@
 -- Jobs that stay jobs.
-use Rattle.std.proofs.Common.{List, inl, inr, ◌≡◌, ℕ, ◌+◌, ◌<◌, ◌≤◌, ◌↔◌, ◌&&◌, ◌==◌, not, Bool, true, false, cond, Option, None, Some, IsTrue, IfSome, nat_lt, refl, sym, ap, subst, ◌∙◌, arith}
+use Rattle.std.proofs.Common.{List, inl, inr, ◌≡◌, ℕ, ◌+◌, ◌≤◌, ◌↔◌, ◌&&◌, not, Bool, true, false, cond, Option, None, Some, IsTrue, IfSome, nat_lt, refl, sym, ap, subst, ◌∙◌, arith}
 use Rattle.std.proofs.lemmas.Bool.{ltb-true, cases_lt}
 use Rattle.std.specs.Cmp.{unsigned_Decides}
 use Rattle.ic_term.specs.Symbol.{AreSymbols, is_over}
 use Rattle.ic_term.specs.Configuration.{Configuration, IsConfiguration}
 use Rattle.ic_rules.specs.JobName.{is_job_name}
-use Rattle.ic_rules.specs.RuleSet.{Rules, IsRuleSet}
+use Rattle.ic_rules.specs.RuleSet.{Rules, AreServed, IsRuleSet}
 use Rattle.ic_rules.specs.System.{SystemParts}
 use Rattle.ic_round.specs.Rounds.{fits, round, IsQuiet}
 use Rattle.ic_round.specs.Quiet.{is_quiet}
@@ -126,6 +126,7 @@ IsJob-in_state s j is old new = record {
   name = is.name;
   symbols = is.symbols;
   rules = is.rules;
+  served = is.served;
   config = is.config;
   over = is.over;
   counted = is.counted;
@@ -171,6 +172,7 @@ IsJob-moved j is unended can =
       name = is.name;
       symbols = is.symbols;
       rules = is.rules;
+      served = is.served;
       config = round_is_configuration j.rules j.config is.rules is.config is.over parts.0;
       over = round_is_over j.rules j.config is.rules is.over;
       counted = one_more j.rounds parts.1;
@@ -208,14 +210,15 @@ open_is : (rules : Rules) (c : Configuration) (budget : Option ℕ) → IfSome b
 open_is rules c budget is =
     state_is _ rules c 0 budget (ap (may_be (open_state rules c) (is_quiet rules.rules c)) (unused budget is) ∙ open_by (is_quiet rules.rules c))
 
-pub IsJob-begun : (name : List ℕ) (s : SystemParts) (most : Option ℕ) → IsTrue (is_job_name name) → AreSymbols s.rules.symbols → IsRuleSet s.rules → IsConfiguration s.config
+pub IsJob-begun : (name : List ℕ) (s : SystemParts) (most : Option ℕ) → IsTrue (is_job_name name) → AreSymbols s.rules.symbols → IsRuleSet s.rules → AreServed s.rules → IsConfiguration s.config
     → IsTrue (is_over s.rules.symbols s.config) → IfSome most IsBudget → IsJob (begun name s most)
-IsJob-begun name s most named symbols rules config over budget =
+IsJob-begun name s most named symbols rules served config over budget =
     let state = open_is s.rules s.config most budget in
     record {
       name = named;
       symbols = symbols;
       rules = rules;
+      served = served;
       config = config;
       over = over;
       counted = omega arith;
@@ -227,16 +230,16 @@ IsJob-begun name s most named symbols rules config over budget =
 
 -- a copy of a job begins as a job
 pub IsJob-branched : (new : List ℕ) (j : JobParts) → IsTrue (is_job_name new) → IsJob j → IsJob (begun new (system_of j) None)
-IsJob-branched new j named is = IsJob-begun new (system_of j) None named is.symbols is.rules is.config is.over tt
+IsJob-branched new j named is = IsJob-begun new (system_of j) None named is.symbols is.rules is.served is.config is.over tt
 
 -- ---- jobs that are made or changed field by field
 
 pub IsJob-of_parts : (name : List ℕ) (rules : Rules) (config : Configuration) (s : State) (most : Option ℕ) → IsTrue (is_job_name name) → AreSymbols rules.symbols → IsRuleSet rules
-    → IsConfiguration config → IsTrue (is_over rules.symbols config) → IfSome most IsBudget → s ≡ open_state rules config
+    → AreServed rules → IsConfiguration config → IsTrue (is_over rules.symbols config) → IfSome most IsBudget → s ≡ open_state rules config
     → IsJob (record { name = name; rules = rules; config = config; rounds = 0; state = s; budget = most })
-IsJob-of_parts name rules config s most named symbols set valid over budget e =
+IsJob-of_parts name rules config s most named symbols set served valid over budget e =
     subst (λ (r : State). IsJob (record { name = name; rules = rules; config = config; rounds = 0; state = r; budget = most })) (sym e)
-    (IsJob-begun name (record { rules = rules; config = config }) most named symbols set valid over budget)
+    (IsJob-begun name (record { rules = rules; config = config }) most named symbols set served valid over budget)
 
 pub IsJob-advanced : (j n : JobParts) (after : Configuration) (s : State) → IsJob j → j ≡ n → is_finished n.state ≡ false → IsTrue (can_move n) → after ≡ round n.rules.rules n.config
     → s ≡ state_after j.rules after (j.rounds + 1) j.budget

@@ -6,7 +6,7 @@ use Rattle.std.specs.Coded.{Coded, code_by, coded×, coded_ℕ, coded_list, code
 use Rattle.ic_term.specs.Symbol.{AreSymbols, is_over}
 use Rattle.ic_term.specs.Configuration.{Configuration, IsConfiguration, configuration_eq, coded_configuration}
 use Rattle.ic_rules.specs.JobName.{is_job_name}
-use Rattle.ic_rules.specs.RuleSet.{Rules, IsRuleSet, rules_eq, coded_rules}
+use Rattle.ic_rules.specs.RuleSet.{Rules, AreServed, IsRuleSet, rules_eq, coded_rules}
 use Rattle.ic_rules.specs.System.{SystemParts}
 use Rattle.ic_round.specs.Rounds.{fits, round, IsQuiet}
 use Rattle.ic_pool.specs.declared.limits.TheConstants.{MAX_ROUNDS}
@@ -33,6 +33,7 @@ pub record IsJob (j : JobParts) : Type 0 where
   pub name : IsTrue (is_job_name j.name)
   pub symbols : AreSymbols j.rules.symbols
   pub rules : IsRuleSet j.rules
+  pub served : AreServed j.rules
   pub config : IsConfiguration j.config
   pub over : IsTrue (is_over j.rules.symbols j.config)
   pub counted : j.rounds ≤ MAX_ROUNDS

@@ -59,6 +59,7 @@ impl Model for Job {
 impl Job {
     ghost use Rattle.std.specs.Prelude.{◌↔◌, ◌<◌, IsTrue, IsSome, IfSome, None, false, length};
     ghost use Rattle.ic_term.specs.Symbol.{is_over};
+    ghost use Rattle.ic_rules.specs.RuleSet.{AreServed};
     ghost use Rattle.ic_round.specs.Rounds.{round};
     ghost use Rattle.ic_jobs.specs.inner.States.{is_finished};
     ghost use Rattle.ic_jobs.specs.Job.{IsJob, begun, system_of, can_move, moved, in_state};
@@ -66,10 +67,10 @@ impl Job {
     ghost use Rattle.ic_jobs.specs.Landing.{flight_of, agrees};
     ghost use Rattle.ic_jobs.specs.Shown.{shown};
 
-    /// The job of these parts, if they make one. The configuration has to be over the symbols of
-    /// the rules, and the rounds at most 2^62 and at most the budget. The state has to be `Done`
-    /// exactly where the configuration is quiet, and `Spent` exactly where it isn't and the rounds
-    /// are the budget.
+    /// The job of these parts, if they make one. The rules have to be served, the configuration to
+    /// be over their symbols, and the rounds at most 2^62 and at most the budget. The state has to
+    /// be `Done` exactly where the configuration is quiet, and `Spent` exactly where it isn't and
+    /// the rounds are the budget.
     pub fn restore(
         name: JobName,
         rules: Arc<FlatRules>,
@@ -101,6 +102,9 @@ impl Job {
         if rounds > MAX_ROUNDS || !is_within(&budget, rounds) || !over(symbols, &config) {
             return None;
         }
+        if !rules.rules().are_served() {
+            return None;
+        }
         if !state.may_be(quiet(rules.rules(), &config), is_used_up(&budget, rounds)) {
             return None;
         }
@@ -116,7 +120,8 @@ impl Job {
 
     /// The job of these parts as it begins.
     fn begun(name: JobName, rules: Arc<FlatRules>, config: Arc<Flat>, budget: Option<Budget>) -> Job
-        requires { IsTrue (is_over (arc_value rules).symbols (arc_value config)) }
+        requires over { IsTrue (is_over (arc_value rules).symbols (arc_value config)) }
+        requires served { AreServed (arc_value rules) }
         ensures job { result
             ≡ begun name (record { rules = arc_value rules; config = arc_value config }) budget }
         ensures sound { IsJob result }

@@ -136,7 +136,9 @@ fn are_same(left: &System, right: &System) -> bool {
 
 /// Whether copies of a system and of one in flat form, and the system in flat form, are the same as the first.
 fn line_of_copies(alloc: Global, system: &System, flat: &FlatSystem) -> Result<Vec<u8>, Trouble> {
-    let made = FlatSystem::from_system(alloc, system)?;
+    let Some(made) = FlatSystem::from_system(alloc, system)? else {
+        return Err(Trouble("rules are not served"));
+    };
     let same = are_same(&system.copy(alloc)?, system)
         && are_same(&flat.copy(alloc)?.to_system(alloc)?, system)
         && are_same(&made.to_system(alloc)?, system);

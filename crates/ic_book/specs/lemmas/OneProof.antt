@@ -14,7 +14,7 @@ use Rattle.ic_jobs.specs.History.{table_after, IsLegal}
 use Rattle.ic_term.specs.Symbol.{AreSymbols}
 use Rattle.ic_term.specs.Configuration.{IsConfiguration}
 use Rattle.ic_rules.specs.Rule.{Rule, IsRule}
-use Rattle.ic_rules.specs.RuleSet.{Rules, IsRuleSet}
+use Rattle.ic_rules.specs.RuleSet.{Rules, AreServed, IsRuleSet}
 use Rattle.ic_disk.specs.declared.disk.Disk.{Ghosts}
 use Rattle.ic_frames.specs.declared.frames.Frames.{Frames}
 use Rattle.ic_frames.specs.Opened.{IsOnNewest}
@@ -46,6 +46,9 @@ IsRule-prop r = hlevel (numbers-set, props)
 IsRuleSet-prop : (rs : Rules) → IsProp (IsRuleSet rs)
 IsRuleSet-prop rs = hlevel (IsRule-prop, place-set, props)
 
+AreServed-prop : (rs : Rules) → IsProp (AreServed rs)
+AreServed-prop rs = hlevel props
+
 IsConfiguration-prop : (c : _) → IsProp (IsConfiguration c)
 IsConfiguration-prop c = hlevel props
 
@@ -61,7 +64,7 @@ within-prop rounds None = Unit-prop
 within-prop rounds (Some n) = le_prop
 
 IsJob-prop : (j : JobParts) → IsProp (IsJob j)
-IsJob-prop j = hlevel (AreSymbols-prop, IsRuleSet-prop, IsConfiguration-prop, State-set, place-set, budget-prop, within-prop, props)
+IsJob-prop j = hlevel (AreSymbols-prop, IsRuleSet-prop, AreServed-prop, IsConfiguration-prop, State-set, place-set, budget-prop, within-prop, props)
 
 pub IsTable-prop : (t : List JobParts) → IsProp (IsTable t)
 IsTable-prop t = hlevel (IsJob-prop, props)

@@ -1,8 +1,9 @@
 -- Values that have bytes. Inner: private functions cite it.
-use Rattle.std.specs.Prelude.{◌≡◌, ◌^◌, ◌<◌, ℕ, List, Option, None, IsTrue, IfSome}
+use Rattle.std.specs.Prelude.{◌≡◌, ◌^◌, ◌<◌, ◌≤◌, ℕ, List, Option, None, IsTrue, IfSome, length}
 use Rattle.std.specs.List.{AllByRecursion}
 use Rattle.ic_term.specs.Tree.{Tree, Pair, names}
-use Rattle.ic_term.specs.Symbol.{Symbol, is_tree_over}
+use Rattle.ic_term.specs.Symbol.{Symbol, AreSymbols, is_tree_over}
+use Rattle.ic_term.specs.declared.limits.TheConstants.{MAX_SYMBOLS}
 use Rattle.ic_rules.specs.JobName.{is_job_name}
 use Rattle.ic_rules.specs.Rule.{Rule, rule_names, IsNumbered}
 use Rattle.ic_rules.specs.RuleSet.{IsRuleOver}
@@ -12,6 +13,11 @@ use Rattle.ic_jobs.specs.Table.{IsTable}
 use Rattle.ic_codec.specs.declared.form.Form.{Form}
 use Rattle.ic_codec.specs.declared.form.Form.TheVariants.{Ict1, Ict2}
 use Rattle.ic_codec.specs.declared.form.Heading.{Heading}
+
+-- Symbols that have bytes: so few that they are served.
+pub record HaveSymbolBytes (ss : List Symbol) : Type 0 where
+  pub symbols : AreSymbols ss
+  pub few : length ss ≤ MAX_SYMBOLS
 
 -- A term that has bytes: its agents are known, with as many arguments as their arities, and its names
 -- fit in eight bytes.

@@ -4,7 +4,7 @@ use Rattle.std.specs.List.{flat_map, AllByRecursion}
 use Rattle.ic_term.specs.Tree.{Tree, nodes}
 use Rattle.ic_term.specs.Symbol.{Symbol, is_over}
 use Rattle.ic_term.specs.Configuration.{Configuration, IsConfiguration}
-use Rattle.ic_rules.specs.RuleSet.{Rules, IsRuleSet}
+use Rattle.ic_rules.specs.RuleSet.{Rules, AreServed, IsRuleSet}
 use Rattle.ic_jobs.specs.Job.{JobParts}
 use Rattle.ic_codec.specs.Terms.{tree_bytes}
 use Rattle.ic_codec.specs.inner.Forms.{HasBytes}
@@ -74,9 +74,10 @@ module _ {X : Type 0} where
 abbrev pub uncounted : JobParts → ℕ
 uncounted j = 0
 
--- A rule set over these symbols.
+-- A rule set over these symbols, which is served.
 pub record IsRuleSetOver (ss : List Symbol) (set : Rules) : Type 0 where
   pub rules : IsRuleSet set
+  pub served : AreServed set
   pub over : set.symbols ≡ ss
 
 abbrev pub set_bytes : Rules → List ℕ

@@ -1,7 +1,11 @@
 use Rattle.std.proofs.Common.{arith}
 use Rattle.std.proofs.lemmas.Result.{err_from_is_err_and}
-use Rattle.ic_codec.proofs.SymbolReading.{symbols_none, none_further}
+use Rattle.ic_codec.proofs.SymbolReading.{symbols_none, too_many_symbols, none_further}
 use Rattle.ic_codec.proofs.symbols.symbols_at.Goals as goal
+
+pub returns-then-count-gt-MAX_SYMBOLS-clause-refused : goal.returns-then-count-gt-MAX_SYMBOLS-clause-refused
+returns-then-count-gt-MAX_SYMBOLS-clause-refused c =
+    λ same. too_many_symbols c.in_ok-count.count c.args.bytes.now c.in_ok-count.rest.now c.in_ok-count.ensures.read (omega arith)
 
 pub returns-in_err-rest-clause-refused : goal.returns-in_err-rest-clause-refused
 returns-in_err-rest-clause-refused c =

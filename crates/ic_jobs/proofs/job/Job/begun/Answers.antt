@@ -14,7 +14,7 @@ invariant_of-result c =
     let set = subst (λ (r : Rules). IsRuleSet r) c.deref-2.ensures c.rules.ensures.sound in
     let symbols = subst (λ (r : Rules). AreSymbols r.symbols) rules (subst (λ (ss : List Symbol). AreSymbols ss) c.symbols.ensures.symbols c.len-count.ensures.sound) in
     let config = subst (λ (k : Configuration). IsConfiguration k) c.deref.ensures c.next-next.ensures.sound in
-    IsJob-of_parts c.args.name (arc_value c.args.rules) (arc_value c.args.config) c.open_state-state.result c.args.budget c.as_bytes-text.ensures.name symbols set config c.requires
+    IsJob-of_parts c.args.name (arc_value c.args.rules) (arc_value c.args.config) c.open_state-state.result c.args.budget c.as_bytes-text.ensures.name symbols set c.requires.served config c.requires.over
     c.is_within-none.ensures.sound (c.open_state-state.ensures ∙ (λ i. open_state (again i) (c.deref-4.ensures i)))
 
 pub returns-clause-sound : goal.returns-clause-sound
@@ -24,5 +24,5 @@ returns-clause-sound c =
     let set = subst (λ (r : Rules). IsRuleSet r) c.deref-2.ensures c.rules.ensures.sound in
     let symbols = subst (λ (r : Rules). AreSymbols r.symbols) rules (subst (λ (ss : List Symbol). AreSymbols ss) c.symbols.ensures.symbols c.len-count.ensures.sound) in
     let config = subst (λ (k : Configuration). IsConfiguration k) c.deref.ensures c.next-next.ensures.sound in
-    IsJob-of_parts c.args.name (arc_value c.args.rules) (arc_value c.args.config) c.open_state-state.result c.args.budget c.as_bytes-text.ensures.name symbols set config c.requires
+    IsJob-of_parts c.args.name (arc_value c.args.rules) (arc_value c.args.config) c.open_state-state.result c.args.budget c.as_bytes-text.ensures.name symbols set c.requires.served config c.requires.over
     c.is_within-none.ensures.sound (c.open_state-state.ensures ∙ (λ i. open_state (again i) (c.deref-4.ensures i)))
