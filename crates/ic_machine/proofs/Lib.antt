@@ -16,3 +16,4 @@ pub mod Standing
 pub mod Taking
 pub mod Limits
 pub mod InUse
+pub mod PlaceLaws
