@@ -35,6 +35,7 @@ use Rattle.ic_in_place.specs.declared.running.End.TheVariants.{Quiet, Steps, Nod
 use Rattle.ic_in_place.specs.declared.running.End.TheVariants as end
 use Rattle.ic_in_place.specs.Reducing.{CanInteract, IsPutTogether, EndsBy, IsReachedBy, Writes}
 use Rattle.ic_in_place.specs.Counting.{TellsNameSteps}
+use Rattle.ic_in_place.specs.Running.{IsFullNext}
 use Rattle.ic_in_place.specs.Holding.{AreGiven, IsHeldAt}
 use Rattle.ic_in_place.specs.inner.Numbering.{written_numbers, HasNumber, IsNumbered}
 use Rattle.ic_in_place.specs.inner.Stopping.{arities_of, StopsBy, HasStopped}
@@ -72,8 +73,8 @@ ends_alike : (s : SystemParts) (bounds : Bounds) (p : Plans) (d : Configuration)
     → StopsBy bounds p m places end → EndsBy s.rules.rules bounds d m.interactions places end
 ends_alike s bounds p d m places Quiet next quiet together is = (quiet is, together)
 ends_alike s bounds p d m places Steps next quiet together is = (is.0, next is.1, together)
-ends_alike s bounds p d m places Nodes next quiet together is = (is.0, is.1)
-ends_alike s bounds p d m places Limit next quiet together is = is
+ends_alike s bounds p d m places Nodes next quiet together is = (is.0, is.1, is.2)
+ends_alike s bounds p d m places Limit next quiet together is = tt
 ends_alike s bounds p d m places end.Memory next quiet together is = is
 
 -- a quiet end is that of a quiet configuration
@@ -88,11 +89,19 @@ quiet_at rs bounds d interactions places end.Memory is e = cc
 -- a pair was left where it stopped for its places
 left_over : (bounds : Bounds) (p : Plans) (m : Net) (places : ℕ) (end : End) → StopsBy bounds p m places end → end ≡ Nodes
     → HasNext p m.pending
-left_over bounds p m places Nodes is e = is.2
+left_over bounds p m places Nodes is e = is.3
 left_over bounds p m places Quiet is e = cc
 left_over bounds p m places Steps is e = cc
 left_over bounds p m places Limit is e = cc
 left_over bounds p m places end.Memory is e = cc
+
+-- a table was full where it stopped at a limit
+full_at : (bounds : Bounds) (p : Plans) (m : Net) (places : ℕ) (end : End) → StopsBy bounds p m places end → end ≡ Limit → IsFullNext p m
+full_at bounds p m places Limit is e = is
+full_at bounds p m places Quiet is e = cc
+full_at bounds p m places Steps is e = cc
+full_at bounds p m places Nodes is e = cc
+full_at bounds p m places end.Memory is e = cc
 
 numbered_names : (given : List ℕ) (ts : List Token) → AllByRecursion (IsNumbered given) ts → AllByRecursion (HasNumber given) (names_of ts)
 numbered_names given [] all = tt
@@ -169,6 +178,7 @@ answered_so laws s bounds given m end places by_rule stopped ts terms equations 
           held = held_at s bounds given m end places by_rule answer stopped net;
           ended = ends_alike s bounds stopped.plans answer m places end next (quiet net.names_too are).0 (quiet net.names_too are).1 stopped.ended;
           next = left_over bounds stopped.plans m places end stopped.ended;
+          full = full_at bounds stopped.plans m places end stopped.ended;
         };
         counts = stopped.counts;
       }),
@@ -194,7 +204,7 @@ unread_so itself s bounds given m Steps places by_rule partial stopped none = ab
 unread_so itself s bounds given m Nodes places by_rule partial stopped none = record {
   answer = net_of stopped.held.numbers m.interface (pieces m);
   reached = record {
-    reached = record { fired = stopped.fired; reached = stopped.held.reached; counted = stopped.counted; within = stopped.within; held = held_at s bounds given m Nodes places by_rule _ stopped (itself _ stopped.held.has_names); ended = (stopped.ended.0, stopped.ended.1); next = left_over bounds stopped.plans m places Nodes stopped.ended };
+    reached = record { fired = stopped.fired; reached = stopped.held.reached; counted = stopped.counted; within = stopped.within; held = held_at s bounds given m Nodes places by_rule _ stopped (itself _ stopped.held.has_names); ended = (stopped.ended.0, stopped.ended.1, stopped.ended.2); next = left_over bounds stopped.plans m places Nodes stopped.ended; full = full_at bounds stopped.plans m places Nodes stopped.ended };
     counts = stopped.counts;
   };
   name_steps = refl;
@@ -204,7 +214,7 @@ unread_so itself s bounds given m Nodes places by_rule partial stopped none = re
 unread_so itself s bounds given m Limit places by_rule partial stopped none = record {
   answer = net_of stopped.held.numbers m.interface (pieces m);
   reached = record {
-    reached = record { fired = stopped.fired; reached = stopped.held.reached; counted = stopped.counted; within = stopped.within; held = held_at s bounds given m Limit places by_rule _ stopped (itself _ stopped.held.has_names); ended = stopped.ended; next = left_over bounds stopped.plans m places Limit stopped.ended };
+    reached = record { fired = stopped.fired; reached = stopped.held.reached; counted = stopped.counted; within = stopped.within; held = held_at s bounds given m Limit places by_rule _ stopped (itself _ stopped.held.has_names); ended = tt; next = left_over bounds stopped.plans m places Limit stopped.ended; full = full_at bounds stopped.plans m places Limit stopped.ended };
     counts = stopped.counts;
   };
   name_steps = refl;
@@ -214,7 +224,7 @@ unread_so itself s bounds given m Limit places by_rule partial stopped none = re
 unread_so itself s bounds given m end.Memory places by_rule partial stopped none = record {
   answer = net_of stopped.held.numbers m.interface (pieces m);
   reached = record {
-    reached = record { fired = stopped.fired; reached = stopped.held.reached; counted = stopped.counted; within = stopped.within; held = held_at s bounds given m end.Memory places by_rule _ stopped (itself _ stopped.held.has_names); ended = stopped.ended; next = left_over bounds stopped.plans m places end.Memory stopped.ended };
+    reached = record { fired = stopped.fired; reached = stopped.held.reached; counted = stopped.counted; within = stopped.within; held = held_at s bounds given m end.Memory places by_rule _ stopped (itself _ stopped.held.has_names); ended = stopped.ended; next = left_over bounds stopped.plans m places end.Memory stopped.ended; full = full_at bounds stopped.plans m places end.Memory stopped.ended };
     counts = stopped.counts;
   };
   name_steps = refl;

@@ -14,3 +14,6 @@ pub mod Answered
 pub mod Written
 pub mod Interacts
 pub mod NameSteps
+pub mod NoNameStep
+pub mod OneCount
+pub mod AtPlaces

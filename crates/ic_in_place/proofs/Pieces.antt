@@ -1,5 +1,5 @@
 -- Lemmas: a run in pieces.
-use Rattle.std.proofs.Common.{◌≡◌, ◌≢◌, ℕ, suc, ◌+◌, ◌-◌, ◌*◌, ◌≤◌, refl, arith}
+use Rattle.std.proofs.Common.{◌≡◌, ◌≢◌, ℕ, suc, ◌+◌, ◌-◌, ◌*◌, ◌<◌, ◌≤◌, refl, arith}
 use Rattle.ic_machine.specs.Net.{Net}
 use Rattle.ic_machine.specs.Plan.{Plans}
 use Rattle.ic_in_place.specs.declared.running.End.{End}
@@ -9,12 +9,14 @@ use Rattle.ic_in_place.specs.Running.{RunsOn, IsLookedAt}
 
 -- a piece that ended before its steps were made
 pub ended_before : (p : Plans) (all left steps : ℕ) (end : End) (first old new : Net) → old.interactions + left ≡ first.interactions + all → steps ≤ left
-    → end ≢ Steps → RunsOn p steps end old new → RunsOn p all end first new
-ended_before p all left steps end first old new counted low other runs = record {
+    → end ≢ Steps → end ≢ Nodes → RunsOn p steps end old new → RunsOn p all end first new
+ended_before p all left steps end first old new counted low other others runs = record {
   within = omega (arith, counted, low, runs.within);
   quiet = runs.quiet;
   all = λ is. absurd (other is);
   more = λ is. absurd (other is);
+  early = λ is. absurd (others is);
+  full = runs.full;
 }
 
 -- the last piece
@@ -25,16 +27,20 @@ all_made p all left steps first old new counted low none runs = record {
   quiet = runs.quiet;
   all = λ is. omega (arith, counted, low, none, runs.all is);
   more = runs.more;
+  early = λ is. cc;
+  full = λ is. cc;
 }
 
 -- a piece after which there are too many places
-pub too_many : (p : Plans) (all left steps : ℕ) (first old new : Net) → old.interactions + left ≡ first.interactions + all → steps ≤ left
+pub too_many : (p : Plans) (all left steps : ℕ) (first old new : Net) → old.interactions + left ≡ first.interactions + all → steps ≤ left → 0 < left - steps
     → RunsOn p steps Steps old new → RunsOn p all Nodes first new
-too_many p all left steps first old new counted low runs = record {
+too_many p all left steps first old new counted low some runs = record {
   within = omega (arith, counted, low, runs.within);
   quiet = λ is. cc;
   all = λ is. cc;
   more = λ is. cc;
+  early = λ is. omega (arith, counted, low, some, runs.all refl);
+  full = λ is. cc;
 }
 
 pub goes_on : (p : Plans) (all left steps : ℕ) (first old new : Net) → old.interactions + left ≡ first.interactions + all → steps ≤ left
@@ -53,3 +59,7 @@ looked_at p steps first old new before runs whole = record {
   whole = omega (arith, before.1, runs.all refl, whole);
   more = runs.more refl;
 }
+
+-- a look more
+pub next_look : (p : Plans) (steps : ℕ) (old new : Net) → RunsOn p steps Steps old new → steps ≡ PIECE → new.interactions ≡ old.interactions + PIECE
+next_look p steps old new runs whole = omega (arith, runs.all refl, whole)

@@ -19,7 +19,7 @@ use Rattle.ic_in_place.specs.Holding.{AreGiven, AreCompiled, HasRun, Holds}
 use Rattle.ic_in_place.specs.Running.{RunsOn, IsLookedAt, IsWatched}
 use Rattle.ic_in_place.proofs.Counted.{summed_told}
 use Rattle.ic_in_place.specs.inner.Summing.{IsSummed}
-use Rattle.ic_in_place.proofs.Onward.{all_of_both, ran_nothing, ran_nothing-fired, ran_through, ran_through-fired}
+use Rattle.ic_in_place.proofs.Onward.{all_of_both, looked_ran, ran_nothing, ran_nothing-fired, ran_through, ran_through-fired}
 use Rattle.ic_machine.specs.lemmas.RunsOn.{ran_steps}
 use Rattle.ic_arena.specs.Piece.{Piece}
 use Rattle.ic_machine.specs.Steps.{Step, Steps as StepsOf, no_step, one_more, turns, puts, meets, fires}
@@ -64,8 +64,8 @@ by_end bounds p old m places Quiet none runs nodes looked = runs.quiet refl
 by_end bounds p old m places Steps none runs nodes looked = let all = runs.all refl in (omega (arith, all, none), runs.more refl)
 by_end bounds p old m places Nodes none runs nodes looked =
     let at : IsLookedAt p old m = looked refl in
-    (nodes refl, (at.looks, omega (arith, at.whole, none)), at.more)
-by_end bounds p old m places Limit none runs nodes looked = tt
+    (nodes refl, omega (arith, none, runs.early refl), (at.looks, omega (arith, at.whole, none)), at.more)
+by_end bounds p old m places Limit none runs nodes looked = runs.full refl
 by_end bounds p old m places Memory none runs nodes looked = tt
 
 -- each plan that fired is there
@@ -98,7 +98,8 @@ pub stopped_so : StopLaws → (s : SystemParts) (bounds : Bounds) (numbers : Lis
     → (by_rule : List ℕ) → IsSummed (length s.rules.rules) numbers m.counts by_rule → length numbers ≡ length p.plans → m.interactions < 2 ^ 64
     → HasStopped s bounds given by_rule m end places
 stopped_so laws s bounds numbers p given plan operands old m end places sound arities plans of_rules start stands are begun runs nodes looked all enough pairs watched by_rule summed numbered low =
-    let ran : Ran p old m = ran_through p old watched.mark m watched.before watched.after in
+    let before = looked_ran p bounds.nodes watched.before old watched.mark watched.looked in
+    let ran : Ran p old m = ran_through p old watched.mark m before.0 watched.after in
     let count : length (arities_of s) ≡ length s.rules.symbols = length-map s.rules.symbols (λ x. x.arity) in
     let compiled : AreCompiled s.rules numbers p s.config given plan operands = record {
       plans = plans;
@@ -135,7 +136,7 @@ stopped_so laws s bounds numbers p given plan operands old m end places sound ar
       arities = arities;
       own_arities = ran.arities ∙ begun.arities ∙ arities;
       starts = begun.starts;
-      by_plans = ap (map (rule_number numbers)) (ran_through-fired p old watched.mark m watched.before watched.after);
+      by_plans = ap (map (rule_number numbers)) (ran_through-fired p old watched.mark m before.0 watched.after ∙ ap (λ l. l ++ watched.after.fired) before.1);
       pairs = pairs;
       fired = map (rule_number numbers) ran.fired;
       held = held;

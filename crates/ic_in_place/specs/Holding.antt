@@ -66,7 +66,7 @@ pub record IsHeldAt (rs : Rules) (c answer : Configuration) (fired : List ℕ) (
   pub starts : Starts plans (length given) plan operands first
   pub none : first.interactions ≡ 0
   pub watched : IsWatched plans nodes first machine
-  pub by_plans : fired ≡ map (rule_number rule_numbers) (watched.before.fired ++ watched.after.fired)
+  pub by_plans : fired ≡ map (rule_number rule_numbers) (watched.before ++ watched.after.fired)
   pub held : Holds rs plans c given fired machine
   pub begun : Holds rs plans c given [] first
   pub one_net : OneNet (net_of held.numbers machine.interface (pieces machine)) answer

@@ -4,3 +4,4 @@ pub mod Counting
 pub mod Reducing
 pub mod Reductions
 pub mod inner
+pub mod Agents

@@ -19,6 +19,7 @@ use Rattle.ic_in_place.specs.declared.running.TheConstants.{PIECE}
 use Rattle.ic_in_place.specs.declared.running.Bounds.{Bounds}
 use Rattle.ic_in_place.specs.declared.running.End.{End}
 use Rattle.ic_in_place.specs.declared.running.End.TheVariants.{Quiet, Steps, Nodes, Limit, Memory}
+use Rattle.ic_in_place.specs.Running.{IsFullNext}
 use Rattle.ic_in_place.specs.Holding.{IsHeldAt}
 use Rattle.ic_in_place.specs.Counting.{AreCounts}
 
@@ -51,12 +52,14 @@ EndsBy rs bounds c interactions places Quiet = IsQuiet rs c × IsPutTogether c
 EndsBy rs bounds c interactions places Steps =
     (interactions ≡ bounds.steps) × CanInteract rs c × IsPutTogether c
 EndsBy rs bounds c interactions places Nodes =
-    (bounds.nodes < places) × ((looks : ℕ) × (interactions ≡ suc looks * PIECE))
+    (bounds.nodes < places) × (interactions < bounds.steps)
+    × ((looks : ℕ) × (interactions ≡ suc looks * PIECE))
 EndsBy rs bounds c interactions places Limit = Unit {0}
 EndsBy rs bounds c interactions places Memory = Unit {0}
 
 -- A configuration is reached from that of a system by so many interactions, at most as many as may be made, and this is
--- why no more were made. The machine that held it had so many places. Where it stopped for these, a pair was left.
+-- why no more were made. The machine that held it had so many places. Where it stopped for these, a pair was left, and where
+-- it stopped at a limit, a table would be full.
 pub record IsReached (s : SystemParts) (bounds : Bounds) (answer : Configuration) (end : End)
     (interactions places : ℕ) : Type 0 where
   pub fired : List ℕ
@@ -66,6 +69,7 @@ pub record IsReached (s : SystemParts) (bounds : Bounds) (answer : Configuration
   pub held : IsHeldAt s.rules s.config answer fired places bounds.nodes
   pub ended : EndsBy s.rules.rules bounds answer interactions places end
   pub next : end ≡ Nodes → HasNext held.plans held.machine.pending
+  pub full : end ≡ Limit → IsFullNext held.plans held.machine
 
 -- The same, and how many of these interactions were made by each rule.
 pub record IsReachedBy (s : SystemParts) (bounds : Bounds) (answer : Configuration) (end : End)

@@ -1,9 +1,11 @@
 -- What a text of a system is answered when it is reduced in place (this project's choice).
-use Rattle.std.specs.Prelude.{◌≡◌, ◌≢◌, List, [], Bool, true, Option, None, Ok, Err, ℕ, length, if◌then◌else◌}
+use Rattle.std.specs.Prelude.{◌≡◌, ◌≢◌, List, [], Bool, true, Option, None, Ok, Err, ℕ, IsTrue, length, if◌then◌else◌}
 use Rattle.std.specs.Option.{option_map}
 use Rattle.std.specs.Io.KnownBytes.{Appends}
 use Rattle.ic_term.specs.Configuration.{Configuration}
-use Rattle.ic_term.specs.Symbol.{Symbol}
+use Rattle.ic_term.specs.Symbol.{Symbol, is_over}
+use Rattle.ic_rules.specs.RuleSet.{IsRuleSet}
+use Rattle.ic_round.specs.Naming.{HasNames}
 use Rattle.ic_rules.specs.System.{SystemParts}
 use Rattle.ic_naming.specs.Naming.{renumbered}
 use Rattle.ic_text.specs.SystemText.{ReadsSystemWithin}
@@ -42,11 +44,15 @@ stuck_at end.Limit symbols c = None
 stuck_at end.Memory symbols c = None
 
 -- A text is read as a system with these limits, of which a configuration is reached. This is its line, and this tells of it.
+-- The system keeps what the laws of every order ask for.
 pub record EndsAs (limits : Limits) (bounds : Bounds) (partial : Bool) (input : List ℕ)
     (outcome : Outcome) (line : List ℕ) : Type 0 where
   pub system : SystemParts
   pub answer : Configuration
   pub reads : ReadsSystemWithin limits input (Ok system)
+  pub rule_set : IsRuleSet system.rules
+  pub over : IsTrue (is_over system.rules.symbols system.config)
+  pub names : HasNames system.config
   pub reached : IsReachedBy system bounds answer outcome.end outcome.interactions outcome.places
       outcome.by_rule.items
   pub name_steps : TellsNameSteps system.rules.rules system.config outcome.interactions

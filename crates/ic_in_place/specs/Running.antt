@@ -1,19 +1,26 @@
 -- How a run of a machine ended.
-use Rattle.std.specs.Prelude.{◌≡◌, ℕ, suc, ◌+◌, ◌*◌, ◌≤◌, ◌⊎◌, [], length, sum}
-use Rattle.ic_machine.specs.Net.{Net, HasNext}
+use Rattle.std.specs.Prelude.{◌≡◌, ℕ, suc, ◌+◌, ◌*◌, ◌<◌, ◌≤◌, List, [], ◌++◌, length, sum}
+use Rattle.ic_machine.specs.Net.{Net, HasNext, IsFull}
 use Rattle.ic_machine.specs.Plan.{Plans}
 use Rattle.ic_machine.specs.Runs.{Ran}
 use Rattle.ic_in_place.specs.declared.running.TheConstants.{PIECE}
 use Rattle.ic_in_place.specs.declared.running.End.{End}
-use Rattle.ic_in_place.specs.declared.running.End.TheVariants.{Quiet, Steps}
+use Rattle.ic_in_place.specs.declared.running.End.TheVariants.{Quiet, Steps, Nodes, Limit}
+
+-- The last pair that is left can fire, and by its plan a table would be full.
+abbrev pub IsFullNext : Plans → Net → Type 0
+IsFullNext p m = (next : HasNext p m.pending) × IsFull next.active.plan m
 
 -- A run of at most so many interactions came to this end. Where that is quiet, no pair is left, and where it has made all,
--- the last one that is left can fire.
+-- the last one that is left can fire. Where it stopped for its places, it hasn't made all. Where it stopped at a limit, a
+-- table would be full.
 pub record RunsOn (p : Plans) (steps : ℕ) (end : End) (old new : Net) : Type 0 where
   pub within : new.interactions ≤ old.interactions + steps
   pub quiet : end ≡ Quiet → new.pending ≡ []
   pub all : end ≡ Steps → new.interactions ≡ old.interactions + steps
   pub more : end ≡ Steps → HasNext p new.pending
+  pub early : end ≡ Nodes → new.interactions < old.interactions + steps
+  pub full : end ≡ Limit → IsFullNext p new
 
 -- Whole pieces of a run were made, at least one, and the last pair that is left can fire.
 pub record IsLookedAt (p : Plans) (old new : Net) : Type 0 where
@@ -26,11 +33,23 @@ pub record IsWithin (nodes : ℕ) (m : Net) : Type 0 where
   pub places : m.names + sum m.agents ≤ nodes
   pub pieces : length m.places ≤ nodes
 
--- The places were looked at on the way: no more than a piece of a run was made after its beginning, or after a moment at
--- which there were at most so many places.
+-- One more whole piece of a run was made, and then there were at most so many places.
+pub record IsNextLook (p : Plans) (nodes : ℕ) (old new : Net) : Type 0 where
+  pub ran : Ran p old new
+  pub whole : new.interactions ≡ old.interactions + PIECE
+  pub within : IsWithin nodes new
+
+-- The places were looked at after each whole piece of a run, up to the last look. Pairs fired by these plans by then.
+pub data Looked (p : Plans) (nodes : ℕ) : (fired : List ℕ) → (first last : Net) → Type 0 where
+  no_look : (m : Net) → Looked p nodes [] m m
+  one_more_look : (fired : List ℕ) (first m last : Net) → Looked p nodes fired first m
+      → (next : IsNextLook p nodes m last) → Looked p nodes (fired ++ next.ran.fired) first last
+
+-- The places were looked at on the way, and each look found at most so many. No more than a piece of the run was made after
+-- the last of these looks, or after the beginning.
 pub record IsWatched (p : Plans) (nodes : ℕ) (old new : Net) : Type 0 where
   pub mark : Net
-  pub before : Ran p old mark
+  pub before : List ℕ
+  pub looked : Looked p nodes before old mark
   pub after : Ran p mark new
-  pub few : (mark ≡ old) ⊎ IsWithin nodes mark
   pub near : new.interactions ≤ mark.interactions + PIECE

@@ -1,12 +1,16 @@
-//! Laws of what a machine holds.
+//! Laws of what a machine holds, and of what is answered.
 
-ghost use Rattle.std.specs.Prelude.{◌≡◌, ℕ, ◌+◌, List, [], IsTrue, length, map, sum, sum_by};
+ghost use Rattle.std.specs.Prelude.{◌≡◌, ℕ, suc, ◌+◌, ◌*◌, ◌^◌, ◌<◌, ◌≤◌, List, [], ◌∷◌, Bool, Option, Some, Ok, IsTrue, length, map, sum, sum_by};
 ghost use Rattle.ic_term.specs.Configuration.{Configuration};
 ghost use Rattle.ic_term.specs.Symbol.{is_over};
 ghost use Rattle.ic_rules.specs.RuleSet.{Rules, IsRuleSet};
 ghost use Rattle.ic_naming.specs.Naming.{renumbered};
 ghost use Rattle.ic_round.specs.Naming.{HasNames};
 ghost use Rattle.ic_rules.specs.System.{SystemParts};
+ghost use Rattle.ic_settle.specs.NameSteps.{NameStep};
+ghost use Rattle.ic_text.specs.SystemText.{ReadsSystemWithin};
+ghost use Rattle.ic_text.specs.declared.limits.Limits.{Limits};
+ghost use Rattle.ic_streams.specs.Streams.{line_of};
 ghost use Rattle.ic_round.specs.Rounds.{IsQuiet, iterate};
 ghost use Rattle.ic_confluence.specs.Kinds.{Kind, Chain};
 ghost use Rattle.ic_reaching.specs.OneNet.{OneNet, SameButNext};
@@ -18,9 +22,13 @@ ghost use Rattle.ic_meaning.specs.Nets.{net_of};
 ghost use Rattle.ic_meaning.specs.Plans.{rule_number};
 ghost use Rattle.ic_in_place.specs.declared.running.Bounds.{Bounds};
 ghost use Rattle.ic_in_place.specs.declared.running.End.{End};
-ghost use Rattle.ic_in_place.specs.declared.running.End.TheVariants.{Quiet};
-ghost use Rattle.ic_in_place.specs.Counting.{AreCounts, AreNameSteps, arguments_at, name_steps};
-ghost use Rattle.ic_in_place.specs.Reducing.{IsReached, IsReachedBy};
+ghost use Rattle.ic_in_place.specs.declared.running.End.TheVariants.{Quiet, Steps, Nodes};
+ghost use Rattle.ic_in_place.specs.declared.running.TheConstants.{PIECE};
+ghost use Rattle.ic_in_place.specs.declared.stream.Outcome.{Outcome};
+ghost use Rattle.ic_in_place.specs.Agents.{agents_with_arguments};
+ghost use Rattle.ic_in_place.specs.Counting.{AreCounts, AreNameSteps, TellsNameSteps, arguments_at, name_steps};
+ghost use Rattle.ic_in_place.specs.Reducing.{IsPutTogether, IsReached, IsReachedBy};
+ghost use Rattle.ic_in_place.specs.Reductions.{EndsAs};
 ghost use Rattle.ic_in_place.specs.Holding.{AreCompiled, HasRun, Holds, HasEnded};
 
 /// Runs go on: what a run leads to, and what a run from there leads to.
@@ -148,6 +156,11 @@ pub fn name_steps_are_those_of_every_order()
         → IsRuleSet rs → IsTrue (is_over rs.symbols c) → HasNames c
         → AreNameSteps rs.rules c n → Chain rs.rules kinds c e → IsQuiet rs.rules e
         → name_steps kinds ≡ n }
+    ensures told { (rs : Rules) (c e : Configuration) (interactions left : ℕ) (told : Option ℕ)
+        (kinds : List Kind) → IsRuleSet rs → IsTrue (is_over rs.symbols c) → HasNames c
+        → TellsNameSteps rs.rules c interactions left Quiet told
+        → Chain rs.rules kinds c e → IsQuiet rs.rules e
+        → name_steps kinds + interactions + left < 2 ^ 64 → told ≡ Some (name_steps kinds) }
     ensures equations { (rs : Rules) (c e : Configuration) (kinds : List Kind)
         → IsRuleSet rs → IsTrue (is_over rs.symbols c) → HasNames c
         → Chain rs.rules kinds c e
@@ -157,4 +170,71 @@ pub fn name_steps_are_those_of_every_order()
     ic_confluence::laws::every_order_ends_in_the_same_net();
     ic_reaching::laws::what_is_reached_is_one_net();
     ic_reaching::laws::what_is_reached_goes_on();
+}
+
+/// Where an answer is put together, no term can be put for a name: each name of a circle occurs in it alone.
+pub fn what_is_put_together_has_no_name_step()
+    ensures { (c d : Configuration) → HasNames c → IsPutTogether c → ¬ NameStep c d }
+{}
+
+/// What a stop says. Where as many interactions were made as may be, one more is possible. Where there were too many places,
+/// fewer interactions were made than may be, and their number is a multiple of 4,096.
+pub fn what_a_stop_says()
+    ensures steps { (s : SystemParts) (bounds : Bounds) (answer : Configuration)
+        (interactions places : ℕ)
+        → IsRuleSet s.rules → IsTrue (is_over s.rules.symbols s.config) → HasNames s.config
+        → IsReached s bounds answer Steps interactions places
+        → (d : Configuration) × (fired : List ℕ) × Reaches s.rules.rules s.config d fired
+        × (length fired ≡ bounds.steps + 1) }
+    ensures nodes { (s : SystemParts) (bounds : Bounds) (answer : Configuration)
+        (interactions places : ℕ) → IsReached s bounds answer Nodes interactions places
+        → (bounds.nodes < places) × (interactions < bounds.steps)
+        × ((looks : ℕ) × (interactions ≡ suc looks * 4096)) }
+    ensures piece { PIECE ≡ 4096 }
+{
+    ic_reaching::laws::what_is_reached_goes_on();
+}
+
+/// Each agent with arguments that an answer has is at a place: there are no more of them than places that are told.
+pub fn agents_of_an_answer_are_at_places()
+    ensures { (s : SystemParts) (bounds : Bounds) (answer : Configuration) (end : End)
+        (interactions places : ℕ) → IsReached s bounds answer end interactions places
+        → agents_with_arguments answer ≤ places }
+{}
+
+/// Counts say how often each rule fired: rules 0, 1 and 1 are counted as 1 and 2. What fired has one list of counts.
+pub fn counts_are_how_often_each_rule_fired()
+    ensures example { AreCounts 2 (0 ∷ 1 ∷ 1 ∷ []) (1 ∷ 2 ∷ []) }
+    ensures one { (rules : ℕ) (fired a b : List ℕ) → AreCounts rules fired a → AreCounts rules fired b
+        → a ≡ b }
+{}
+
+/// Where a text is reduced to a quiet end, its line is that of the net in which every order of steps ends, of the system
+/// that the text is read as, and the interactions that are told are those of every order. Where no equation is left in that
+/// net, the line is written as the end of any order is.
+pub fn a_line_is_the_net_of_every_order()
+    ensures net { (limits : Limits) (bounds : Bounds) (partial : Bool) (input line : List ℕ)
+        (outcome : Outcome) (s : SystemParts) (e : Configuration) (kinds : List Kind)
+        → EndsAs limits bounds partial input outcome line → outcome.end ≡ Quiet
+        → ReadsSystemWithin limits input (Ok s)
+        → Chain s.rules.rules kinds s.config e → IsQuiet s.rules.rules e
+        → (answer : Configuration) × (line ≡ line_of s.rules.symbols (renumbered answer))
+        × OneNet answer e × (length (rules_fired kinds) ≡ outcome.interactions) }
+    ensures text { (limits : Limits) (bounds : Bounds) (partial : Bool) (input line : List ℕ)
+        (outcome : Outcome) (s : SystemParts) (e : Configuration) (kinds : List Kind)
+        → EndsAs limits bounds partial input outcome line → outcome.end ≡ Quiet
+        → ReadsSystemWithin limits input (Ok s)
+        → Chain s.rules.rules kinds s.config e → IsQuiet s.rules.rules e → e.equations ≡ []
+        → line ≡ line_of s.rules.symbols (renumbered e) }
+    ensures rounds { (limits : Limits) (bounds : Bounds) (partial : Bool) (input line : List ℕ)
+        (outcome : Outcome) (s : SystemParts)
+        → EndsAs limits bounds partial input outcome line → outcome.end ≡ Quiet
+        → ReadsSystemWithin limits input (Ok s)
+        → (n : ℕ) × IsQuiet s.rules.rules (iterate s.rules.rules n s.config) }
+{
+    ic_text::laws::one_system_reading();
+    ic_reaching::laws::what_is_reached_quiet_is_the_end_of_every_order();
+    ic_reaching::laws::where_names_begin_is_all_that_differs();
+    a_quiet_end_is_that_of_every_order();
+    without_equations_every_order_has_one_text();
 }

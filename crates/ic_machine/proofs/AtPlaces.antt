@@ -1,14 +1,15 @@
 -- What the tables say is at places.
-use Rattle.std.proofs.Common.{ℕ, zero, suc, ◌+◌, ◌==◌, List, [], ◌∷◌, ◌++◌, Bool, true, false, cond, drop, take}
+use Rattle.std.proofs.Common.{ℕ, zero, suc, ◌+◌, ◌==◌, List, [], ◌∷◌, ◌++◌, Bool, true, false, cond, drop, map, take}
 use Rattle.std.specs.List.{AllByRecursion}
 use Rattle.ic_arena.specs.declared.word.Word.{Word}
 use Rattle.ic_arena.specs.declared.word.TheConstants.{IDLE, FREE}
 use Rattle.ic_arena.specs.Word.{name_word, agent_word}
-use Rattle.ic_arena.specs.Piece.{Piece, idle, waits, agent_of}
+use Rattle.ic_arena.specs.Piece.{Piece, equated, idle, waits, agent_of}
 use Rattle.ic_arena.specs.Tables.{Blocks, block_piece, blocks_from, blocks_pieces, entry_piece, names_pieces}
-use Rattle.ic_machine.specs.Net.{IsAtPlace}
+use Rattle.ic_machine.specs.declared.equation.Equation.{Equation}
+use Rattle.ic_machine.specs.Net.{equated_of, IsAtPlace, IsPair, IsPairPiece}
 use Rattle.ic_machine.specs.inner.Firing.{heaps_pieces}
-use Rattle.ic_machine.specs.lemmas.FiringKeeps.{all_append}
+use Rattle.ic_machine.specs.lemmas.FiringKeeps.{all_append, all_of}
 
 either : (b : Bool) (xs ys : List Piece) → AllByRecursion IsAtPlace xs → AllByRecursion IsAtPlace ys
     → AllByRecursion IsAtPlace (cond b xs ys)
@@ -40,6 +41,27 @@ at_agents s [] = tt
 at_agents s (b ∷ bs) =
     all_append IsAtPlace (blocks_pieces s b) (heaps_pieces (s + 1) bs)
     (at_blocks s b.arity 0 b.count b.words) (at_agents (s + 1) bs)
+
+-- what is at a place is no equation
+at_place : (p : Piece) → IsAtPlace p → IsPairPiece p
+at_place (equated l r) h = absurd h
+at_place (idle x) h = tt
+at_place (waits x u) h = tt
+at_place (agent_of a ws) h = tt
+
+pairs_among : (es : List Equation) → AllByRecursion IsPair es → AllByRecursion IsPairPiece (map equated_of es)
+pairs_among [] h = tt
+pairs_among (e ∷ es) h = (h.0, pairs_among es h.1)
+
+-- what the tables say, and pairs after it
+pub tables_of_pairs : (ws : List Word) (hs : List Blocks) (ps us : List Equation) → AllByRecursion IsPair ps → AllByRecursion IsPair us
+    → AllByRecursion IsPairPiece (names_pieces 0 ws ++ (heaps_pieces 0 hs ++ (map equated_of ps ++ map equated_of us)))
+tables_of_pairs ws hs ps us h k =
+    all_append IsPairPiece (names_pieces 0 ws) (heaps_pieces 0 hs ++ (map equated_of ps ++ map equated_of us))
+    (all_of IsAtPlace IsPairPiece (names_pieces 0 ws) at_place (at_names 0 ws))
+    (all_append IsPairPiece (heaps_pieces 0 hs) (map equated_of ps ++ map equated_of us)
+    (all_of IsAtPlace IsPairPiece (heaps_pieces 0 hs) at_place (at_agents 0 hs))
+    (all_append IsPairPiece (map equated_of ps) (map equated_of us) (pairs_among ps h) (pairs_among us k)))
 
 -- the tables hold no equation
 pub tables_at_places : (ws : List Word) (hs : List Blocks)

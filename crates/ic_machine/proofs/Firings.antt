@@ -15,7 +15,7 @@ use Rattle.ic_arena.specs.Piece.{Piece, equated, agent_with, room, uses}
 use Rattle.ic_arena.specs.Tables.{Replaced, Blocks, names_pieces}
 use Rattle.ic_machine.specs.declared.equation.Equation.{Equation}
 use Rattle.ic_machine.specs.Plan.{Made, Planned, Plans, constants, pieces_made}
-use Rattle.ic_machine.specs.Net.{equated_of}
+use Rattle.ic_machine.specs.Net.{equated_of, IsPairPiece}
 use Rattle.ic_machine.specs.Separate.{IsSeparate, is_constant_tag}
 use Rattle.ic_machine.specs.Runs.{Way}
 use Rattle.ic_machine.specs.Steps.{AreFresh, Fires, Steps, no_step}
@@ -84,10 +84,11 @@ pub fire_way : (q : Plans) (i a b : ℕ) (p : Planned) (front : List Equation) (
     → AreFresh (names ++ made) (names_pieces 0 ns ++ (heaps_pieces 0 h2 ++ (map equated_of front ++ rest)))
     → Steps q [] (pieces_made p (r2 ++ (names ++ made)) names made
     ++ (names_pieces 0 ns ++ (heaps_pieces 0 h2 ++ (map equated_of front ++ rest)))) end
+    → AllByRecursion IsPairPiece (names_pieces 0 ns ++ (heaps_pieces 0 h0 ++ (map equated_of (front ++ e ∷ []) ++ rest)))
     → Way q (i ∷ []) ((pieces_made p (r2 ++ (names ++ made)) names made
     ++ (names_pieces 0 ns ++ (heaps_pieces 0 h2 ++ (map equated_of front ++ rest)))) ∷ [])
     (names_pieces 0 ns ++ (heaps_pieces 0 h0 ++ (map equated_of (front ++ e ∷ []) ++ rest))) end
-fire_way q i a b p front e k m ns h0 h1 h2 r0 r1 r2 names made rest end l r la ra ka kb number first nc mc nt mt fresh links =
+fire_way q i a b p front e k m ns h0 h1 h2 r0 r1 r2 names made rest end l r la ra ka kb number first nc mc nt mt fresh links pairs =
     let others : List Piece = names_pieces 0 ns ++ (heaps_pieces 0 h2 ++ (map equated_of front ++ rest)) in
     let xs : List Piece = names_pieces 0 ns
     ++ (heaps_pieces 0 h0 ++ (map equated_of (front ++ e ∷ []) ++ rest)) in
@@ -138,7 +139,7 @@ fire_way q i a b p front e k m ns h0 h1 h2 r0 r1 r2 names made rest end l r la r
       result = subst (λ (z : List Word). IsPermutation mid (pieces_made p z names made ++ others)) filled
           (IsPermutation-refl mid);
     } in
-    (record { before = xs; steps = no_step xs xs (IsPermutation-refl xs); fires = fire }, links)
+    (record { before = xs; steps = no_step xs xs (IsPermutation-refl xs); pairs = pairs; fires = fire }, links)
 
 -- what is past the end of a list
 pub get_past : (xs : List ℕ) (s : ℕ) → length xs ≤ s → slice_get xs s ≡ None

@@ -17,3 +17,4 @@ pub mod Standing
 pub mod Taking
 pub mod Limits
 pub mod InUse
+pub mod PlaceLaws

@@ -19,7 +19,7 @@ use Rattle.ic_machine.specs.inner.Pairs.{HasNumber, HasPlan, CanFire, IsLast, Pa
 use Rattle.ic_machine.specs.inner.Tables.{IsNumbered}
 use Rattle.ic_machine.specs.lemmas.Balance.{equations_room}
 use Rattle.ic_machine.specs.lemmas.FiresKeep.{steps_keep}
-use Rattle.ic_machine.specs.lemmas.FiringKeeps.{all_append}
+use Rattle.ic_machine.specs.lemmas.FiringKeeps.{all_append, all_of}
 use Rattle.ic_machine.specs.lemmas.Orders.{to_front}
 use Rattle.ic_machine.specs.lemmas.RunsOn.{counted_none, way_from, way_to}
 use Rattle.ic_machine.specs.lemmas.Separation.{separate_in_order}
@@ -181,6 +181,13 @@ pub passed_pairs : (p : Plans) (ps us ps' us' : List Equation) → Passed p ps u
     → AllByRecursion IsPair ps → AllByRecursion IsPair ps'
 passed_pairs p ps us ps' us' h pairs =
     all_front IsPair ps' h.rest (subst (λ (l : List Equation). AllByRecursion IsPair l) h.before pairs)
+
+-- no side of an equation that is stuck is a name
+pub passed_aside : (p : Plans) (ps us ps' us' : List Equation) → Passed p ps us ps' us'
+    → AllByRecursion IsPair us → AllByRecursion IsPair us'
+passed_aside p ps us ps' us' h pairs =
+    subst (λ (l : List Equation). AllByRecursion IsPair l) (sym h.after)
+    (all_append IsPair us h.more pairs (all_of (IsStuck p) IsPair h.more (λ e stuck. (stuck.left, stuck.right)) h.stuck))
 
 -- nothing fires where equations are set aside
 pub passed_steps : (p : Plans) (ps us ps' us' : List Equation) (rest : List Piece) → Passed p ps us ps' us'

@@ -16,7 +16,7 @@ use Rattle.ic_machine.specs.inner.Machine.{IsSound}
 use Rattle.ic_machine.specs.inner.Pairs.{Passed}
 use Rattle.ic_machine.specs.inner.Tables.{HasSpare}
 use Rattle.ic_machine.proofs.Spare.{passed_spare}
-use Rattle.ic_machine.proofs.Running.{passed_pairs, passed_separate}
+use Rattle.ic_machine.proofs.Running.{passed_aside, passed_pairs, passed_separate}
 
 -- equations are set aside
 pub passed_sound : (p : Plans) (m n : Inside) → IsSound m
@@ -34,6 +34,7 @@ passed_sound p m n sound h interface tables counts interactions memory =
           n.tables.pending.items n.aside.items
           (names_pieces 0 m.tables.names.entries ++ heaps_pieces 0 m.tables.heaps.items) h sound.separate);
       pairs = passed_pairs p m.tables.pending.items m.aside.items n.tables.pending.items n.aside.items h sound.pairs;
+      aside = passed_aside p m.tables.pending.items m.aside.items n.tables.pending.items n.aside.items h sound.aside;
       names = rw names sound.names;
       symbols = rw heaps sound.symbols;
       registers = rw (heaps, registers) sound.registers;

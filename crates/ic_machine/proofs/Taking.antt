@@ -1,11 +1,11 @@
 -- What is taken out of places.
-use Rattle.std.proofs.Common.{◌≡◌, ℕ, zero, suc, ◌+◌, ◌*◌, ◌<◌, ◌≤◌, ◌==◌, List, [], ◌∷◌, ◌++◌, Bool, true, false, cond, Contains, slice_index_or, length, take, drop, reverse, refl, ap, sym, subst, ◌∙◌, arith, sum_by, zero-add}
+use Rattle.std.proofs.Common.{◌≡◌, ℕ, zero, suc, ◌+◌, ◌*◌, ◌<◌, ◌≤◌, ◌==◌, List, [], ◌∷◌, ◌++◌, Bool, true, false, cond, Contains, slice_index_or, length, map, take, drop, reverse, refl, ap, sym, subst, ◌∙◌, arith, sum_by, zero-add}
 use Rattle.std.specs.List.{AllByRecursion}
 use Rattle.std.specs.List.Sorted.{IsPermutation}
 use Rattle.std.proofs.Math.Seq.{take-append_seam, drop-append_seam}
 use Rattle.std.proofs.lemmas.Bool.{ne_eqb}
 use Rattle.std.proofs.lemmas.List.{length-append}
-use Rattle.std.proofs.lemmas.List.Sums.{sum_by-append}
+use Rattle.std.proofs.lemmas.List.Sums.{sum_by-append, sum_by-cons}
 use Rattle.ic_arena.specs.declared.word.Word.{Word}
 use Rattle.ic_arena.specs.declared.word.TheConstants.{FREE, IDLE}
 use Rattle.ic_arena.specs.Word.{name_word, agent_word, word_eq}
@@ -125,13 +125,36 @@ blocks_kept (h ∷ hs) (g ∷ gs) e same sound =
       blocks_kept hs gs (omega arith) (λ s. same (suc s)) sound.1,
     )
 
+-- tables of the same sizes have as many places
+pub counts_kept : (hs gs : List Blocks) → length gs ≡ length hs
+    → ((s : ℕ) → SameSize (table hs s) (table gs s)) → map {B = ℕ} (λ b. b.count) gs ≡ map (λ b. b.count) hs
+counts_kept [] [] e same = refl
+counts_kept [] (g ∷ gs) e same = absurd (omega arith)
+counts_kept (h ∷ hs) [] e same = absurd (omega arith)
+counts_kept (h ∷ hs) (g ∷ gs) e same =
+    let first : g.count ≡ h.count = (same 0).count in
+    let later = counts_kept hs gs (omega arith) (λ s. same (suc s)) in
+    (λ i. first i ∷ later i)
+
+pub sums_kept : (hs gs : List Blocks) → length gs ≡ length hs
+    → ((s : ℕ) → SameSize (table hs s) (table gs s)) → sum_by (λ b. b.count) gs ≡ sum_by (λ b. b.count) hs
+sums_kept [] [] e same = refl
+sums_kept [] (g ∷ gs) e same = absurd (omega arith)
+sums_kept (h ∷ hs) [] e same = absurd (omega arith)
+sums_kept (h ∷ hs) (g ∷ gs) e same =
+    let first : g.count ≡ h.count = (same 0).count in
+    let later = sums_kept hs gs (omega arith) (λ s. same (suc s)) in
+    let a = sum_by-cons (λ (b : Blocks). b.count) g gs in
+    let b = sum_by-cons (λ (b : Blocks). b.count) h hs in
+    omega arith
+
 -- the arguments of an agent, taken out and turned round
 pub arguments_taken : (ws : List Word) (hs gs : List Blocks) (w : Word) (k : ℕ) (before mid after : List Word)
     → Taken w k (heaps_pieces 0 hs) (heaps_pieces 0 gs) before mid → 1 ≤ k
     → after ≡ take (length before) mid ++ reverse (drop (length before) mid)
     → ArgumentsTaken w
-    (record { arities = arities_of hs; pieces = names_pieces 0 ws ++ heaps_pieces 0 hs })
-    (record { arities = arities_of gs; pieces = names_pieces 0 ws ++ heaps_pieces 0 gs }) before after
+    (record { arities = arities_of hs; pieces = names_pieces 0 ws ++ heaps_pieces 0 hs; names = length ws; agents = map (λ b. b.count) hs })
+    (record { arities = arities_of gs; pieces = names_pieces 0 ws ++ heaps_pieces 0 gs; names = length ws; agents = map (λ b. b.count) gs }) before after
 arguments_taken ws hs gs w k before mid after t some turned =
     let count : length t.args ≡ k = t.count in
     let one : agent_with w t.args ≡ agent_of w t.args ∷ [] = with_some t.args (omega arith) in

@@ -4,10 +4,18 @@ use Rattle.ic_arena.specs.declared.word.Word.{Word}
 use Rattle.ic_arena.specs.declared.word.TheConstants.{NAME}
 use Rattle.ic_arena.specs.Piece.{Piece, equated, idle, waits, agent_of}
 
--- the arities of the symbols, and what each place holds
+-- The arities of the symbols, and what each place holds; how many names there are, and places for agents of each symbol, the
+-- free ones too.
 pub record Held : Type 0 where
   pub arities : List ℕ
   pub pieces : List Piece
+  pub names : ℕ
+  pub agents : List ℕ
+
+-- there are as many names, and as many places for agents of each symbol
+pub record HasAsMany (old new : Held) : Type 0 where
+  pub names : new.names ≡ old.names
+  pub agents : new.agents ≡ old.agents
 
 -- the tag is that of an agent with so many arguments, at least one, as is the arity of its symbol
 pub record IsTagOf (arities : List ℕ) (tag arguments : ℕ) : Type 0 where

@@ -31,6 +31,13 @@ pieces n = map equated_of n.pending ++ (map equated_of n.aside ++ n.places)
 abbrev pub IsPair : Equation → Type 0
 IsPair e = (¬ (e.left.tag ≡ NAME)) × (¬ (e.right.tag ≡ NAME))
 
+-- the same of an equation among pieces
+abbrev pub IsPairPiece : Piece → Type 0
+IsPairPiece (equated l r) = IsPair (record { left = l; right = r })
+IsPairPiece (idle x) = Unit {0}
+IsPairPiece (waits x u) = Unit {0}
+IsPairPiece (agent_of a ws) = Unit {0}
+
 -- No step of this equation is possible: neither side is a name, and their symbols, if both are known, have no plan.
 pub record IsStuck (p : Plans) (e : Equation) : Type 0 where
   pub left : ¬ (e.left.tag ≡ NAME)

@@ -7,7 +7,7 @@ use Rattle.ic_arena.specs.Piece.{Piece}
 use Rattle.ic_arena.specs.Tables.{register}
 use Rattle.ic_machine.specs.declared.equation.Equation.{Equation}
 use Rattle.ic_machine.specs.Plan.{Planned, Plans, IsPlan, allowance, constants, operands_of, pieces_made}
-use Rattle.ic_machine.specs.Net.{Net, in_use, pieces, places_of, IsStuck}
+use Rattle.ic_machine.specs.Net.{Net, in_use, pieces, places_of, IsPairPiece, IsStuck}
 use Rattle.ic_machine.specs.Steps.{AreFresh, Fires, Steps}
 
 -- the words of so many given names
@@ -54,10 +54,11 @@ pub record Counted (fired old new : List ℕ) : Type 0 where
   pub each : (i : ℕ) → i < length old
       → slice_index_or new i 0 ≡ slice_index_or old i 0 + count_by (λ j. j == i) fired
 
--- A pair fires by this plan, after steps that fire nothing.
+-- A pair fires by this plan, after steps that fire nothing. By then no equation is left of which a side is a name of the net.
 pub record FiresNext (p : Plans) (fired : ℕ) (xs ys : List Piece) : Type 0 where
   pub before : List Piece
   pub steps : Steps p [] xs before
+  pub pairs : AllByRecursion IsPairPiece before
   pub fires : Fires p fired before ys
 
 -- Pairs fire by these plans, one after another. These are the pieces as each of them has fired, before they are linked.

@@ -1,9 +1,11 @@
 //! Laws of steps.
 
-ghost use Rattle.std.specs.Prelude.{ℕ, List};
+ghost use Rattle.std.specs.Prelude.{◌≡◌, ◌⊎◌, ◌≤◌, ℕ, List, Contains};
 ghost use Rattle.ic_arena.specs.declared.word.Word.{Word};
 ghost use Rattle.ic_arena.specs.Piece.{Piece};
-ghost use Rattle.ic_machine.specs.Plan.{Plans, ArePlans};
+ghost use Rattle.ic_machine.specs.Net.{Net, in_use, pieces, places_of};
+ghost use Rattle.ic_machine.specs.Plan.{Planned, Plans, ArePlans};
+ghost use Rattle.ic_machine.specs.Runs.{Ran, Starts};
 ghost use Rattle.ic_machine.specs.Separate.{IsSeparate};
 ghost use Rattle.ic_machine.specs.Steps.{Steps};
 
@@ -12,4 +14,22 @@ pub fn steps_keep_places_apart()
     ensures { (p : Plans) (fired : List ℕ) (interface : List Word) (xs ys : List Piece)
         → ArePlans p → Steps p fired xs ys
         → IsSeparate p.arities interface xs → IsSeparate p.arities interface ys }
+{}
+
+/// Of each kind a machine has as many places as were in use as it began, or at some moment later, as a pair had fired: no
+/// fewer, and no more.
+pub fn places_are_those_that_were_in_use()
+    ensures begun { (p : Plans) (given : ℕ) (plan : Planned) (operands : List ℕ) (n : Net)
+        (kind : ℕ) → Starts p given plan operands n → in_use kind (pieces n) ≤ places_of kind n }
+    ensures still { (p : Plans) (old new : Net) (kind : ℕ) → Ran p old new
+        → in_use kind (pieces old) ≤ places_of kind old
+        → in_use kind (pieces new) ≤ places_of kind new }
+    ensures enough { (p : Plans) (old new : Net) (kind : ℕ) (run : Ran p old new)
+        (moment : List Piece) → Contains run.moments moment
+        → in_use kind moment ≤ places_of kind new }
+    ensures kept { (p : Plans) (old new : Net) (kind : ℕ) → Ran p old new
+        → places_of kind old ≤ places_of kind new }
+    ensures no_more { (p : Plans) (old new : Net) (kind : ℕ) (run : Ran p old new)
+        → (places_of kind new ≡ places_of kind old) ⊎ ((moment : List Piece)
+        × Contains run.moments moment × (in_use kind moment ≡ places_of kind new)) }
 {}

@@ -251,6 +251,8 @@ impl Machine {
         ensures aside { result.aside.items ≡ self.aside }
         ensures arities { result.places.arities ≡ self.arities }
         ensures pieces { result.places.pieces ≡ self.places }
+        ensures names { result.places.names ≡ self.names }
+        ensures agents { result.places.agents ≡ self.agents }
         ensures counts { result.counts.items ≡ self.counts }
     {
         let tables = self.tables;

@@ -1,13 +1,13 @@
 //! The places of a net, from which its pieces are taken.
 
-ghost use Rattle.std.specs.Prelude.{◌≡◌, ℕ, ◌+◌, ◌^◌, ◌<◌, ◌≤◌, List, ◌∷◌, ◌++◌, true, false, Ok, Contains, IsPermutation, length, slice_get, sum_by, take, drop, reverse, vec_len, OnErr, IfSome, IfNone};
+ghost use Rattle.std.specs.Prelude.{◌≡◌, ℕ, ◌+◌, ◌^◌, ◌<◌, ◌≤◌, List, ◌∷◌, ◌++◌, true, false, Ok, Contains, IsPermutation, length, map, slice_get, slice_index_or, sum, sum_by, take, drop, reverse, vec_len, OnErr, IfSome, IfNone};
 ghost use Rattle.std.specs.List.{AllByRecursion};
 ghost use Rattle.ic_arena.specs.declared.word.Word.{Word as AnyWord};
 ghost use Rattle.ic_arena.specs.declared.word.TheConstants.{GIVEN};
 ghost use Rattle.ic_arena.specs.Word.{name_word};
 ghost use Rattle.ic_arena.specs.Piece.{agent_of, room, waits};
 ghost use Rattle.ic_arena.specs.Tables.{AreBlocks, names_pieces};
-ghost use Rattle.ic_machine.specs.Held.{IsHeld, ArgumentsTaken};
+ghost use Rattle.ic_machine.specs.Held.{IsHeld, HasAsMany, ArgumentsTaken};
 ghost use Rattle.ic_machine.specs.inner.Firing.{heaps_pieces, arities_of};
 
 use crate::equation::Equation;
@@ -60,6 +60,8 @@ impl Places {
         ensures arities { result.arities ≡ arities_of heaps.items }
         ensures pieces { result.pieces
             ≡ names_pieces 0 names.entries ++ heaps_pieces 0 heaps.items }
+        ensures names { result.names ≡ length names.entries }
+        ensures agents { result.agents ≡ map (λ b. b.count) heaps.items }
     {
         let count = count_places(&names, &heaps);
         Places {
@@ -71,14 +73,16 @@ impl Places {
 
     /// How many places there are, the free ones too.
     pub fn count(&self) -> u64
-        ensures { length self.now.pieces ≤ result }
+        ensures count { result ≡ self.now.names + sum self.now.agents }
+        ensures pieces { length self.now.pieces ≤ result }
     {
         self.count
     }
 
     /// How many names there are, the free ones too. A word waits for none but these.
     pub fn names(&self) -> u32
-        ensures { (name word : AnyWord) → Contains self.now.pieces (waits name word)
+        ensures count { result ≡ self.now.names }
+        ensures waiting { (name word : AnyWord) → Contains self.now.pieces (waits name word)
             → (i : ℕ) × (i < result) × (name ≡ name_word i) }
     {
         self.names.len() as u32
@@ -104,7 +108,8 @@ impl Places {
 
     /// How many places there are for agents of a symbol, the free ones too. Where the symbol isn't known, there are none.
     pub fn agents(&self, symbol: u32) -> u32
-        ensures { (agent : AnyWord) (arguments : List AnyWord) → agent.tag ≡ symbol + 1
+        ensures count { result ≡ slice_index_or self.now.agents symbol 0 }
+        ensures held { (agent : AnyWord) (arguments : List AnyWord) → agent.tag ≡ symbol + 1
             → Contains self.now.pieces (agent_of agent arguments) → agent.index < result }
     {
         match self.heaps.get(symbol as usize) {
@@ -122,6 +127,7 @@ impl Places {
             → ¬ Contains self.old.pieces (waits (name_word name) w)) }
         ensures same { IfNone result (self.new ≡ self.old) }
         ensures arities { self.new.arities ≡ self.old.arities }
+        ensures size { HasAsMany self.old self.new }
     {
         if self.names.len() <= name as usize {
             return None;
@@ -146,6 +152,7 @@ impl Places {
         ensures err { OnErr result
             ((self.new ≡ self.old) × (stack.new.items ≡ stack.old.items)) }
         ensures arities { self.new.arities ≡ self.old.arities }
+        ensures size { HasAsMany self.old self.new }
     {
         if !self.has(agent) {
             return Ok(false);

@@ -198,6 +198,7 @@ impl Tables {
             → pair.left.tag ≡ left + 1 → pair.right.tag ≡ right + 1
             → p.arities ≡ arities_of self.old.heaps.items
             → IsNumbered p i left right (planned plan.now)
+            → AllByRecursion IsPair self.old.pending.items → AllByRecursion IsPair rest
             → FiresBy p i self.old self.new rest) }
         ensures pairs { AllByRecursion IsPair self.old.pending.items
             → AllByRecursion IsPair self.new.pending.items }

@@ -1,10 +1,11 @@
 -- Lemmas: the plan of addition.
-use Rattle.std.proofs.Common.{◌≡◌, ℕ, zero, suc, ◌+◌, ◌≤◌, ◌<◌, ◌==◌, refl, arith, inl, inr}
+use Rattle.std.proofs.Common.{◌≡◌, ℕ, zero, suc, ◌+◌, ◌≤◌, ◌<◌, ◌==◌, refl, ap, slice_index_or, arith, inl, inr}
 use Rattle.std.proofs.lemmas.List.Sorted.{IsPermutation-refl}
-use Rattle.std.specs.Prelude.{count_by}
+use Rattle.std.specs.Prelude.{Contains, count_by}
+use Rattle.ic_term.specs.Tree.{Tree, name, agent}
 use Rattle.ic_machine.specs.Plan.{operands_of}
 use Rattle.ic_meaning.specs.Example.{addition_arities, addition_rule, addition_plan}
-use Rattle.ic_meaning.specs.Plans.{StandsFor, HasRegister, arguments_of, equations_made}
+use Rattle.ic_meaning.specs.Plans.{StandsFor, HasRegister, arguments_of, equations_made, rule_arguments}
 
 -- y is read from the register of the argument that it is, and r from that of the fresh name
 abbrev place : ℕ → ℕ
@@ -27,8 +28,18 @@ used_at zero low = refl
 used_at (suc zero) low = refl
 used_at (suc (suc k)) low = absurd (omega arith)
 
-fresh_at : (k : ℕ) → k < 1 → (x : ℕ) × (x < 2) × (place x ≡ 5 + k)
-fresh_at zero low = (1, (let h : 1 < 2 = omega arith in h), refl)
+abbrev number_in : Tree → ℕ
+number_in (name x) = x
+number_in (agent s ts) = 0
+
+no_argument : (i : ℕ) → i < 3 → slice_index_or (rule_arguments addition_rule) i (name 1) ≡ name 1 → ⊥
+no_argument zero low is = cc
+no_argument (suc zero) low is = let same : 0 ≡ 1 = ap number_in is in absurd (omega (arith, same))
+no_argument (suc (suc zero)) low is = cc
+no_argument (suc (suc (suc i))) low is = absurd (omega arith)
+
+fresh_at : (k : ℕ) → k < 1 → (x : ℕ) × (x < 2) × (place x ≡ 5 + k) × ¬ Contains (rule_arguments addition_rule) (name x)
+fresh_at zero low = (1, (let h : 1 < 2 = omega arith in h), refl, (λ there. no_argument there.0 there.1 there.2))
 fresh_at (suc k) low = absurd (omega arith)
 
 pub addition_stands : StandsFor addition_arities addition_rule addition_plan

@@ -1,5 +1,5 @@
 -- When a plan stands for a rule, and when for a configuration.
-use Rattle.std.specs.Prelude.{◌≡◌, ◌⊎◌, ℕ, ◌+◌, ◌-◌, ◌<◌, ◌≤◌, ◌==◌, List, [], ◌∷◌, ◌++◌, Bool, true, false, not, Option, None, Some, length, map, slice_get, slice_index_or, count_by, if◌then◌else◌, nat_lt, IsPermutation}
+use Rattle.std.specs.Prelude.{◌≡◌, ◌⊎◌, ℕ, ◌+◌, ◌-◌, ◌<◌, ◌≤◌, ◌==◌, List, [], ◌∷◌, ◌++◌, Bool, true, false, not, Option, None, Some, Contains, length, map, slice_get, slice_index_or, count_by, if◌then◌else◌, nat_lt, IsPermutation}
 use Rattle.std.specs.List.{filter, AllByRecursion}
 use Rattle.ic_term.specs.Tree.{Tree, name, agent, Trees, no_trees, more_trees, trees_of, Pair}
 use Rattle.ic_term.specs.Configuration.{Configuration, configuration_names, occurrences}
@@ -84,7 +84,7 @@ HasRegister arguments registers fresh count x =
     ≡ Some (record { register = registers x; term = name x })))
 
 -- A plan stands for a rule, for symbols with these arities. Each name of the rule is read from a register, each fresh name
--- is read as one, and each agent that is made is used once. And whatever the registers hold, the equations of the plan are
+-- is read as one that is no argument by itself, and each agent that is made is used once. And whatever the registers hold, the equations of the plan are
 -- those of the arguments with the rule's, except for a name against itself.
 pub record StandsFor (arities : List ℕ) (r : Rule) (p : Planned) : Type 0 where
   pub registers : ℕ → ℕ
@@ -94,6 +94,7 @@ pub record StandsFor (arities : List ℕ) (r : Rule) (p : Planned) : Type 0 wher
   pub apart : (x y : ℕ) → x < r.names → y < r.names → registers x ≡ registers y → x ≡ y
   pub fresh : (k : ℕ) → k < p.names
       → (x : ℕ) × (x < r.names) × (registers x ≡ length arities + length (rule_arguments r) + k)
+      × ¬ Contains (rule_arguments r) (name x)
   pub used : (k : ℕ) → k < length p.made
       → count_by (λ m. m == first_made arities (length (rule_arguments r)) p + k) (operands_of p) ≡ 1
   pub equations : (held : ℕ → Tree) → HoldConstants (length arities) held

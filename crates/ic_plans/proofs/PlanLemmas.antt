@@ -1,6 +1,6 @@
 -- A plan of a rule: it is one for the arguments, and stands for the rule.
 use Rattle.std.proofs.Common.{◌≡◌, ◌⊎◌, ℕ, zero, suc, ◌+◌, ◌*◌, ◌≤◌, ◌<◌, ◌==◌, List, [], ◌∷◌, Bool, true, false, cond, Option, None, Some, length, map, slice_get, nat_lt, sum_by, count_by, true≢false, refl, sym, ap, subst, ◌∙◌, arith, inl, inr}
-use Rattle.std.specs.Prelude.{unwrap_or, IsSome, IsPermutation}
+use Rattle.std.specs.Prelude.{Contains, unwrap_or, IsSome, IsPermutation}
 use Rattle.std.proofs.lemmas.Option.{none-some}
 use Rattle.std.proofs.lemmas.Bool.{false≢true, and_parts, ltb-true, ltb-false, lt-ltb, le-ltb}
 use Rattle.std.proofs.lemmas.List.Sorted.{IsPermutation-refl}
@@ -26,7 +26,7 @@ use Rattle.ic_meaning.specs.Plans.{Argument, arguments_from, arguments_of, rule_
 use Rattle.ic_plans.specs.inner.Registers.{Registers, found, register_of, AreFreshNames, AreRegisters, links_of, IsPlanFor}
 use Rattle.ic_plans.specs.inner.Flattening.{IsRead, times_read, times_made, made_operands, AreFlat, WouldBeFlat}
 use Rattle.ic_plans.proofs.FlatLemmas.{count-append, times-below, times-within, times-above, held_below}
-use Rattle.ic_plans.proofs.RegisterLemmas.{arguments-at}
+use Rattle.ic_plans.proofs.RegisterLemmas.{argument_there, arguments-at, some_same}
 use Rattle.ic_plans.proofs.RuleLemmas.{head_or, tail_of, AreOwn, is_agent, held_agent, links_matched, links-count, own-none, own-there, read-cases, times_own}
 
 -- the register of a name that has one
@@ -116,6 +116,7 @@ pub none_yet : (start : ℕ) (registers : Registers) → ((x : ℕ) → found re
 none_yet start registers none = record {
   read = λ x r there. absurd (none-some r (sym (none x) ∙ there));
   apart = λ x y r there other. absurd (none-some r (sym (none x) ∙ there));
+  own = λ i s x there. absurd (none-some (record { register = s; term = name x }) there);
 }
 
 -- ---- words that can be read
@@ -283,6 +284,13 @@ module _ (arities : List ℕ) (r : Rule) (map_of : Registers) (fresh : ℕ) (ws 
             let one : allowance start fresh j ≡ 1 = (λ i. cond (p i) 1 (cond (q i) 2 1)) in
             omega arith
 
+    -- a fresh name is no argument by itself
+    not_alone : (k x : ℕ) → k < fresh → found map_of x ≡ Some (start + k) → ¬ Contains (rule_arguments r) (name x)
+    not_alone k x low is there =
+        let it = regs.own there.0 (count + there.0) x (argument_there count (rule_arguments r) there.0 (name x) there.1 there.2) in
+        let same : it.0 ≡ start + k = some_same it.0 (start + k) (sym it.1 ∙ is) in
+        it.2 ((let h : start ≤ it.0 = omega arith in h), (let h : it.0 < start + fresh = omega arith in h))
+
     links_within : AllByRecursion (λ k. k < first + length made) (flat_map link_operands links)
     links_within = links-all (λ k. k < first + length made) registers count (rule_arguments r) operands (λ j high low. omega arith) flat.within
 
@@ -301,7 +309,7 @@ module _ (arities : List ℕ) (r : Rule) (map_of : Registers) (fresh : ℕ) (ws 
       read = read;
       apart = apart;
       fresh = λ k low. let it = fresh_names k low in
-          (it.0, it.1, ap (λ o. unwrap_or o 0) it.2);
+          (it.0, it.1, ap (λ o. unwrap_or o 0) it.2, (λ there. not_alone k it.0 low it.2 there));
       used = λ k low. made_once (first + k) (omega arith) ∙ times-within first (length made) (first + k) (omega arith) (omega arith);
       equations = λ held holds.
           let same = links_matched registers held (held_made first made held) (λ x. held (registers x)) first count (rule_arguments r) operands (omega arith)

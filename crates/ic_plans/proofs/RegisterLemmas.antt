@@ -1,10 +1,10 @@
 -- The registers of names: a name more, and what each name is read from.
-use Rattle.std.proofs.Common.{◌≡◌, ◌⊎◌, ℕ, zero, suc, ◌+◌, ◌≤◌, ◌<◌, ◌==◌, List, [], ◌∷◌, ◌++◌, Bool, true, false, cond, Some, length, slice_get, refl, sym, ap, subst, ◌∙◌, arith, inl, inr}
-use Rattle.std.specs.Prelude.{unwrap_or}
+use Rattle.std.proofs.Common.{◌≡◌, ◌⊎◌, ℕ, zero, suc, ◌+◌, ◌≤◌, ◌<◌, ◌==◌, List, [], ◌∷◌, ◌++◌, Bool, true, false, cond, Option, None, Some, length, slice_get, slice_index_or, true≢false, refl, sym, ap, subst, ◌∙◌, arith, inl, inr}
+use Rattle.std.specs.Prelude.{unwrap_or, is_some}
 use Rattle.std.proofs.lemmas.Option.{none-some}
 use Rattle.std.specs.Cmp.{unsigned_Decides}
 use Rattle.std.specs.List.{AllByRecursion}
-use Rattle.ic_term.specs.Tree.{Tree, name}
+use Rattle.ic_term.specs.Tree.{Tree, name, agent}
 use Rattle.ic_meaning.specs.Plans.{Argument, arguments_from}
 use Rattle.ic_plans.specs.inner.Registers.{Registers, found, AreRegisters}
 
@@ -27,7 +27,34 @@ pub there_last : {X : Type 0} (xs : List X) (x : X) → slice_get (xs ++ x ∷ [
 there_last [] x = refl
 there_last (y ∷ xs) x = there_last xs x
 
+pub there_either : {X : Type 0} (xs : List X) (a b : X) (i : ℕ) → slice_get (xs ++ a ∷ []) i ≡ Some b → (slice_get xs i ≡ Some b) ⊎ (a ≡ b)
+there_either [] a b zero there = inr (some_same a b there)
+there_either [] a b (suc i) there = absurd (none-some b there)
+there_either (x ∷ xs) a b zero there = inl there
+there_either (x ∷ xs) a b (suc i) there = there_either xs a b i there
+
+pub some_there : (o : Option ℕ) → is_some o ≡ true → (s : ℕ) × (o ≡ Some s)
+some_there None some = absurd (true≢false (sym some))
+some_there (Some s) some = (s, refl)
+
+pub none_there : (o : Option ℕ) → is_some o ≡ false → o ≡ None
+none_there None none = refl
+none_there (Some s) none = absurd (true≢false none)
+
 -- ---- arguments
+
+-- the name that a term is, or 0
+abbrev pub number_in : Tree → ℕ
+number_in (name x) = x
+number_in (agent s ts) = 0
+
+pub argument_there : (k : ℕ) (ts : List Tree) (i : ℕ) (t : Tree) → i < length ts → slice_index_or ts i t ≡ t
+    → slice_get (arguments_from k ts) i ≡ Some (record { register = k + i; term = t })
+argument_there k [] i t low is = absurd (omega arith)
+argument_there k (u ∷ ts) zero t low is = let same : k ≡ k + 0 = omega arith in (λ j. Some (record { register = same j; term = is j }))
+argument_there k (u ∷ ts) (suc i) t low is =
+    let same : (k + 1) + i ≡ k + suc i = omega arith in
+    argument_there (k + 1) ts i t (omega arith) is ∙ ap (λ j. Some (record { register = j; term = t })) same
 
 pub arguments-more : (k : ℕ) (ts : List Tree) (t : Tree)
     → arguments_from k (ts ++ t ∷ []) ≡ arguments_from k ts ++ record { register = k + length ts; term = t } ∷ []
@@ -70,12 +97,18 @@ module _ (arguments : List Argument) (start fresh : ℕ) (old new : Registers) (
       at (inr p) (inr q) = regs.apart y z s p q
 
 pub argument-kept : (arguments : List Argument) (start : ℕ) (a : Argument) (registers : Registers) → AreRegisters arguments start 0 registers
-    → AreRegisters (arguments ++ a ∷ []) start 0 registers
-argument-kept arguments start a registers regs = record {
+    → ((x : ℕ) → a.term ≡ name x → (r : ℕ) × (found registers x ≡ Some r)) → AreRegisters (arguments ++ a ∷ []) start 0 registers
+argument-kept arguments start a registers regs has = record {
   read = λ x r there. at x r (regs.read x r there);
   apart = regs.apart;
+  own = λ i s x there. own_at i s x (there_either arguments a (record { register = s; term = name x }) i there);
 }
   where
+    own_at : (i s x : ℕ) → (slice_get arguments i ≡ Some (record { register = s; term = name x })) ⊎ (a ≡ record { register = s; term = name x })
+        → (r : ℕ) × (found registers x ≡ Some r) × ¬ ((start ≤ r) × (r < start + 0))
+    own_at i s x (inl p) = regs.own i s x p
+    own_at i s x (inr e) = let r = has x (ap (λ (b : Argument). b.term) e) in (r.0, r.1, (λ h. omega (arith, h.0, h.1)))
+
     at : (x r : ℕ) → ((start ≤ r) × (r < start + 0)) ⊎ ((i : ℕ) × (slice_get arguments i ≡ Some (record { register = r; term = name x })))
         → ((start ≤ r) × (r < start + 0)) ⊎ ((i : ℕ) × (slice_get (arguments ++ a ∷ []) i ≡ Some (record { register = r; term = name x })))
     at x r (inl p) = inl p
@@ -100,6 +133,7 @@ pub argument-added : (arguments : List Argument) (start : ℕ) (old new : Regist
 argument-added arguments start old new x own updated below regs = record {
   read = λ y s there. at y s (which arguments start 0 old new x own updated regs other y s there);
   apart = new_apart arguments start 0 old new x own updated regs other;
+  own = λ i s y there. own_at i s y (there_either arguments mine (record { register = s; term = name y }) i there);
 }
   where
     mine : Argument
@@ -108,22 +142,39 @@ argument-added arguments start old new x own updated below regs = record {
     other : (y : ℕ) → found old y ≡ Some own → ⊥
     other = unread arguments start 0 old own regs below (λ a b. omega arith)
 
-    kept : AreRegisters (arguments ++ mine ∷ []) start 0 old
-    kept = argument-kept arguments start mine old regs
+    longer : (y s : ℕ) → ((start ≤ s) × (s < start + 0)) ⊎ ((i : ℕ) × (slice_get arguments i ≡ Some (record { register = s; term = name y })))
+        → ((start ≤ s) × (s < start + 0)) ⊎ ((i : ℕ) × (slice_get (arguments ++ mine ∷ []) i ≡ Some (record { register = s; term = name y })))
+    longer y s (inl p) = inl p
+    longer y s (inr q) = inr (q.0, there_front arguments (mine ∷ []) q.0 (record { register = s; term = name y }) q.1)
 
     at : (y s : ℕ) → ((x ≡ y) × (own ≡ s)) ⊎ (found old y ≡ Some s)
         → ((start ≤ s) × (s < start + 0)) ⊎ ((i : ℕ) × (slice_get (arguments ++ mine ∷ []) i ≡ Some (record { register = s; term = name y })))
     at y s (inl p) = inr (length arguments, there_last arguments mine ∙ (λ i. Some (record { register = p.1 i; term = name (p.0 i) })))
-    at y s (inr q) = kept.read y s q
+    at y s (inr q) = longer y s (regs.read y s q)
+
+    own_is : (y : ℕ) → (x == y) ≡ true → (r : ℕ) × (found new y ≡ Some r) × ¬ ((start ≤ r) × (r < start + 0))
+    own_is y e = (own, updated y ∙ ap (λ b. cond b (Some own) (found old y)) e, (λ h. omega (arith, h.0, h.1)))
+
+    own_at : (i s y : ℕ) → (slice_get arguments i ≡ Some (record { register = s; term = name y })) ⊎ (mine ≡ record { register = s; term = name y })
+        → (r : ℕ) × (found new y ≡ Some r) × ¬ ((start ≤ r) × (r < start + 0))
+    own_at i s y (inr e) = own_is y ((unsigned_Decides x y).1 (ap (λ (b : Argument). number_in b.term) e))
+    own_at i s y (inl p) = by (x == y) refl
+      where
+        by : (b : Bool) → (x == y) ≡ b → (r : ℕ) × (found new y ≡ Some r) × ¬ ((start ≤ r) × (r < start + 0))
+        by true e = own_is y e
+        by false e =
+            let it = regs.own i s y p in
+            (it.0, updated y ∙ ap (λ b. cond b (Some own) (found old y)) e ∙ it.1, it.2)
 
 -- a fresh one
 pub fresh-added : (arguments : List Argument) (start fresh : ℕ) (old new : Registers) (x : ℕ)
     → ((q : ℕ) → found new q ≡ cond (x == q) (Some (start + fresh)) (found old q))
-    → AllByRecursion (λ a. a.register < start) arguments → AreRegisters arguments start fresh old
+    → found old x ≡ None → AllByRecursion (λ a. a.register < start) arguments → AreRegisters arguments start fresh old
     → AreRegisters arguments start (fresh + 1) new
-fresh-added arguments start fresh old new x updated below regs = record {
+fresh-added arguments start fresh old new x updated none below regs = record {
   read = λ y s there. at y s (which arguments start fresh old new x (start + fresh) updated regs other y s there);
   apart = new_apart arguments start fresh old new x (start + fresh) updated regs other;
+  own = λ i s y there. own_at i s y there (x == y) refl;
 }
   where
     lower : (xs : List Argument) → AllByRecursion (λ a. a.register < start) xs → AllByRecursion (λ a. a.register < start + fresh) xs
@@ -132,6 +183,21 @@ fresh-added arguments start fresh old new x updated below regs = record {
 
     other : (y : ℕ) → found old y ≡ Some (start + fresh) → ⊥
     other = unread arguments start fresh old (start + fresh) regs (lower arguments below) (λ a b. omega arith)
+
+    less : (r s f : ℕ) → r < s + (f + 1) → (r ≡ s + f → ⊥) → r < s + f
+    less r s f low other = omega arith
+
+    own_at : (i s y : ℕ) → slice_get arguments i ≡ Some (record { register = s; term = name y }) → (b : Bool) → (x == y) ≡ b
+        → (r : ℕ) × (found new y ≡ Some r) × ¬ ((start ≤ r) × (r < start + (fresh + 1)))
+    own_at i s y there true e =
+        let it = regs.own i s y there in
+        absurd (none-some it.0 (sym none ∙ ap (found old) ((unsigned_Decides x y).0 e) ∙ it.1))
+    own_at i s y there false e =
+        let it = regs.own i s y there in (
+          it.0,
+          updated y ∙ ap (λ b. cond b (Some (start + fresh)) (found old y)) e ∙ it.1,
+          (λ h. it.2 (h.0, less it.0 start fresh h.1 (λ same. other y (it.1 ∙ ap Some same)))),
+        )
 
     wider : (y s : ℕ) → ((start ≤ s) × (s < start + fresh)) ⊎ ((i : ℕ) × (slice_get arguments i ≡ Some (record { register = s; term = name y })))
         → ((start ≤ s) × (s < start + (fresh + 1))) ⊎ ((i : ℕ) × (slice_get arguments i ≡ Some (record { register = s; term = name y })))

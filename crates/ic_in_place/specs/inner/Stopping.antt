@@ -19,7 +19,7 @@ use Rattle.ic_in_place.specs.declared.running.End.{End}
 use Rattle.ic_in_place.specs.Counting.{AreCounts}
 use Rattle.ic_in_place.specs.Holding.{AreCompiled, Holds}
 use Rattle.ic_in_place.specs.declared.running.End.TheVariants.{Quiet, Steps, Nodes, Limit, Memory}
-use Rattle.ic_in_place.specs.Running.{IsWatched}
+use Rattle.ic_in_place.specs.Running.{IsFullNext, IsWatched}
 
 -- how many arguments each symbol has
 abbrev pub arities_of : SystemParts → List ℕ
@@ -48,8 +48,9 @@ abbrev pub StopsBy : Bounds → Plans → Net → ℕ → End → Type 0
 StopsBy bounds p m places Quiet = m.pending ≡ []
 StopsBy bounds p m places Steps = (m.interactions ≡ bounds.steps) × HasNext p m.pending
 StopsBy bounds p m places Nodes =
-    (bounds.nodes < places) × ((looks : ℕ) × (m.interactions ≡ suc looks * PIECE)) × HasNext p m.pending
-StopsBy bounds p m places Limit = Unit {0}
+    (bounds.nodes < places) × (m.interactions < bounds.steps)
+    × ((looks : ℕ) × (m.interactions ≡ suc looks * PIECE)) × HasNext p m.pending
+StopsBy bounds p m places Limit = IsFullNext p m
 StopsBy bounds p m places Memory = Unit {0}
 
 -- A machine began with the configuration of a system, whose names that occur once are given, and has stopped.
@@ -69,7 +70,7 @@ pub record HasStopped (s : SystemParts) (bounds : Bounds) (given by_rule : List 
   pub none : first.interactions ≡ 0
   pub watched : IsWatched plans bounds.nodes first m
   pub fired : List ℕ
-  pub by_plans : fired ≡ map (rule_number rule_numbers) (watched.before.fired ++ watched.after.fired)
+  pub by_plans : fired ≡ map (rule_number rule_numbers) (watched.before ++ watched.after.fired)
   pub held : Holds s.rules plans s.config given fired m
   pub begun : Holds s.rules plans s.config given [] first
   pub counted : m.interactions ≡ length fired

@@ -23,11 +23,12 @@ net_of m = record {
   counts = m.counts.items;
 }
 
--- The net is separate, and no side of a pending pair is a name. There are numbers for all names and symbols, the first
+-- The net is separate, and no side of a pair that is pending or set aside is a name. There are numbers for all names and symbols, the first
 -- registers hold the agents without arguments, what is spare is there, and no plan has fired more often than all.
 pub record IsSound (m : Inside) : Type 0 where
   pub separate : IsSeparate (arities_of m.tables.heaps.items) m.interface.items (pieces (net_of m))
   pub pairs : AllByRecursion IsPair m.tables.pending.items
+  pub aside : AllByRecursion IsPair m.aside.items
   pub names : length m.tables.names.entries < 2 ^ 32
   pub symbols : length m.tables.heaps.items < GIVEN
   pub registers : take (length m.tables.heaps.items) m.tables.registers.items

@@ -38,7 +38,7 @@ way_from p [] [] xs ys zs s w = steps_through p [] [] xs ys zs s w
 way_from p [] (m ∷ ms) xs ys zs s w = absurd w
 way_from p (i ∷ is) [] xs ys zs s w = absurd w
 way_from p (i ∷ is) (m ∷ ms) xs ys zs s w = (
-  record { before = w.0.before; steps = steps_through p [] [] xs ys w.0.before s w.0.steps; fires = w.0.fires },
+  record { before = w.0.before; steps = steps_through p [] [] xs ys w.0.before s w.0.steps; pairs = w.0.pairs; fires = w.0.fires },
   w.1,
 )
 

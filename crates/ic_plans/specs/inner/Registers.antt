@@ -22,12 +22,14 @@ abbrev pub register_of : Registers → ℕ → ℕ
 register_of registers x = unwrap_or (found registers x) 0
 
 -- Each name of the map has that of an argument that is this name, or one of so many registers from one on, and no two
--- names have the same.
+-- names have the same. A name that is an argument by itself has none of the latter.
 pub record AreRegisters (arguments : List Argument) (start fresh : ℕ) (registers : Registers) : Type 0 where
   pub read : (x r : ℕ) → found registers x ≡ Some r
       → ((start ≤ r) × (r < start + fresh))
       ⊎ ((i : ℕ) × (slice_get arguments i ≡ Some (record { register = r; term = name x })))
   pub apart : (x y r : ℕ) → found registers x ≡ Some r → found registers y ≡ Some r → x ≡ y
+  pub own : (i s x : ℕ) → slice_get arguments i ≡ Some (record { register = s; term = name x })
+      → (r : ℕ) × (found registers x ≡ Some r) × ¬ ((start ≤ r) × (r < start + fresh))
 
 -- each of so many fresh registers is that of one of so many names
 abbrev pub AreFreshNames : (names start fresh : ℕ) → Registers → Type 0

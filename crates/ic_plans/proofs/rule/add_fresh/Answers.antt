@@ -1,7 +1,7 @@
 use Rattle.std.proofs.Common.{◌≡◌, ◌+◌, sym, subst, ◌∙◌, arith}
-use Rattle.ic_plans.specs.inner.Registers.{AreFreshNames}
+use Rattle.ic_plans.specs.inner.Registers.{AreFreshNames, found}
 use Rattle.ic_plans.proofs.LinkLemmas.{all-added, all-kept, used-added, used-kept}
-use Rattle.ic_plans.proofs.RegisterLemmas.{fresh-added}
+use Rattle.ic_plans.proofs.RegisterLemmas.{fresh-added, none_there}
 use Rattle.ic_plans.proofs.rule.add_fresh.Goals as goal
 use Rattle.ic_plans.proofs.rule.add_fresh.Goals.{then-not-contains_key+in_ok-insert, else-not-contains_key}
 
@@ -15,7 +15,8 @@ loop-number-preserved c =
         used = used-added c.loop-number.number c.args.start c.loop-number.fresh c.loop-number.registers w.insert.new.self
             w.in_ok-insert.ensures.updates.0 i.used;
         registers = λ arguments below regs. fresh-added arguments c.args.start c.loop-number.fresh c.loop-number.registers w.insert.new.self c.loop-number.number
-            w.in_ok-insert.ensures.updates.0 below (i.registers arguments below regs);
+            w.in_ok-insert.ensures.updates.0 (none_there (found c.loop-number.registers c.loop-number.number) (sym c.contains_key.ensures ∙ w.if-not-contains_key.true))
+            below (i.registers arguments below regs);
       })
       | else-not-contains_key w ↦ rw (w.registers-is, w.fresh-is) (record {
         few = omega (arith, i.few);

@@ -1,7 +1,14 @@
+use Rattle.std.proofs.Common.{◌≡◌, ℕ, ap, sym, ◌∙◌}
+use Rattle.ic_term.specs.Tree.{Trees, name, agent}
 use Rattle.ic_term.specs.Term.{tree}
-use Rattle.ic_term.specs.lemmas.TermLaws.{tree-Name}
-use Rattle.ic_plans.proofs.RegisterLemmas.{argument-kept, argument-added}
+use Rattle.ic_term.specs.lemmas.TermLaws.{cell_tree-out, tree-Agent, tree-Name}
+use Rattle.ic_plans.specs.inner.Registers.{found}
+use Rattle.ic_plans.proofs.RegisterLemmas.{argument-kept, argument-added, number_in, some_there}
 use Rattle.ic_plans.proofs.rule.read_argument.Goals as goal
+
+-- an agent is no name
+no_name : (s : ℕ) (ts : Trees) (x : ℕ) → agent s ts ≡ name x → ⊥
+no_name s ts x e = cc
 
 pub returns-in_ok-insert : goal.returns-in_ok-insert
 returns-in_ok-insert c = λ arguments start below regs.
@@ -9,8 +16,12 @@ returns-in_ok-insert c = λ arguments start below regs.
 
 pub returns-else-not-contains_key : goal.returns-else-not-contains_key
 returns-else-not-contains_key c = λ arguments start below regs.
-    argument-kept arguments start (record { register = c.args.own; term = tree c.args.term.now }) c.args.registers.now regs
+    let here = some_there (found c.args.registers.now c.in-Name.name) (sym c.contains_key.ensures ∙ c.if-not-contains_key.false) in
+    rw (c.in-Name.is, tree-Name c.in-Name.name)
+    (argument-kept arguments start (record { register = c.args.own; term = name c.in-Name.name }) c.args.registers.now regs
+    (λ x e. (here.0, ap (found c.args.registers.now) (sym (ap number_in e)) ∙ here.1)))
 
 pub returns-in_default : goal.returns-in_default
 returns-in_default c = λ arguments start below regs.
     argument-kept arguments start (record { register = c.args.own; term = tree c.args.term.now }) c.args.registers.now regs
+    (λ x e. absurd (no_name _ _ x (sym (ap tree c.in_default.is ∙ tree-Agent c.in_default.field-0 ∙ cell_tree-out c.in_default.field-0.value) ∙ e)))

@@ -204,6 +204,7 @@ invariant_of-result c =
       pairs = subst (λ (l : List Equation). AllByRecursion IsPair l) (sym c.make.ensures.pushed.after)
           (subst (λ (l : List Equation). AllByRecursion IsPair (l ++ c.make.ensures.pushed.more)) (sym pending1)
           c.make.ensures.pushed.pairs);
+      aside = subst (λ (l : List Equation). AllByRecursion IsPair l) (sym c.new-2.ensures.items) tt;
       names = c.make.ensures.few;
       symbols = subst (λ (k : ℕ). k < GIVEN) (sym many2) c.requires.symbols;
       registers = first_of n (length h2) t2.registers.items (gs ++ (made.names ++ made.made)) many2 registers2;

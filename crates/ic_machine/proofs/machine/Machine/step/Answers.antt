@@ -22,7 +22,7 @@ use Rattle.ic_machine.proofs.Heaps.{as_many}
 use Rattle.ic_machine.proofs.AtPlaces.{tables_at_places}
 use Rattle.ic_machine.proofs.InUse.{net_size, size_net}
 use Rattle.ic_machine.proofs.Limits.{full_net, same_fault}
-use Rattle.ic_machine.proofs.Running.{can_fire, held_separate, held_steps_separate, next_pair, numbered, numbered_plan, passed_pairs, passed_ran, passed_separate, passed_then, passed_way}
+use Rattle.ic_machine.proofs.Running.{can_fire, held_separate, held_steps_separate, next_pair, numbered, numbered_plan, passed_aside, passed_pairs, passed_ran, passed_separate, passed_then, passed_way}
 use Rattle.ic_machine.proofs.Sound.{counts_below, counts_within, passed_sound}
 use Rattle.ic_machine.proofs.Spare.{passed_spare}
 use Rattle.ic_machine.proofs.machine.Machine.step.Goals as goal
@@ -136,6 +136,7 @@ invariant_of-self-in_err-fire c =
           (sym same) whole;
       pairs = c.fire.ensures.pairs (passed_pairs q m.tables.pending.items m.aside.items ps us c.find_plan.ensures.passed
           c.self.invariant.pairs);
+      aside = passed_aside q m.tables.pending.items m.aside.items ps us c.find_plan.ensures.passed c.self.invariant.aside;
       names = c.fire.ensures.few;
       symbols = subst (λ (k : ℕ). k < GIVEN) (sym many) c.self.invariant.symbols;
       registers = c.fire.ensures.registers;
@@ -253,7 +254,9 @@ invariant_of-self-2 c =
     let number : IsNumbered q i has.left has.right plan = numbered q e i plan found.1 c.plan_at.ensures in
     let start : List Piece = n ++ (h ++ (map equated_of ps ++ map equated_of us)) in
     let end : List Piece = n' ++ (h' ++ (map equated_of qs ++ map equated_of us)) in
-    let by = c.in_ok-fire.ensures.fires q i has.left has.right us has.left_tag has.right_tag (sym known) number in
+    let by = c.in_ok-fire.ensures.fires q i has.left has.right us has.left_tag has.right_tag (sym known) number
+    (passed_pairs q m.tables.pending.items m.aside.items ps us c.find_plan.ensures.passed c.self.invariant.pairs)
+    (passed_aside q m.tables.pending.items m.aside.items ps us c.find_plan.ensures.passed c.self.invariant.aside) in
     let steps : Steps q (i ∷ []) start end = way_steps q (i ∷ []) (by.moment ∷ []) start end by.way in
     let whole : IsSeparate (arities_of hs) m.interface.items (map equated_of qs ++ (map equated_of us ++ (n' ++ h'))) =
     held_steps_separate q (i ∷ []) (arities_of hs) m.interface.items ps us qs n h n' h' has.sound known steps separate in
@@ -262,6 +265,7 @@ invariant_of-self-2 c =
           (sym same) whole;
       pairs = c.fire.ensures.pairs (passed_pairs q m.tables.pending.items m.aside.items ps us c.find_plan.ensures.passed
           c.self.invariant.pairs);
+      aside = passed_aside q m.tables.pending.items m.aside.items ps us c.find_plan.ensures.passed c.self.invariant.aside;
       names = c.fire.ensures.few;
       symbols = subst (λ (k : ℕ). k < GIVEN) (sym many) c.self.invariant.symbols;
       registers = c.fire.ensures.registers;
@@ -297,7 +301,9 @@ returns-clause-ran c =
     let number : IsNumbered q i has.left has.right plan = numbered q e i plan found.1 c.plan_at.ensures in
     let start : List Piece = n ++ (h ++ (map equated_of ps ++ map equated_of us)) in
     let end : List Piece = n' ++ (h' ++ (map equated_of qs ++ map equated_of us)) in
-    let by = c.in_ok-fire.ensures.fires q i has.left has.right us has.left_tag has.right_tag (sym known) number in
+    let by = c.in_ok-fire.ensures.fires q i has.left has.right us has.left_tag has.right_tag (sym known) number
+    (passed_pairs q m.tables.pending.items m.aside.items ps us c.find_plan.ensures.passed c.self.invariant.pairs)
+    (passed_aside q m.tables.pending.items m.aside.items ps us c.find_plan.ensures.passed c.self.invariant.aside) in
     subst (λ (o : Net). Ran q o (net_of after)) c.self.view_is (record {
       fired = i ∷ [];
       moments = by.moment ∷ [];
@@ -344,7 +350,9 @@ returns-clause-separate c =
     let number : IsNumbered q i has.left has.right plan = numbered q e i plan found.1 c.plan_at.ensures in
     let start : List Piece = n ++ (h ++ (map equated_of ps ++ map equated_of us)) in
     let end : List Piece = n' ++ (h' ++ (map equated_of qs ++ map equated_of us)) in
-    let by = c.in_ok-fire.ensures.fires q i has.left has.right us has.left_tag has.right_tag (sym known) number in
+    let by = c.in_ok-fire.ensures.fires q i has.left has.right us has.left_tag has.right_tag (sym known) number
+    (passed_pairs q m.tables.pending.items m.aside.items ps us c.find_plan.ensures.passed c.self.invariant.pairs)
+    (passed_aside q m.tables.pending.items m.aside.items ps us c.find_plan.ensures.passed c.self.invariant.aside) in
     let steps : Steps q (i ∷ []) start end = way_steps q (i ∷ []) (by.moment ∷ []) start end by.way in
     let whole : IsSeparate (arities_of hs) m.interface.items (map equated_of qs ++ (map equated_of us ++ (n' ++ h'))) =
     held_steps_separate q (i ∷ []) (arities_of hs) m.interface.items ps us qs n h n' h' has.sound known steps separate in

@@ -8,8 +8,8 @@ use Rattle.ic_machine.proofs.Heaps.{table_read}
 use Rattle.ic_machine.proofs.Standing.{agent_below}
 use Rattle.ic_machine.proofs.places.Places.agents.Goals as goal
 
-pub returns-in-Some : goal.returns-in-Some
-returns-in-Some c = λ agent arguments tag there.
+pub returns-in-Some-clause-held : goal.returns-in-Some-clause-held
+returns-in-Some-clause-held c = λ agent arguments tag there.
     let ws : List Word = c.self.inside.names.entries in
     let hs : List Blocks = c.self.inside.heaps.items in
     let s : ℕ = c.args.symbol in
@@ -24,8 +24,8 @@ returns-in-Some c = λ agent arguments tag there.
     let count : c.count.result ≡ (table hs s).count = c.count.ensures.count ∙ ap (λ (x : Blocks). x.count) same in
     omega arith
 
-pub returns-in-None : goal.returns-in-None
-returns-in-None c = λ agent arguments tag there.
+pub returns-in-None-clause-held : goal.returns-in-None-clause-held
+returns-in-None-clause-held c = λ agent arguments tag there.
     let ws : List Word = c.self.inside.names.entries in
     let hs : List Blocks = c.self.inside.heaps.items in
     let s : ℕ = c.args.symbol in

@@ -6,8 +6,8 @@ use Rattle.ic_machine.specs.Held.{Held}
 use Rattle.ic_machine.proofs.Standing.{waiting_below}
 use Rattle.ic_machine.proofs.places.Places.names.Goals as goal
 
-pub returns : goal.returns
-returns c = λ name word there.
+pub returns-clause-waiting : goal.returns-clause-waiting
+returns-clause-waiting c = λ name word there.
     let ws : List Word = c.self.inside.names.entries in
     let hs : List Blocks = c.self.inside.heaps.items in
     let found = waiting_below ws hs name word c.self.invariant.blocks

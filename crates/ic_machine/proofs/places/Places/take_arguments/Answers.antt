@@ -1,4 +1,4 @@
-use Rattle.std.proofs.Common.{◌≡◌, ◌+◌, ◌-◌, ◌<◌, ◌≤◌, ℕ, List, ◌++◌, length, take, drop, reverse, ap, sym, subst, ◌∙◌, arith, sum_by}
+use Rattle.std.proofs.Common.{◌≡◌, ◌+◌, ◌-◌, ◌<◌, ◌≤◌, ℕ, List, ◌++◌, length, map, take, drop, reverse, ap, sym, subst, ◌∙◌, arith, sum_by}
 use Rattle.std.proofs.lemmas.List.{length-map}
 use Rattle.ic_arena.specs.declared.word.Word.{Word}
 use Rattle.ic_arena.specs.Piece.{room}
@@ -7,7 +7,7 @@ use Rattle.ic_machine.specs.Held.{Held, ArgumentsTaken}
 use Rattle.ic_machine.specs.inner.Firing.{arities_of, heaps_pieces, table, Taken}
 use Rattle.ic_machine.proofs.Heaps.{agent_block, as_many, in_block, table_read}
 use Rattle.ic_machine.proofs.Reading.{agent_places}
-use Rattle.ic_machine.proofs.Taking.{arguments_taken, block_some, blocks_kept, taken_fewer}
+use Rattle.ic_machine.proofs.Taking.{arguments_taken, block_some, blocks_kept, counts_kept, sums_kept, taken_fewer}
 use Rattle.ic_machine.proofs.places.Places.take_arguments.Goals as goal
 
 pub returns-then-not-has-clause-none : goal.returns-then-not-has-clause-none
@@ -30,9 +30,10 @@ invariant_of-self c =
       names = c.self.invariant.names;
       symbols = let few = c.self.invariant.symbols in omega arith;
       blocks = blocks_kept hs gs many c.take.ensures.sizes c.self.invariant.blocks;
-      count = taken_fewer (names_pieces 0 c.self.inside.names.entries) hs gs c.args.agent
+      count = c.self.invariant.count ∙ ap (λ (n : ℕ). length c.self.inside.names.entries + n) (sym (sums_kept hs gs many c.take.ensures.sizes));
+      enough = taken_fewer (names_pieces 0 c.self.inside.names.entries) hs gs c.args.agent
           (table hs (c.args.agent.tag - 1)).arity c.self.inside.count c.reserve.new.self.items c.take.new.registers.items
-          c.take.ensures.taken c.self.invariant.count;
+          c.take.ensures.taken c.self.invariant.enough;
     }
 
 pub returns-clause-taken : goal.returns-clause-taken
@@ -67,5 +68,15 @@ returns-clause-taken c = λ e.
     let turned : after ≡ take (length before) mid ++ reverse (drop (length before) mid) =
     subst (λ (n : ℕ). after ≡ take n mid ++ reverse (drop n mid)) len c.turn.ensures in
     subst (λ (h : Held). ArgumentsTaken w h
-    (record { arities = arities_of gs; pieces = names_pieces 0 ws ++ heaps_pieces 0 gs }) before after) c.self.view_is
+    (record { arities = arities_of gs; pieces = names_pieces 0 ws ++ heaps_pieces 0 gs; names = length ws; agents = map (λ b. b.count) gs }) before after) c.self.view_is
     (arguments_taken ws hs gs w (table hs s).arity before mid after taken arity turned)
+
+pub returns-clause-size : goal.returns-clause-size
+returns-clause-size c =
+    let hs : List Blocks = c.self.inside.heaps.items in
+    let gs : List Blocks = c.take.new.heaps.items in
+    let many : length gs ≡ length hs = as_many hs gs c.take.ensures.arities in
+    record {
+      names = ap (λ (h : Held). h.names) c.self.view_is;
+      agents = counts_kept hs gs many c.take.ensures.sizes ∙ ap (λ (h : Held). h.agents) c.self.view_is;
+    }

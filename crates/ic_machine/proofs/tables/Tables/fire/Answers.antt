@@ -1,4 +1,5 @@
 use Rattle.std.proofs.Common.{◌≡◌, ◌+◌, ◌-◌, ◌<◌, ◌≤◌, ℕ, List, [], ◌∷◌, ◌++◌, Some, length, map, max, take, slice_get, slice_index_or, vec_capacity, ap, sym, subst, refl, ◌∙◌, append_assoc, arith}
+use Rattle.std.specs.List.{AllByRecursion}
 use Rattle.std.proofs.Math.Seq.{take-append_seam}
 use Rattle.std.proofs.lemmas.Result.{err_from_is_err_and}
 use Rattle.std.proofs.lemmas.List.{length-append, length-map, length_push}
@@ -9,13 +10,14 @@ use Rattle.ic_arena.specs.Tables.{Blocks, names_pieces}
 use Rattle.ic_machine.specs.declared.equation.Equation.{Equation}
 use Rattle.ic_machine.specs.declared.tables.Tables.{Tables}
 use Rattle.ic_machine.specs.Plan.{Planned, IsPlan, constants, pieces_made, planned}
-use Rattle.ic_machine.specs.Net.{equated_of, in_use}
+use Rattle.ic_machine.specs.Net.{equated_of, in_use, IsPair}
 use Rattle.ic_machine.specs.Runs.{Way}
 use Rattle.ic_machine.specs.Separate.{IsSeparate}
 use Rattle.ic_machine.specs.Steps.{AreFresh, Steps}
 use Rattle.ic_machine.specs.inner.Firing.{AreSame, HasRoom, arities_of, heaps_pieces, table}
 use Rattle.ic_machine.specs.inner.Tables.{HasRoomFor, held, size_at}
 use Rattle.ic_machine.specs.lemmas.FiringKeeps.{all_of}
+use Rattle.ic_machine.proofs.AtPlaces.{tables_of_pairs}
 use Rattle.ic_machine.proofs.Firings.{args_named, args_words, fire_separate, fire_way, left_there, right_there}
 use Rattle.ic_machine.proofs.Heaps.{arity_known, as_many, made_known, room_same, same_arities, same_at, same_length, same_pieces, same_sizes_on, table_read}
 use Rattle.ic_machine.proofs.InUse.{same_size}
@@ -425,7 +427,7 @@ make-requires-clause-memory c =
     }
 
 pub returns-clause-fires : goal.returns-clause-fires
-returns-clause-fires c = λ q i a b rest left_tag right_tag arities number.
+returns-clause-fires c = λ q i a b rest left_tag right_tag arities number pending aside.
     let t : Tables = c.args.self.now in
     let e : Equation = c.args.pair in
     let can = c.requires.plan in
@@ -495,7 +497,8 @@ returns-clause-fires c = λ q i a b rest left_tag right_tag arities number.
     fire_way q i a b (planned c.args.plan.now) last.front e (table h1 (e.left.tag - 1)).arity
     (table h2 (e.right.tag - 1)).arity t1.names.entries h1 h2 h3 t1.registers.items c.take.new.registers.items
     c.take-2.new.registers.items made.names made.made (map equated_of rest) end l r left_tag right_tag ka kb number r0
-    made.names_count made.made_count made.name_tags made.made_tags fresh links in
+    made.names_count made.made_count made.name_tags made.made_tags fresh links
+    (tables_of_pairs t1.names.entries h1 (last.front ++ e ∷ []) rest (subst (λ (x : List Equation). AllByRecursion IsPair x) last.is pending) aside) in
     record {
       moment = moment;
       way = subst (λ (n : List Word). Way q (i ∷ []) (moment ∷ []) (names_pieces 0 n ++ (heaps_pieces 0 h0 ++ (map equated_of t.pending.items ++ map equated_of rest))) end)

@@ -31,7 +31,7 @@ loop-index-preserved c =
 pub returns-clause-none : goal.returns-clause-none
 returns-clause-none c = λ once a vs tag there.
     let new : Reader = c.loop-index.self in
-    let low = c.agents-index-end.ensures a vs tag
+    let low = c.agents-index-end.ensures.held a vs tag
     (gather_pieces (agent_of a vs) c.args.self.now new c.args.loose.now.items c.loop-index.loose.items c.loop-index.invariant.read there) in
     c.loop-index.invariant.none once a.index (omega (arith, low, c.loop-index-test.false)) vs
     (subst (λ (w : Word). Contains new.places.pieces (agent_of w vs)) (agent_is a c.args.symbol tag) there)

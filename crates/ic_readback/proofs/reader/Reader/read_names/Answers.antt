@@ -25,7 +25,7 @@ loop-index-preserved c =
 pub returns-clause-none : goal.returns-clause-none
 returns-clause-none c = λ x u there.
     let new : Reader = c.loop-index.self in
-    let found = c.names-index-end.ensures x u
+    let found = c.names-index-end.ensures.waiting x u
     (gather_pieces (waits x u) c.args.self.now new c.args.loose.now.items c.loop-index.loose.items c.loop-index.invariant.read there) in
     let low = found.1 in
     c.loop-index.invariant.none found.0 (omega (arith, low, c.loop-index-test.false)) u
