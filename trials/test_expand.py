@@ -363,12 +363,13 @@ class Bounds(Trial):
             else:
                 self.refuses("expand", given=text, line="bad limit", status=1)
 
-    def test_65_symbols_are_written_and_refused_on_their_line(self):
+    def test_65_symbols_are_written_for_reduce_alone(self):
         symbols = [f"A{k}" for k in range(63)]
         text = "{copy D}\n<" + ",".join(symbols) + "\n|D(a,b)=Z>"
         plain = run("expand", given=text)
-        self.equals(plain.command, "rules for 64 symbols", 63, plain.out.count(b";"))
-        self.equals("reduce", "how it is refused", b"icserve: bad limit\n", run("reduce", given=plain.out).err)
+        self.equals(plain.command, "rules for 65 symbols", 64, plain.out.count(b";"))
+        self.equals("once", "how it is refused", b"icserve: bad limit\n", run("once", given=plain.out).err)
+        self.equals("reduce", "status", 0, run("reduce", given=plain.out).status)
 
     def test_large_texts_take_seconds(self):
         names = b"<" + b",".join(b"name_%d" % k for k in range(900_000)) + b"|>"

@@ -1,5 +1,6 @@
 """Texts that pass what is served: `reduce` takes them, of a hundred thousand nodes, of a million, on one line or on a million
-lines, as deep as they are long, and other commands and `--limits served` refuse them with the sentence of the limit."""
+lines, as deep as they are long, of many symbols and rules, and other commands and `--limits served` refuse them with the
+sentence of the limit."""
 
 import re
 
@@ -8,11 +9,18 @@ from known import ADD
 from program import IN_MEMORY, Trial, run
 
 # The limits of what is served.
-NODES, TERMS, BYTES = 8_192, 64, 262_144
+NODES, TERMS, BYTES, SYMBOLS, RULES, RULE_NODES = 8_192, 64, 262_144, 64, 256, 2_048
+
+# Those of symbols for `reduce`.
+WIDE_SYMBOLS = 65_536
 
 TOO_MANY_NODES = f"a configuration has at most {NODES} nodes"
 TOO_MANY_TERMS = f"an interface has at most {TERMS} terms"
 TOO_MANY_BYTES = f"a text has at most {BYTES} bytes"
+TOO_MANY_SYMBOLS = f"a text has at most {SYMBOLS} different symbols"
+TOO_MANY_RULES = f"a system has at most {RULES} rules"
+TOO_LONG_RULES = f"the arguments of all rules together have at most {RULE_NODES} nodes"
+TOO_LONG_RULE = f"the arguments of one rule have at most {RULE_NODES} nodes"
 
 # Where a fault is and what it is, behind the first line of a refusal.
 PLACE = re.compile(rb"line (\d+), column (\d+)\n(?:.*\n){2}(.*)\n")
@@ -34,6 +42,26 @@ def sums(drawn, nodes, parted=","):
         count += 5 + left + right
     return f"{ADD}{parted}<{parted.join([',' * bool(it) + term for it, term in enumerate(terms)])}|" + \
         parted.join([',' * bool(it) + text for it, text in enumerate(equations)]) + ">", f"<{','.join(answers)}|>", made
+
+
+def wheel(states, moves, steps):
+    """A system in which N1, N2 and so on turn the states A0, A1 and so on by 1, 2 and so on, and begin with A0."""
+    rules = [f"A{state}><N{move}(A{(state + move) % states})" for state in range(states) for move in range(1, moves + 1)]
+    term = "r"
+    for move in reversed(steps):
+        term = f"N{move}({term})"
+    return "{" + ";".join(rules) + "}" + f" <r|{term}=A0>", f"<A{sum(steps) % states}|>"
+
+
+def chain(length):
+    """A system in which N turns A0 into A1, and so on to the last symbol, by a rule each. It has N and these symbols."""
+    rules = [f"A{number}><N(A{number + 1})" for number in range(length)]
+    return "{" + ";".join(rules) + "}" + f" <r|{'N(' * length}r{')' * length}=A0>", f"<A{length}|>"
+
+
+def long_rule(nodes, left="A", right="B"):
+    """A rule whose arguments have so many nodes, the last of which is a name at its end."""
+    return f"{left}({'S(' * (nodes - 2)}x{')' * (nodes - 2)})><{right}(x)"
 
 
 class Large(Trial):
@@ -119,8 +147,58 @@ class Large(Trial):
             ("v165191050", "the number of a name is at most 4294967295"),
         ):
             self.refused(["reduce"], f"{{}} <{many},{faulty}|>", sentence, column=5 + 2 * 10_000)
-        symbols = ",".join(f"S{it}" for it in range(65))
-        self.refused(["reduce"], f"{{}} <{many},{symbols}|>", "a text has at most 64 different symbols")
+
+    def test_one_symbol_more_than_is_served(self):
+        for count in (SYMBOLS, SYMBOLS + 1):
+            config = f"<{'('.join(f'S{it}' for it in range(count))}{')' * (count - 1)}|>"
+            self.reduces(f"{{}} {config}", config, 0)
+            for words in (["reduce", "--limits", "served"], ["reduce", "--rounds", 1], ["once"], ["trace"]):
+                text = f"{{}} {config}"
+                if count == SYMBOLS:
+                    self.equals(words, "status", 0, run(*words, given=text).status)
+                else:
+                    self.refused(words, text, TOO_MANY_SYMBOLS, column=text.index("S64") + 1)
+
+    def test_sixty_five_symbols_and_three_hundred_rules(self):
+        steps = [self.draws().randint(1, 5) for _ in range(1_000)]
+        text, answer = wheel(60, 5, steps)
+        self.reduces(text, answer, len(steps))
+        self.refused(["reduce", "--limits", "served"], text, TOO_MANY_RULES, column=text.index("A51><N2") + 1)
+        for words in (["reduce", "--rounds", 1], ["once"], ["trace"]):
+            self.refused(words, text, TOO_MANY_RULES)
+        self.serves(self.disk(), [f"submit large {text}"], ["bad limit"])
+
+    def test_a_hundred_symbols_and_their_rules(self):
+        text, answer = chain(99)
+        self.reduces(text, answer, 99)
+        # N and A0 to A62 are 64 symbols.
+        self.refused(["reduce", "--limits", "served"], text, TOO_MANY_SYMBOLS, column=text.index("A63") + 1)
+        self.refused(["once"], text, TOO_MANY_SYMBOLS)
+        self.serves(self.disk(), [f"submit large {text}"], ["bad limit"])
+
+    def test_as_many_symbols_as_there_may_be(self):
+        # N and A0 to A65534 are as many as there may be.
+        text, answer = chain(WIDE_SYMBOLS - 2)
+        self.reduces(text, answer, WIDE_SYMBOLS - 2)
+        one_more = text.replace("<r|", "<r,Z|")
+        self.refused(["reduce"], one_more, f"a text has at most {WIDE_SYMBOLS} different symbols", column=one_more.index("Z") + 1)
+
+    def test_nodes_of_one_rule_and_of_all(self):
+        config = "<|>"
+        rules = ";".join(long_rule(1_000, f"A{it}", f"B{it}") for it in range(5))
+        self.reduces(f"{{{rules}}} {config}", config, 0)
+        self.refused(["reduce", "--limits", "served"], f"{{{rules}}} {config}", TOO_LONG_RULES)
+        self.refused(["once"], f"{{{rules}}} {config}", TOO_LONG_RULES)
+        self.serves(self.disk(), [f"submit large {{{rules}}} {config}"], ["bad limit"])
+        for nodes in (RULE_NODES, RULE_NODES + 1):
+            text = f"{{{long_rule(nodes)};{long_rule(nodes, 'C', 'D')}}} {config}"
+            last = text.index("x);") + 1
+            if nodes == RULE_NODES:
+                self.reduces(text, config, 0)
+                self.refused(["reduce", "--limits", "served"], text, TOO_LONG_RULES, column=text.index("C(") + 3)
+            else:
+                self.refused(["reduce"], text, TOO_LONG_RULE, column=last)
+                self.refused(["once"], text, TOO_LONG_RULES, column=last)
 
     def test_a_name_that_stands_three_times_is_found(self):
         names = [model.name_text(it) for it in range(100_000)]

@@ -193,10 +193,11 @@ reduce_help = text_of (codes "Reduces a system until no step is possible, and pr
     ++ codes " is the result")
     ∷ (codes "  x=t                       t takes the place of the other x; a name that"
     ++ codes " stands once is free")
-    ∷ (codes "A text has at most 64 symbols, 256 rules, 2147483648 nodes and 8589934592"
+    ∷ (codes "A text has at most 65536 symbols, 2147483648 rules and nodes, 8589934592"
     ++ codes " bytes, and no comments.")
-    ∷ (codes "That of a job or of another command has at most 8192 nodes, 64 terms before |"
-    ++ codes " and 262144 bytes.")
+    ∷ (codes "That of a job or of another command has at most 64 symbols, 256 rules, 8192"
+    ++ codes " nodes, 262144 bytes,")
+    ∷ codes "and 64 terms before |."
     ∷ []
     ∷ codes "Example:"
     ∷ codes "  $ echo '{Add(x,x)><Z; Add(S(x),y)><S(Add(x,y))} <r|Add(r,S(Z))=S(Z)>' > sum.ic"

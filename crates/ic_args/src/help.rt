@@ -179,8 +179,9 @@ The language:
   Add(S(x),y)><S(Add(x,y))  what stands at the argument of S is Add(x,y)
   Add(r,n)=m                two agents fire where a rule has their symbols; r is the result
   x=t                       t takes the place of the other x; a name that stands once is free
-A text has at most 64 symbols, 256 rules, 2147483648 nodes and 8589934592 bytes, and no comments.
-That of a job or of another command has at most 8192 nodes, 64 terms before | and 262144 bytes.
+A text has at most 65536 symbols, 2147483648 rules and nodes, 8589934592 bytes, and no comments.
+That of a job or of another command has at most 64 symbols, 256 rules, 8192 nodes, 262144 bytes,
+and 64 terms before |.
 
 Example:
   $ echo '{Add(x,x)><Z; Add(S(x),y)><S(Add(x,y))} <r|Add(r,S(Z))=S(Z)>' > sum.ic

@@ -100,9 +100,12 @@ limit_sentence RuleNodes =
 limit_sentence Interface = codes "an interface has at most 64 terms"
 limit_sentence Nodes = codes "a configuration has at most 8192 nodes"
 
--- the same with any limits, of which three are wider
+-- the same with any limits, of which six are wider
 abbrev pub limit_sentence_within : Limits → Limit → List ℕ
 limit_sentence_within Served limit = limit_sentence limit
+limit_sentence_within Wide Symbols = codes "a text has at most 65536 different symbols"
+limit_sentence_within Wide Rules = codes "a system has at most 2147483648 rules"
+limit_sentence_within Wide RuleNodes = codes "the arguments of one rule have at most 2048 nodes"
 limit_sentence_within Wide TextBytes = codes "a text has at most 8589934592 bytes"
 limit_sentence_within Wide Interface = codes "an interface has at most 2147483648 terms"
 limit_sentence_within Wide Nodes = codes "a configuration has at most 2147483648 nodes"

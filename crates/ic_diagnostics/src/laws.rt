@@ -5,8 +5,8 @@ ghost use Rattle.std.specs.Fmt.{decimal};
 ghost use Rattle.std.specs.List.{AllByRecursion, concat, list_any, list_all};
 ghost use Rattle.std.specs.Str.{IsUtf8, chars};
 ghost use Rattle.ic_text.specs.Token.{is_blank, is_word_byte};
-ghost use Rattle.ic_term.specs.declared.limits.TheConstants.{MAX_ARITY, MAX_INTERFACE, MAX_NODES, MAX_SYMBOLS, MAX_SYMBOL_TEXT, MAX_WIDE_NODES};
-ghost use Rattle.ic_rules.specs.declared.limits.TheConstants.{MAX_RULES, MAX_RULE_NODES};
+ghost use Rattle.ic_term.specs.declared.limits.TheConstants.{MAX_ARITY, MAX_INTERFACE, MAX_NODES, MAX_SYMBOLS, MAX_SYMBOL_TEXT, MAX_WIDE_NODES, MAX_WIDE_SYMBOLS};
+ghost use Rattle.ic_rules.specs.declared.limits.TheConstants.{MAX_RULES, MAX_RULE_NODES, MAX_WIDE_RULES};
 ghost use Rattle.ic_text.specs.declared.limits.TheConstants.{MAX_NAME, MAX_TEXT, MAX_WIDE_TEXT};
 ghost use Rattle.ic_text.specs.declared.limits.Limits.TheVariants.{Wide};
 ghost use Rattle.ic_text.specs.declared.fault.TextFault.{TextFault};
@@ -183,6 +183,13 @@ pub fn limits_are_told_with_their_numbers()
         ≡ codes "a configuration has at most " ++ decimal MAX_NODES ++ codes " nodes" }
     ensures wide_text { limit_sentence_within Wide TextBytes
         ≡ codes "a text has at most " ++ decimal MAX_WIDE_TEXT ++ codes " bytes" }
+    ensures wide_symbols { limit_sentence_within Wide Symbols
+        ≡ codes "a text has at most " ++ decimal MAX_WIDE_SYMBOLS ++ codes " different symbols" }
+    ensures wide_rules { limit_sentence_within Wide Rules
+        ≡ codes "a system has at most " ++ decimal MAX_WIDE_RULES ++ codes " rules" }
+    ensures wide_rule_nodes { limit_sentence_within Wide RuleNodes
+        ≡ codes "the arguments of one rule have at most " ++ decimal MAX_RULE_NODES
+        ++ codes " nodes" }
     ensures wide_interface { limit_sentence_within Wide Interface
         ≡ codes "an interface has at most " ++ decimal MAX_WIDE_NODES ++ codes " terms" }
     ensures wide_nodes { limit_sentence_within Wide Nodes

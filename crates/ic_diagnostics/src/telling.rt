@@ -140,8 +140,10 @@ fn wide_sentence(limit: Limit) -> &'static [u8]
         Limit::TextBytes => b"a text has at most 8589934592 bytes",
         Limit::Interface => b"an interface has at most 2147483648 terms",
         Limit::Nodes => b"a configuration has at most 2147483648 nodes",
+        Limit::Symbols => b"a text has at most 65536 different symbols",
+        Limit::Rules => b"a system has at most 2147483648 rules",
+        Limit::RuleNodes => b"the arguments of one rule have at most 2048 nodes",
         Limit::SymbolBytes | Limit::Arguments | Limit::NameNumber => served_sentence(limit),
-        Limit::Symbols | Limit::Rules | Limit::RuleNodes => served_sentence(limit),
     }
 }
 

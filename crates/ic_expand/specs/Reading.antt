@@ -4,8 +4,8 @@ use Rattle.std.specs.List.{concat, fold, list_any, take_while}
 use Rattle.std.specs.Str.{bytes_eq}
 use Rattle.ic_text.specs.Token.{is_blank}
 use Rattle.ic_term.specs.Symbol.{Symbol, is_symbol_text}
-use Rattle.ic_term.specs.declared.limits.TheConstants.{MAX_SYMBOLS}
-use Rattle.ic_rules.specs.declared.limits.TheConstants.{MAX_RULES}
+use Rattle.ic_term.specs.declared.limits.TheConstants.{MAX_WIDE_SYMBOLS}
+use Rattle.ic_rules.specs.declared.limits.TheConstants.{MAX_WIDE_RULES}
 use Rattle.ic_expand.specs.declared.spot.Spot.{Spot}
 use Rattle.ic_expand.specs.declared.spot.Spot.TheVariants.{Elsewhere, Opening, Asked}
 use Rattle.ic_expand.specs.Pieces.{joins}
@@ -42,7 +42,7 @@ is_known text ss = list_any (λ s. bytes_eq text s.text) ss
 
 -- a symbol is noted where it stands first, as long as there are few
 abbrev pub noted : List Symbol → Symbol → List Symbol
-noted ss s = if is_known s.text ss || not (nat_lt (length ss) MAX_SYMBOLS) then ss
+noted ss s = if is_known s.text ss || not (nat_lt (length ss) MAX_WIDE_SYMBOLS) then ss
     else ss ++ s ∷ []
 
 -- the symbols of a text by first occurrence, each with its number of arguments there
@@ -76,7 +76,7 @@ heads spot (p ∷ ps) = if is_head spot p then (p, partner (concat ps)) ∷ head
 
 -- a pair after others, as long as there are fewer than a system may have rules
 abbrev pub with_pair : List (List ℕ × List ℕ) → List ℕ × List ℕ → List (List ℕ × List ℕ)
-with_pair pairs pair = if nat_lt (length pairs) MAX_RULES then pairs ++ pair ∷ [] else pairs
+with_pair pairs pair = if nat_lt (length pairs) MAX_WIDE_RULES then pairs ++ pair ∷ [] else pairs
 
 -- the same of as many rules as a system may have
 abbrev pub pairs_of : List (List ℕ) → List (List ℕ × List ℕ)

@@ -8,8 +8,8 @@ ghost use Rattle.ic_expand.specs.inner.Sheets.{pair_in, symbol_in};
 
 use crate::pieces::{run_len, split_piece};
 use crate::spot::Spot;
-use ic_rules::MAX_RULES;
-use ic_term::{MAX_SYMBOLS, is_symbol};
+use ic_rules::MAX_WIDE_RULES;
+use ic_term::{MAX_WIDE_SYMBOLS, is_symbol};
 use ic_text::is_blank;
 use std::alloc::{AllocError, Global};
 
@@ -109,7 +109,7 @@ fn note(alloc: Global, symbols: &mut Vec<Use>, text: &[u8], behind: &[u8]) -> Re
     ensures { OnOk result (map symbol_in symbols.new.items ≡ noted (map symbol_in symbols.old.items)
         (record { text = text.now; arity = arguments behind.now })) }
 {
-    if symbols.len() < MAX_SYMBOLS && !is_known(text, symbols) {
+    if symbols.len() < MAX_WIDE_SYMBOLS && !is_known(text, symbols) {
         symbols.push(Use {
             text: Vec::from_slice(alloc, text)?,
             arity: arguments(behind),
@@ -190,7 +190,7 @@ fn note_pair(
     ensures { OnOk result (map pair_in pairs.new.items
         ≡ with_pair (map pair_in pairs.old.items) (first.now, partner behind.now)) }
 {
-    if pairs.len() < MAX_RULES {
+    if pairs.len() < MAX_WIDE_RULES {
         pairs.push(pair_with(alloc, first, behind)?)?;
     }
     Ok(())

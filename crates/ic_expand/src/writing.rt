@@ -199,7 +199,7 @@ fn written_pieces(alloc: Global, text: &[u8]) -> Result<Vec<u8>, ExpandFault>
 }
 
 /// The text of the calculus for which a text stands. It takes a number of steps that grows with the text as n log n,
-/// and 64 times as many for the arguments of its symbols at most.
+/// and for each of its symbols at most as many as the text and its rules have bytes.
 pub fn expand(alloc: Global, text: &[u8]) -> Result<Vec<u8>, ExpandFault>
     ensures written { IfOk result (λ out. expanded text.now ≡ Ok out.items) }
     ensures refused { IfErr result (λ fault. fault ≢ ExpandFault.Memory

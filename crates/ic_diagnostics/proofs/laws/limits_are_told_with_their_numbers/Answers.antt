@@ -49,3 +49,15 @@ returns-clause-wide_interface c = refl
 pub returns-clause-wide_nodes : goal.returns-clause-wide_nodes
 unfolding digits
 returns-clause-wide_nodes c = refl
+
+pub returns-clause-wide_symbols : goal.returns-clause-wide_symbols
+unfolding digits
+returns-clause-wide_symbols c = refl
+
+pub returns-clause-wide_rules : goal.returns-clause-wide_rules
+unfolding digits
+returns-clause-wide_rules c = refl
+
+pub returns-clause-wide_rule_nodes : goal.returns-clause-wide_rule_nodes
+unfolding digits
+returns-clause-wide_rule_nodes c = refl
