@@ -157,6 +157,26 @@ def what_is_believed_is_counted():
             yield page, 1, f"doesn't say the sum {it:,}"
 
 
+def calls_that_may_wait_are_told():
+    """The row of docs/promises.md on calls that return names just the public calls that wait, by their bound `Wait` or by
+    the `Maker` that they are given."""
+    waits, told = {"Workers", "Maker", "Wait"}, set()
+    for path in Path("crates").glob("*/src/**/*.rt"):
+        text = path.read_text()
+        for call in re.finditer(r"(?m)^( *)pub fn (\w+)<([^(]*)\(", text):
+            owner = re.findall(r"(?m)^impl(?:<.*?>)? (\w+)", text[: call.start()])[-1] if call[1] else ""
+            is_shown = f"pub struct {owner}" in text if owner else True
+            if re.search(r"\b(?:Wait|Maker)\b", call[3]) and is_shown and not path.parts[1].endswith("_rows"):
+                waits.add(f"{owner}::{call[2]}".removeprefix("::"))
+    for path, number, line in lines_of("docs/promises.md"):
+        if line.startswith("| each function without the bound `Wait` returns |"):
+            told = set(re.findall(r"`([\w:]+)`", line))
+            for name in sorted(waits ^ told):
+                yield path, number, f"{name} stands in one of this row and the code alone"
+    if not told:
+        yield Path("docs/promises.md"), 1, "has no row on calls that return"
+
+
 def further_edits_apply():
     """Each text that an edit of checks/edits/ puts another in the place of stands once in its file."""
     for edit in sorted(Path("checks/edits").glob("*/*.edit")):
@@ -210,8 +230,8 @@ def paragraphs_are_short():
 def main():
     checks = [proofs_are_cited_at_home, definitions_stand_by_themselves, public_clauses_cite_definitions]
     checks += [files_say_what_they_hold, calls_of_a_book_are_steps, the_longest_form_is_said_once]
-    checks += [layers_are_as_built, the_floors_are_drawn, what_is_believed_is_counted, further_edits_apply]
-    checks += [sentences_are_short, paragraphs_are_short]
+    checks += [layers_are_as_built, the_floors_are_drawn, what_is_believed_is_counted, calls_that_may_wait_are_told]
+    checks += [further_edits_apply, sentences_are_short, paragraphs_are_short]
     failed = 0
     for check in checks:
         faults = list(check())
