@@ -23,6 +23,9 @@ BEHIND_OF = {
     "configuration": {"<": "a term or | is looked for here", ">": "nothing is looked for behind a configuration"},
     "system": {"{": "a symbol or } is looked for here", ";": "a symbol is looked for here", "}": "< is looked for here"},
 }
+BEHIND_OF["system"] |= BEHIND_OF["configuration"]
+COMMENTS, NO_COMMENTS = (b"#", b"//", b"--"), "there are no comments"
+MADE_SYSTEM = ": {} before it makes it a system"
 
 
 class NoText(Exception):
@@ -160,7 +163,9 @@ def fault_of_names_and_rules(reader):
     for left, right in reader.sides:
         at = miscounted(left + right)
         if at is not None:
-            return "namecount", at, "in a rule each name stands exactly twice"
+            text = next(text for place, text, *_ in left + right if place == at).decode()
+            often = "stands once" if [it[1].decode() for it in left + right].count(text) == 1 else "stands here for the third time"
+            return "namecount", at, f"in a rule each name stands exactly twice: {text} {often}"
     seen = {}
     for at, text, form, _ in reader.words[reader.before :]:
         seen[text] = seen.get(text, 0) + (form is NAME)
@@ -192,21 +197,46 @@ def fault_of_words(reader):
     return clash or fault_of_names_and_rules(reader)
 
 
+def sought_behind(front):
+    """What is looked for behind a term that ends a text, or None where no term stands there."""
+    opens = "( or " if re.search(r"(?<![A-Za-z0-9-])[A-Z0-9][A-Za-z0-9-]*$", front) else ""
+    while (flat := re.sub(r"\([^()]*\)", "", front)) != front:
+        front = flat
+    if "(" in front:
+        return opens + ", or )"
+    mark, behind = re.search(r"(><|[{};<>|=])([^{};<>|=]*)$", front).groups()
+    if mark == "=" and "," not in behind:
+        return opens + ", or >"
+    sought = {"{": "><", ";": "><", "><": "; or }", "<": ", or |", "|": "=", "=": "="}.get(mark)
+    return sought and opens + sought
+
+
 def sentence_of_syntax(text, at, kind):
-    """What is said at the place of a fault of syntax. A text that begins otherwise may be of another kind, and a word with a small
-    letter where a term may stand was to be a name. Behind a mark that settles it the sentence tells what is looked for."""
+    """What is said at the place of a fault of syntax. A text that begins otherwise may be of another kind, there are no comments,
+    and a word with a small letter where a term may stand was to be a name, as is one that goes on with a byte of no text. Behind a
+    mark and behind a term the sentence tells what is looked for."""
     if at == len(text):
         return f"the text ends before its {kind} does"
     mark, other, of = ("<", b"{", "a system") if kind == "configuration" else ("{", b"<", "a configuration")
     front, word = text[:at].strip(b" \t\r\n").decode("latin-1"), re.match(rb"[A-Za-z0-9-]*", text[at:]).group()
     if not front:
         if text[at : at + 1] == other:
-            return f"a {kind} begins with {mark}, and this is {of}"
+            return f"a {kind} begins with {mark}, and this is {of}" + (MADE_SYSTEM if kind == "system" else "")
         if word in COMMANDS:
             return f"a {kind} begins with {mark}, and commands are served"
-        return f"a {kind} begins with {mark}"
-    if front[-1] in "{<|=,;(" and word[:1].islower() and not NAME.fullmatch(word):
+        return NO_COMMENTS if text.startswith(COMMENTS, at) else f"a {kind} begins with {mark}"
+    if text.startswith(COMMENTS, at):
+        return NO_COMMENTS
+    is_joined = re.match(rb"[A-Za-z0-9-][^{}<>|=,;() \t\r\n]", text[at - 1 :])
+    if is_joined or front[-1] in "{<|=,;(" and word[:1].islower() and not NAME.fullmatch(word):
         return NAMES
+    if front[-1] == "(" and text[at : at + 1] == b")":
+        return "a symbol without arguments has no parentheses"
+    if front[-1].isalnum() or front[-1] in "-)":
+        sought = sought_behind(front)
+        return f"{sought} is looked for here" if sought else f"no {kind} goes on with this"
+    if kind == "system" and front.endswith("><"):
+        return "a symbol is looked for here"
     return (BEHIND | BEHIND_OF[kind]).get(front[-1], f"no {kind} goes on with this")
 
 

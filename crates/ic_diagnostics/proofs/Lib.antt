@@ -1,4 +1,5 @@
 pub mod LastLine
+pub mod LastPart
 pub mod LineLaws
 pub mod ColumnLaws
 pub mod ShownLaws

@@ -7,12 +7,12 @@ use Rattle.ic_text.specs.Token.{is_blank, is_word_byte}
 use Rattle.ic_text.specs.declared.misread.Detail.TheVariants.{Nothing}
 use Rattle.ic_text.specs.declared.fault.TextFault.TheVariants.{Syntax}
 use Rattle.ic_diagnostics.specs.declared.sights.Sight.{Sight}
-use Rattle.ic_diagnostics.specs.declared.sights.Sight.TheVariants.{End, SystemMark, ConfigMark, CommandWord, Front}
+use Rattle.ic_diagnostics.specs.declared.sights.Sight.TheVariants.{End, SystemMark, ConfigMark, CommandWord, Comment, Front}
 use Rattle.ic_diagnostics.specs.declared.telling.Kind.{Kind}
 use Rattle.ic_diagnostics.specs.declared.telling.Kind.TheVariants.{Config, System}
 use Rattle.ic_diagnostics.specs.Lines.{feed, first_line, head_of, last_line, picture_of, place_lines, told_at}
-use Rattle.ic_diagnostics.specs.Sights.{command_words, first_word, front_sight, inner_sight, is_command, sight_at}
-use Rattle.ic_diagnostics.specs.Telling.{sentence, syntax_sentence}
+use Rattle.ic_diagnostics.specs.Sights.{command_words, first_word, front_sight, inner_sight, is_command, opens_comment, sight_at}
+use Rattle.ic_diagnostics.specs.Telling.{comment_sentence, sentence, syntax_sentence}
 use Rattle.ic_diagnostics.proofs.Arities.{run_is_first}
 use Rattle.ic_diagnostics.proofs.Trimmed.{told-inner}
 
@@ -59,7 +59,7 @@ command_front (b ∷ bs) rest is stops =
     by_marks (b == 123) (b == 60) is.1 (ap is_command (run_is_first (b ∷ bs) rest is.2 stops) ∙ is.0)
   where
     by_marks : (m n : Bool) → cond m false (cond n false true) ≡ true → is_command (first_word (b ∷ bs ++ rest)) ≡ true
-        → cond m SystemMark (cond n ConfigMark (cond (is_command (first_word (b ∷ bs ++ rest))) CommandWord Front)) ≡ CommandWord
+        → cond m SystemMark (cond n ConfigMark (cond (is_command (first_word (b ∷ bs ++ rest))) CommandWord (cond (opens_comment (b ∷ bs ++ rest)) Comment Front))) ≡ CommandWord
     by_marks true n e command = absurd (false≢true e)
     by_marks false true e command = absurd (false≢true e)
     by_marks false false e command = rw command refl
@@ -87,3 +87,15 @@ module _ (blanks rest : List ℕ) (all : list_all is_blank blanks ≡ true) (sto
   pub commands_told : AllByRecursion CommandTold command_words
   commands_told =
       (command_told (codes "submit") (refl, refl, refl), (command_told (codes "pause") (refl, refl, refl), (command_told (codes "resume") (refl, refl, refl), (command_told (codes "cancel") (refl, refl, refl), (command_told (codes "fetch") (refl, refl, refl), (command_told (codes "list") (refl, refl, refl), (command_told (codes "run") (refl, refl, refl), (command_told (codes "copy") (refl, refl, refl), tt))))))))
+
+-- what begins a comment begins with no other mark, and with no word
+abbrev BeginsComment : List ℕ → Type 0
+BeginsComment [] = ⊥
+BeginsComment (b ∷ bs) = (rest : List ℕ) → front_sight (b ∷ bs ++ rest) ≡ Comment
+
+-- at the front of a text a comment is told not to be one
+pub comment_told : (kind : Kind) (blanks mark rest : List ℕ) → list_all is_blank blanks ≡ true → BeginsComment mark
+    → sentence kind (blanks ++ (mark ++ rest)) Syntax (length blanks) Nothing ≡ comment_sentence
+comment_told kind blanks [] rest all is = absurd is
+comment_told Config blanks (b ∷ bs) rest all is = told_by_sight Config _ (length blanks) Comment (sight_in_front blanks (bs ++ rest) b all ∙ is rest)
+comment_told System blanks (b ∷ bs) rest all is = told_by_sight System _ (length blanks) Comment (sight_in_front blanks (bs ++ rest) b all ∙ is rest)

@@ -1,3 +1,4 @@
 pub mod Lines
+pub mod Stands
 pub mod Sights
 pub mod Telling

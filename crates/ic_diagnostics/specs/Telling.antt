@@ -1,5 +1,5 @@
 -- To be believed: what is told of a refused text beside its refusal (this project's choice).
-use Rattle.std.specs.Prelude.{◌≡◌, ℕ, List, [], ◌∷◌, ◌++◌, Option, None, Some, Err, codes, drop, slice_get, ◌==◌, Bool, ◌||◌, if◌then◌else◌}
+use Rattle.std.specs.Prelude.{◌≡◌, ℕ, List, [], ◌∷◌, ◌++◌, Option, None, Some, Err, codes, drop, slice_get, ◌==◌, Bool, true, false, ◌||◌, if◌then◌else◌}
 use Rattle.std.specs.Fmt.{decimal}
 use Rattle.std.specs.List.{concat}
 use Rattle.ic_text.specs.declared.fault.TextFault.{TextFault}
@@ -23,9 +23,11 @@ use Rattle.ic_streams.specs.declared.fault.StreamFault.TheVariants.{Text}
 use Rattle.ic_diagnostics.specs.declared.telling.Kind.{Kind}
 use Rattle.ic_diagnostics.specs.declared.telling.Kind.TheVariants.{Config, System}
 use Rattle.ic_diagnostics.specs.declared.sights.Sight.{Sight}
-use Rattle.ic_diagnostics.specs.declared.sights.Sight.TheVariants.{End, SystemMark, ConfigMark, CommandWord, NoName, Behind}
+use Rattle.ic_diagnostics.specs.declared.sights.Sight.TheVariants.{End, SystemMark, ConfigMark, CommandWord, Comment, NoName, Empty, Argument, After, Crossed, Behind}
+use Rattle.ic_diagnostics.specs.declared.stands.Stand.{Stand}
+use Rattle.ic_diagnostics.specs.declared.stands.Stand.TheVariants as standing
 use Rattle.ic_diagnostics.specs.Lines.{place_lines}
-use Rattle.ic_diagnostics.specs.Sights.{first_word, sight_at}
+use Rattle.ic_diagnostics.specs.Sights.{first_word, is_again, sight_at}
 
 -- what names and symbols are, where a word is neither
 abbrev pub name_sentence : List ℕ
@@ -48,12 +50,39 @@ behind_in_config b = if b == 60 then codes "a term or | is looked for here"
     else (if b == 62 then codes "nothing is looked for behind a configuration"
     else behind_mark (codes "no configuration goes on with this") b)
 
--- the same of a system, after `{`, `;`, `}` or such a mark; after a term, `<` or `>` it isn't told
+-- the same of a system, after `{`, `;` or `}`, or after a mark of its configuration
 abbrev pub behind_in_system : ℕ → List ℕ
 behind_in_system b = if b == 123 then codes "a symbol or } is looked for here"
     else (if b == 59 then codes "a symbol is looked for here"
     else (if b == 125 then codes "< is looked for here"
-    else behind_mark (codes "no system goes on with this") b))
+    else (if b == 60 then codes "a term or | is looked for here"
+    else (if b == 62 then codes "nothing is looked for behind a configuration"
+    else behind_mark (codes "no system goes on with this") b))))
+
+-- the words of what is looked for; where a symbol stands before it, its arguments are, too
+abbrev pub opened : Bool → List ℕ → List ℕ
+opened false words = words
+opened true words = codes "( or " ++ words
+
+-- what is looked for after a term that stands there; elsewhere there is none, and it is this other one
+abbrev pub stand_sentence : (other : List ℕ) → Stand → Bool → List ℕ
+stand_sentence other standing.First opens = opened opens (codes ">< is looked for here")
+stand_sentence other standing.Second opens = opened opens (codes "; or } is looked for here")
+stand_sentence other standing.Interface opens = opened opens (codes ", or | is looked for here")
+stand_sentence other standing.Left opens = opened opens (codes "= is looked for here")
+stand_sentence other standing.Right opens = opened opens (codes ", or > is looked for here")
+stand_sentence other standing.Front opens = other
+stand_sentence other standing.Rules opens = other
+stand_sentence other standing.Over opens = other
+
+abbrev pub argument_sentence : Bool → List ℕ
+argument_sentence opens = opened opens (codes ", or ) is looked for here")
+
+abbrev pub comment_sentence : List ℕ
+comment_sentence = codes "there are no comments"
+
+abbrev pub empty_sentence : List ℕ
+empty_sentence = codes "a symbol without arguments has no parentheses"
 
 -- what is amiss where a configuration doesn't go on, by what stands there: the text may be of another
 -- kind, a system or lines of commands
@@ -61,16 +90,28 @@ abbrev pub config_sentence : Sight → List ℕ
 config_sentence End = codes "the text ends before its configuration does"
 config_sentence SystemMark = codes "a configuration begins with <, and this is a system"
 config_sentence CommandWord = codes "a configuration begins with <, and commands are served"
+config_sentence Comment = comment_sentence
 config_sentence NoName = name_sentence
+config_sentence Empty = empty_sentence
+config_sentence (Argument opens) = argument_sentence opens
+config_sentence (After stand opens) =
+    stand_sentence (codes "no configuration goes on with this") stand opens
 config_sentence (Behind b) = behind_in_config b
 config_sentence sight = codes "a configuration begins with <"
 
 -- the same of a system, where the text may be a configuration or lines of commands
 abbrev pub system_sentence : Sight → List ℕ
 system_sentence End = codes "the text ends before its system does"
-system_sentence ConfigMark = codes "a system begins with {, and this is a configuration"
+system_sentence ConfigMark = codes "a system begins with {, and this is a configuration: "
+    ++ codes "{} before it makes it a system"
 system_sentence CommandWord = codes "a system begins with {, and commands are served"
+system_sentence Comment = comment_sentence
 system_sentence NoName = name_sentence
+system_sentence Empty = empty_sentence
+system_sentence (Argument opens) = argument_sentence opens
+system_sentence (After stand opens) =
+    stand_sentence (codes "no system goes on with this") stand opens
+system_sentence Crossed = codes "a symbol is looked for here"
 system_sentence (Behind b) = behind_in_system b
 system_sentence sight = codes "a system begins with {"
 
@@ -80,7 +121,6 @@ syntax_sentence System sight = system_sentence sight
 
 -- what is amiss at the place of a refusal of which no more is known
 abbrev pub plain_sentence : Kind → TextFault → Sight → List ℕ
-plain_sentence kind (NameCount i) sight = codes "in a rule each name stands exactly twice"
 plain_sentence kind (Name n) sight = codes "in a configuration a name stands at most twice"
 plain_sentence kind (Twice i) sight = codes "a rule before this one is of the same two symbols"
 plain_sentence kind (Lopsided i) sight =
@@ -127,17 +167,34 @@ IsOfArities {P} IsOne words written text at symbol before here =
     × (slice_get (all_words (written phrase)) word
     ≡ Some (record { text = symbol; arity = here }))
 
--- what is amiss at the place of a refusal with these limits, by the word there, and by whatever else stands there
-abbrev pub sight_sentence_within : Limits → Kind → TextFault → Detail → List ℕ → Sight → List ℕ
-sight_sentence_within limits kind fault Nothing word sight = plain_sentence kind fault sight
-sight_sentence_within limits kind fault (Passed limit) word sight =
+-- how often a name that is told stands in a rule
+abbrev pub count_words : Bool → List ℕ
+count_words false = codes " stands once"
+count_words true = codes " stands here for the third time"
+
+-- what is amiss where a name stands in a rule for the only time, or again and for the third time
+abbrev pub namecount_sentence : (name : List ℕ) → (again : Bool) → List ℕ
+namecount_sentence name again =
+    concat (codes "in a rule each name stands exactly twice: " ∷ name ∷ count_words again ∷ [])
+
+-- what is amiss at the place of a refusal of which no more is known, by the word there, by whether it
+-- stands in its rule before the place, and by whatever else stands there
+abbrev pub place_sentence : Kind → TextFault → List ℕ → Bool → Sight → List ℕ
+place_sentence kind (NameCount i) word again sight = namecount_sentence word again
+place_sentence kind fault word again sight = plain_sentence kind fault sight
+
+-- the same of any refusal with these limits
+abbrev pub sight_sentence_within : Limits → Kind → TextFault → Detail → List ℕ → Bool → Sight → List ℕ
+sight_sentence_within limits kind fault Nothing word again sight =
+    place_sentence kind fault word again sight
+sight_sentence_within limits kind fault (Passed limit) word again sight =
     limit_sentence_within limits limit
-sight_sentence_within limits kind fault (Arities before here) word sight =
+sight_sentence_within limits kind fault (Arities before here) word again sight =
     arity_sentence word before here
 
 abbrev pub sentence_within : Limits → Kind → List ℕ → TextFault → ℕ → Detail → List ℕ
-sentence_within limits kind text fault at detail =
-    sight_sentence_within limits kind fault detail (first_word (drop at text)) (sight_at text at)
+sentence_within limits kind text fault at detail = sight_sentence_within limits kind fault detail
+    (first_word (drop at text)) (is_again text at) (sight_at text at)
 
 -- the lines that tell of a refusal, where its place is told
 abbrev pub told_lines_within : Limits → Kind → List ℕ → TextFault → Option ℕ → Detail → List ℕ
@@ -181,9 +238,9 @@ AppendedWithin limits Answers kind old new (Text fault) before after =
 AppendedWithin limits Answers kind old new fault before after = after ≡ before
 
 -- the same with the limits of what is served
-abbrev pub sight_sentence : Kind → TextFault → Detail → List ℕ → Sight → List ℕ
-sight_sentence kind fault detail word sight =
-    sight_sentence_within Served kind fault detail word sight
+abbrev pub sight_sentence : Kind → TextFault → Detail → List ℕ → Bool → Sight → List ℕ
+sight_sentence kind fault detail word again sight =
+    sight_sentence_within Served kind fault detail word again sight
 
 abbrev pub sentence : Kind → List ℕ → TextFault → ℕ → Detail → List ℕ
 sentence kind text fault at detail = sentence_within Served kind text fault at detail

@@ -1,6 +1,6 @@
 //! What is proved of the definitions alone: each law is the contract of a function that does nothing.
 
-ghost use Rattle.std.specs.Prelude.{◌≡◌, ◌≢◌, ◌⊎◌, ◌<◌, ◌≤◌, ◌+◌, ℕ, List, [], ◌∷◌, ◌++◌, false, true, Option, Some, Err, codes, get_or, length, map, min, slice_get, take};
+ghost use Rattle.std.specs.Prelude.{◌≡◌, ◌≢◌, ◌⊎◌, ◌<◌, ◌≤◌, ◌+◌, ℕ, List, [], ◌∷◌, ◌++◌, false, true, Option, Some, Err, codes, drop, get_or, length, map, min, slice_get, take};
 ghost use Rattle.std.specs.Fmt.{decimal};
 ghost use Rattle.std.specs.List.{AllByRecursion, concat, list_any, list_all};
 ghost use Rattle.std.specs.Str.{IsUtf8, chars};
@@ -10,7 +10,7 @@ ghost use Rattle.ic_rules.specs.declared.limits.TheConstants.{MAX_RULES, MAX_RUL
 ghost use Rattle.ic_text.specs.declared.limits.TheConstants.{MAX_NAME, MAX_TEXT, MAX_WIDE_TEXT};
 ghost use Rattle.ic_text.specs.declared.limits.Limits.TheVariants.{Wide};
 ghost use Rattle.ic_text.specs.declared.fault.TextFault.{TextFault};
-ghost use Rattle.ic_text.specs.declared.fault.TextFault.TheVariants.{Arity, Syntax};
+ghost use Rattle.ic_text.specs.declared.fault.TextFault.TheVariants.{Arity, NameCount, Syntax};
 ghost use Rattle.ic_text.specs.declared.misread.Detail.{Detail};
 ghost use Rattle.ic_text.specs.declared.misread.Detail.TheVariants.{Nothing};
 ghost use Rattle.ic_text.specs.declared.misread.Limit.TheVariants.{TextBytes, SymbolBytes, Arguments, NameNumber, Symbols, Rules, RuleNodes, Interface, Nodes};
@@ -22,8 +22,9 @@ ghost use Rattle.ic_streams.specs.Streams.{OfText, Rounds, Settles};
 ghost use Rattle.ic_streams.specs.declared.fault.StreamFault.TheVariants.{Text};
 ghost use Rattle.ic_diagnostics.specs.declared.telling.Kind.{Kind};
 ghost use Rattle.ic_diagnostics.specs.declared.telling.Kind.TheVariants.{Config, System};
-ghost use Rattle.ic_diagnostics.specs.Sights.{command_words};
-ghost use Rattle.ic_diagnostics.specs.Telling.{Appended, IsOfArities, IsToldOf, arity_sentence, limit_sentence, limit_sentence_within, sentence};
+ghost use Rattle.ic_diagnostics.specs.Sights.{command_words, first_word, is_again};
+ghost use Rattle.ic_diagnostics.specs.Telling.{Appended, IsOfArities, IsToldOf, arity_sentence, comment_sentence, limit_sentence};
+ghost use Rattle.ic_diagnostics.specs.Telling.{limit_sentence_within, name_sentence, namecount_sentence, sentence};
 ghost use Rattle.ic_diagnostics.specs.Lines.{IsMarked, begins_with_feed, column, feed, first_line, head_of, is_ascii, is_feed, is_printable, last_line, line_number, margin, picture_of, place_lines, shown, shown_before, shown_behind, told_at};
 
 /// A line feed ends a line and begins one. The last line is what follows the last line feed.
@@ -127,7 +128,7 @@ pub fn other_texts_are_told_so()
         ≡ codes "a configuration begins with <, and this is a system" }
     ensures config { (blanks rest : List ℕ) → list_all is_blank blanks ≡ true →
         sentence System (blanks ++ 60 ∷ rest) Syntax (length blanks) Nothing
-        ≡ codes "a system begins with {, and this is a configuration" }
+        ≡ codes "a system begins with {, and this is a configuration: {} before it makes it a system" }
     ensures commands { (blanks rest : List ℕ) → list_all is_blank blanks ≡ true →
         is_word_byte (get_or rest 0 0) ≡ false → AllByRecursion (λ word.
         (sentence Config (blanks ++ (word ++ rest)) Syntax (length blanks) Nothing
@@ -141,7 +142,7 @@ pub fn other_texts_are_told_so()
         ≡ codes "the text ends before its system does") }
 {}
 
-/// After a mark the sentence tells what is looked for there.
+/// After a mark, and after a term, the sentence tells what is looked for there.
 pub fn what_is_looked_for_is_told()
     ensures term { AllByRecursion (λ text.
         sentence Config (text ++ codes "=Z>") Syntax (length text) Nothing
@@ -158,6 +159,53 @@ pub fn what_is_looked_for_is_told()
         ≡ codes "a symbol is looked for here" }
     ensures behind_rules { sentence System (codes "{} |") Syntax 3 Nothing
         ≡ codes "< is looked for here" }
+    ensures crossed { sentence System (codes "{A><}") Syntax 4 Nothing
+        ≡ codes "a symbol is looked for here" }
+    ensures first { sentence System (codes "{Add(x,x)=Z}") Syntax 9 Nothing
+        ≡ codes ">< is looked for here" }
+    ensures second { sentence System (codes "{A><B(x),C><D}") Syntax 8 Nothing
+        ≡ codes "; or } is looked for here" }
+    ensures interface { sentence System (codes "{} <a b|>") Syntax 6 Nothing
+        ≡ codes ", or | is looked for here" }
+    ensures left { sentence Config (codes "<r|r,S(Z)=r>") Syntax 4 Nothing
+        ≡ codes "= is looked for here" }
+    ensures right { AllByRecursion (λ text.
+        sentence System (codes "{A(x,x)><B} <r|A(r,Z)=B, r=x" ++ text) Syntax 28 Nothing
+        ≡ codes ", or > is looked for here") (codes "; C=D>" ∷ codes "}" ∷ codes "=Z>" ∷ []) }
+    ensures argument { sentence Config (codes "<r|r=S(x>") Syntax 8 Nothing
+        ≡ codes ", or ) is looked for here" }
+    ensures symbols { map (λ text. sentence System text Syntax 6 Nothing)
+        (codes "{A><B , C><D}" ∷ codes "{Add  x><B}" ∷ codes "{}  <A;>" ∷ codes "{A(B  C)><D}" ∷ [])
+        ≡ codes "( or ; or } is looked for here" ∷ codes "( or >< is looked for here"
+        ∷ codes "( or , or | is looked for here" ∷ codes "( or , or ) is looked for here" ∷ [] }
+    ensures sides { map (λ text. sentence Config text Syntax 6 Nothing)
+        (codes "<r|Z  ><B>" ∷ codes "<r|r=Z;>" ∷ [])
+        ≡ codes "( or = is looked for here" ∷ codes "( or , or > is looked for here" ∷ [] }
+    ensures empty { sentence Config (codes "<r|r=Nil()>") Syntax 9 Nothing
+        ≡ codes "a symbol without arguments has no parentheses" }
+    ensures joined { map (λ text. sentence Config text Syntax 4 Nothing)
+        (codes "<r|x_1=Z>" ∷ codes "<r|X'=Z>" ∷ []) ≡ name_sentence ∷ name_sentence ∷ [] }
+{}
+
+/// What begins a comment in other languages is told not to be one, at the front of a text and further on.
+pub fn comments_are_told()
+    ensures front { (kind : Kind) (blanks rest : List ℕ) → list_all is_blank blanks ≡ true →
+        AllByRecursion (λ mark. sentence kind (blanks ++ (mark ++ rest)) Syntax (length blanks) Nothing
+        ≡ codes "there are no comments") (codes "#" ∷ codes "//" ∷ codes "--" ∷ []) }
+    ensures inner { map (λ mark. sentence System (codes "{A><B} " ++ mark) Syntax 7 Nothing)
+        (codes "# <|>" ∷ codes "// <|>" ∷ codes "-- <|>" ∷ [])
+        ≡ comment_sentence ∷ comment_sentence ∷ comment_sentence ∷ [] }
+{}
+
+/// A name that stands in a rule for the only time, or for the third time, is told with that. What stands in another rule
+/// doesn't count.
+pub fn miscounts_are_told()
+    ensures once { sentence System (codes "{A(x)><B} <x|>") (NameCount 0) 3 Nothing
+        ≡ codes "in a rule each name stands exactly twice: x stands once" }
+    ensures third { sentence System (codes "{A(x)><B(x);C(x1,x)><D(x1,S(x),x)} <|>") (NameCount 1) 31 Nothing
+        ≡ codes "in a rule each name stands exactly twice: x stands here for the third time" }
+    ensures again { (text : List ℕ) (at i : ℕ) → sentence System text (NameCount i) at Nothing
+        ≡ namecount_sentence (first_word (drop at text)) (is_again text at) }
 {}
 
 /// The sentence of each limit tells its number.

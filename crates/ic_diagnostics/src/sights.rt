@@ -1,11 +1,13 @@
 //! What stands where a text doesn't go on.
 
-ghost use Rattle.std.specs.Prelude.{◌≡◌, ◌≤◌, length};
+ghost use Rattle.std.specs.Prelude.{◌≡◌, ◌≤◌, false, length};
 ghost use Rattle.std.specs.List.{list_all};
 ghost use Rattle.ic_text.specs.Token.{is_blank};
-ghost use Rattle.ic_diagnostics.specs.Sights.{behind, first_word, front_sight, inner_sight, is_command, is_misnamed, is_term_due, last_byte, opens_term, sight_at};
+ghost use Rattle.ic_diagnostics.specs.Sights.{begins_rule, empties, ends_term, first_word, front_sight, inner_sight, is_command, is_joined, is_mark, is_misnamed, is_no_name};
+ghost use Rattle.ic_diagnostics.specs.Sights.{is_again, is_second, is_symbol, is_term_due, joins, last_byte, last_word, mark_sight, opens_comment, opens_term, rule_front, sight_at, stands_in, term_sight};
 
 use crate::lines::trimmed;
+use crate::stands::{Spot, Stand, spot_of};
 use ic_text::{is_blank, is_numeral, is_word_byte};
 
 /// What stands at a place of a text, as far as it tells what is amiss there.
@@ -19,8 +21,19 @@ pub enum Sight {
     ConfigMark,
     /// At the front, a word with which a command begins.
     CommandWord,
-    /// Where a term may stand, a word that begins as a name does and isn't one.
+    /// What begins a comment in other languages.
+    Comment,
+    /// Where a term may stand, a word that begins as a name does and isn't one; or a word that goes on with a byte of no
+    /// text.
     NoName,
+    /// `)` right after `(`.
+    Empty,
+    /// Anything else, after a term in an agent's parentheses, and whether the term may have arguments.
+    Argument(bool),
+    /// Anything else, after a term that stands there, and whether the term may have arguments.
+    After(Stand, bool),
+    /// Anything else, after `><`.
+    Crossed,
     /// At the front, anything else.
     Front,
     /// Further on anything else, after this byte, which is the last one before it that is no blank.
@@ -28,7 +41,7 @@ pub enum Sight {
 }
 
 /// The word with which a text begins, or nothing.
-pub(crate) fn first_word(text: &[u8]) -> &[u8]
+pub fn first_word(text: &[u8]) -> &[u8]
     ensures { result.now ≡ first_word text.now }
 {
     for (place, byte) in text.iter().enumerate() {
@@ -95,12 +108,130 @@ fn is_term_due(front: &[u8]) -> bool
     opens_term(last_byte(front))
 }
 
-/// Anything after this byte.
-fn behind(byte: Option<u8>) -> Sight
-    ensures { result ≡ behind byte }
+/// Whether a comment begins with a text, as in other languages.
+pub fn opens_comment(text: &[u8]) -> bool
+    ensures { result ≡ opens_comment text.now }
+{
+    text.starts_with(b"#".as_slice())
+        || text.starts_with(b"//".as_slice())
+        || text.starts_with(b"--".as_slice())
+}
+
+/// Whether a byte is a mark.
+fn is_mark(byte: u8) -> bool
+    ensures { result ≡ is_mark byte }
+{
+    byte == b'{'
+        || byte == b'}'
+        || byte == b'<'
+        || byte == b'>'
+        || byte == b'|'
+        || byte == b'='
+        || byte == b','
+        || byte == b';'
+        || byte == b'('
+        || byte == b')'
+}
+
+/// Whether a word would go on with a byte that is no mark, where these bytes stand on the two sides of a place.
+fn joins(before: Option<u8>, here: Option<u8>) -> bool
+    ensures { result ≡ joins before here }
+{
+    match (before, here) {
+        (Some(before), Some(here)) => is_word_byte(before) && !is_mark(here),
+        (None, _) | (Some(_), None) => false,
+    }
+}
+
+/// Whether a word at the end of a text goes on with a byte of no text.
+fn is_joined(front: &[u8], rest: &[u8]) -> bool
+    ensures { result ≡ is_joined front.now rest.now }
+{
+    joins(front.last().copied(), rest.first().copied())
+}
+
+/// Whether these bytes are parentheses with nothing in them.
+fn empties(before: Option<u8>, here: Option<u8>) -> bool
+    ensures { result ≡ empties before here }
+{
+    match (before, here) {
+        (Some(before), Some(here)) => before == b'(' && here == b')',
+        (None, _) | (Some(_), None) => false,
+    }
+}
+
+/// Whether a term ends with a byte.
+fn ends_term(byte: Option<u8>) -> bool
+    ensures { result ≡ ends_term byte }
 {
     match byte {
-        Some(byte) => Sight::Behind(byte),
+        Some(byte) => is_word_byte(byte) || byte == b')',
+        None => false,
+    }
+}
+
+/// Whether a word is a symbol, as its first byte tells.
+fn is_symbol(word: &[u8]) -> bool
+    ensures { result ≡ is_symbol word.now }
+{
+    match word.first() {
+        Some(byte) => byte.is_ascii_uppercase() || byte.is_ascii_digit(),
+        None => false,
+    }
+}
+
+/// The word with which a text ends, or nothing.
+fn last_word(text: &[u8]) -> &[u8]
+    ensures { result.now ≡ last_word text.now }
+{
+    let mut start = text.len();
+    while start > 0 && is_word_byte(text[start - 1]) {
+        start -= 1;
+    }
+    &text[start..]
+}
+
+/// What is seen after a term that ends a text.
+fn term_sight(front: &[u8]) -> Sight
+    ensures { result ≡ term_sight front.now }
+{
+    let Spot { stand, depth } = spot_of(front);
+    let opens = is_symbol(last_word(trimmed(front)));
+    if depth == 0 {
+        Sight::After(stand, opens)
+    } else {
+        Sight::Argument(opens)
+    }
+}
+
+/// Whether a place is after `><`.
+fn is_second(stand: Stand) -> bool
+    ensures { result ≡ is_second stand }
+{
+    match stand {
+        Stand::Second => true,
+        Stand::Front
+        | Stand::First
+        | Stand::Rules
+        | Stand::Interface
+        | Stand::Left
+        | Stand::Right
+        | Stand::Over => false,
+    }
+}
+
+/// What is seen after a mark.
+fn mark_sight(byte: Option<u8>, stand: Stand) -> Sight
+    ensures { result ≡ mark_sight byte stand }
+{
+    match byte {
+        Some(byte) => {
+            if byte == b'<' && is_second(stand) {
+                Sight::Crossed
+            } else {
+                Sight::Behind(byte)
+            }
+        }
         None => Sight::Front,
     }
 }
@@ -116,6 +247,8 @@ fn front_sight(text: &[u8]) -> Sight
         Some(_) => {
             if is_command(first_word(text)) {
                 Sight::CommandWord
+            } else if opens_comment(text) {
+                Sight::Comment
             } else {
                 Sight::Front
             }
@@ -127,11 +260,25 @@ fn front_sight(text: &[u8]) -> Sight
 fn inner_sight(front: &[u8], rest: &[u8]) -> Sight
     ensures { result ≡ inner_sight front.now rest.now }
 {
-    if is_term_due(front) && is_misnamed(first_word(rest)) {
+    let last = last_byte(front);
+    if opens_comment(rest) {
+        Sight::Comment
+    } else if is_no_name(front, rest) {
         Sight::NoName
+    } else if empties(last, rest.first().copied()) {
+        Sight::Empty
+    } else if ends_term(last) {
+        term_sight(front)
     } else {
-        behind(last_byte(front))
+        mark_sight(last, spot_of(front).stand)
     }
+}
+
+/// Whether a word is to stand between these bytes, or stands there, that is no name.
+fn is_no_name(front: &[u8], rest: &[u8]) -> bool
+    ensures { result ≡ is_no_name front.now rest.now }
+{
+    (is_term_due(front) && is_misnamed(first_word(rest))) || is_joined(front, rest)
 }
 
 /// Whether these bytes are blanks.
@@ -155,4 +302,45 @@ pub(crate) fn sight_at(text: &[u8], at: usize) -> Sight
     } else {
         inner_sight(front, rest)
     }
+}
+
+/// Whether a rule begins after a byte.
+fn begins_rule(byte: u8) -> bool
+    ensures { result ≡ begins_rule byte }
+{
+    byte == b'{' || byte == b';'
+}
+
+/// As much of a rule as stands at the end of a text.
+fn rule_front(text: &[u8]) -> &[u8]
+    ensures { result.now ≡ rule_front text.now }
+{
+    let mut start = text.len();
+    while start > 0 && !begins_rule(text[start - 1]) {
+        start -= 1;
+    }
+    &text[start..]
+}
+
+/// Whether a word stands in a text.
+fn stands_in(word: &[u8], text: &[u8]) -> bool
+    ensures { result ≡ stands_in word.now false text.now }
+{
+    let mut goes_on = false;
+    for (place, byte) in text.iter().enumerate() {
+        if !goes_on && first_word(&text[place..]) == word {
+            return true;
+        }
+        goes_on = is_word_byte(*byte);
+    }
+    false
+}
+
+/// Whether the word at a place stands in its rule before the place, too.
+pub(crate) fn is_again(text: &[u8], at: usize) -> bool
+    requires { at ≤ length text.now }
+    ensures { result ≡ is_again text.now at }
+{
+    let (front, rest) = text.split_at(at);
+    stands_in(first_word(rest), rule_front(front))
 }

@@ -1,11 +1,15 @@
 //! What is told of a refused text beside its refusal.
 
-ghost use Rattle.std.specs.Prelude.{◌≡◌, ◌≤◌, IfOk, IfSome, length};
+ghost use Rattle.std.specs.Prelude.{◌≡◌, ◌≤◌, IfOk, IfSome, drop, false, length, true};
 ghost use Rattle.ic_text.specs.declared.limits.Limits.TheVariants.{Wide};
-ghost use Rattle.ic_diagnostics.specs.Telling.{arity_sentence, behind_in_config, behind_in_system, behind_mark, config_sentence, limit_sentence, limit_sentence_within, plain_sentence, sentence, sentence_within, syntax_sentence, system_sentence, told_lines, told_lines_within};
+ghost use Rattle.ic_diagnostics.specs.Sights.{first_word, is_again, sight_at};
+ghost use Rattle.ic_diagnostics.specs.Telling.{argument_sentence, arity_sentence, behind_in_config, behind_in_system, behind_mark, config_sentence, count_words};
+ghost use Rattle.ic_diagnostics.specs.Telling.{limit_sentence, limit_sentence_within, namecount_sentence, place_sentence, plain_sentence, sentence, sentence_within};
+ghost use Rattle.ic_diagnostics.specs.Telling.{stand_sentence, syntax_sentence, system_sentence, told_lines, told_lines_within};
 
 use crate::lines::place_lines;
-use crate::sights::{Sight, first_word, sight_at};
+use crate::sights::{Sight, first_word, is_again, sight_at};
+use crate::stands::Stand;
 use ic_text::{Detail, Limit, Limits, Misread, TextFault};
 use std::alloc::{AllocError, Global};
 
@@ -15,6 +19,12 @@ pub enum Kind {
     Config,
     System,
 }
+
+/// What is told of a comment.
+const NO_COMMENTS: &[u8] = b"there are no comments";
+
+/// What is told of parentheses with nothing in them.
+const NO_PARENTHESES: &[u8] = b"a symbol without arguments has no parentheses";
 
 /// What names and symbols are, where a word is neither.
 const NAMES: &[u8] =
@@ -57,8 +67,62 @@ fn behind_in_system(byte: u8) -> &'static [u8]
         b"a symbol is looked for here"
     } else if byte == b'}' {
         b"< is looked for here"
+    } else if byte == b'<' {
+        b"a term or | is looked for here"
+    } else if byte == b'>' {
+        b"nothing is looked for behind a configuration"
     } else {
         behind_mark(b"no system goes on with this", byte)
+    }
+}
+
+/// What is looked for after a symbol that stands there, as far as it is told; else it is the other sentence.
+fn symbol_sentence(other: &'static [u8], stand: Stand) -> &'static [u8]
+    ensures { result.now ≡ stand_sentence other.now stand true }
+{
+    match stand {
+        Stand::First => b"( or >< is looked for here",
+        Stand::Second => b"( or ; or } is looked for here",
+        Stand::Interface => b"( or , or | is looked for here",
+        Stand::Left => b"( or = is looked for here",
+        Stand::Right => b"( or , or > is looked for here",
+        Stand::Front | Stand::Rules | Stand::Over => other,
+    }
+}
+
+/// What is looked for after any other term that stands there.
+fn term_sentence(other: &'static [u8], stand: Stand) -> &'static [u8]
+    ensures { result.now ≡ stand_sentence other.now stand false }
+{
+    match stand {
+        Stand::First => b">< is looked for here",
+        Stand::Second => b"; or } is looked for here",
+        Stand::Interface => b", or | is looked for here",
+        Stand::Left => b"= is looked for here",
+        Stand::Right => b", or > is looked for here",
+        Stand::Front | Stand::Rules | Stand::Over => other,
+    }
+}
+
+/// What is looked for after a term that stands there, and may have arguments or not.
+fn stand_sentence(other: &'static [u8], stand: Stand, opens: bool) -> &'static [u8]
+    ensures { result.now ≡ stand_sentence other.now stand opens }
+{
+    if opens {
+        symbol_sentence(other, stand)
+    } else {
+        term_sentence(other, stand)
+    }
+}
+
+/// What is looked for after an argument, which may have arguments or not.
+fn argument_sentence(opens: bool) -> &'static [u8]
+    ensures { result.now ≡ argument_sentence opens }
+{
+    if opens {
+        b"( or , or ) is looked for here"
+    } else {
+        b", or ) is looked for here"
     }
 }
 
@@ -70,9 +134,15 @@ fn config_sentence(sight: Sight) -> &'static [u8]
         Sight::End => b"the text ends before its configuration does",
         Sight::SystemMark => b"a configuration begins with <, and this is a system",
         Sight::CommandWord => b"a configuration begins with <, and commands are served",
+        Sight::Comment => NO_COMMENTS,
         Sight::NoName => NAMES,
+        Sight::Empty => NO_PARENTHESES,
+        Sight::Argument(opens) => argument_sentence(opens),
+        Sight::After(stand, opens) => {
+            stand_sentence(b"no configuration goes on with this", stand, opens)
+        }
         Sight::Behind(byte) => behind_in_config(byte),
-        Sight::ConfigMark | Sight::Front => b"a configuration begins with <",
+        Sight::ConfigMark | Sight::Crossed | Sight::Front => b"a configuration begins with <",
     }
 }
 
@@ -82,9 +152,16 @@ fn system_sentence(sight: Sight) -> &'static [u8]
 {
     match sight {
         Sight::End => b"the text ends before its system does",
-        Sight::ConfigMark => b"a system begins with {, and this is a configuration",
+        Sight::ConfigMark => {
+            b"a system begins with {, and this is a configuration: {} before it makes it a system"
+        }
         Sight::CommandWord => b"a system begins with {, and commands are served",
+        Sight::Comment => NO_COMMENTS,
         Sight::NoName => NAMES,
+        Sight::Empty => NO_PARENTHESES,
+        Sight::Argument(opens) => argument_sentence(opens),
+        Sight::After(stand, opens) => stand_sentence(b"no system goes on with this", stand, opens),
+        Sight::Crossed => b"a symbol is looked for here",
         Sight::Behind(byte) => behind_in_system(byte),
         Sight::SystemMark | Sight::Front => b"a system begins with {",
     }
@@ -105,13 +182,14 @@ fn plain_sentence(kind: Kind, fault: TextFault, sight: Sight) -> &'static [u8]
     ensures { result.now ≡ plain_sentence kind fault sight }
 {
     match fault {
-        TextFault::NameCount(_) => b"in a rule each name stands exactly twice",
         TextFault::Name(_) => b"in a configuration a name stands at most twice",
         TextFault::Twice(_) => b"a rule before this one is of the same two symbols",
         TextFault::Lopsided(_) => b"a rule of a symbol with itself reads the same from both sides",
-        TextFault::Syntax | TextFault::Limit | TextFault::Arity | TextFault::Memory => {
-            syntax_sentence(kind, sight)
-        }
+        TextFault::Syntax
+        | TextFault::Limit
+        | TextFault::Arity
+        | TextFault::NameCount(_)
+        | TextFault::Memory => syntax_sentence(kind, sight),
     }
 }
 
@@ -174,6 +252,47 @@ fn arity_sentence(
     Ok(sentence)
 }
 
+/// What is amiss where a name stands in a rule for the only time, or again and for the third time.
+fn namecount_sentence(alloc: Global, name: &[u8], again: bool) -> Result<Vec<u8>, AllocError>
+    ensures { IfOk result (λ words. words.items ≡ namecount_sentence name.now again) }
+{
+    let mut sentence = Vec::from_slice(alloc, b"in a rule each name stands exactly twice: ")?;
+    sentence.extend_from_slice(name)?;
+    sentence.extend_from_slice(count_words(again))?;
+    Ok(sentence)
+}
+
+/// How often a name that is told stands in a rule.
+fn count_words(again: bool) -> &'static [u8]
+    ensures { result.now ≡ count_words again }
+{
+    if again {
+        b" stands here for the third time"
+    } else {
+        b" stands once"
+    }
+}
+
+/// What is amiss at the place of a refusal of which no more is known.
+fn place_sentence(
+    alloc: Global,
+    kind: Kind,
+    text: &[u8],
+    at: usize,
+    fault: TextFault,
+) -> Result<Vec<u8>, AllocError>
+    requires { at ≤ length text.now }
+    ensures { IfOk result (λ words. words.items ≡ place_sentence kind fault
+        (first_word (drop at text.now)) (is_again text.now at) (sight_at text.now at)) }
+{
+    match fault {
+        TextFault::NameCount(_) => {
+            namecount_sentence(alloc, first_word(&text[at..]), is_again(text, at))
+        }
+        _ => Vec::from_slice(alloc, plain_sentence(kind, fault, sight_at(text, at))),
+    }
+}
+
 /// What is amiss at a place of a text that is refused there with the limits of what is served.
 pub fn sentence(
     alloc: Global,
@@ -203,10 +322,7 @@ fn sentence_within(
         ≡ sentence_within limits kind text.now misread.fault at misread.detail) }
 {
     match misread.detail {
-        Detail::Nothing => {
-            let sight = sight_at(text, at);
-            Vec::from_slice(alloc, plain_sentence(kind, misread.fault, sight))
-        }
+        Detail::Nothing => place_sentence(alloc, kind, text, at, misread.fault),
         Detail::Passed(limit) => Vec::from_slice(alloc, limit_sentence(limits, limit)),
         Detail::Arities(before, here) => {
             arity_sentence(alloc, first_word(&text[at..]), before, here)

@@ -2,4 +2,23 @@ use Rattle.std.proofs.Common.{refl}
 use Rattle.ic_diagnostics.proofs.laws.what_is_looked_for_is_told.Goals as goal
 
 pub returns : goal.returns
-returns c = record { term = (refl, (refl, (refl, tt))); config = refl; equations = refl; over = refl; rules = refl; rule = refl; behind_rules = refl }
+returns c = record {
+  term = (refl, (refl, (refl, tt)));
+  config = refl;
+  equations = refl;
+  over = refl;
+  rules = refl;
+  rule = refl;
+  behind_rules = refl;
+  crossed = refl;
+  first = refl;
+  second = refl;
+  interface = refl;
+  left = refl;
+  right = (refl, (refl, (refl, tt)));
+  argument = refl;
+  symbols = refl;
+  sides = refl;
+  empty = refl;
+  joined = refl;
+}
