@@ -20,10 +20,25 @@ LIMIT = 2 * SECOND_SLOT
 WORN = 2**64 - 1
 
 
+CAUSES = {"overgrown": ", next round overgrown", "names out": ", next round out of names"}
+
+
+def cause(job):
+    """Why no further round of a halted job can be made; nothing where one can, as on a disk that no server has written."""
+    if job.rounds == model.MAX_ROUNDS:
+        return ", out of rounds"
+    try:
+        model.round_of(job.rules, job.config)
+    except model.Refusal as refusal:
+        return CAUSES[str(refusal)]
+    return ""
+
+
 def job_line(job):
     """The line of a job of the newest table."""
     pairs = sum(job.rules.find(*it) is not None for it in job.config.equations)
-    return f"{job.name}: {job.state}, rounds {job.rounds}, nodes {model.nodes_of(job.config)}, active pairs {pairs}"
+    why = cause(job) if job.state == "halted" else ""
+    return f"{job.name}: {job.state}, rounds {job.rounds}, nodes {model.nodes_of(job.config)}, active pairs {pairs}{why}"
 
 
 def looked_at(data, at):
@@ -60,7 +75,7 @@ def report(data):
 
 # The lines that tell what a file holds, with the fields of their objects.
 SLOT = re.compile(r"slot (?P<slot>[12]): (?:(?P<cut>cut off)|(?P<state>open|closed), number (?P<number>\d+), body (?P<size>\d+), (?P<body>.*))")
-JOB = re.compile(r"(?P<job>\S+): (?P<state>\w+), rounds (?P<rounds>\d+), nodes (?P<nodes>\d+), active pairs (?P<active_pairs>\d+)")
+JOB = re.compile(r"(?P<job>\S+): (?P<state>\w+), rounds (?P<rounds>\d+), nodes (?P<nodes>\d+), active pairs (?P<active_pairs>\d+)(?:, (?P<halt>.*))?")
 
 
 def fields_of(line):
@@ -71,7 +86,7 @@ def fields_of(line):
     if found.get("cut"):
         return [("slot", int(found["slot"])), ("state", "cut off")]
     numbers = ("slot", "number", "size", "rounds", "nodes", "active_pairs")
-    return [(name, int(it) if name in numbers else it) for name, it in found.items() if name != "cut"]
+    return [(name, int(it) if name in numbers else it) for name, it in found.items() if name != "cut" and it is not None]
 
 
 class Inspect(ModelTrial):
@@ -114,6 +129,30 @@ class Inspect(ModelTrial):
             ],
             ran.out.decode().splitlines()[2:],
         )
+
+    def test_halted_jobs_are_told_with_their_cause(self):
+        """A job of 8,191 nodes whose next round has one too many; one whose names are used up, and one whose rounds are; and a
+        job that was put to be halted though it isn't, on a disk that no server has written."""
+        self.runs("create", "--disk", self.path)
+        over = "submit o {A><B(C(C(D)))} <|A=B(P)," + "C(" * 8187 + "D" + ")" * 8187 + "=Q>"
+        self.serves(self.path, [over, "run 1"], ["accepted", "ran 1"])
+        ran = run("inspect", "--disk", self.path)
+        self.equals(ran.command, "the job", "o: halted, rounds 0, nodes 8192, active pairs 1, next round overgrown", ran.out.decode().splitlines()[3])
+        rules, config = model.read_system(b"{A(x)><B(x)} <|A(P)=B(Q)>")
+        top = model.MAX_ROUNDS
+        for name, rounds, following, state, told in (
+            ("rounds", top, 0, "halted", ", out of rounds"),
+            ("names", 0, top, "halted", ", next round out of names"),
+            ("both", top, top, "halted", ", out of rounds"),
+            ("none", 0, 0, "halted", ""),
+            ("paused", top, top, "paused", ""),
+        ):
+            with self.subTest(name=name):
+                job = model.Job(name, rules, model.Config(config.interface, config.equations, following), rounds, state)
+                self.path.write_bytes(disk_of(slot(1, form_of(self.draws(), model.Table([job])))))
+                line = f"{name}: {state}, rounds {rounds}, nodes 4, active pairs 1{told}"
+                self.equals(name, "the line of the model", line, job_line(job))
+                self.tells([*report(self.path.read_bytes())[:2], "held: slot 1", line])
 
     def test_each_kind_of_slot(self):
         none = "slot 2: closed, number 0, body 0, no table"

@@ -1,5 +1,6 @@
 pub mod FieldLemmas
 pub mod LineLemmas
+pub mod HaltLemmas
 pub mod HeldLemmas
 pub mod FrontLemmas
 pub mod ReadLemmas

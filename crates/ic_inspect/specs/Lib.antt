@@ -1,6 +1,7 @@
 -- What a reader of the public contracts must believe.
 pub mod Seeing
 pub mod Held
+pub mod Halts
 pub mod Report
 pub mod Objects
 pub mod Inspecting

@@ -10,6 +10,8 @@ use Rattle.ic_commands.specs.ReplyText.{state_text}
 use Rattle.ic_inspect.specs.declared.seen.Body.{Body}
 use Rattle.ic_inspect.specs.declared.seen.Body.TheVariants.{TooLong, CutShort, NoTable, Holds}
 use Rattle.ic_inspect.specs.declared.seen.Seen.{Seen}
+use Rattle.ic_inspect.specs.declared.halts.Halt.{Halt}
+use Rattle.ic_inspect.specs.Halts.{halt_of, halt_words}
 use Rattle.ic_inspect.specs.Held.{newest_of, held_of}
 use Rattle.ic_inspect.specs.Report.{active_pairs, line, newest_text}
 
@@ -55,10 +57,15 @@ nodes_field j = codes ",\"nodes\":" ++ decimal (configuration_nodes j.config)
 abbrev pub pairs_field : JobParts → List ℕ
 pairs_field j = codes ",\"active_pairs\":" ++ decimal (active_pairs j.rules.rules j.config)
 
+-- why a job is halted, where it is told
+abbrev pub halt_field : Option Halt → List ℕ
+halt_field None = []
+halt_field (Some halt) = codes ",\"halt\":\"" ++ halt_words halt ++ codes "\""
+
 -- the object of a job
 abbrev pub job_object : JobParts → List ℕ
-job_object j = concat (codes "{" ∷ standing_fields j ∷ nodes_field j ∷ pairs_field j ∷ codes "}"
-    ∷ (10 ∷ []) ∷ [])
+job_object j = concat (codes "{" ∷ standing_fields j ∷ nodes_field j ∷ pairs_field j
+    ∷ halt_field (halt_of j) ∷ codes "}" ∷ (10 ∷ []) ∷ [])
 
 -- the object of what is held
 abbrev pub held_object : List ℕ → List ℕ

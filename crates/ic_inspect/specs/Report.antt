@@ -13,6 +13,8 @@ use Rattle.ic_inspect.specs.declared.choosing.Newest.TheVariants.{NoSlot, TwoAli
 use Rattle.ic_inspect.specs.declared.seen.Body.{Body}
 use Rattle.ic_inspect.specs.declared.seen.Body.TheVariants.{TooLong, CutShort, NoTable, Holds}
 use Rattle.ic_inspect.specs.declared.seen.Seen.{Seen}
+use Rattle.ic_inspect.specs.declared.halts.Halt.{Halt}
+use Rattle.ic_inspect.specs.Halts.{halt_of, halt_words}
 use Rattle.ic_inspect.specs.Held.{newest_of, held_of}
 
 -- a line with its line feed
@@ -66,9 +68,15 @@ abbrev pub sizes_text : JobParts → List ℕ
 sizes_text j =
     counts_text (configuration_nodes j.config) (active_pairs j.rules.rules j.config)
 
--- `NAME: STATE, rounds R, nodes N, active pairs P`
+-- `, WORDS`, where a job has a reason to be halted
+abbrev pub halt_text : Option Halt → List ℕ
+halt_text None = []
+halt_text (Some halt) = codes ", " ++ halt_words halt
+
+-- `NAME: STATE, rounds R, nodes N, active pairs P`, and of a halted job why its next round can't be
+-- made
 abbrev pub job_line : JobParts → List ℕ
-job_line j = line (standing_text j ++ sizes_text j)
+job_line j = line (standing_text j ++ sizes_text j ++ halt_text (halt_of j))
 
 -- which slot is the newest, or why none is
 abbrev pub newest_text : Newest → List ℕ

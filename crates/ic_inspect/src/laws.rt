@@ -1,16 +1,19 @@
 //! Laws of the definitions that the contracts of this crate cite.
 
-ghost use Rattle.std.specs.Prelude.{◌≡◌, ◌+◌, ◌++◌, ◌<◌, ◌≤◌, ℕ, List, [], ◌∷◌, Option, None, Some, Contains, IsSome, OnOk, codes, drop, length, map, take, false, true};
+ghost use Rattle.std.specs.Prelude.{◌≡◌, ◌≢◌, IsTrue, ◌+◌, ◌++◌, ◌<◌, ◌≤◌, ℕ, List, [], ◌∷◌, Option, None, Some, Contains, IsSome, OnOk, codes, drop, length, map, take, false, true};
 ghost use Rattle.std.specs.Fmt.{decimal};
 ghost use Rattle.std.specs.List.{flat_map};
 ghost use Rattle.ic_term.specs.Configuration.{Configuration, configuration_nodes};
 ghost use Rattle.ic_term.specs.Tree.{Pair};
 ghost use Rattle.ic_rules.specs.Rule.{Rule};
-ghost use Rattle.ic_round.specs.Firing.{rule_of_sides};
+ghost use Rattle.ic_round.specs.Firing.{fired, rule_of_sides};
+ghost use Rattle.ic_term.specs.declared.limits.TheConstants.{MAX_NEXT, MAX_NODES};
+ghost use Rattle.ic_pool.specs.declared.limits.TheConstants.{MAX_ROUNDS};
+ghost use Rattle.ic_jobs.specs.declared.state.State.TheVariants.{Halted};
 ghost use Rattle.ic_disk.specs.Images.{Torn};
 ghost use Rattle.ic_codec.specs.Tables.{IsFormOf};
 ghost use Rattle.ic_commands.specs.ReplyText.{state_text};
-ghost use Rattle.ic_jobs.specs.Job.{JobParts};
+ghost use Rattle.ic_jobs.specs.Job.{JobParts, can_move};
 ghost use Rattle.ic_jobs.specs.Table.{IsTable};
 ghost use Rattle.ic_frames.specs.declared.frame.TheConstants.{HEAD, MAX_BODY};
 ghost use Rattle.ic_frames.specs.declared.slot.Slot.{Slot};
@@ -28,8 +31,10 @@ ghost use Rattle.ic_inspect.specs.declared.inspecting.Layout.{Layout};
 ghost use Rattle.ic_inspect.specs.declared.seen.Body.TheVariants.{TooLong, CutShort, NoTable, Holds};
 ghost use Rattle.ic_inspect.specs.declared.seen.Seen.{Seen};
 ghost use Rattle.ic_inspect.specs.Seeing.{IsSeen};
+ghost use Rattle.ic_inspect.specs.declared.halts.Halt.TheVariants as halt;
+ghost use Rattle.ic_inspect.specs.Halts.{halt_of};
 ghost use Rattle.ic_inspect.specs.Held.{as_newest, held_of, newest_of};
-ghost use Rattle.ic_inspect.specs.Report.{active_pairs, counts_text, job_line, line, newest_text, report, slot_line, table_lines, told_held};
+ghost use Rattle.ic_inspect.specs.Report.{active_pairs, counts_text, job_line, line, newest_text, report, slot_line, table_lines, told_held, halt_text};
 ghost use Rattle.ic_inspect.specs.Moments.{IsReading, IsServed, IsServerStep, IsReadTwice, IsReadTwiceBetween, IsWholeNewest};
 ghost use Rattle.ic_inspect.specs.Inspecting.{Tells, WritesTold, all_inspect_faults, inspect_fault_number};
 
@@ -114,13 +119,34 @@ pub fn slots_are_told_so()
         ++ codes ", too long") }
 {}
 
+/// Of a halted job it is told why no further round of it can be made: all rounds are made, or the nodes of what it fires
+/// to would be too many, or else its names. Where the round can be made, and of a job in another state, nothing is told.
+pub fn halts_are_told_with_their_cause()
+    ensures rounds { (j : JobParts) → j.state ≡ Halted → j.rounds ≡ MAX_ROUNDS
+        → halt_of j ≡ Some halt.Rounds }
+    ensures overgrown { (j : JobParts) → j.state ≡ Halted → j.rounds < MAX_ROUNDS
+        → MAX_NODES < configuration_nodes (fired j.rules.rules j.config)
+        → halt_of j ≡ Some halt.Overgrown }
+    ensures names { (j : JobParts) → j.state ≡ Halted → j.rounds < MAX_ROUNDS
+        → configuration_nodes (fired j.rules.rules j.config) ≤ MAX_NODES
+        → MAX_NEXT < (fired j.rules.rules j.config).next
+        → halt_of j ≡ Some halt.Names }
+    ensures can_move { (j : JobParts) → IsTrue (can_move j) → halt_of j ≡ None }
+    ensures others { (j : JobParts) → j.state ≢ Halted → halt_of j ≡ None }
+    ensures rounds_line { halt_text (Some halt.Rounds) ≡ codes ", out of rounds" }
+    ensures overgrown_line { halt_text (Some halt.Overgrown) ≡ codes ", next round overgrown" }
+    ensures names_line { halt_text (Some halt.Names) ≡ codes ", next round out of names" }
+    ensures none_line { halt_text None ≡ [] }
+{}
+
 /// What is held is told word for word.
 pub fn what_is_held_is_told_so()
     ensures table { (words : List ℕ) (t : List JobParts) → told_held words (the_table t)
         ≡ line (codes "held: " ++ words) ++ flat_map job_line t }
     ensures job { (j : JobParts) → job_line j
         ≡ line (j.name ++ codes ": " ++ state_text j.state ++ codes ", rounds " ++ decimal j.rounds
-        ++ counts_text (configuration_nodes j.config) (active_pairs j.rules.rules j.config)) }
+        ++ counts_text (configuration_nodes j.config) (active_pairs j.rules.rules j.config)
+        ++ halt_text (halt_of j)) }
     ensures no_slot { (words : List ℕ) → told_held words no_slot
         ≡ line (codes "held: no slot") }
     ensures two_alike { (words : List ℕ) → told_held words two_alike

@@ -7,6 +7,7 @@
 
 mod choosing;
 mod fault;
+mod halts;
 mod inspecting;
 pub mod laws;
 mod looking;
@@ -16,5 +17,6 @@ mod telling;
 
 pub use choosing::Newest;
 pub use fault::InspectFault;
+pub use halts::Halt;
 pub use inspecting::{LIMIT, Layout, inspect, read_front, told};
 pub use seen::{Body, Seen};

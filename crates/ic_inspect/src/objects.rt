@@ -3,11 +3,13 @@
 ghost use Rattle.std.specs.Prelude.{◌≡◌, ◌++◌, IfOk, OnOk, Some};
 ghost use Rattle.std.specs.List.{flat_map};
 ghost use Rattle.ic_inspect.specs.Held.{held_by_body, held_by_slot, held_of, newest_of};
-ghost use Rattle.ic_inspect.specs.Objects.{body_field, gate_field, held_object, held_objects, job_object, name_field, nodes_field, objects, pairs_field};
+ghost use Rattle.ic_inspect.specs.Objects.{body_field, gate_field, halt_field, held_object, held_objects, job_object, name_field, nodes_field, objects, pairs_field};
 ghost use Rattle.ic_inspect.specs.Objects.{rounds_field, slot_fields, slot_object, standing_fields, state_field};
+ghost use Rattle.ic_inspect.specs.Halts.{halt_of};
 ghost use Rattle.ic_inspect.specs.Report.{newest_text};
 
 use crate::choosing::{Newest, newest_of};
+use crate::halts::{halt_of, halt_words};
 use crate::seen::{Body, Seen};
 use crate::telling::{nodes_of, pairs_of, state_word};
 use ic_jobs::{Job, Table};
@@ -25,7 +27,7 @@ pub(crate) fn objects(
     let mut out = Vec::new(alloc);
     put_slot(b'1', first, &mut out)?;
     put_slot(b'2', second, &mut out)?;
-    put_held(first, second, &mut out)?;
+    put_held(alloc, first, second, &mut out)?;
     Ok(out)
 }
 
@@ -86,6 +88,7 @@ fn body_field(body: &Body) -> &'static [u8]
 
 /// Appends the objects of what is held.
 fn put_held(
+    alloc: Global,
     first: &Option<Seen>,
     second: &Option<Seen>,
     out: &mut Vec<u8>,
@@ -96,40 +99,55 @@ fn put_held(
     match newest_of(first, second) {
         Newest::NoSlot => put_held_object(b"no slot", out),
         Newest::TwoAlike => put_held_object(b"two alike", out),
-        Newest::First => put_slot_held(b"slot 1", first, out),
-        Newest::Second => put_slot_held(b"slot 2", second, out),
+        Newest::First => put_slot_held(alloc, b"slot 1", first, out),
+        Newest::Second => put_slot_held(alloc, b"slot 2", second, out),
     }
 }
 
 /// Appends what the newest slot holds, which has these words.
-fn put_slot_held(words: &[u8], seen: &Option<Seen>, out: &mut Vec<u8>) -> Result<(), AllocError>
+fn put_slot_held(
+    alloc: Global,
+    words: &[u8],
+    seen: &Option<Seen>,
+    out: &mut Vec<u8>,
+) -> Result<(), AllocError>
     ensures { OnOk result
         (out.new.items ≡ out.old.items ++ held_objects words.now (held_by_slot seen.now)) }
 {
     match seen {
-        Some(seen) => put_body_held(words, &seen.body, out),
+        Some(seen) => put_body_held(alloc, words, &seen.body, out),
         None => put_held_object(b"damaged", out),
     }
 }
 
 /// Appends what the body of the newest slot holds.
-fn put_body_held(words: &[u8], body: &Body, out: &mut Vec<u8>) -> Result<(), AllocError>
+fn put_body_held(
+    alloc: Global,
+    words: &[u8],
+    body: &Body,
+    out: &mut Vec<u8>,
+) -> Result<(), AllocError>
     ensures { OnOk result
         (out.new.items ≡ out.old.items ++ held_objects words.now (held_by_body body.now)) }
 {
     match body {
-        Body::Holds(table) => put_table(words, table, out),
+        Body::Holds(table) => put_table(alloc, words, table, out),
         Body::TooLong | Body::CutShort | Body::NoTable => put_held_object(b"damaged", out),
     }
 }
 
 /// Appends the objects of a table that a slot holds.
-fn put_table(words: &[u8], table: &Table, out: &mut Vec<u8>) -> Result<(), AllocError>
+fn put_table(
+    alloc: Global,
+    words: &[u8],
+    table: &Table,
+    out: &mut Vec<u8>,
+) -> Result<(), AllocError>
     ensures { OnOk result (out.new.items
         ≡ out.old.items ++ held_object words.now ++ flat_map job_object table.now) }
 {
     put_held_object(words, out)?;
-    put_jobs(table.jobs(), out)
+    put_jobs(alloc, table.jobs(), out)
 }
 
 /// Appends the object of what is held.
@@ -143,23 +161,24 @@ fn put_held_object(words: &[u8], out: &mut Vec<u8>) -> Result<(), AllocError>
 }
 
 /// Appends the objects of jobs.
-fn put_jobs(jobs: &[Job], out: &mut Vec<u8>) -> Result<(), AllocError>
+fn put_jobs(alloc: Global, jobs: &[Job], out: &mut Vec<u8>) -> Result<(), AllocError>
     ensures { OnOk result (out.new.items ≡ out.old.items ++ flat_map job_object jobs.now) }
 {
     for job in jobs {
-        put_job(job, out)?;
+        put_job(alloc, job, out)?;
     }
     Ok(())
 }
 
 /// Appends the object of a job.
-fn put_job(job: &Job, out: &mut Vec<u8>) -> Result<(), AllocError>
+fn put_job(alloc: Global, job: &Job, out: &mut Vec<u8>) -> Result<(), AllocError>
     ensures { OnOk result (out.new.items ≡ out.old.items ++ job_object job.now) }
 {
     out.push(b'{')?;
     put_standing(job, out)?;
     put_nodes(job, out)?;
     put_pairs(job, out)?;
+    put_halt(alloc, job, out)?;
     out.extend_from_slice(b"}\n")?;
     Ok(())
 }
@@ -218,5 +237,17 @@ fn put_pairs(job: &Job, out: &mut Vec<u8>) -> Result<(), AllocError>
 {
     out.extend_from_slice(b",\"active_pairs\":")?;
     put_decimal(pairs_of(job), out)?;
+    Ok(())
+}
+
+/// Appends why a job is halted, where it is told.
+fn put_halt(alloc: Global, job: &Job, out: &mut Vec<u8>) -> Result<(), AllocError>
+    ensures { OnOk result (out.new.items ≡ out.old.items ++ halt_field (halt_of job.now)) }
+{
+    if let Some(halt) = halt_of(alloc, job)? {
+        out.extend_from_slice(b",\"halt\":\"")?;
+        out.extend_from_slice(halt_words(halt))?;
+        out.push(b'"')?;
+    }
     Ok(())
 }

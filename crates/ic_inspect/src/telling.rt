@@ -5,9 +5,11 @@ ghost use Rattle.std.specs.List.{flat_map};
 ghost use Rattle.ic_term.specs.Configuration.{configuration_nodes};
 ghost use Rattle.ic_commands.specs.ReplyText.{state_text};
 ghost use Rattle.ic_inspect.specs.Held.{held_by_body, held_by_slot};
-ghost use Rattle.ic_inspect.specs.Report.{report, slot_line, seen_text, gate_text, body_text, held_lines, told_held, table_lines, job_line, standing_text, sizes_text, counts_text, count_text, active_pairs};
+ghost use Rattle.ic_inspect.specs.Report.{report, slot_line, seen_text, gate_text, body_text, held_lines, told_held, table_lines, job_line, standing_text, sizes_text, counts_text, count_text, active_pairs, halt_text};
+ghost use Rattle.ic_inspect.specs.Halts.{halt_of};
 
 use crate::choosing::{Newest, newest_of};
+use crate::halts::{halt_of, halt_words};
 use crate::seen::{Body, Seen};
 use ic_flat_round::active_equations;
 use ic_jobs::{Job, State, Table};
@@ -25,7 +27,7 @@ pub(crate) fn report(
     let mut lines = Vec::new(alloc);
     put_slot(b'1', first, &mut lines)?;
     put_slot(b'2', second, &mut lines)?;
-    put_held(first, second, &mut lines)?;
+    put_held(alloc, first, second, &mut lines)?;
     Ok(lines)
 }
 
@@ -78,6 +80,7 @@ fn body_words(body: &Body) -> &'static [u8]
 
 /// Appends what is held.
 fn put_held(
+    alloc: Global,
     first: &Option<Seen>,
     second: &Option<Seen>,
     out: &mut Vec<u8>,
@@ -87,60 +90,87 @@ fn put_held(
     match newest_of(first, second) {
         Newest::NoSlot => out.extend_from_slice(b"held: no slot\n"),
         Newest::TwoAlike => out.extend_from_slice(b"held: two alike\n"),
-        Newest::First => put_slot_held(b"slot 1", first, out),
-        Newest::Second => put_slot_held(b"slot 2", second, out),
+        Newest::First => put_slot_held(alloc, b"slot 1", first, out),
+        Newest::Second => put_slot_held(alloc, b"slot 2", second, out),
     }
 }
 
 /// Appends what the newest slot holds, which has these words.
-fn put_slot_held(words: &[u8], seen: &Option<Seen>, out: &mut Vec<u8>) -> Result<(), AllocError>
+fn put_slot_held(
+    alloc: Global,
+    words: &[u8],
+    seen: &Option<Seen>,
+    out: &mut Vec<u8>,
+) -> Result<(), AllocError>
     ensures { OnOk result
         (out.new.items ≡ out.old.items ++ told_held words.now (held_by_slot seen.now)) }
 {
     match seen {
-        Some(seen) => put_body_held(words, &seen.body, out),
+        Some(seen) => put_body_held(alloc, words, &seen.body, out),
         None => out.extend_from_slice(b"held: damaged\n"),
     }
 }
 
 /// Appends what the body of the newest slot holds.
-fn put_body_held(words: &[u8], body: &Body, out: &mut Vec<u8>) -> Result<(), AllocError>
+fn put_body_held(
+    alloc: Global,
+    words: &[u8],
+    body: &Body,
+    out: &mut Vec<u8>,
+) -> Result<(), AllocError>
     ensures { OnOk result
         (out.new.items ≡ out.old.items ++ told_held words.now (held_by_body body.now)) }
 {
     match body {
-        Body::Holds(table) => put_table(words, table, out),
+        Body::Holds(table) => put_table(alloc, words, table, out),
         Body::TooLong | Body::CutShort | Body::NoTable => out.extend_from_slice(b"held: damaged\n"),
     }
 }
 
 /// Appends the lines of a table that a slot holds.
-fn put_table(words: &[u8], table: &Table, out: &mut Vec<u8>) -> Result<(), AllocError>
+fn put_table(
+    alloc: Global,
+    words: &[u8],
+    table: &Table,
+    out: &mut Vec<u8>,
+) -> Result<(), AllocError>
     ensures { OnOk result (out.new.items ≡ out.old.items ++ table_lines words.now table.now) }
 {
     out.extend_from_slice(b"held: ")?;
     out.extend_from_slice(words)?;
     out.push(b'\n')?;
-    put_jobs(table.jobs(), out)
+    put_jobs(alloc, table.jobs(), out)
 }
 
 /// Appends the lines of jobs.
-fn put_jobs(jobs: &[Job], out: &mut Vec<u8>) -> Result<(), AllocError>
+fn put_jobs(alloc: Global, jobs: &[Job], out: &mut Vec<u8>) -> Result<(), AllocError>
     ensures { OnOk result (out.new.items ≡ out.old.items ++ flat_map job_line jobs.now) }
 {
     for job in jobs {
-        put_job(job, out)?;
+        put_job(alloc, job, out)?;
     }
     Ok(())
 }
 
 /// Appends the line of a job.
-fn put_job(job: &Job, out: &mut Vec<u8>) -> Result<(), AllocError>
+fn put_job(alloc: Global, job: &Job, out: &mut Vec<u8>) -> Result<(), AllocError>
     ensures { OnOk result (out.new.items ≡ out.old.items ++ job_line job.now) }
 {
     put_standing(job, out)?;
     put_sizes(job, out)?;
+    put_halt(alloc, job, out)?;
     out.push(b'\n')?;
+    Ok(())
+}
+
+/// Appends of a halted job why no further round of it can be made.
+fn put_halt(alloc: Global, job: &Job, out: &mut Vec<u8>) -> Result<(), AllocError>
+    ensures { OnOk result (out.new.items ≡ out.old.items ++ halt_text (halt_of job.now)) }
+{
+    if let Some(halt) = halt_of(alloc, job)? {
+        out.extend_from_slice(b", ")?;
+        out.extend_from_slice(halt_words(halt))?;
+    }
     Ok(())
 }
 

@@ -1,0 +1,66 @@
+//! Why no further round of a halted job can be made.
+
+ghost use Rattle.std.specs.Prelude.{◌≡◌, IfOk};
+ghost use Rattle.ic_inspect.specs.Halts.{blocked_by, halt_of, halt_words, refused_by};
+
+use ic_flat_round::{fits, works};
+use ic_jobs::{Job, State};
+use ic_pool::MAX_ROUNDS;
+use ic_round::RoundFault;
+use std::alloc::{AllocError, Global};
+
+/// Why no further round of a job can be made.
+#[derive(Clone, Copy, Debug, PartialEq, Eq)]
+pub enum Halt {
+    /// As many are made as a job can make.
+    Rounds,
+    /// The next one would have too many nodes.
+    Overgrown,
+    /// The next one would use up the names.
+    Names,
+}
+
+/// Why no further round of a job can be made, if it is halted and none can.
+pub(crate) fn halt_of(alloc: Global, job: &Job) -> Result<Option<Halt>, AllocError>
+    ensures { IfOk result (λ halt. halt ≡ halt_of job.now) }
+{
+    match job.state() {
+        State::Halted => blocked_by(alloc, job),
+        State::Running | State::Paused | State::Done | State::Spent => Ok(None),
+    }
+}
+
+/// Why no further round of a job can be made, if none can.
+fn blocked_by(alloc: Global, job: &Job) -> Result<Option<Halt>, AllocError>
+    ensures { IfOk result (λ halt. halt ≡ blocked_by job.now) }
+{
+    if job.rounds() == MAX_ROUNDS {
+        return Ok(Some(Halt::Rounds));
+    }
+    refused_by(alloc, job)
+}
+
+/// Why a round refuses a job's configuration, if it does.
+fn refused_by(alloc: Global, job: &Job) -> Result<Option<Halt>, AllocError>
+    ensures { IfOk result (λ halt. halt ≡ refused_by job.now.rules.rules job.now.config) }
+{
+    if fits(job.rules(), job.config()) {
+        return Ok(None);
+    }
+    match works(alloc, job.rules(), job.config()) {
+        Err(RoundFault::Overgrown) => Ok(Some(Halt::Overgrown)),
+        Err(RoundFault::NamesOut) => Ok(Some(Halt::Names)),
+        Err(RoundFault::Memory) | Ok(_) => Err(AllocError),
+    }
+}
+
+/// The words that tell why no further round can be made.
+pub(crate) fn halt_words(halt: Halt) -> &'static [u8]
+    ensures { result.now ≡ halt_words halt }
+{
+    match halt {
+        Halt::Rounds => b"out of rounds",
+        Halt::Overgrown => b"next round overgrown",
+        Halt::Names => b"next round out of names",
+    }
+}
