@@ -1,5 +1,5 @@
 -- Arguments that stand at the one place after the options.
-use Rattle.std.proofs.Common.{◌≡◌, ◌≢◌, ◌⊎◌, ◌<◌, ◌≤◌, ◌^◌, ℕ, List, [], ◌∷◌, ◌++◌, Bool, true, false, not, ◌&&◌, ◌||◌, cond, find, fold, ne_eqb, option_map, slice_get, true≢false, unwrap_or, Option, None, Some, codes, length, refl, sym, ◌∙◌, ap, ap₂, inl, inr, subst, append-nil, append_assoc, arith}
+use Rattle.std.proofs.Common.{◌≡◌, ◌⊎◌, ◌<◌, ◌^◌, ℕ, List, [], ◌∷◌, ◌++◌, Bool, true, false, ◌&&◌, ◌||◌, cond, fold, ne_eqb, option_map, slice_get, true≢false, unwrap_or, Option, None, Some, codes, length, refl, sym, ◌∙◌, ap, ap₂, inl, inr, subst, append-nil, append_assoc, arith}
 use Rattle.std.specs.List.{AllByRecursion}
 use Rattle.std.specs.Prelude.{option_and_then}
 use Rattle.std.specs.Option.{option_map_or}
@@ -9,8 +9,8 @@ use Rattle.std.proofs.lemmas.Slice.Eq.{bytes_eq-Decides}
 use Rattle.clap.specs.Words.{Rule, Row, Text, all_of, first_of, new_rule}
 use Rattle.clap.specs.Simple.{Shape}
 use Rattle.clap.specs.Lexer.{long_of, short_of, usize_max}
-use Rattle.clap.specs.Kinds.{Kinds, or_else, range_kinds, values_kinds}
-use Rattle.clap.specs.Walk.{Held, Walk, arg_by_id, arg_by_index, default_rows, has_row, idle, is_multiple, more_values, next_position, positional, reading_by, settled, takes_several, used, used_by_id, walked, with_default, with_values, without}
+use Rattle.clap.specs.Kinds.{or_else, range_kinds, values_kinds}
+use Rattle.clap.specs.Walk.{Held, Walk, arg_by_id, arg_by_index, default_rows, has_row, idle, more_values, positional, reading_by, settled, takes_several, used, used_by_id, walked, with_default, with_values, without}
 use Rattle.clap.specs.Faults.{settle_fault, turn_fault, use_fault}
 use Rattle.clap.specs.declared.builder.action.ArgAction.TheVariants.{Append, Set}
 use Rattle.clap.specs.declared.builder.value_parser.Reading.TheVariants as reading

@@ -94,7 +94,7 @@ asked words none called (Ok (Create disk overwrite)) asks = record {
   settle = λ is. absurd (not_settle words (codes "create") asks.0 refl is);
   once = λ is. absurd (not_once words (codes "create") asks.0 refl is);
 }
-asked words none called (Ok (Serve disk workers every)) asks =
+asked words none called (Ok (Serve disk workers every explain)) asks =
     let begins = called_as called.0 (codes "serve") words called.1 asks.0 in
     let spelt = serve_numbers words none begins in
     record {
@@ -104,6 +104,7 @@ asked words none called (Ok (Serve disk workers every)) asks =
         asks.1,
         number_named (codes "workers") 1 64 workers words _ spelt.0 refl asks.2,
         number_named (codes "every") 1 1000000 every words _ spelt.1 refl asks.3,
+        asks.4,
       );
       settle = λ is. absurd (not_settle words (codes "serve") asks.0 refl is);
       once = λ is. absurd (not_once words (codes "serve") asks.0 refl is);
@@ -183,9 +184,9 @@ asked words none called (Ok (Inspect disk format)) asks = record {
   settle = λ is. absurd (not_settle words (codes "inspect") asks.0 refl is);
   once = λ is. absurd (not_once words (codes "inspect") asks.0 refl is);
 }
-asked words none called (Ok (Check files format)) asks = record {
+asked words none called (Ok (Check files format script)) asks = record {
   answers = ap₂ or_else none (check_free (subcommand_of command_line words) asks.0 (ap is_report_format asks.2 ∙ report_is format));
-  named = (called_as called.0 (codes "check") words called.1 asks.0, asks.1, asks.2);
+  named = (called_as called.0 (codes "check") words called.1 asks.0, asks.1, asks.2, asks.3);
   settle = λ is. absurd (not_settle words (codes "check") asks.0 refl is);
   once = λ is. absurd (not_once words (codes "check") asks.0 refl is);
 }
@@ -302,7 +303,7 @@ not_taken words kind (Ok (Version text)) made is =
 not_taken words kind (Ok (Settle file)) made is = absurd is
 not_taken words kind (Ok (Once file)) made is = absurd is
 not_taken words kind (Ok (Create disk overwrite)) made is = absurd is
-not_taken words kind (Ok (Serve disk workers every)) made is = absurd is
+not_taken words kind (Ok (Serve disk workers every explain)) made is = absurd is
 not_taken words kind (Ok (Attend disk runners turns workers scripts)) made is = absurd is
 not_taken words kind (Ok (Reduce steps nodes partial stats limits file)) made is = absurd is
 not_taken words kind (Ok (ReduceByRounds rounds workers partial file)) made is = absurd is
@@ -310,7 +311,7 @@ not_taken words kind (Ok (Trace rounds format file)) made is = absurd is
 not_taken words kind (Ok (Draw file)) made is = absurd is
 not_taken words kind (Ok (Dump disk names)) made is = absurd is
 not_taken words kind (Ok (Inspect disk format)) made is = absurd is
-not_taken words kind (Ok (Check files format)) made is = absurd is
+not_taken words kind (Ok (Check files format script)) made is = absurd is
 not_taken words kind (Ok (Batch disk rounds every workers lines)) made is = absurd is
 not_taken words kind (Ok (Expand file)) made is = absurd is
 not_taken words kind (Err (Words text)) made is =

@@ -1,16 +1,16 @@
 -- Each well-formed line of `attend` is taken, with its values.
-use Rattle.std.proofs.Common.{◌≡◌, ◌≢◌, ◌<◌, ◌^◌, inl, inr, List, [], ◌∷◌, Bool, true, false, None, Option, Some, codes, fold, length, refl, sym, ◌∙◌, ap, arith, unwrap_or}
+use Rattle.std.proofs.Common.{◌≡◌, ◌≢◌, inl, inr, List, [], ◌∷◌, true, false, None, Some, codes, fold, refl, ◌∙◌, ap, arith}
 use Rattle.std.specs.List.{AllByRecursion}
-use Rattle.clap.specs.Words.{Row, Text, fault_of, subcommand_of}
+use Rattle.clap.specs.Words.{Text, fault_of, subcommand_of}
 use Rattle.clap.specs.Walk.{Held, has_row, nothing_held, settled, with_default}
 use Rattle.clap.specs.Faults.{settle_fault}
 use Rattle.clap.proofs.OnLiterals.{clap_on_literals}
 use Rattle.clap.specs.declared.builder.value_parser.ValueParser.TheVariants as vp
 use Rattle.ic_args.specs.Words.{command_line, value_met, values_met}
-use Rattle.ic_args.specs.Lines.{Given, HasNoHyphen, IsAttendLine, IsAttendOption, IsWritten}
+use Rattle.ic_args.specs.Lines.{Given, IsAttendLine, IsAttendOption, IsWritten}
 use Rattle.ic_args.specs.inner.Asking.{IsMet}
 use Rattle.ic_args.proofs.Accepted.{accepted}
-use Rattle.ic_args.proofs.Arguments.{ReadsArgument, found_after, many_read, range_none, shown_values, stands_after}
+use Rattle.ic_args.proofs.Arguments.{found_after, many_read, range_none, shown_values, stands_after}
 use Rattle.ic_args.proofs.Commands.{attend_options, disk, is_attend, runners, script, threads, turns, workers}
 use Rattle.ic_args.proofs.LineEnds.{IsHarmless, checks, either_none, entered_after, given_there, last_found, or_none, text, value_there}
 use Rattle.ic_args.proofs.LineRows.{fresh_first, given_found, not_given, named_apart}

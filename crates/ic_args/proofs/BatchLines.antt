@@ -1,7 +1,7 @@
 -- Each well-formed line of `batch` is taken, with its values.
-use Rattle.std.proofs.Common.{◌≡◌, ◌≢◌, inl, inr, List, [], ◌∷◌, Bool, true, false, not, ◌||◌, None, Option, Some, codes, fold, refl, sym, ◌∙◌, ap, ap₂, arith}
+use Rattle.std.proofs.Common.{◌≡◌, ◌≢◌, inl, inr, List, [], ◌∷◌, Bool, true, false, not, ◌||◌, None, Some, codes, fold, refl, ◌∙◌, ap, ap₂, arith}
 use Rattle.std.specs.List.{AllByRecursion}
-use Rattle.clap.specs.Words.{Row, Text, fault_of, subcommand_of}
+use Rattle.clap.specs.Words.{Text, fault_of, subcommand_of}
 use Rattle.clap.specs.Kinds.{Kinds, check_kinds}
 use Rattle.clap.specs.Walk.{Held, has_row, nothing_held, settled, with_default}
 use Rattle.clap.specs.Faults.{settle_fault}

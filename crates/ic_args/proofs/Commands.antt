@@ -1,5 +1,5 @@
 -- The commands of the program, by their places, with their arguments as they are built.
-use Rattle.std.proofs.Common.{◌≡◌, List, [], ◌∷◌, codes, None, Some, false, true, inl, inr, refl}
+use Rattle.std.proofs.Common.{List, [], ◌∷◌, codes, None, Some, false, true, inl, inr, refl}
 use Rattle.clap.specs.Words.{Rule, Text}
 use Rattle.clap.specs.declared.builder.value_parser.ValueParser.{ValueParser}
 use Rattle.clap.specs.declared.builder.value_parser.ValueParser.TheVariants as vp
@@ -62,7 +62,7 @@ pub is_create : IsCommand (codes "create") (below 2) create_options
 is_create = record { is = inr (inr (inl refl)); enters = λ rest. refl; meets = λ rest. refl }
 
 abbrev pub serve_options : List Rule
-serve_options = disk ∷ workers ∷ every ∷ help ∷ []
+serve_options = disk ∷ workers ∷ every ∷ built_flag (codes "explain") ∷ help ∷ []
 
 pub is_serve : IsCommand (codes "serve") (below 3) serve_options
 is_serve = record { is = inr (inr (inr (inl refl))); enters = λ rest. refl; meets = λ rest. refl }
@@ -126,7 +126,7 @@ abbrev pub files : Rule
 files = several_argument (codes "file") 1 true
 
 abbrev pub check_options : List Rule
-check_options = listing ∷ files ∷ help ∷ []
+check_options = listing ∷ built_flag (codes "script") ∷ files ∷ help ∷ []
 
 pub is_check : IsCommand (codes "check") (below 10) check_options
 is_check = record { is = inr (inr (inr (inr (inr (inr (inr (inr (inr (inr (inl refl)))))))))); enters = λ rest. refl; meets = λ rest. refl }

@@ -1,10 +1,10 @@
 -- Each well-formed line of `create` is taken, with its path.
-use Rattle.std.proofs.Common.{◌≡◌, List, [], ◌∷◌, ◌++◌, Bool, true, false, None, Option, Some, codes, fold, refl, ◌∙◌, ap, ap₂, inl, inr}
+use Rattle.std.proofs.Common.{◌≡◌, List, [], ◌∷◌, ◌++◌, Bool, true, false, None, Some, codes, fold, refl, ◌∙◌, ap, ap₂, inl, inr}
 use Rattle.std.specs.List.{AllByRecursion}
 use Rattle.clap.specs.Words.{Kinds, Rule, Row, Text, fault_of, subcommand_of}
 use Rattle.clap.specs.Takes.{is_given}
 use Rattle.clap.specs.Kinds.{or_else}
-use Rattle.clap.specs.Walk.{Held, nothing_held, reacted, settled, used, walk_from, walked, with_default}
+use Rattle.clap.specs.Walk.{Held, nothing_held, reacted, settled, used, walked, with_default}
 use Rattle.clap.specs.Faults.{settle_fault, turn_fault, use_fault}
 use Rattle.clap.proofs.OnLiterals.{clap_on_literals}
 use Rattle.clap.specs.declared.builder.value_parser.ValueParser.TheVariants as vp
@@ -13,7 +13,7 @@ use Rattle.ic_args.specs.Lines.{IsCreateLine, IsWritten}
 use Rattle.ic_args.specs.inner.Asking.{IsMet}
 use Rattle.ic_args.proofs.Commands.{create_options, is_create}
 use Rattle.ic_args.proofs.Flags.{built_flag, flag_row as row_of_flag}
-use Rattle.ic_args.proofs.LineEnds.{IsEntered, IsHarmless, checks, either_none, entered_by, or_none}
+use Rattle.ic_args.proofs.LineEnds.{IsHarmless, checks, either_none, entered_by, or_none}
 use Rattle.ic_args.proofs.Steps.{Leads, at, leads_more, one_turn, reads_one, row_with}
 use Rattle.ic_args.proofs.WordsExact.{below}
 

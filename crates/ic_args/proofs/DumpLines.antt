@@ -1,19 +1,16 @@
 -- Each well-formed line of `dump` is taken, with its path and its names.
-use Rattle.std.proofs.Common.{◌≡◌, List, [], ◌∷◌, Bool, true, false, None, Option, Some, codes, fold, inl, inr, refl, sym, ◌∙◌, ap, arith}
-use Rattle.std.specs.List.{AllByRecursion}
-use Rattle.clap.specs.Words.{Row, Text, fault_of, subcommand_of}
-use Rattle.clap.specs.Walk.{nothing_held, walk_from, with_default}
-use Rattle.clap.proofs.OnLiterals.{clap_on_literals}
+use Rattle.std.proofs.Common.{◌≡◌, List, [], ◌∷◌, true, false, None, codes, fold, inl, inr, refl, ◌∙◌, ap}
+use Rattle.clap.specs.Words.{Text, fault_of, subcommand_of}
+use Rattle.clap.specs.Walk.{nothing_held, with_default}
 use Rattle.clap.specs.declared.builder.value_parser.ValueParser.TheVariants as vp
 use Rattle.ic_args.specs.Words.{command_line, value_met, values_met}
 use Rattle.ic_args.specs.Lines.{IsDumpLine}
 use Rattle.ic_args.specs.inner.Asking.{IsMet}
-use Rattle.ic_args.proofs.Arguments.{argument_row, found_after, many_read, range_none, shown_values}
+use Rattle.ic_args.proofs.Arguments.{found_after, many_read, range_none, shown_values}
 use Rattle.ic_args.proofs.Commands.{dump_options, is_dump}
-use Rattle.ic_args.proofs.LineEnds.{IsHarmless, checks, either_none, entered_after, entered_by, given_row, given_there, last_found, value_there}
+use Rattle.ic_args.proofs.LineEnds.{checks, either_none, entered_after, given_there, last_found, value_there}
 use Rattle.ic_args.proofs.LineRows.{IsFoundRow}
-use Rattle.ic_args.proofs.OptionLines.{found_all}
-use Rattle.ic_args.proofs.Steps.{at, leads_none, reads_one, row_with}
+use Rattle.ic_args.proofs.Steps.{reads_one, row_with}
 use Rattle.ic_args.proofs.WordsExact.{below}
 
 -- the row of a disk's path

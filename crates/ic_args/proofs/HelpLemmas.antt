@@ -1,5 +1,5 @@
 -- The help of a word that names no command.
-use Rattle.std.proofs.Common.{◌≡◌, ◌≢◌, ◌∙◌, ap, cond, List, ◌∷◌, [], Bool, true, false, find, map, None, Option, Some, option_map, refl, slice_get, sym, unwrap_or}
+use Rattle.std.proofs.Common.{◌≡◌, ◌≢◌, ap, cond, List, ◌∷◌, [], Bool, true, false, find, map, None, Option, Some, option_map, refl, slice_get, sym, unwrap_or}
 use Rattle.std.specs.Borrow.{Bor}
 use Rattle.std.specs.List.{AllByRecursion}
 use Rattle.std.specs.Str.{bytes_eq}

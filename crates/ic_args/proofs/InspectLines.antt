@@ -1,8 +1,8 @@
 -- Each well-formed line of `inspect` is taken, with its values.
-use Rattle.std.proofs.Common.{◌≡◌, ◌⊎◌, ◌∙◌, sym, inl, inr, List, [], ◌∷◌, Bool, true, false, None, Some, codes, fold, refl, ap, ap₂, true≢false}
+use Rattle.std.proofs.Common.{◌≡◌, ◌⊎◌, ◌∙◌, sym, inl, inr, List, [], ◌∷◌, true, false, None, Some, codes, fold, refl, ap, ap₂, true≢false}
 use Rattle.std.specs.List.{AllByRecursion}
 use Rattle.std.specs.Str.{bytes_eq}
-use Rattle.clap.specs.Words.{Row, Text, fault_of, subcommand_of}
+use Rattle.clap.specs.Words.{Text, subcommand_of}
 use Rattle.clap.specs.Walk.{Held, has_row, nothing_held, settled, with_default}
 use Rattle.clap.specs.Faults.{settle_fault}
 use Rattle.clap.specs.Kinds.{or_else}

@@ -1,5 +1,5 @@
 -- Lines of words that are read to their end: nothing is wrong with them, and these are their rows.
-use Rattle.std.proofs.Common.{◌≡◌, ℕ, List, [], ◌∷◌, ◌++◌, Bool, true, false, not, ◌||◌, cond, Option, None, Some, fold, refl, sym, ◌∙◌, ap, ap₂, append-nil, unwrap_or}
+use Rattle.std.proofs.Common.{◌≡◌, List, [], ◌∷◌, ◌++◌, Bool, true, false, not, ◌||◌, cond, Option, Some, fold, refl, sym, ◌∙◌, ap, ap₂, append-nil, unwrap_or}
 use Rattle.std.specs.List.{AllByRecursion}
 use Rattle.std.specs.Option.{option_map_or}
 use Rattle.clap.specs.Words.{Kinds, Row, Rule, Text, fault_of, subcommand_of}
@@ -7,9 +7,9 @@ use Rattle.clap.specs.Facts.{explicit_source}
 use Rattle.clap.specs.Takes.{is_given}
 use Rattle.clap.specs.Kinds.{check_kinds, or_else}
 use Rattle.clap.specs.Simple.{Shape}
-use Rattle.clap.specs.Walk.{Held, Walk, finished, first_of, nothing_held, rows_after, settled, walk, walk_from, walked, with_default}
+use Rattle.clap.specs.Walk.{Held, Walk, finished, first_of, nothing_held, settled, walk, walk_from, walked, with_default}
 use Rattle.clap.specs.Faults.{check_fault, default_fault, defaults_fault, level_fault, settle_fault, walk_fault}
-use Rattle.ic_args.specs.Words.{command_line, value_met}
+use Rattle.ic_args.specs.Words.{command_line}
 use Rattle.ic_args.specs.inner.Asking.{IsMet}
 use Rattle.ic_args.proofs.Arguments.{ReadsArgument}
 use Rattle.clap.specs.declared.parser.matches.ValueSource.TheVariants.{CommandLine}

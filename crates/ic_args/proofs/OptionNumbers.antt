@@ -71,10 +71,13 @@ module _ (target : Text) (q : ValueParser) where
   abbrev Is : Text → ValueParser → Type 0
   Is id read = Typed target q id read
 
-  serve_fits : Is (codes "disk") vp.String → Is (codes "workers") threads → Is (codes "every") keeps → AllFit target q serve_options
-  serve_fits d w e = (
+  serve_fits : Is (codes "disk") vp.String → Is (codes "workers") threads → Is (codes "every") keeps → bytes_eq (codes "explain") target ≡ false → AllFit target q serve_options
+  serve_fits d w e x = (
     option_fits target q (codes "disk") None vp.String true d,
-    (option_fits target q (codes "workers") (Some (codes "2")) threads false w, (option_fits target q (codes "every") (Some (codes "100")) keeps false e, (help_fits target q, tt))),
+    (
+      option_fits target q (codes "workers") (Some (codes "2")) threads false w,
+      (option_fits target q (codes "every") (Some (codes "100")) keeps false e, (flag_fits target q (codes "explain") x, (help_fits target q, tt))),
+    ),
   )
 
   attend_fits : Is (codes "disk") vp.String → Is (codes "runners") (vp.Unsigned 0 64) → Is (codes "turns") (vp.Unsigned 0 1000000) → Is (codes "workers") threads
@@ -134,8 +137,8 @@ pub serve_numbers : (words : List Text) → fault_of command_line words ≡ [] �
     → IsSpelt (codes "workers") 1 64 words × IsSpelt (codes "every") 1 1000000 words
 serve_numbers words none begins =
     let of = spelt (codes "serve") (below 3) serve_options is_serve words none begins in (
-      of (codes "workers") threads 1 64 (in_range 1 64) (serve_fits (codes "workers") threads other (λ e. refl) other) refl (inr (inl (codes "2", threads, refl))),
-      of (codes "every") keeps 1 1000000 (in_range 1 1000000) (serve_fits (codes "every") keeps other other (λ e. refl)) refl (inr (inr (inl (codes "100", keeps, refl)))),
+      of (codes "workers") threads 1 64 (in_range 1 64) (serve_fits (codes "workers") threads other (λ e. refl) other refl) refl (inr (inl (codes "2", threads, refl))),
+      of (codes "every") keeps 1 1000000 (in_range 1 1000000) (serve_fits (codes "every") keeps other other (λ e. refl) refl) refl (inr (inr (inl (codes "100", keeps, refl)))),
     )
 
 pub attend_numbers : (words : List Text) → fault_of command_line words ≡ [] → BeginsWith (codes "attend") words

@@ -1,24 +1,22 @@
 -- Each well-formed line of `reduce` is taken, with its values.
-use Rattle.std.proofs.Common.{◌≡◌, ◌≢◌, ◌⊎◌, true≢false, unwrap_or, inl, inr, ℕ, List, [], ◌∷◌, ◌++◌, Bool, true, false, not, ◌||◌, cond, Option, None, Some, codes, fold, refl, sym, ◌∙◌, ap, ap₂, subst, arith}
+use Rattle.std.proofs.Common.{◌≡◌, ◌≢◌, ◌⊎◌, true≢false, unwrap_or, inl, inr, ℕ, List, [], ◌∷◌, ◌++◌, Bool, true, false, not, ◌||◌, Option, None, Some, codes, fold, refl, sym, ◌∙◌, ap, ap₂, subst, arith}
 use Rattle.std.specs.List.{AllByRecursion}
 use Rattle.std.specs.Str.{bytes_eq}
-use Rattle.clap.specs.Words.{Kinds, Row, Rule, Text, fault_of, first_of, subcommand_of}
+use Rattle.clap.specs.Words.{Kinds, Row, Rule, Text, first_of, subcommand_of}
 use Rattle.clap.specs.Kinds.{or_else}
 use Rattle.clap.specs.Walk.{Held, has_row, nothing_held, reacted, settled, walked, with_default}
 use Rattle.clap.specs.Faults.{check_fault, settle_fault, turn_fault}
 use Rattle.clap.proofs.OnLiterals.{clap_on_literals}
-use Rattle.clap.specs.declared.builder.value_parser.ValueParser.{ValueParser}
 use Rattle.clap.specs.declared.builder.value_parser.ValueParser.TheVariants as vp
 use Rattle.std.specs.Prelude.{is_some}
 use Rattle.ic_args.specs.Words.{IsDecimal, IsNumberOf, IsNumberOr, NamesReduce, asks_in_place, asks_rounds, command_line, file_met, is_flag_met, is_given, is_limits, limits_met, mistakes_of, most_rounds, most_steps, value_if_met, value_met}
-use Rattle.ic_args.specs.Lines.{AreInPlace, AreOfRounds, AreOnce, Given, Gives, HasFlag, HasNone, HasNumber, HasValue, IsLimitsOption, IsLimitsText, IsReduceLine, IsReduceNumber, IsReduceOption, AreWrittenBy, IsWritten}
-use Rattle.ic_args.specs.inner.Asking.{IsMet}
+use Rattle.ic_args.specs.Lines.{AreInPlace, AreOfRounds, Given, Gives, HasFlag, HasNone, HasNumber, HasValue, IsLimitsOption, IsLimitsText, IsReduceLine, IsReduceNumber, IsReduceOption, AreWrittenBy, IsWritten}
 use Rattle.ic_args.proofs.Accepted.{accepted}
 use Rattle.ic_args.proofs.Arguments.{HaveNoDefault, ReadsFile, file_read, found_after, none_after, none_first, none_kept}
 use Rattle.ic_args.proofs.Commands.{bounded, chosen, counted, file, is_reduce, reduce_options, threads}
 use Rattle.ic_args.proofs.Flags.{built_flag, flag_free, flag_grown, flag_row, flag_unset, unset_row}
 use Rattle.ic_args.proofs.LineEnds.{IsEntered, IsHarmless, either_none, entered_after, or_none, text}
-use Rattle.ic_args.proofs.LineRows.{AreRowsOf, first_value, fresh_first, given_found, not_given, named_apart}
+use Rattle.ic_args.proofs.LineRows.{first_value, fresh_first, given_found, not_given, named_apart}
 use Rattle.ic_args.proofs.OptionLines.{ReadsAll, ReadsGiven, all_read, found_all, given_as, none_all}
 use Rattle.ic_args.proofs.Steps.{Leads, at, one_turn}
 use Rattle.ic_args.proofs.WordsExact.{below, help}

@@ -1,17 +1,16 @@
 -- Each well-formed line of `settle`, `once`, `draw` or `expand` is taken, with its FILE.
-use Rattle.std.proofs.Common.{◌≡◌, List, [], ◌∷◌, Option, None, Some, Bool, true, false, codes, fold, inl, inr, refl, ◌∙◌, ap}
+use Rattle.std.proofs.Common.{◌≡◌, List, [], Option, false, codes, fold, inl, inr, refl, ◌∙◌, ap}
 use Rattle.clap.specs.Words.{Row, Text, fault_of, subcommand_of}
 use Rattle.clap.specs.Simple.{Shape}
 use Rattle.clap.specs.Walk.{nothing_held, walk_from, with_default}
 use Rattle.clap.specs.Faults.{check_fault}
-use Rattle.clap.proofs.OnLiterals.{clap_on_literals}
 use Rattle.ic_args.specs.Words.{command_line, file_met}
 use Rattle.ic_args.specs.Lines.{IsTextLine}
 use Rattle.ic_args.specs.inner.Asking.{IsMet}
 use Rattle.ic_args.proofs.Arguments.{file_read}
 use Rattle.ic_args.proofs.Commands.{text_options}
 use Rattle.ic_args.proofs.LineEnds.{either_none, entered_after}
-use Rattle.ic_args.proofs.Steps.{at, leads_none, level}
+use Rattle.ic_args.proofs.Steps.{leads_none, level}
 use Rattle.ic_args.proofs.WordsExact.{IsCommand}
 
 -- a line of words is taken, and this is its file

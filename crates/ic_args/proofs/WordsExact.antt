@@ -1,5 +1,5 @@
 -- The words in which the parser finds no mistake: the first of them names a command.
-use Rattle.std.proofs.Common.{◌≡◌, ℕ, List, [], ◌∷◌, ◌++◌, Bool, true, false, not, cond, ◌&&◌, ◌||◌, subst, Option, None, Some, length, slice_get, drop, fold, map, find, is_some, option_map, unwrap_or, append-nil, append_assoc, codes, refl, sym, ◌∙◌, ap, ap₂, true≢false, ◌⊎◌, inl, inr}
+use Rattle.std.proofs.Common.{◌≡◌, ℕ, List, [], ◌∷◌, ◌++◌, Bool, true, false, cond, ◌&&◌, ◌||◌, Option, None, Some, length, slice_get, drop, fold, map, find, is_some, option_map, unwrap_or, append-nil, append_assoc, codes, refl, sym, ◌∙◌, ap, ap₂, true≢false, ◌⊎◌, inl, inr}
 use Rattle.std.specs.Option.{option_map_or}
 use Rattle.std.specs.Str.{bytes_eq, chars}
 use Rattle.std.proofs.lemmas.Slice.Eq.{bytes_eq-Decides}

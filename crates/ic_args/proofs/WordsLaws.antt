@@ -2,7 +2,7 @@
 use Rattle.std.proofs.Common.{◌≡◌, ◌≢◌, ℕ, List, [], ◌∷◌, Bool, true, false, not, ◌&&◌, ◌||◌, cond, Option, None, Some, codes, map, refl, sym, ◌∙◌, ap, ap₂, subst, inl, inr, true≢false}
 use Rattle.std.specs.Prelude.{option_map, unwrap_or}
 use Rattle.std.specs.Borrow.{Bor}
-use Rattle.clap.specs.Words.{App, HasKind, HasMatchesOf, IsAmong, Kinds, all_of, fault_of, first_of, matched_of, raw_values, is_simple, is_simple_and_free, kind_of, rows_of, subcommand_name_of, subcommand_of, subcommand_rows_of}
+use Rattle.clap.specs.Words.{App, HasKind, HasMatchesOf, IsAmong, Kinds, all_of, fault_of, first_of, matched_of, raw_values, is_simple, is_simple_and_free, kind_of, rows_of, subcommand_of, subcommand_rows_of}
 use Rattle.clap.specs.Walk.{Row, Text}
 use Rattle.clap.specs.declared.error.Error.{Error}
 use Rattle.clap.specs.declared.error.ErrorKind.{ErrorKind}
@@ -10,14 +10,13 @@ use Rattle.clap.specs.declared.error.ErrorKind.TheVariants.{ArgumentConflict, Di
 use Rattle.clap.specs.declared.parser.matches.ArgMatches.{ArgMatches}
 use Rattle.clap.proofs.OnLiterals.{clap_on_literals}
 use Rattle.clap.specs.Matches.{first_value}
-use Rattle.clap.specs.Simple.{built, entered}
 use Rattle.clap.specs.declared.parser.matches.Found.{Found}
 use Rattle.clap.proofs.WalkLemmas.{first_value-rows, raw_values-rows}
 use Rattle.std.specs.Str.{bytes_eq}
 use Rattle.std.proofs.lemmas.Slice.Eq.{bytes_eq-Decides}
 use Rattle.clap.specs.Kinds.{or_else}
 use Rattle.ic_args.specs.Words.{BeginsWith, asks_in_place, asks_rounds, command_line, format_mistakes, has_help, help_mistakes, is_format, is_given, is_limits, is_met, limits_met, own_mistakes, reduce_faults, reduce_mistakes, value_if_met, value_met, values_met, is_report_format, report_mistakes, tells_report}
-use Rattle.ic_args.specs.inner.Asking.{IsIn, IsMet, commands, TellsReport}
+use Rattle.ic_args.specs.inner.Asking.{IsMet, TellsReport}
 use Rattle.ic_args.proofs.WordsExact.{IsCalled, first_met}
 
 command_line_simple : is_simple_and_free command_line ≡ true

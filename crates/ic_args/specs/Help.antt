@@ -104,6 +104,8 @@ serve_help = text_of (codes "Serves the lines of standard input over the disk in
     ++ codes " 64 [default: 2]")
     ∷ (codes "      --every <K>    After how many rounds of a run they are kept, from 1 to"
     ++ codes " 1000000 [default: 100]")
+    ∷ (codes "      --explain      Tells on standard error where each line with a fault has"
+    ++ codes " it, and what it is")
     ∷ codes "  -h, --help         Print help"
     ∷ []
     ∷ codes "Lines, and what is answered where they aren't refused:"
@@ -117,6 +119,9 @@ serve_help = text_of (codes "Serves the lines of standard input over the disk in
     ∷ codes "  pause NAME, resume NAME              ok"
     ∷ codes "  cancel NAME                          ok: the job is removed"
     ∷ codes "A line with a fault is answered by bad, one that can't be done by refused."
+    ∷ (codes "Where standard error is a terminal, faults are told without --explain; if"
+    ++ codes " standard input is one")
+    ∷ codes "too, a prompt stands there."
     ∷ []
     ∷ codes "Example:"
     ∷ codes "  $ icserve create --disk jobs.disk"
@@ -320,6 +325,7 @@ check_help = text_of (codes "Prints the faults of texts with their places, and w
     ∷ codes "Options:"
     ∷ (codes "      --format <FORMAT>  Lines (text), or JSON objects, one a line (json)"
     ++ codes " [default: text]")
+    ∷ codes "      --script           The files are scripts of attend, in which no run may stand"
     ∷ codes "  -h, --help             Print help"
     ∷ []
     ∷ codes "Example:"

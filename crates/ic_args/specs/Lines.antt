@@ -43,11 +43,20 @@ AreWritten given words = AreWrittenBy IsWritten given words
 abbrev pub IsWithin : (least most : ℕ) → Text → Type 0
 IsWithin least most text = (number : ℕ) × IsDecimal text number × (least ≤ number) × (number ≤ most)
 
--- an option of `serve`: a disk, or a number in its range
-abbrev pub IsServeOption : Given → Type 0
-IsServeOption given = (given.name ≡ codes "disk")
+-- an option of `serve` with a value of its own: a disk, or a number in its range
+abbrev pub IsServeValue : Given → Type 0
+IsServeValue given = (given.name ≡ codes "disk")
     ⊎ (((given.name ≡ codes "workers") × IsWithin 1 64 given.value)
     ⊎ ((given.name ≡ codes "every") × IsWithin 1 1000000 given.value))
+
+-- the flag of `serve`, whose value is that it is given
+abbrev pub IsServeFlag : Given → Type 0
+IsServeFlag given = (given.name ≡ codes "explain") × (given.value ≡ codes "true")
+
+-- how an option of `serve` is written; the flag is one word
+abbrev pub IsServeOption : Given → List Text → Type 0
+IsServeOption given words = (IsServeValue given × IsWritten given words)
+    ⊎ (IsServeFlag given × (words ≡ (45 ∷ 45 ∷ given.name) ∷ []))
 
 -- an option of `batch`: a disk, or a number in its range
 abbrev pub IsBatchOption : Given → Type 0
@@ -102,14 +111,23 @@ abbrev pub IsTraceOption : Given → Type 0
 IsTraceOption given = IsRoundsOption given
     ⊎ ((given.name ≡ codes "format") × IsFormatText given.value)
 
--- an option of `check`: a format
-abbrev pub IsCheckOption : Given → Type 0
-IsCheckOption given = (given.name ≡ codes "format")
+-- a format of what `check` or `inspect` tells
+abbrev pub IsReportOption : Given → Type 0
+IsReportOption given = (given.name ≡ codes "format")
     × ((given.value ≡ codes "text") ⊎ (given.value ≡ codes "json"))
+
+-- the flag of `check`, whose value is that it is given
+abbrev pub IsCheckFlag : Given → Type 0
+IsCheckFlag given = (given.name ≡ codes "script") × (given.value ≡ codes "true")
+
+-- how an option of `check` is written; the flag is one word
+abbrev pub IsCheckOption : Given → List Text → Type 0
+IsCheckOption given words = (IsReportOption given × IsWritten given words)
+    ⊎ (IsCheckFlag given × (words ≡ (45 ∷ 45 ∷ given.name) ∷ []))
 
 -- an option of `inspect`: the disk, or a format
 abbrev pub IsInspectOption : Given → Type 0
-IsInspectOption given = (given.name ≡ codes "disk") ⊎ IsCheckOption given
+IsInspectOption given = (given.name ≡ codes "disk") ⊎ IsReportOption given
 
 -- `--overwrite` stands before these words or behind them, or isn't there
 abbrev pub IsOverwriting : Bool → List Text → List Text → Type 0
@@ -147,17 +165,27 @@ abbrev pub HasValue : List Given → (name default value : Text) → Type 0
 HasValue given name default value = Gives given name value
     ⊎ (AllByRecursion (λ other. other.name ≢ name) given × (value ≡ default))
 
--- `serve --disk F`, with `--workers N` and `--every K` or without, in any order, each once
-pub record IsServeLine (words : List Text) (path threads rounds : Text) : Type 0 where
+-- no option of this name is given
+abbrev pub HasNone : List Given → Text → Type 0
+HasNone given name = AllByRecursion (λ other. other.name ≢ name) given
+
+-- whether a flag is given
+abbrev pub HasFlag : List Given → Text → Bool → Type 0
+HasFlag given name true = Gives given name (codes "true")
+HasFlag given name false = HasNone given name
+
+-- `serve --disk F`, with `--workers N`, `--every K` and `--explain` or without, in any order, each
+-- once
+pub record IsServeLine (words : List Text) (path threads rounds : Text) (told : Bool) : Type 0 where
   pub given : List Given
   pub rest : List Text
   pub begins : words ≡ codes "serve" ∷ rest
-  pub written : AreWritten given rest
-  pub options : AllByRecursion IsServeOption given
+  pub written : AreWrittenBy IsServeOption given rest
   pub once : AreOnce given
   pub disk : Gives given (codes "disk") path
   pub workers : HasValue given (codes "workers") (codes "2") threads
   pub every : HasValue given (codes "every") (codes "100") rounds
+  pub explain : HasFlag given (codes "explain") told
 
 -- `inspect --disk F`, with `--format text|json` or without, in any order, each once
 pub record IsInspectLine (words : List Text) (path shown : Text) : Type 0 where
@@ -186,16 +214,16 @@ pub record IsAttendLine (words : List Text) (path r t n : Text) (scripts : List 
   pub plain : AllByRecursion HasNoHyphen scripts
   pub few : length scripts < 2 ^ 64
 
--- `check`, with `--format text|json` or without, and behind it the paths of files, one at least, none
--- of which begins with a hyphen
-pub record IsCheckLine (words : List Text) (shown : Text) (paths : List Text) : Type 0 where
+-- `check`, with `--format text|json` and `--script` or without, in any order, each once, and after
+-- them the paths of files, one at least, none of which begins with a hyphen
+pub record IsCheckLine (words : List Text) (shown : Text) (paths : List Text) (told : Bool) : Type 0 where
   pub given : List Given
   pub front : List Text
   pub begins : words ≡ codes "check" ∷ (front ++ paths)
-  pub written : AreWritten given front
-  pub options : AllByRecursion IsCheckOption given
+  pub written : AreWrittenBy IsCheckOption given front
   pub once : AreOnce given
   pub format : HasValue given (codes "format") (codes "text") shown
+  pub script : HasFlag given (codes "script") told
   pub one : paths ≢ []
   pub plain : AllByRecursion HasNoHyphen paths
   pub few : length paths < 2 ^ 64
@@ -215,20 +243,11 @@ pub record IsBatchLine (words : List Text) (path r k n lines : Text) : Type 0 wh
   pub workers : HasValue given (codes "workers") (codes "2") n
   pub plain : HasNoHyphen lines
 
--- no option of this name is given
-abbrev pub HasNone : List Given → Text → Type 0
-HasNone given name = AllByRecursion (λ other. other.name ≢ name) given
-
 -- an option's number: that which it is given, or its default where none is given
 abbrev pub HasNumber : List Given → (name : Text) (default number : ℕ) → Type 0
 HasNumber given name default number =
     ((text : Text) × Gives given name text × IsDecimal text number)
     ⊎ (HasNone given name × (number ≡ default))
-
--- whether a flag is given
-abbrev pub HasFlag : List Given → Text → Bool → Type 0
-HasFlag given name true = Gives given name (codes "true")
-HasFlag given name false = HasNone given name
 
 -- `reduce`, with these options in this order, each once, and its FILE
 pub record IsReduceLine (words : List Text) (given : List Given) (file : Option Text) : Type 0 where

@@ -1,5 +1,5 @@
 -- What the words after the program's name ask for (this project's choice).
-use Rattle.std.specs.Prelude.{◌≡◌, ◌≢◌, ◌≤◌, ◌⊎◌, ℕ, Bool, map, List, fold, [], ◌∷◌, ◌++◌, Result, Ok, Err, true, false}
+use Rattle.std.specs.Prelude.{◌≡◌, ◌≢◌, ◌≤◌, ℕ, Bool, map, List, fold, [], ◌∷◌, ◌++◌, Result, Ok, Err, true, false}
 use Rattle.std.specs.Prelude.{◌||◌, ◌&&◌, not, if◌then◌else◌, bytes_eq}
 use Rattle.std.specs.Option.{option_map_or}
 use Rattle.std.specs.Prelude.{codes, string_bytes, Option, Some, None, is_some, option_map, unwrap_or, option_and_then}
@@ -112,7 +112,7 @@ most_steps = 4611686018427387903
 abbrev pub serve_command : App
 serve_command = command_with (codes "serve") (disk_option
     ∷ number_option (codes "workers") 1 64 (codes "2" ∷ [])
-    ∷ number_option (codes "every") 1 1000000 (codes "100" ∷ []) ∷ [])
+    ∷ number_option (codes "every") 1 1000000 (codes "100" ∷ []) ∷ flag (codes "explain") ∷ [])
 
 -- the arguments `SCRIPT..`, of which there may be any number
 abbrev pub script_argument : Rule
@@ -163,7 +163,7 @@ file_argument = record (new_rule (codes "file")) {
 
 abbrev pub check_command : App
 check_command = command_with (codes "check")
-    (valued_option (codes "format") (codes "text") ∷ file_argument ∷ [])
+    (valued_option (codes "format") (codes "text") ∷ flag (codes "script") ∷ file_argument ∷ [])
 
 -- the argument `LINES`, which has to be given
 abbrev pub lines_argument : Rule
@@ -330,7 +330,7 @@ abbrev pub AnswersWords : Kinds → Result Task WordsFault → Type 0
 AnswersWords mistakes (Ok (Settle file)) = mistakes ≡ []
 AnswersWords mistakes (Ok (Once file)) = mistakes ≡ []
 AnswersWords mistakes (Ok (Create disk overwrite)) = mistakes ≡ []
-AnswersWords mistakes (Ok (Serve disk workers every)) = mistakes ≡ []
+AnswersWords mistakes (Ok (Serve disk workers every explain)) = mistakes ≡ []
 AnswersWords mistakes (Ok (Attend disk runners turns workers scripts)) = mistakes ≡ []
 AnswersWords mistakes (Ok (Reduce steps nodes partial stats limits file)) = mistakes ≡ []
 AnswersWords mistakes (Ok (ReduceByRounds rounds workers partial file)) = mistakes ≡ []
@@ -338,7 +338,7 @@ AnswersWords mistakes (Ok (Trace rounds format file)) = mistakes ≡ []
 AnswersWords mistakes (Ok (Draw file)) = mistakes ≡ []
 AnswersWords mistakes (Ok (Dump disk names)) = mistakes ≡ []
 AnswersWords mistakes (Ok (Inspect disk format)) = mistakes ≡ []
-AnswersWords mistakes (Ok (Check files format)) = mistakes ≡ []
+AnswersWords mistakes (Ok (Check files format script)) = mistakes ≡ []
 AnswersWords mistakes (Ok (Batch disk rounds every workers lines)) = mistakes ≡ []
 AnswersWords mistakes (Ok (Expand file)) = mistakes ≡ []
 AnswersWords mistakes (Ok (Help text)) = IsAmong DisplayHelp mistakes
@@ -361,7 +361,7 @@ GivesHelp (Err Memory) = Unit {0}
 GivesHelp (Ok (Settle file)) = ⊥
 GivesHelp (Ok (Once file)) = ⊥
 GivesHelp (Ok (Create disk overwrite)) = ⊥
-GivesHelp (Ok (Serve disk workers every)) = ⊥
+GivesHelp (Ok (Serve disk workers every explain)) = ⊥
 GivesHelp (Ok (Attend disk runners turns workers scripts)) = ⊥
 GivesHelp (Ok (Reduce steps nodes partial stats limits file)) = ⊥
 GivesHelp (Ok (ReduceByRounds rounds workers partial file)) = ⊥
@@ -369,7 +369,7 @@ GivesHelp (Ok (Trace rounds format file)) = ⊥
 GivesHelp (Ok (Draw file)) = ⊥
 GivesHelp (Ok (Dump disk names)) = ⊥
 GivesHelp (Ok (Inspect disk format)) = ⊥
-GivesHelp (Ok (Check files format)) = ⊥
+GivesHelp (Ok (Check files format script)) = ⊥
 GivesHelp (Ok (Batch disk rounds every workers lines)) = ⊥
 GivesHelp (Ok (Expand file)) = ⊥
 GivesHelp (Ok (Version text)) = ⊥
@@ -382,7 +382,7 @@ GivesVersion (Err Memory) = Unit {0}
 GivesVersion (Ok (Settle file)) = ⊥
 GivesVersion (Ok (Once file)) = ⊥
 GivesVersion (Ok (Create disk overwrite)) = ⊥
-GivesVersion (Ok (Serve disk workers every)) = ⊥
+GivesVersion (Ok (Serve disk workers every explain)) = ⊥
 GivesVersion (Ok (Attend disk runners turns workers scripts)) = ⊥
 GivesVersion (Ok (Reduce steps nodes partial stats limits file)) = ⊥
 GivesVersion (Ok (ReduceByRounds rounds workers partial file)) = ⊥
@@ -390,7 +390,7 @@ GivesVersion (Ok (Trace rounds format file)) = ⊥
 GivesVersion (Ok (Draw file)) = ⊥
 GivesVersion (Ok (Dump disk names)) = ⊥
 GivesVersion (Ok (Inspect disk format)) = ⊥
-GivesVersion (Ok (Check files format)) = ⊥
+GivesVersion (Ok (Check files format script)) = ⊥
 GivesVersion (Ok (Batch disk rounds every workers lines)) = ⊥
 GivesVersion (Ok (Expand file)) = ⊥
 GivesVersion (Ok (Help text)) = ⊥
@@ -475,10 +475,11 @@ Names words (Once file) = NamesText (codes "once") words (option_map string_byte
 Names words (Create disk overwrite) = BeginsWith (codes "create") words
     × (string_bytes disk ≡ value_met (codes "disk") (subcommand_of command_line words))
     × (overwrite ≡ is_flag_met (codes "overwrite") (subcommand_of command_line words))
-Names words (Serve disk workers every) = BeginsWith (codes "serve") words
+Names words (Serve disk workers every explain) = BeginsWith (codes "serve") words
     × (string_bytes disk ≡ value_met (codes "disk") (subcommand_of command_line words))
     × IsNumberOf (codes "workers") 1 64 words workers
     × IsNumberOf (codes "every") 1 1000000 words every
+    × (explain ≡ is_flag_met (codes "explain") (subcommand_of command_line words))
 Names words (Attend disk runners turns workers scripts) =
     NamesAttend words (string_bytes disk) runners turns workers (map string_bytes scripts.items)
 Names words (Reduce steps nodes partial stats limits file) =
@@ -500,9 +501,10 @@ Names words (Dump disk names) = BeginsWith (codes "dump") words
 Names words (Inspect disk format) = BeginsWith (codes "inspect") words
     × (string_bytes disk ≡ value_met (codes "disk") (subcommand_of command_line words))
     × (value_met (codes "format") (subcommand_of command_line words) ≡ report_word format)
-Names words (Check files format) = BeginsWith (codes "check") words
+Names words (Check files format script) = BeginsWith (codes "check") words
     × (map string_bytes files.items ≡ values_met (codes "file") (subcommand_of command_line words))
     × (value_met (codes "format") (subcommand_of command_line words) ≡ report_word format)
+    × (script ≡ is_flag_met (codes "script") (subcommand_of command_line words))
 Names words (Batch disk rounds every workers lines) =
     NamesBatch words (string_bytes disk) rounds every workers (string_bytes lines)
 Names words (Expand file) = NamesText (codes "expand") words (option_map string_bytes file)

@@ -101,6 +101,7 @@ Options:
       --disk <F>     The path of the file, which has to be a disk
       --workers <N>  Threads for a round of 4000 equations or more, from 1 to 64 [default: 2]
       --every <K>    After how many rounds of a run they are kept, from 1 to 1000000 [default: 100]
+      --explain      Tells on standard error where each line with a fault has it, and what it is
   -h, --help         Print help
 
 Lines, and what is answered where they aren't refused:
@@ -113,6 +114,8 @@ Lines, and what is answered where they aren't refused:
   pause NAME, resume NAME              ok
   cancel NAME                          ok: the job is removed
 A line with a fault is answered by bad, one that can't be done by refused.
+Where standard error is a terminal, faults are told without --explain; if standard input is one
+too, a prompt stands there.
 
 Example:
   $ icserve create --disk jobs.disk
@@ -302,6 +305,7 @@ Arguments:
 
 Options:
       --format <FORMAT>  Lines (text), or JSON objects, one a line (json) [default: text]
+      --script           The files are scripts of attend, in which no run may stand
   -h, --help             Print help
 
 Example:

@@ -151,7 +151,8 @@ pub fn each_command_has_its_help()
         (codes "icserve create" ∷ codes "--disk <F>" ∷ codes "--overwrite" ∷ []) }
     ensures numbers { AllByRecursion (Says serve_help) (codes "icserve serve" ∷ codes "--disk <F>"
         ∷ codes "--workers <N>" ∷ codes "from 1 to 64 [default: 2]"
-        ∷ codes "--every <K>" ∷ codes "from 1 to 1000000 [default: 100]" ∷ []) }
+        ∷ codes "--every <K>" ∷ codes "from 1 to 1000000 [default: 100]" ∷ codes "--explain"
+        ∷ []) }
     ensures scripts { AllByRecursion (Says attend_help) (codes "icserve attend" ∷ codes "--disk <F>"
         ∷ codes "[SCRIPT]..." ∷ codes "--runners <R>" ∷ codes "from 0 to 64 [default: 2]"
         ∷ codes "--turns <T>" ∷ codes "from 0 to 1000000 [default: 0]"
@@ -167,7 +168,7 @@ pub fn each_command_has_its_help()
         ∷ codes "--workers <N>" ∷ codes "from 1 to 64 [default: 2]" ∷ []) }
     ensures texts { AllByRecursion (Says check_help)
         (codes "icserve check" ∷ codes "<FILE>..." ∷ codes "--format <FORMAT>"
-        ∷ codes "(text)" ∷ codes "(json)" ∷ codes "[default: text]"
+        ∷ codes "(text)" ∷ codes "(json)" ∷ codes "[default: text]" ∷ codes "--script"
         ∷ codes "Prints the faults of texts with their places" ∷ []) }
 {}
 
@@ -198,14 +199,16 @@ pub fn create_lines_are_taken(disk: &String)
 {}
 
 /// A well-formed line of `serve` is taken, in whatever order its options stand, and names the file
-/// and the numbers that it is given, or their defaults: 2 workers, and 100 rounds between two keeps.
+/// and the numbers that it is given, or their defaults: 2 workers, and 100 rounds between two keeps;
+/// and whether it has the flag.
 pub fn serve_lines_are_taken(disk: &String)
-    ensures taken { (words : List Text) (path workers every : Text)
-        → IsServeLine words path workers every → mistakes_of words ≡ [] }
+    ensures taken { (words : List Text) (path workers every : Text) (told : Bool)
+        → IsServeLine words path workers every told → mistakes_of words ≡ [] }
     ensures named { (words : List Text) (path workers every : Text) (threads rounds : ℕ)
-        → IsServeLine words path workers every → Names words (Serve disk.now threads rounds)
+        (told explain : Bool) → IsServeLine words path workers every told
+        → Names words (Serve disk.now threads rounds explain)
         → (string_bytes disk.now ≡ path) × IsDecimal workers threads × IsDecimal every rounds
-        × (1 ≤ threads) × (threads ≤ 64) × (1 ≤ rounds) × (rounds ≤ 1000000) }
+        × (1 ≤ threads) × (threads ≤ 64) × (1 ≤ rounds) × (rounds ≤ 1000000) × (explain ≡ told) }
 {}
 
 /// A well-formed line of `attend` is taken, in whatever order its options stand, and names the
@@ -294,14 +297,17 @@ pub fn inspect_lines_are_taken(disk: &String)
         ≡ InvalidValue ∷ [] }
 {}
 
-/// A well-formed line of `check` is taken, and names the files that it is given, in their order, and the
-/// format, or text. With no file it is refused, and another format is a mistake.
+/// A well-formed line of `check` is taken, in whatever order its options stand, and names the files that it is given,
+/// in their order, the format, or text, and whether it has the flag. With no file it is refused, and another format is
+/// a mistake.
 pub fn check_lines_are_taken(files: &Vec<String>)
-    ensures taken { (words : List Text) (shown : Text) (paths : List Text)
-        → IsCheckLine words shown paths → mistakes_of words ≡ [] }
-    ensures named { (words : List Text) (shown : Text) (paths : List Text) (format : ReportFormat)
-        → IsCheckLine words shown paths → Names words (Check files.now format)
-        → (map string_bytes files.now.items ≡ paths) × (report_word format ≡ shown) }
+    ensures taken { (words : List Text) (shown : Text) (paths : List Text) (scripted : Bool)
+        → IsCheckLine words shown paths scripted → mistakes_of words ≡ [] }
+    ensures named { (words : List Text) (shown : Text) (paths : List Text)
+        → (format : ReportFormat) → (scripted script : Bool)
+        → IsCheckLine words shown paths scripted → Names words (Check files.now format script)
+        → (map string_bytes files.now.items ≡ paths) × (report_word format ≡ shown)
+        × (script ≡ scripted) }
     ensures none { mistakes_of (codes "check" ∷ []) ≡ MissingRequiredArgument ∷ [] }
     ensures other { mistakes_of (codes "check" ∷ codes "--format=tsv" ∷ codes "-" ∷ [])
         ≡ InvalidValue ∷ [] }
@@ -332,10 +338,11 @@ pub fn common_lines_are_well_formed()
         → IsCreateLine path true (codes "create" ∷ codes "--disk" ∷ path
         ∷ codes "--overwrite" ∷ []) }
     ensures serve { (path : Text) → HasNoHyphen path
-        → IsServeLine (codes "serve" ∷ codes "--disk" ∷ path ∷ []) path (codes "2") (codes "100") }
+        → IsServeLine (codes "serve" ∷ codes "--disk" ∷ path ∷ []) path (codes "2") (codes "100")
+        false }
     ensures served { (path : Text) → HasNoHyphen path → IsServeLine (codes "serve"
-        ∷ codes "--workers=4" ∷ codes "--every" ∷ codes "7" ∷ codes "--disk" ∷ path ∷ [])
-        path (codes "4") (codes "7") }
+        ∷ codes "--workers=4" ∷ codes "--explain" ∷ codes "--every" ∷ codes "7" ∷ codes "--disk"
+        ∷ path ∷ []) path (codes "4") (codes "7") true }
     ensures attend { (path script : Text) → HasNoHyphen path → HasNoHyphen script
         → IsAttendLine (codes "attend" ∷ codes "--disk" ∷ path ∷ codes "--turns=9" ∷ script ∷ [])
         path (codes "2") (codes "9") (codes "2") (script ∷ []) }
@@ -365,5 +372,7 @@ pub fn common_lines_are_well_formed()
         → IsInspectLine (codes "inspect" ∷ codes "--disk" ∷ path ∷ []) path (codes "text") }
     ensures check { (path other : Text) → HasNoHyphen path → HasNoHyphen other
         → IsCheckLine (codes "check" ∷ codes "--format=json" ∷ path ∷ other ∷ []) (codes "json")
-        (path ∷ other ∷ []) }
+        (path ∷ other ∷ []) false }
+    ensures scripts_checked { (path : Text) → HasNoHyphen path
+        → IsCheckLine (codes "check" ∷ codes "--script" ∷ path ∷ []) (codes "text") (path ∷ []) true }
 {}

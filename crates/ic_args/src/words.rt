@@ -101,6 +101,8 @@ pub enum Task {
         workers: u32,
         /// After how many rounds they are kept, from 1 to 1,000,000.
         every: u32,
+        /// Whether it is told what is wrong with each refused line, be there a terminal or none.
+        explain: bool,
     },
     /// Give the commands of scripts to a disk, each script by a client of its own.
     Attend {
@@ -175,6 +177,8 @@ pub enum Task {
         files: Vec<String>,
         /// How it is told.
         format: ReportFormat,
+        /// Whether they are scripts.
+        script: bool,
     },
     /// Bring the jobs of a file of lines to their ends.
     Batch {
@@ -398,10 +402,12 @@ fn serve_task(alloc: Global, matches: &ArgMatches) -> Result<Task, WordsFault>
     let disk = String::from_str(alloc, value_of(matches, "disk"))?;
     let workers = small_number_of(matches, "workers", 1, MAX_WORKERS);
     let every = small_number_of(matches, "every", 1, MAX_EVERY);
+    let explain = is_flag_met(matches, "explain");
     Ok(Task::Serve {
         disk,
         workers,
         every,
+        explain,
     })
 }
 
@@ -584,7 +590,11 @@ fn check_task(alloc: Global, matches: &ArgMatches) -> Result<Task, WordsFault>
 {
     let files = values_of(alloc, matches, "file")?;
     match report_format(matches) {
-        Some(format) => Ok(Task::Check { files, format }),
+        Some(format) => Ok(Task::Check {
+            files,
+            format,
+            script: is_flag_met(matches, "script"),
+        }),
         None => Err(WordsFault::Words(no_report_format(alloc, matches)?)),
     }
 }
@@ -954,7 +964,8 @@ fn serve_command<'a>(alloc: Global) -> Result<Command<'a>, AllocError>
         command,
         number_option(alloc, "workers", "N", "2", threads()),
     );
-    with_arg(command, number_option(alloc, "every", "K", "100", keeps()))
+    let command = with_arg(command, number_option(alloc, "every", "K", "100", keeps()));
+    with_arg(command, flag(alloc, "explain"))
 }
 
 /// The command that gives the commands of scripts.
@@ -1021,8 +1032,11 @@ fn inspect_command<'a>(alloc: Global) -> Result<Command<'a>, AllocError>
 fn check_command<'a>(alloc: Global) -> Result<Command<'a>, AllocError>
     ensures { IfOk result (IsMade check_command) }
 {
-    let format = valued_option(alloc, "format", "FORMAT", "text");
-    let command = with_arg(Ok(Command::new(alloc, "check")), format);
+    let command = with_arg(
+        Ok(Command::new(alloc, "check")),
+        valued_option(alloc, "format", "FORMAT", "text"),
+    );
+    let command = with_arg(command, flag(alloc, "script"));
     with_arg(command, file_argument(alloc))
 }
 

@@ -35,7 +35,11 @@ fn asked(alloc: Global, task: &Task) -> Result<String, AllocError> {
             disk,
             workers,
             every,
-        } => format!(in alloc; "serve {disk} {workers} {every}"),
+            explain,
+        } => {
+            let word = if *explain { " explain" } else { "" };
+            format!(in alloc; "serve {disk} {workers} {every}{word}")
+        }
         Task::Attend {
             disk,
             runners,
@@ -82,8 +86,13 @@ fn asked(alloc: Global, task: &Task) -> Result<String, AllocError> {
         Task::Inspect { disk, format } => {
             format!(in alloc; "inspect {} {disk}", report_format(*format))
         }
-        Task::Check { files, format } => {
-            let asked = format!(in alloc; "check {}", report_format(*format))?;
+        Task::Check {
+            files,
+            format,
+            script,
+        } => {
+            let word = if *script { "check scripts" } else { "check" };
+            let asked = format!(in alloc; "{word} {}", report_format(*format))?;
             with_texts(asked, files)
         }
         Task::Batch {

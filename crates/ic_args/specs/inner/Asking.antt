@@ -58,9 +58,10 @@ Asks met (Ok (Once file)) = AsksText (codes "once") met (option_map string_bytes
 Asks met (Ok (Create disk overwrite)) = IsMet (codes "create") met
     × (string_bytes disk ≡ value_met (codes "disk") met)
     × (overwrite ≡ is_flag_met (codes "overwrite") met)
-Asks met (Ok (Serve disk workers every)) = IsMet (codes "serve") met
+Asks met (Ok (Serve disk workers every explain)) = IsMet (codes "serve") met
     × (string_bytes disk ≡ value_met (codes "disk") met)
     × IsReadFrom (codes "workers") 1 64 met workers × IsReadFrom (codes "every") 1 1000000 met every
+    × (explain ≡ is_flag_met (codes "explain") met)
 Asks met (Ok (Attend disk runners turns workers scripts)) = IsMet (codes "attend") met
     × (string_bytes disk ≡ value_met (codes "disk") met)
     × IsReadFrom (codes "runners") 0 64 met runners × IsReadFrom (codes "turns") 0 1000000 met turns
@@ -89,9 +90,10 @@ Asks met (Ok (Dump disk names)) = IsMet (codes "dump") met
 Asks met (Ok (Inspect disk format)) = IsMet (codes "inspect") met
     × (string_bytes disk ≡ value_met (codes "disk") met)
     × (value_met (codes "format") met ≡ report_word format)
-Asks met (Ok (Check files format)) = IsMet (codes "check") met
+Asks met (Ok (Check files format script)) = IsMet (codes "check") met
     × (map string_bytes files.items ≡ values_met (codes "file") met)
     × (value_met (codes "format") met ≡ report_word format)
+    × (script ≡ is_flag_met (codes "script") met)
 Asks met (Ok (Batch disk rounds every workers lines)) = IsMet (codes "batch") met
     × (string_bytes disk ≡ value_met (codes "disk") met)
     × IsReadFrom (codes "rounds") 0 most_rounds met rounds

@@ -1,4 +1,4 @@
-use Rattle.std.proofs.Common.{◌∙◌, [], ◌∷◌, List, ap, sym}
+use Rattle.std.proofs.Common.{◌∙◌, [], ◌∷◌, ap, sym}
 use Rattle.std.specs.Prelude.{string_bytes, option_copied}
 use Rattle.clap.specs.Words.{Text}
 use Rattle.ic_args.specs.Help.{help_of}

@@ -1,4 +1,4 @@
-use Rattle.std.proofs.Common.{◌≡◌, sym, ap, None}
+use Rattle.std.proofs.Common.{sym, ap}
 use Rattle.ic_args.specs.Help.{named_help}
 use Rattle.ic_args.proofs.HelpLemmas.{no_help_named}
 use Rattle.ic_args.proofs.help.named_help.Goals as goal

@@ -70,37 +70,46 @@ returns-clause-serve c = λ path plain. record {
   given = given_as (codes "disk") path ∷ [];
   rest = codes "--disk" ∷ path ∷ [];
   begins = refl;
-  written = ((codes "--disk" ∷ path ∷ []), [], refl, inr (refl, plain), refl);
-  options = (inl refl, tt);
+  written = ((codes "--disk" ∷ path ∷ []), [], refl, inl (inl refl, inr (refl, plain)), refl);
   once = (tt, tt);
   disk = inl (refl, refl);
   workers = inr (((λ same. cc), tt), refl);
   every = inr (((λ same. cc), tt), refl);
+  explain = (other (codes "disk") (codes "explain") refl, tt);
 }
 
 pub returns-clause-served : goal.returns-clause-served
 returns-clause-served c = λ path plain. record {
-  given = given_as (codes "workers") (codes "4") ∷ given_as (codes "every") (codes "7") ∷ given_as (codes "disk") path ∷ [];
-  rest = codes "--workers=4" ∷ codes "--every" ∷ codes "7" ∷ codes "--disk" ∷ path ∷ [];
+  given = given_as (codes "workers") (codes "4") ∷ given_as (codes "explain") (codes "true") ∷ given_as (codes "every") (codes "7") ∷ given_as (codes "disk") path ∷ [];
+  rest = codes "--workers=4" ∷ codes "--explain" ∷ codes "--every" ∷ codes "7" ∷ codes "--disk" ∷ path ∷ [];
   begins = refl;
   written = (
     (codes "--workers=4" ∷ []),
-    (codes "--every" ∷ codes "7" ∷ codes "--disk" ∷ path ∷ []),
+    (codes "--explain" ∷ codes "--every" ∷ codes "7" ∷ codes "--disk" ∷ path ∷ []),
     refl,
-    inl refl,
+    inl (inr (inl (refl, four)), inl refl),
     (
-      (codes "--every" ∷ codes "7" ∷ []),
-      (codes "--disk" ∷ path ∷ []),
+      (codes "--explain" ∷ []),
+      (codes "--every" ∷ codes "7" ∷ codes "--disk" ∷ path ∷ []),
       refl,
-      inr (refl, λ same. cc),
-      ((codes "--disk" ∷ path ∷ []), [], refl, inr (refl, plain), refl),
+      inr ((refl, refl), refl),
+      (
+        (codes "--every" ∷ codes "7" ∷ []),
+        (codes "--disk" ∷ path ∷ []),
+        refl,
+        inl (inr (inr (refl, seven)), inr (refl, λ same. cc)),
+        ((codes "--disk" ∷ path ∷ []), [], refl, inl (inl refl, inr (refl, plain)), refl),
+      ),
     ),
   );
-  options = (inr (inl (refl, four)), (inr (inr (refl, seven)), (inl refl, tt)));
-  once = (((λ same. cc), ((λ same. cc), tt)), (((λ same. cc), tt), (tt, tt)));
-  disk = inr (inr (inl (refl, refl)));
+  once = (
+    (other (codes "workers") (codes "explain") refl, (other (codes "workers") (codes "every") refl, (other (codes "workers") (codes "disk") refl, tt))),
+    ((other (codes "explain") (codes "every") refl, (other (codes "explain") (codes "disk") refl, tt)), ((other (codes "every") (codes "disk") refl, tt), (tt, tt))),
+  );
+  disk = inr (inr (inr (inl (refl, refl))));
   workers = inl (inl (refl, refl));
-  every = inl (inr (inl (refl, refl)));
+  every = inl (inr (inr (inl (refl, refl))));
+  explain = inr (inl (refl, refl));
 }
 
 pub returns-clause-attend : goal.returns-clause-attend
@@ -265,16 +274,30 @@ returns-clause-batch c = λ path file plain other. record {
 }
 
 pub returns-clause-check : goal.returns-clause-check
-returns-clause-check c = λ path other plain also. record {
+returns-clause-check c = λ path next plain also. record {
   given = given_as (codes "format") (codes "json") ∷ [];
   front = codes "--format=json" ∷ [];
   begins = refl;
-  written = ((codes "--format=json" ∷ []), [], refl, inl refl, refl);
-  options = ((refl, inr refl), tt);
+  written = ((codes "--format=json" ∷ []), [], refl, inl ((refl, inr refl), inl refl), refl);
   once = (tt, tt);
   format = inl (inl (refl, refl));
+  script = (other (codes "format") (codes "script") refl, tt);
   one = λ same. cc;
   plain = (plain, (also, tt));
+  few = omega (arith);
+}
+
+pub returns-clause-scripts_checked : goal.returns-clause-scripts_checked
+returns-clause-scripts_checked c = λ path plain. record {
+  given = given_as (codes "script") (codes "true") ∷ [];
+  front = codes "--script" ∷ [];
+  begins = refl;
+  written = ((codes "--script" ∷ []), [], refl, inr ((refl, refl), refl), refl);
+  once = (tt, tt);
+  format = inr ((other (codes "script") (codes "format") refl, tt), refl);
+  script = inl (refl, refl);
+  one = λ same. cc;
+  plain = (plain, tt);
   few = omega (arith);
 }
 

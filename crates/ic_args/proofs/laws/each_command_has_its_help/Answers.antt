@@ -67,7 +67,7 @@ pub returns-clause-disk : goal.returns-clause-disk
 returns-clause-disk c = ((39, refl), ((64, refl), ((166, refl), tt)))
 
 pub returns-clause-numbers : goal.returns-clause-numbers
-returns-clause-numbers c = ((71, refl), ((95, refl), ((188, refl), ((250, refl), ((282, refl), ((343, refl), tt))))))
+returns-clause-numbers c = ((71, refl), ((95, refl), ((188, refl), ((250, refl), ((282, refl), ((343, refl), ((382, refl), tt)))))))
 
 pub returns-clause-scripts : goal.returns-clause-scripts
 returns-clause-scripts c = ((88, refl), ((113, refl), ((124, refl), ((291, refl), ((348, refl), ((380, refl), ((445, refl), ((482, refl), ((521, refl), tt)))))))))
@@ -82,4 +82,4 @@ pub returns-clause-lines : goal.returns-clause-lines
 returns-clause-lines c = ((89, refl), ((113, refl), ((124, refl), ((299, refl), ((351, refl), ((418, refl), ((470, refl), ((509, refl), ((571, refl), tt)))))))))
 
 pub returns-clause-texts : goal.returns-clause-texts
-returns-clause-texts c = ((92, refl), ((116, refl), ((234, refl), ((259, refl), ((295, refl), ((302, refl), ((0, refl), tt)))))))
+returns-clause-texts c = ((92, refl), ((116, refl), ((234, refl), ((259, refl), ((295, refl), ((302, refl), ((324, refl), ((0, refl), tt))))))))

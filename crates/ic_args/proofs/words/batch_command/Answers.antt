@@ -1,4 +1,4 @@
-use Rattle.std.proofs.Common.{[], ◌∷◌, codes, refl}
+use Rattle.std.proofs.Common.{[], ◌∷◌, codes}
 use Rattle.clap.specs.Words.{new_app}
 use Rattle.ic_args.specs.Words.{disk_option, lines_argument, most_rounds, number_option}
 use Rattle.ic_args.specs.inner.Making.{IsMade}
