@@ -102,7 +102,7 @@ def found_in_line(line, kind):
     if kind != "syntax":
         return kind, end + inner[1], inner[2]
     if not inner or not inner[1]:
-        return "syntax", end, SOUGHT[due]
+        return "syntax", end, places.NO_COMMENTS if line.startswith(places.COMMENTS, end) else SOUGHT[due]
     return "syntax", end + inner[1], places.sentence_of_syntax(line, end + inner[1], "system")
 
 
@@ -156,17 +156,23 @@ def seen_of_line(line):
     return None, None, list(warnings(*asked[2:4])) if asked[0] == "submit" else []
 
 
-def of_line(file, number, line):
+NO_RUN = "run isn't for scripts, since runners make the rounds"
+
+
+def of_line(file, number, line, in_script=False):
     fault, found, words = seen_of_line(line)
+    word = own_words(line)[0][:1]
+    if in_script and len(line) <= places.MOST_BYTES and word and word[0][2] == "run":
+        fault, found, words = "bad syntax", ("syntax", word[0][0], NO_RUN), []
     if fault:
         return [fault_line(file, line, fault, found, number)], True
     return [f"{file}:{number}: warning: {it}" for it in words], False
 
 
-def checked(file, text):
+def checked(file, text, in_script=False):
     """The lines that tell of a file, and whether it has a fault."""
     form = form_of(text)
-    if form != "lines":
+    if form != "lines" and not in_script:
         return of_whole(file, text, form)
-    told = [of_line(file, number, line) for number, line in enumerate(lines_of(text), 1)]
+    told = [of_line(file, number, line, in_script) for number, line in enumerate(lines_of(text), 1)]
     return [line for lines, _ in told for line in lines], any(faulty for _, faulty in told)

@@ -2,6 +2,8 @@ pub mod Listing
 pub mod Growth
 pub mod Warned
 pub mod Told
+pub mod Refused
+pub mod ScriptFaults
 pub mod Split
 pub mod Reached
 pub mod Stuck

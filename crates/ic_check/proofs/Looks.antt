@@ -6,7 +6,7 @@ use Rattle.std.specs.Io.KnownBytes.{Appends, Keeps}
 use Rattle.std.proofs.lemmas.List.{map-append, take-map, take_more, take_all}
 use Rattle.std.proofs.lemmas.List.Concat.{flat_map-append}
 use Rattle.std.proofs.lemmas.List.Folds.{list_any-append}
-use Rattle.ic_check.specs.Content.{Content, text, unread}
+use Rattle.ic_check.specs.Content.{Content, unread}
 use Rattle.ic_check.specs.Files.{AreLooks, Look, told, refused, LooksOver, LooksOverFront, LooksOverPart, TellsAs, is_faulty, is_refused, lines_of, reasons_of, verdict_of}
 use Rattle.ic_check.specs.declared.files.Layout.{Layout}
 use Rattle.ic_check.specs.declared.files.Verdict.{Verdict}
@@ -59,11 +59,11 @@ one_text lines false = refl
 
 module _ (layout : Layout) (Gives : List ℕ → Content → Type 0) where
   -- one file of which a text is given, and one of which none is
-  pub over_told : (path bytes lines : List ℕ) (faulty : Bool) (old new : Option (List ℕ)) (a : List ℕ)
-      → Gives path (text bytes) → TellsAs layout path bytes lines faulty → Appends old new lines → LooksOver layout Gives (path ∷ []) old new a a (verdict_by faulty)
-  over_told path bytes lines faulty old new a given tells written = record {
+  pub over_told : (path : List ℕ) (content : Content) (lines : List ℕ) (faulty : Bool) (old new : Option (List ℕ)) (a : List ℕ)
+      → Gives path content → TellsAs layout path content lines faulty → Appends old new lines → LooksOver layout Gives (path ∷ []) old new a a (verdict_by faulty)
+  over_told path content lines faulty old new a given tells written = record {
     looks = told lines faulty ∷ [];
-    each = ((bytes, given, tells), tt);
+    each = ((content, given, tells), tt);
     written = subst (Appends old new) (sym (append-nil lines)) written;
     beside = sym (append-nil a);
     found = one_text lines faulty;

@@ -24,14 +24,17 @@ use Rattle.ic_text.specs.declared.misread.Limit.{Limit as Bound}
 use Rattle.ic_text.specs.declared.misread.Limit.TheVariants as bound
 use Rattle.ic_causes.specs.Causes.{is_printable, shown_byte, shown_path}
 use Rattle.ic_diagnostics.specs.Lines.{column, last_line, line_number, told_at}
-use Rattle.ic_diagnostics.specs.Sights.{first_word, sight_at}
-use Rattle.ic_diagnostics.specs.Telling.{behind_in_config, behind_in_system, behind_mark, config_sentence, limit_sentence, plain_sentence, sentence, sight_sentence, syntax_sentence, system_sentence, wants_term}
+use Rattle.ic_diagnostics.specs.Sights.{first_word, is_again, opens_comment, sight_at}
+use Rattle.ic_diagnostics.specs.Telling.{argument_sentence, behind_in_config, behind_in_system, behind_mark, comment_sentence, config_sentence, count_words, limit_sentence, opened, plain_sentence, sentence, sight_sentence, stand_sentence, syntax_sentence, system_sentence, wants_term}
 use Rattle.ic_diagnostics.specs.declared.sights.Sight.{Sight}
-use Rattle.ic_diagnostics.specs.declared.sights.Sight.TheVariants.{End, SystemMark, ConfigMark, CommandWord, NoName, Front, Behind}
+use Rattle.ic_diagnostics.specs.declared.sights.Sight.TheVariants.{End, SystemMark, ConfigMark, CommandWord, Comment, NoName, Empty, Argument, After, Crossed, Front, Behind}
+use Rattle.ic_diagnostics.specs.declared.stands.Stand.{Stand}
+use Rattle.ic_diagnostics.specs.declared.stands.Stand.TheVariants as standing
 use Rattle.ic_diagnostics.specs.declared.telling.Kind.{Kind}
 use Rattle.ic_diagnostics.specs.declared.telling.Kind.TheVariants.{Config, System}
 use Rattle.ic_check.specs.Checking.{before, told_fault, told_line_fault}
 use Rattle.ic_check.specs.Meanings.{IsOneLine}
+use Rattle.ic_check.specs.Sessions.{asks_help, column_text, lines_sentence, refusal_line, session_sentence}
 use Rattle.ic_check.specs.Telling.{colon, line_limit_sentence, line_sentence, place_text, placed_line, sought_sentence, spot_text}
 use Rattle.ic_check.specs.declared.due.Due.{Due}
 use Rattle.ic_check.specs.declared.due.Due.TheVariants as due
@@ -118,16 +121,43 @@ in_system_free b =
     let other = codes "no system goes on with this" in
     let symbol = codes "a symbol is looked for here" in
     let less = codes "< is looked for here" in
-    let last = if b == 125 then less else behind_mark other b in
-    either_free (b == 123) (codes "a symbol or } is looked for here") (if b == 59 then symbol else last) refl
-    (either_free (b == 59) symbol last refl (either_free (b == 125) less (behind_mark other b) refl (behind_mark_free other b refl)))
+    let term = codes "a term or | is looked for here" in
+    let over = codes "nothing is looked for behind a configuration" in
+    let fifth = if b == 62 then over else behind_mark other b in
+    let fourth = if b == 60 then term else fifth in
+    let third = if b == 125 then less else fourth in
+    either_free (b == 123) (codes "a symbol or } is looked for here") (if b == 59 then symbol else third) refl
+    (either_free (b == 59) symbol third refl (either_free (b == 125) less fourth refl (either_free (b == 60) term fifth refl
+    (either_free (b == 62) over (behind_mark other b) refl (behind_mark_free other b refl)))))
+
+opened_free : (opens : Bool) (words : List ℕ) → has_feed words ≡ false → has_feed (opened opens words) ≡ false
+opened_free false words free = free
+opened_free true words free = both_free (codes "( or ") words refl free
+
+stand_free : (other : List ℕ) (s : Stand) (opens : Bool) → has_feed other ≡ false → has_feed (stand_sentence other s opens) ≡ false
+stand_free other standing.First opens free = opened_free opens (codes ">< is looked for here") refl
+stand_free other standing.Second opens free = opened_free opens (codes "; or } is looked for here") refl
+stand_free other standing.Interface opens free = opened_free opens (codes ", or | is looked for here") refl
+stand_free other standing.Left opens free = opened_free opens (codes "= is looked for here") refl
+stand_free other standing.Right opens free = opened_free opens (codes ", or > is looked for here") refl
+stand_free other standing.Front opens free = free
+stand_free other standing.Rules opens free = free
+stand_free other standing.Over opens free = free
+
+argument_free : (opens : Bool) → has_feed (argument_sentence opens) ≡ false
+argument_free opens = opened_free opens (codes ", or ) is looked for here") refl
 
 config_free : (sight : Sight) → has_feed (config_sentence sight) ≡ false
 config_free End = refl
 config_free SystemMark = refl
 config_free ConfigMark = refl
 config_free CommandWord = refl
+config_free Comment = refl
 config_free NoName = refl
+config_free Empty = refl
+config_free (Argument opens) = argument_free opens
+config_free (After s opens) = stand_free (codes "no configuration goes on with this") s opens refl
+config_free Crossed = refl
 config_free Front = refl
 config_free (Behind b) = in_config_free b
 
@@ -136,7 +166,12 @@ system_free End = refl
 system_free SystemMark = refl
 system_free ConfigMark = refl
 system_free CommandWord = refl
+system_free Comment = refl
 system_free NoName = refl
+system_free Empty = refl
+system_free (Argument opens) = argument_free opens
+system_free (After s opens) = stand_free (codes "no system goes on with this") s opens refl
+system_free Crossed = refl
 system_free Front = refl
 system_free (Behind b) = in_system_free b
 
@@ -148,7 +183,7 @@ plain_free : (kind : Kind) (fault : TextFault) (sight : Sight) → has_feed (pla
 plain_free kind Syntax sight = syntax_free kind sight
 plain_free kind Limit sight = syntax_free kind sight
 plain_free kind Arity sight = syntax_free kind sight
-plain_free kind (NameCount i) sight = refl
+plain_free kind (NameCount i) sight = syntax_free kind sight
 plain_free kind (Name n) sight = refl
 plain_free kind (Twice i) sight = refl
 plain_free kind (Lopsided i) sight = refl
@@ -174,10 +209,23 @@ word_free (b ∷ bs) = by_byte (is_word_byte b) refl (word_free bs)
     by_byte true is free = or_from (b == 10) (has_feed (first_word bs)) (no_feed_by is_word_byte refl b is) free
     by_byte false is free = refl
 
-sight_free : (kind : Kind) (fault : TextFault) (detail : Detail) (text : List ℕ) (sight : Sight) → has_feed (sight_sentence kind fault detail (first_word text) sight) ≡ false
-sight_free kind fault Nothing text sight = plain_free kind fault sight
-sight_free kind fault (Passed limit) text sight = limit_free limit
-sight_free kind fault (Arities first here) text sight =
+count_free : (again : Bool) → has_feed (count_words again) ≡ false
+count_free false = refl
+count_free true = refl
+
+sight_free : (kind : Kind) (fault : TextFault) (detail : Detail) (text : List ℕ) (again : Bool) (sight : Sight)
+    → has_feed (sight_sentence kind fault detail (first_word text) again sight) ≡ false
+sight_free kind Syntax Nothing text again sight = plain_free kind Syntax sight
+sight_free kind Limit Nothing text again sight = plain_free kind Limit sight
+sight_free kind Arity Nothing text again sight = plain_free kind Arity sight
+sight_free kind (NameCount i) Nothing text again sight =
+    all_free (codes "in a rule each name stands exactly twice: " ∷ first_word text ∷ count_words again ∷ []) (refl, (word_free text, (count_free again, tt)))
+sight_free kind (Name n) Nothing text again sight = plain_free kind (Name n) sight
+sight_free kind (Twice i) Nothing text again sight = plain_free kind (Twice i) sight
+sight_free kind (Lopsided i) Nothing text again sight = plain_free kind (Lopsided i) sight
+sight_free kind Memory Nothing text again sight = plain_free kind Memory sight
+sight_free kind fault (Passed limit) text again sight = limit_free limit
+sight_free kind fault (Arities first here) text again sight =
     all_free (codes "a symbol has one arity: " ∷ first_word text ∷ codes " has " ∷ decimal here ∷ codes " here and " ∷ decimal first ∷ codes " where it stands first" ∷ [])
     (refl, (word_free text, (refl, (decimal_free here, (refl, (decimal_free first, (refl, tt)))))))
 
@@ -209,7 +257,7 @@ spot_free file lines front free =
     let at = column (last_line front) in
     all_free (file ∷ codes ":" ∷ decimal row ∷ codes ":" ∷ decimal at ∷ []) (free, (refl, (decimal_free row, (refl, (decimal_free at, tt)))))
 
-placed_free : (file : List ℕ) (lines : ℕ) (text : List ℕ) (at : ℕ) (fault : TextFault) (words : List ℕ) → has_feed file ≡ false → has_feed words ≡ false
+pub placed_free : (file : List ℕ) (lines : ℕ) (text : List ℕ) (at : ℕ) (fault : TextFault) (words : List ℕ) → has_feed file ≡ false → has_feed words ≡ false
     → IsOneLine (placed_line file lines text at fault words)
 placed_free file lines text at fault words free words_free =
     let spot = spot_text file lines (take (told_at text at) text) in
@@ -219,7 +267,7 @@ pub one_fault : (file : List ℕ) (kind : Kind) (text : List ℕ) (place : Optio
     → IsOneLine (told_fault file kind text place fault detail)
 one_fault file kind text None fault detail free = one_of_parts (file ∷ colon ∷ fault_text fault ∷ []) (free, (refl, (fault_free fault, tt)))
 one_fault file kind text (Some at) fault detail free =
-    placed_free file 0 text at fault (sentence kind text fault at detail) free (sight_free kind fault detail (drop at text) (sight_at text at))
+    placed_free file 0 text at fault (sentence kind text fault at detail) free (sight_free kind fault detail (drop at text) (is_again text at) (sight_at text at))
 
 sought_free : (due : Due) → has_feed (sought_sentence due) ≡ false
 sought_free due.Command = refl
@@ -239,14 +287,25 @@ line_limit_free line_limit.BudgetRounds = refl
 line_limit_free line_limit.RunRounds = refl
 
 line_words_free : (line : List ℕ) (fault : TextFault) (at : ℕ) (detail : LineDetail) → has_feed (line_sentence line fault at detail) ≡ false
-line_words_free line fault at (Sought due) = sought_free due
+line_words_free line fault at (Sought due) = either_free (opens_comment (drop at line)) comment_sentence (sought_sentence due) refl (sought_free due)
 line_words_free line fault at (Beyond limit) = line_limit_free limit
-line_words_free line fault at (Within detail) = sight_free System fault detail (drop at line) (sight_at line at)
+line_words_free line fault at (Within detail) = sight_free System fault detail (drop at line) (is_again line at) (sight_at line at)
 
 pub one_line_fault : (file : List ℕ) (number : ℕ) (line : List ℕ) (at : ℕ) (fault : TextFault) (detail : LineDetail) → has_feed file ≡ false
     → IsOneLine (told_line_fault file number line at fault detail)
 one_line_fault file number line at fault detail free =
     placed_free file (before number) line at fault (line_sentence line fault at detail) free (line_words_free line fault at detail)
+
+-- the line that a session is told of a refused line
+help_free : (line : List ℕ) (fault : TextFault) (at : ℕ) (detail : LineDetail) → has_feed (session_sentence line fault at detail) ≡ false
+help_free line fault at detail = either_free (asks_help line at detail) lines_sentence (line_sentence line fault at detail) refl (line_words_free line fault at detail)
+
+pub one_refusal : (number : ℕ) (line : List ℕ) (fault : TextFault) (at : ℕ) (detail : LineDetail) → IsOneLine (refusal_line number line fault at detail)
+one_refusal number line fault at detail =
+    let front = take (told_at line at) line in
+    let spot = all_free (codes "line " ∷ decimal number ∷ codes ", column " ∷ decimal (column front) ∷ []) (refl, (decimal_free number, (refl, (decimal_free (column front), tt)))) in
+    one_of_parts (column_text number front ∷ colon ∷ fault_text fault ∷ colon ∷ session_sentence line fault at detail ∷ [])
+    (spot, (refl, (fault_free fault, (refl, (help_free line fault at detail, tt)))))
 
 -- ---- the lines of warnings
 text_free : (o : Option Symbol) → ((s : Symbol) → o ≡ Some s → has_feed s.text ≡ false) → has_feed (text_or_none o) ≡ false

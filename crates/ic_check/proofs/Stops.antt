@@ -18,7 +18,7 @@ module _ (b : ℕ) (bs : List ℕ) where
   pub one_more : is_word_byte b ≡ true → first_word (b ∷ bs) ≡ b ∷ first_word bs
   one_more is = ap (λ x. if x then b ∷ first_word bs else []) is
 
-  no_more : is_word_byte b ≡ false → first_word (b ∷ bs) ≡ []
+  pub no_more : is_word_byte b ≡ false → first_word (b ∷ bs) ≡ []
   no_more is = ap (λ x. if x then b ∷ first_word bs else []) is
 
   behind_more : is_word_byte b ≡ true → behind_word (b ∷ bs) ≡ behind_word bs

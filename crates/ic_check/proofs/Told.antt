@@ -1,5 +1,5 @@
 -- What is told of texts.
-use Rattle.std.proofs.Common.{◌≡◌, ◌≢◌, ℕ, ◌+◌, ◌||◌, List, [], ◌∷◌, ◌++◌, Bool, true, false, Option, Result, Ok, Err, IfOk, OnOk, refl, sym, ap, ◌∙◌, subst, append-nil, append_assoc}
+use Rattle.std.proofs.Common.{◌≡◌, ◌≢◌, ℕ, ◌+◌, ◌||◌, List, [], ◌∷◌, ◌++◌, Bool, true, false, Option, None, Some, Result, Ok, Err, IfOk, OnOk, refl, sym, ap, ◌∙◌, subst, append-nil, append_assoc}
 use Rattle.ic_term.specs.Configuration.{Configuration}
 use Rattle.ic_term.specs.Symbol.{Symbol}
 use Rattle.ic_rules.specs.RuleSet.{Rules}
@@ -12,10 +12,12 @@ use Rattle.ic_text.specs.SystemText.{ReadsSystem}
 use Rattle.ic_text.specs.Text.{Reads}
 use Rattle.ic_text.specs.Words.{written_phrase, written_system}
 use Rattle.ic_text.specs.declared.fault.TextFault.{TextFault}
-use Rattle.ic_text.specs.declared.fault.TextFault.TheVariants.{Memory}
+use Rattle.ic_text.specs.declared.fault.TextFault.TheVariants.{Memory, Syntax}
 use Rattle.ic_text.specs.declared.misread.Detail.{Detail}
 use Rattle.ic_diagnostics.specs.declared.telling.Kind.TheVariants.{Config, System}
-use Rattle.ic_check.specs.Checking.{TellsConfig, TellsLine, TellsLines, TellsSystem, told_fault, told_line_fault}
+use Rattle.ic_check.specs.Checking.{TellsConfig, TellsEach, TellsLine, TellsSystem, before, told_fault, told_line_fault}
+use Rattle.ic_check.specs.Scripts.{TellsByRun, TellsScriptLine, run_place, run_sentence}
+use Rattle.ic_check.specs.Telling.{placed_line}
 use Rattle.ic_check.specs.LinePlaces.{IsLinePlace}
 use Rattle.ic_check.specs.declared.line_places.LineDetail.{LineDetail}
 use Rattle.ic_commands.specs.LineText.{ReadsLine}
@@ -81,9 +83,9 @@ line_told file line number fault at detail old new reads is put =
     (told_line_fault file number line at fault detail, (Err fault, reads, ((at, detail, is, refl), refl)), put)
 
 -- what is told of what is left is told of the whole
-abbrev pub GoesOn : (file text rest : List ℕ) (number : ℕ) (so_far : List ℕ) → Bool → Type 0
-GoesOn file text rest number so_far faulty = (more : List ℕ) (later : Bool) → TellsLines file number (lines rest) more later
-    → TellsLines file 1 (lines text) (so_far ++ more) (faulty || later)
+abbrev pub GoesOn : (One : ℕ → List ℕ → List ℕ → Bool → Type 0) (text rest : List ℕ) (number : ℕ) (so_far : List ℕ) → Bool → Type 0
+GoesOn One text rest number so_far faulty = (more : List ℕ) (later : Bool) → TellsEach One number (lines rest) more later
+    → TellsEach One 1 (lines text) (so_far ++ more) (faulty || later)
 
 or_assoc : (a b d : Bool) → ((a || b) || d) ≡ (a || (b || d))
 or_assoc true b d = refl
@@ -93,16 +95,28 @@ or_false : (a : Bool) → (a || false) ≡ a
 or_false true = refl
 or_false false = refl
 
-pub line_more : (file text rest line behind so_far told : List ℕ) (number : ℕ) (faulty here : Bool) → lines rest ≡ line ∷ lines behind
-    → TellsLine file number line told here → GoesOn file text rest number so_far faulty → GoesOn file text behind (number + 1) (so_far ++ told) (faulty || here)
-line_more file text rest line behind so_far told number faulty here split tells goes more later is =
-    let whole : TellsLines file number (line ∷ lines behind) (told ++ more) (here || later) = (told, here, tells, more, later, is, refl, refl) in
-    let there = goes (told ++ more) (here || later) (subst (λ (ls : List (List ℕ)). TellsLines file number ls (told ++ more) (here || later)) (sym split) whole) in
-    subst (λ (b : Bool). TellsLines file 1 (lines text) ((so_far ++ told) ++ more) b) (sym (or_assoc faulty here later))
-    (subst (λ (l : List ℕ). TellsLines file 1 (lines text) l (faulty || (here || later))) (sym (append_assoc so_far told more)) there)
+module _ (One : ℕ → List ℕ → List ℕ → Bool → Type 0) where
+  pub line_more : (text rest line behind so_far told : List ℕ) (number : ℕ) (faulty here : Bool) → lines rest ≡ line ∷ lines behind
+      → One number line told here → GoesOn One text rest number so_far faulty → GoesOn One text behind (number + 1) (so_far ++ told) (faulty || here)
+  line_more text rest line behind so_far told number faulty here split tells goes more later is =
+      let whole : TellsEach One number (line ∷ lines behind) (told ++ more) (here || later) = (told, here, tells, more, later, is, refl, refl) in
+      let there = goes (told ++ more) (here || later) (subst (λ (ls : List (List ℕ)). TellsEach One number ls (told ++ more) (here || later)) (sym split) whole) in
+      subst (λ (b : Bool). TellsEach One 1 (lines text) ((so_far ++ told) ++ more) b) (sym (or_assoc faulty here later))
+      (subst (λ (l : List ℕ). TellsEach One 1 (lines text) l (faulty || (here || later))) (sym (append_assoc so_far told more)) there)
 
-pub lines_end : (file text rest so_far : List ℕ) (number : ℕ) (faulty : Bool) → rest ≡ [] → GoesOn file text rest number so_far faulty → TellsLines file 1 (lines text) so_far faulty
-lines_end file text rest so_far number faulty none goes =
-    let there = goes [] false (subst (λ (l : List ℕ). TellsLines file number (lines l) [] false) (sym none) (refl, refl)) in
-    subst (λ (b : Bool). TellsLines file 1 (lines text) so_far b) (or_false faulty)
-    (subst (λ (l : List ℕ). TellsLines file 1 (lines text) l (faulty || false)) (append-nil so_far) there)
+  pub lines_end : (text rest so_far : List ℕ) (number : ℕ) (faulty : Bool) → rest ≡ [] → GoesOn One text rest number so_far faulty → TellsEach One 1 (lines text) so_far faulty
+  lines_end text rest so_far number faulty none goes =
+      let there = goes [] false (subst (λ (l : List ℕ). TellsEach One number (lines l) [] false) (sym none) (refl, refl)) in
+      subst (λ (b : Bool). TellsEach One 1 (lines text) so_far b) (or_false faulty)
+      (subst (λ (l : List ℕ). TellsEach One 1 (lines text) l (faulty || false)) (append-nil so_far) there)
+
+pub run_told : (file line : List ℕ) (number at : ℕ) (old new : List ℕ) → run_place line ≡ Some at
+    → new ≡ old ++ placed_line file (before number) line at Syntax run_sentence → Appends (TellsScriptLine file number line) old new true
+run_told file line number at old new is put =
+    let words = placed_line file (before number) line at Syntax run_sentence in
+    (words, subst (λ (place : Option ℕ). TellsByRun place file number line words true) (sym is) (refl, refl), put)
+
+pub other_told : (file line : List ℕ) (number : ℕ) (old new : List ℕ) (faulty : Bool) → run_place line ≡ None
+    → Appends (TellsLine file number line) old new faulty → Appends (TellsScriptLine file number line) old new faulty
+other_told file line number old new faulty none (told, tells, put) =
+    (told, subst (λ (place : Option ℕ). TellsByRun place file number line told faulty) (sym none) tells, put)

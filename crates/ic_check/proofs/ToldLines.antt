@@ -28,13 +28,14 @@ use Rattle.ic_text.specs.declared.fault.TextFault.{TextFault}
 use Rattle.ic_text.specs.declared.fault.TextFault.TheVariants.{Syntax, Limit, Arity, NameCount, Name, Twice, Lopsided}
 use Rattle.ic_text.specs.declared.limits.TheConstants.{MAX_TEXT}
 use Rattle.ic_diagnostics.specs.declared.telling.Kind.TheVariants.{Config, System}
-use Rattle.ic_check.specs.Checking.{Tells, TellsConfig, TellsForm, TellsLine, TellsLines, TellsSystem, WarnsOf, form_of}
+use Rattle.ic_check.specs.Checking.{Tells, TellsConfig, TellsEach, TellsForm, TellsLine, TellsSystem, WarnsOf, before, form_of}
+use Rattle.ic_check.specs.Scripts.{TellsByRun, TellsScript, TellsScriptLine, run_place, run_sentence}
 use Rattle.ic_check.specs.Meanings.{AreLines, IsOneLine}
 use Rattle.ic_check.specs.Telling.{place_text}
 use Rattle.ic_check.specs.Warnings.{Warns, warning_line}
 use Rattle.ic_check.specs.declared.checking.Form.{Form}
 use Rattle.ic_check.specs.declared.checking.Form.TheVariants as form
-use Rattle.ic_check.proofs.OneLine.{one_each, one_fault, one_line_fault}
+use Rattle.ic_check.proofs.OneLine.{one_each, one_fault, one_line_fault, placed_free}
 
 -- ---- symbols of which each has the text of one
 
@@ -240,15 +241,24 @@ module _ (no_submit : (verb : _) (w name : List ℕ) (s : SystemParts) (budget :
       let detail = is.0.1 in
       subst AreLines (sym is.0.3) (one_line _ (one_line_fault file number line at fault detail free))
 
-  all_lines : (number : ℕ) (ls : List (List ℕ)) (told : List ℕ) (faulty : Bool) → TellsLines file number ls told faulty → AreLines told
-  all_lines number [] told faulty is = no_lines told is.0
-  all_lines number (l ∷ ls) told faulty (first, wrong, here, rest, later, others, joined, found) =
-      subst AreLines (sym joined) (both_lines first rest (line_lines number l first wrong here) (all_lines (number + 1) ls rest later others))
+  all_lines : (One : ℕ → List ℕ → List ℕ → Bool → Type 0) → ((number : ℕ) (line told : List ℕ) (faulty : Bool) → One number line told faulty → AreLines told)
+      → (number : ℕ) (ls : List (List ℕ)) (told : List ℕ) (faulty : Bool) → TellsEach One number ls told faulty → AreLines told
+  all_lines One each number [] told faulty is = no_lines told is.0
+  all_lines One each number (l ∷ ls) told faulty (first, wrong, here, rest, later, others, joined, found) =
+      subst AreLines (sym joined) (both_lines first rest (each number l first wrong here) (all_lines One each (number + 1) ls rest later others))
+
+  by_run_lines : (place : Option ℕ) (number : ℕ) (line told : List ℕ) (faulty : Bool) → TellsByRun place file number line told faulty → AreLines told
+  by_run_lines None number line told faulty is = line_lines number line told faulty is
+  by_run_lines (Some at) number line told faulty is =
+      subst AreLines (sym is.0) (one_line _ (placed_free file (before number) line at Syntax run_sentence free refl))
+
+  pub script_lines : (text told : List ℕ) (faulty : Bool) → TellsScript file text told faulty → AreLines told
+  script_lines text told faulty is = all_lines (TellsScriptLine file) (λ number line. by_run_lines (run_place line) number line) 1 (lines text) told faulty is
 
   form_lines : (f : Form) (text told : List ℕ) (faulty : Bool) → TellsForm f file text told faulty → AreLines told
   form_lines form.System text told faulty is = system_lines text told faulty is
   form_lines form.Config text told faulty is = config_lines text told faulty is
-  form_lines form.Lines text told faulty is = all_lines 1 (lines text) told faulty is
+  form_lines form.Lines text told faulty is = all_lines (TellsLine file) line_lines 1 (lines text) told faulty is
 
   pub told_lines : (text told : List ℕ) (faulty : Bool) → Tells file text told faulty → AreLines told
   told_lines text told faulty is = form_lines (form_of text) text told faulty is

@@ -78,14 +78,19 @@ TellsLine file number line told faulty = (answer : Result Line TextFault)
     (λ fault told. (at : ℕ) × (detail : LineDetail) × IsLinePlace line fault at detail
     × (told ≡ told_line_fault file number line at fault detail)) answer told faulty
 
--- lines of a file, the first of which has this number, one after the other
+-- lines, the first of which has this number, one after the other, where this is told of one
+abbrev pub TellsEach : (One : (number : ℕ) → (line told : List ℕ) → Bool → Type 0) → (number : ℕ)
+    → List (List ℕ) → (told : List ℕ) → Bool → Type 0
+TellsEach One number [] told faulty = (told ≡ []) × (faulty ≡ false)
+TellsEach One number (line ∷ ls) told faulty = (first : List ℕ) × (is_first : Bool)
+    × One number line first is_first
+    × (rest : List ℕ) × (is_later : Bool) × TellsEach One (number + 1) ls rest is_later
+    × (told ≡ first ++ rest) × (faulty ≡ (is_first || is_later))
+
+-- lines of a file for a server
 abbrev pub TellsLines : (file : List ℕ) → (number : ℕ) → List (List ℕ) → (told : List ℕ) → Bool
     → Type 0
-TellsLines file number [] told faulty = (told ≡ []) × (faulty ≡ false)
-TellsLines file number (line ∷ ls) told faulty = (first : List ℕ) × (is_first : Bool)
-    × TellsLine file number line first is_first
-    × (rest : List ℕ) × (is_later : Bool) × TellsLines file (number + 1) ls rest is_later
-    × (told ≡ first ++ rest) × (faulty ≡ (is_first || is_later))
+TellsLines file number ls told faulty = TellsEach (TellsLine file) number ls told faulty
 
 -- the form of a file by its first byte that is no blank: `{` begins a system, `<` a configuration
 abbrev pub first_of : List ℕ → Option ℕ

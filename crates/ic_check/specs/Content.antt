@@ -1,7 +1,8 @@
 -- To be believed: what a file gives.
 use Rattle.std.specs.Prelude.{ℕ, List}
 
--- a text, or the lines that say why it isn't looked over
+-- a text, a script, or the lines that say why it isn't looked over
 pub data Content : Type 0 where
   text : List ℕ → Content
+  script : List ℕ → Content
   unread : List ℕ → Content

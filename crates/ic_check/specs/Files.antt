@@ -5,8 +5,9 @@ use Rattle.std.specs.Io.KnownBytes.{Appends}
 use Rattle.ic_output.specs.Output.{AppendsFront}
 use Rattle.ic_causes.specs.Causes.{shown_path}
 use Rattle.ic_check.specs.Checking.{Tells}
-use Rattle.ic_check.specs.Content.{Content, text, unread}
+use Rattle.ic_check.specs.Content.{Content, text, script, unread}
 use Rattle.ic_check.specs.Objects.{objects_of}
+use Rattle.ic_check.specs.Scripts.{TellsScript}
 use Rattle.ic_check.specs.declared.files.Given.{Given}
 use Rattle.ic_check.specs.declared.files.Given.TheVariants as given
 use Rattle.ic_check.specs.declared.files.Layout.{Layout}
@@ -16,6 +17,7 @@ use Rattle.ic_check.specs.declared.files.Verdict.TheVariants.{Fine, Faulty, Unre
 
 abbrev pub content_of : Given → Content
 content_of (given.Text bytes) = text bytes.items
+content_of (given.Script bytes) = script bytes.items
 content_of (given.Unread why) = unread why.items
 
 -- what came of a file: what is told of its text, and whether that has a fault; or why it isn't looked
@@ -24,18 +26,24 @@ pub data Look : Type 0 where
   told : List ℕ → Bool → Look
   refused : List ℕ → Look
 
--- what is told of the text in the file of a path: in lines that begin with the path as it is shown, or
+-- what is told of what a file gives, where it gives bytes
+abbrev pub TellsContent : (file : List ℕ) → Content → (lines : List ℕ) → Bool → Type 0
+TellsContent file (text bytes) lines faulty = Tells file bytes lines faulty
+TellsContent file (script bytes) lines faulty = TellsScript file bytes lines faulty
+TellsContent file (unread why) lines faulty = ⊥
+
+-- what is told of what the file of a path gives: in lines that begin with the path as it is shown, or
 -- as the objects of lines without it
-abbrev pub TellsAs : Layout → (path bytes lines : List ℕ) → Bool → Type 0
-TellsAs Lines path bytes lines faulty = Tells (shown_path path) bytes lines faulty
-TellsAs Objects path bytes lines faulty =
-    (nameless : List ℕ) × Tells [] bytes nameless faulty × (lines ≡ objects_of path nameless)
+abbrev pub TellsAs : Layout → (path : List ℕ) → Content → (lines : List ℕ) → Bool → Type 0
+TellsAs Lines path content lines faulty = TellsContent (shown_path path) content lines faulty
+TellsAs Objects path content lines faulty = (nameless : List ℕ)
+    × TellsContent [] content nameless faulty × (lines ≡ objects_of path nameless)
 
 -- this came of the file of a path
 abbrev pub IsLook : Layout → (Gives : List ℕ → Content → Type 0) → (path : List ℕ) → Look
     → Type 0
 IsLook layout Gives path (told lines faulty) =
-    (bytes : List ℕ) × Gives path (text bytes) × TellsAs layout path bytes lines faulty
+    (content : Content) × Gives path content × TellsAs layout path content lines faulty
 IsLook layout Gives path (refused why) = Gives path (unread why)
 
 -- these came of the files of some paths, one of each, in their order

@@ -5,6 +5,8 @@ pub mod Warnings
 pub mod LinePlaces
 pub mod Telling
 pub mod Checking
+pub mod Sessions
+pub mod Scripts
 pub mod Meanings
 pub mod Content
 pub mod Objects

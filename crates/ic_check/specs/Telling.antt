@@ -1,12 +1,13 @@
 -- To be believed: how a fault is told (this project's choice).
-use Rattle.std.specs.Prelude.{ℕ, ◌+◌, List, [], ◌∷◌, ◌++◌, Option, None, Some, codes, take}
+use Rattle.std.specs.Prelude.{ℕ, ◌+◌, List, [], ◌∷◌, ◌++◌, Option, None, Some, codes, drop, take, if◌then◌else◌}
 use Rattle.std.specs.Fmt.{decimal}
 use Rattle.std.specs.List.{concat}
 use Rattle.ic_text.specs.declared.fault.TextFault.{TextFault}
 use Rattle.ic_text.specs.Text.{fault_text}
 use Rattle.ic_diagnostics.specs.declared.telling.Kind.TheVariants.{System}
 use Rattle.ic_diagnostics.specs.Lines.{column, last_line, line_number, told_at}
-use Rattle.ic_diagnostics.specs.Telling.{sentence}
+use Rattle.ic_diagnostics.specs.Sights.{opens_comment}
+use Rattle.ic_diagnostics.specs.Telling.{comment_sentence, sentence}
 use Rattle.ic_check.specs.declared.due.Due.{Due}
 use Rattle.ic_check.specs.declared.due.Due.TheVariants.{Command, SubmitName, Budget, System as Opened, OldName, NewName, VerbName, Number, Nothing}
 use Rattle.ic_check.specs.declared.due.LineLimit.{LineLimit}
@@ -62,6 +63,7 @@ line_limit_sentence RunRounds = codes "a run makes at most 1000 rounds"
 
 -- what is amiss at the place of a line's fault
 abbrev pub line_sentence : List ℕ → TextFault → ℕ → LineDetail → List ℕ
-line_sentence line fault at (Sought due) = sought_sentence due
+line_sentence line fault at (Sought due) =
+    if opens_comment (drop at line) then comment_sentence else sought_sentence due
 line_sentence line fault at (Passed limit) = line_limit_sentence limit
 line_sentence line fault at (Within detail) = sentence System line fault at detail

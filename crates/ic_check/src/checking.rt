@@ -55,7 +55,7 @@ fn check_form(
     match form {
         Form::System => check_system(alloc, file, text, out),
         Form::Config => check_config(alloc, file, text, out),
-        Form::Lines => check_lines(alloc, file, text, out),
+        Form::Lines => check_lines(alloc, false, file, text, out),
     }
 }
 

@@ -4,11 +4,11 @@ ghost use Rattle.std.specs.Prelude.{◌≡◌, ◌≢◌, ◌⊎◌, [], ◌∷�
 ghost use Rattle.std.specs.Io.KnownBytes.{Appends, Keeps};
 ghost use Rattle.ic_output.specs.Output.{AppendsFront};
 ghost use Rattle.ic_check.specs.Content.{Content};
-ghost use Rattle.ic_check.specs.Checking.{Tells};
-ghost use Rattle.ic_check.specs.Files.{LooksOver, LooksOverFront, LooksOverPart, TellsAs, content_of};
-ghost use Rattle.ic_check.specs.inner.Verdicts.{WritesPart, verdict_by, worse};
+ghost use Rattle.ic_check.specs.Files.{LooksOver, LooksOverFront, LooksOverPart, TellsAs, TellsContent, content_of};
+ghost use Rattle.ic_check.specs.inner.Verdicts.{WritesPart, content_by, verdict_by, worse};
 
 use crate::checking::check;
+use crate::lines::check_script;
 use crate::objects::objects;
 use ic_causes::shown_path;
 use ic_output::write_flushed;
@@ -20,6 +20,8 @@ use std::io::Write;
 #[derive(Debug, Drop)]
 pub enum Given {
     Text(Vec<u8>),
+    /// Lines for a client, whatever they begin with.
+    Script(Vec<u8>),
     /// It isn't looked over: the lines that say why.
     Unread(Vec<u8>),
 }
@@ -116,7 +118,11 @@ fn check_file<S: Source, W: Write>(
 {
     match source.give(alloc, path)? {
         Given::Text(text) => {
-            let is_faulty = check_text(alloc, path.as_bytes(), layout, &text, writer)?;
+            let is_faulty = check_text(alloc, path.as_bytes(), layout, false, &text, writer)?;
+            Ok(verdict_of(is_faulty))
+        }
+        Given::Script(text) => {
+            let is_faulty = check_text(alloc, path.as_bytes(), layout, true, &text, writer)?;
             Ok(verdict_of(is_faulty))
         }
         Given::Unread(why) => {
@@ -137,58 +143,71 @@ fn verdict_of(is_faulty: bool) -> Verdict
     }
 }
 
-/// Writes the faults and warnings of the text in the file of this path, and tells whether it has a fault.
+/// Writes the faults and warnings of the text or script in the file of this path, and tells whether it has a fault.
 fn check_text<W: Write>(
     alloc: Global,
     path: &[u8],
     layout: Layout,
+    is_script: bool,
     text: &[u8],
     writer: &mut W,
 ) -> Result<bool, StreamFault>
     ensures told { IfOk result (λ faulty. (lines : List ℕ)
-        × TellsAs layout path.now text.now lines faulty
+        × TellsAs layout path.now (content_by is_script text.now) lines faulty
         × Appends (W.contents writer.old) (W.contents writer.new) lines) }
     ensures silent { IfErr result (λ fault. fault ≢ StreamFault.Write
         → Keeps (W.contents writer.old) (W.contents writer.new)) }
     ensures cut { IfErr result (λ fault. fault ≡ StreamFault.Write
-        → (lines : List ℕ) × (faulty : Bool) × TellsAs layout path.now text.now lines faulty
+        → (lines : List ℕ) × (faulty : Bool)
+        × TellsAs layout path.now (content_by is_script text.now) lines faulty
         × AppendsFront (W.contents writer.old) (W.contents writer.new) [] lines) }
     ensures sort { IfErr result
         (λ fault. (fault ≡ StreamFault.Memory) ⊎ (fault ≡ StreamFault.Write)) }
 {
-    let (lines, is_faulty) = told_as(alloc, layout, path, text)?;
+    let (lines, is_faulty) = told_as(alloc, layout, path, is_script, text)?;
     write(writer, &lines)?;
     Ok(is_faulty)
 }
 
-/// What is told of the text in the file of this path, and whether it has a fault.
+/// What is told of the text or script in the file of this path, and whether it has a fault.
 fn told_as(
     alloc: Global,
     layout: Layout,
     path: &[u8],
+    is_script: bool,
     text: &[u8],
 ) -> Result<(Vec<u8>, bool), AllocError>
-    ensures { IfOk result
-        (λ told. TellsAs layout path.now text.now told.0.items told.1) }
+    ensures { IfOk result (λ told.
+        TellsAs layout path.now (content_by is_script text.now) told.0.items told.1) }
 {
     match layout {
         Layout::Lines => {
             let file = shown_path(alloc, path)?;
-            told_lines(alloc, &file, text)
+            told_lines(alloc, &file, is_script, text)
         }
         Layout::Objects => {
-            let (lines, is_faulty) = told_lines(alloc, b"", text)?;
+            let (lines, is_faulty) = told_lines(alloc, b"", is_script, text)?;
             Ok((objects(alloc, path, &lines)?, is_faulty))
         }
     }
 }
 
-/// The lines that tell of the text in a file of this name, and whether it has a fault.
-fn told_lines(alloc: Global, file: &[u8], text: &[u8]) -> Result<(Vec<u8>, bool), AllocError>
-    ensures { IfOk result (λ told. Tells file.now text.now told.0.items told.1) }
+/// The lines that tell of the text or script in a file of this name, and whether it has a fault.
+fn told_lines(
+    alloc: Global,
+    file: &[u8],
+    is_script: bool,
+    text: &[u8],
+) -> Result<(Vec<u8>, bool), AllocError>
+    ensures { IfOk result (λ told.
+        TellsContent file.now (content_by is_script text.now) told.0.items told.1) }
 {
     let mut lines = Vec::new(alloc);
-    let is_faulty = check(alloc, file, text, &mut lines)?;
+    let is_faulty = if is_script {
+        check_script(alloc, file, text, &mut lines)?
+    } else {
+        check(alloc, file, text, &mut lines)?
+    };
     Ok((lines, is_faulty))
 }
 

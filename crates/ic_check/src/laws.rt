@@ -30,8 +30,11 @@ ghost use Rattle.ic_check.specs.declared.line_places.LineDetail.TheVariants.{Pas
 ghost use Rattle.ic_check.specs.declared.line_places.LineDetail.{LineDetail};
 ghost use Rattle.ic_commands.specs.LineSense.{fits_budget, line_sense, submitted};
 ghost use Rattle.ic_commands.specs.LineText.{ReadsLine};
+ghost use Rattle.ic_commands.specs.ScriptSense.{ReadsScriptLine};
+ghost use Rattle.ic_commands.specs.declared.line.Line.{Line};
 ghost use Rattle.ic_commands.specs.LineSource.{IsLine, LinePhrase, line_words, submit};
 ghost use Rattle.ic_commands.specs.declared.limits.TheConstants.{MAX_RUN};
+ghost use Rattle.ic_jobs.specs.declared.command.Command.{Command};
 ghost use Rattle.ic_jobs.specs.declared.limits.TheConstants.{MAX_BUDGET};
 ghost use Rattle.ic_rules.specs.JobName.{is_job_name};
 ghost use Rattle.ic_rules.specs.declared.job_name.TheConstants.{MAX_JOB_NAME};
@@ -47,6 +50,8 @@ ghost use Rattle.ic_check.specs.declared.checking.Form.TheVariants as form;
 ghost use Rattle.ic_text.specs.Token.{Token, is_blank, is_word_byte, mark, tokens, word, words_among};
 ghost use Rattle.ic_check.specs.Meanings.{AreLines, BeginsLine, GoesWith, HasNoRule, IsOneLine, IsSubmitBehind, IsSubmitFront, IsToldAt, IsWarned, Passes, StandsIn, StandsOnce, faces, facing, is_among, is_looked_for, listed, told_commands};
 ghost use Rattle.ic_check.specs.Reach.{AllAmong, IsReach, IsTakenBy};
+ghost use Rattle.ic_check.specs.Scripts.{TellsScript, TellsScriptLine, run_sentence};
+ghost use Rattle.ic_check.specs.Sessions.{TellsRefusal, lines_sentence, refusal_line};
 ghost use Rattle.ic_check.specs.Symbols.{config_symbols, text_symbols};
 ghost use Rattle.ic_check.specs.Objects.{fault_fields, finding_fields, object_of, objects_of};
 ghost use Rattle.ic_check.specs.Telling.{fault_line, line_limit_sentence, place_text, placed_line, sought_sentence, spot_text};
@@ -184,6 +189,8 @@ pub fn faults_and_warnings_are_one_line_each()
     ensures path { (path : List ℕ) → has_feed (shown_path path) ≡ false }
     ensures told { (file text told : List ℕ) (faulty : Bool) → has_feed file ≡ false
         → Tells file text told faulty → AreLines told }
+    ensures script { (file text told : List ℕ) (faulty : Bool) → has_feed file ≡ false
+        → TellsScript file text told faulty → AreLines told }
 {
     ic_commands::laws::command_words_are();
 }
@@ -360,6 +367,51 @@ pub fn places_of_lines_are_places_of_the_file()
         ≡ spot_text file 0 (flat_map ended above ++ take at line)) }
 {
     ic_lines::laws::lines_are_parted_by_line_feeds();
+}
+
+/// What a session is told of a refused line is one line, with its number and its column; of a line that isn't refused
+/// nothing is told. Where `help` stands in place of a command, the lines that there are are told.
+pub fn refusals_are_told_so()
+    ensures one { (number : ℕ) (line : List ℕ) (fault : TextFault) (at : ℕ) (detail : LineDetail)
+        → IsOneLine (refusal_line number line fault at detail) }
+    ensures none { (number : ℕ) (line told : List ℕ) (asked : Line) → ReadsLine line (Ok asked)
+        → TellsRefusal number line told → told ≡ [] }
+    ensures refused { (number : ℕ) (line told : List ℕ) (fault : TextFault)
+        → ReadsLine line (Err fault) → TellsRefusal number line told
+        → (at : ℕ) × (detail : LineDetail) × IsLinePlace line fault at detail
+        × (told ≡ refusal_line number line fault at detail) }
+    ensures example { refusal_line 7 (codes "fetch a b") Syntax 8 (Sought due.Nothing)
+        ≡ codes "line 7, column 9: bad syntax: nothing is looked for here" ++ 10 ∷ [] }
+    ensures help { refusal_line 1 (codes "help run") Syntax 0 (Sought due.Command)
+        ≡ codes "line 1, column 1: bad syntax: " ++ lines_sentence ++ 10 ∷ [] }
+{
+    ic_commands::laws::one_line_reading();
+}
+
+/// A line of a script that begins with `run`, whatever follows, is told to be none of a script, at the word.
+pub fn runs_in_scripts_are_told()
+    ensures any { (file rest told : List ℕ) (number : ℕ) (faulty : Bool)
+        → length rest + 4 ≤ MAX_TEXT
+        → TellsScriptLine file number (codes "run " ++ rest) told faulty
+        → (faulty ≡ true)
+        × (told ≡ placed_line file (before number) (codes "run " ++ rest) 0 Syntax run_sentence) }
+    ensures other { (file told : List ℕ) (number : ℕ) (faulty : Bool)
+        → TellsScriptLine file number (codes "fetch run") told faulty
+        → TellsLine file number (codes "fetch run") told faulty }
+{}
+
+/// A line of a script is told to have a fault exactly if a client's script is refused for it.
+pub fn script_lines_have_faults_where_they_are_refused()
+    ensures taken { (file line told : List ℕ) (number : ℕ) (faulty : Bool)
+        → (asked : Option Command) → ReadsScriptLine line (Ok asked)
+        → TellsScriptLine file number line told faulty → faulty ≡ false }
+    ensures refused { (file line told : List ℕ) (number : ℕ) (faulty : Bool) (fault : TextFault)
+        → ReadsScriptLine line (Err fault)
+        → TellsScriptLine file number line told faulty → faulty ≡ true }
+{
+    ic_commands::laws::command_words_are();
+    ic_commands::laws::one_script_line_reading();
+    ic_commands::laws::script_lines_are_lines_without_runs();
 }
 
 /// Fronts of submits: `submit a ` with no budget, and `submit a 7` with one.

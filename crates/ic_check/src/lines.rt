@@ -1,15 +1,21 @@
 //! Looking over lines, each by itself.
 
-ghost use Rattle.std.specs.Prelude.{◌≡◌, ◌<◌, ◌∷◌, ◌++◌, ℕ, List, IfOk, OnOk, length};
+ghost use Rattle.std.specs.Prelude.{◌≡◌, ◌<◌, ◌≤◌, ◌∷◌, ◌++◌, ℕ, List, IfOk, IfSome, OnOk, length};
 ghost use Rattle.ic_lines.specs.Lines.{lines};
-ghost use Rattle.ic_check.specs.Checking.{TellsLine, TellsLines, WarnsOf};
+ghost use Rattle.ic_check.specs.Checking.{TellsEach, TellsLine, WarnsOf};
+ghost use Rattle.ic_check.specs.Scripts.{TellsOne, TellsScript, TellsScriptLine, blanks_before, run_place};
 
 use crate::line_places::line_place;
-use crate::remarks::{known_fault, place_text, put_line_fault};
+use crate::remarks::{known_fault, place_text, put_line_fault, put_placed};
 use crate::warnings::put_warnings;
 use ic_commands::{Line, read_command};
+use ic_diagnostics::first_word;
 use ic_jobs::Command;
+use ic_text::{MAX_TEXT, TextFault, is_blank};
 use std::alloc::{AllocError, Global};
+
+/// What is told of a run in a script.
+const RUN: &[u8] = b"run isn't for scripts, since runners make the rounds";
 
 /// The first line of a text, and what follows its line feed.
 pub(crate) fn split_line(text: &[u8]) -> (&[u8], &[u8])
@@ -67,15 +73,98 @@ fn check_line(
     }
 }
 
-/// Appends what is told of the lines of a text, and tells whether one has a fault.
-pub(crate) fn check_lines(
+/// How many blanks a line begins with.
+fn blanks_before(line: &[u8]) -> usize
+    ensures count { result ≡ blanks_before line.now }
+    ensures within { result ≤ length line.now }
+{
+    for (place, byte) in line.iter().enumerate() {
+        if !is_blank(*byte) {
+            return place;
+        }
+    }
+    line.len()
+}
+
+/// The place of the first word of a line, if it is `run` and the line isn't too long.
+fn run_place(line: &[u8]) -> Option<usize>
+    ensures place { result ≡ run_place line.now }
+    ensures within { IfSome result (λ at. at ≤ length line.now) }
+{
+    let place = blanks_before(line);
+    if line.len() <= MAX_TEXT && first_word(&line[place..]) == b"run".as_slice() {
+        Some(place)
+    } else {
+        None
+    }
+}
+
+/// Appends what is told of the line of this number of a script, and tells whether it has a fault. A run has one: scripts
+/// hold commands alone.
+pub fn check_script_line(
+    alloc: Global,
+    file: &[u8],
+    number: usize,
+    line: &[u8],
+    out: &mut Vec<u8>,
+) -> Result<bool, AllocError>
+    ensures { IfOk result (λ faulty. (told : List ℕ)
+        × TellsScriptLine file.now number line.now told faulty
+        × (out.new.items ≡ out.old.items ++ told)) }
+{
+    match run_place(line) {
+        Some(at) => {
+            let before = number.saturating_sub(1);
+            put_placed(alloc, file, before, line, at, TextFault::Syntax, RUN, out)?;
+            Ok(true)
+        }
+        None => check_line(alloc, file, number, line, out),
+    }
+}
+
+/// Appends what is told of a line of this number, of a script or of a file for a server.
+fn check_one(
+    alloc: Global,
+    in_script: bool,
+    file: &[u8],
+    number: usize,
+    line: &[u8],
+    out: &mut Vec<u8>,
+) -> Result<bool, AllocError>
+    ensures { IfOk result (λ faulty. (told : List ℕ)
+        × TellsOne in_script file.now number line.now told faulty
+        × (out.new.items ≡ out.old.items ++ told)) }
+{
+    if in_script {
+        check_script_line(alloc, file, number, line, out)
+    } else {
+        check_line(alloc, file, number, line, out)
+    }
+}
+
+/// Appends what is told of the lines of a script, and tells whether one has a fault.
+pub fn check_script(
     alloc: Global,
     file: &[u8],
     text: &[u8],
     out: &mut Vec<u8>,
 ) -> Result<bool, AllocError>
+    ensures { IfOk result (λ faulty. (told : List ℕ) × TellsScript file.now text.now told faulty
+        × (out.new.items ≡ out.old.items ++ told)) }
+{
+    check_lines(alloc, true, file, text, out)
+}
+
+/// Appends what is told of the lines of a text, a script or none, and tells whether one has a fault.
+pub(crate) fn check_lines(
+    alloc: Global,
+    in_script: bool,
+    file: &[u8],
+    text: &[u8],
+    out: &mut Vec<u8>,
+) -> Result<bool, AllocError>
     ensures { IfOk result (λ faulty. (told : List ℕ)
-        × TellsLines file.now 1 (lines text.now) told faulty
+        × TellsEach (TellsOne in_script file.now) 1 (lines text.now) told faulty
         × (out.new.items ≡ out.old.items ++ told)) }
 {
     let mut rest = text;
@@ -83,7 +172,7 @@ pub(crate) fn check_lines(
     let mut faulty = false;
     while !rest.is_empty() {
         let (line, behind) = split_line(rest);
-        let here = check_line(alloc, file, number, line, out)?;
+        let here = check_one(alloc, in_script, file, number, line, out)?;
         faulty = faulty || here;
         number += 1;
         rest = behind;

@@ -6,7 +6,7 @@ ghost use Rattle.ic_check.specs.Telling.{fault_line, line_limit_sentence, line_s
 
 use crate::due::{Due, LineLimit};
 use crate::line_places::{LineDetail, LinePlace};
-use ic_diagnostics::{Kind, column, last_line, line_number, sentence, told_at};
+use ic_diagnostics::{Kind, column, last_line, line_number, opens_comment, sentence, told_at};
 use ic_text::{Misread, TextFault, print_fault, put_decimal};
 use std::alloc::{AllocError, Global};
 
@@ -46,7 +46,7 @@ fn put_spot(
 }
 
 /// Appends the line of a fault of a text, before which so many lines of the file stand, with its place.
-fn put_placed(
+pub(crate) fn put_placed(
     alloc: Global,
     file: &[u8],
     before: usize,
@@ -158,7 +158,7 @@ fn line_limit_sentence(limit: LineLimit) -> &'static [u8]
 }
 
 /// What is amiss at the place of a line's fault.
-fn line_sentence(
+pub(crate) fn line_sentence(
     alloc: Global,
     line: &[u8],
     fault: TextFault,
@@ -169,7 +169,13 @@ fn line_sentence(
         (λ words. words.items ≡ line_sentence line.now fault place.at place.detail) }
 {
     match place.detail {
-        LineDetail::Sought(due) => Vec::from_slice(alloc, sought_sentence(due)),
+        LineDetail::Sought(due) => {
+            if opens_comment(&line[place.at..]) {
+                Vec::from_slice(alloc, b"there are no comments")
+            } else {
+                Vec::from_slice(alloc, sought_sentence(due))
+            }
+        }
         LineDetail::Passed(limit) => Vec::from_slice(alloc, line_limit_sentence(limit)),
         LineDetail::Within(detail) => {
             let misread = Misread {

@@ -4,7 +4,7 @@ use Rattle.ic_jobs.specs.declared.command.Command.TheVariants as command
 use Rattle.ic_commands.specs.LineSense.{asked}
 use Rattle.ic_check.proofs.CommandWords.{each_of_four}
 use Rattle.ic_check.proofs.OneLine.{one_each, one_fault, one_line_fault, path_free}
-use Rattle.ic_check.proofs.ToldLines.{told_lines}
+use Rattle.ic_check.proofs.ToldLines.{script_lines, told_lines}
 use Rattle.ic_check.proofs.laws.faults_and_warnings_are_one_line_each.Goals as goal
 
 pub returns-clause-fault : goal.returns-clause-fault
@@ -24,3 +24,9 @@ returns-clause-told c =
     let no_submit = each_of_four (λ verb. (w name : List ℕ) (s : SystemParts) (budget : Option ℕ) → asked verb w ≡ command.Submit name s budget → ⊥) _ _ _ _ c.command_words_are.ensures.all_verbs
     (λ w name s budget e. cc) (λ w name s budget e. cc) (λ w name s budget e. cc) (λ w name s budget e. cc) in
     λ file text told faulty free. told_lines no_submit file free text told faulty
+
+pub returns-clause-script : goal.returns-clause-script
+returns-clause-script c =
+    let no_submit = each_of_four (λ verb. (w name : List ℕ) (s : SystemParts) (budget : Option ℕ) → asked verb w ≡ command.Submit name s budget → ⊥) _ _ _ _ c.command_words_are.ensures.all_verbs
+    (λ w name s budget e. cc) (λ w name s budget e. cc) (λ w name s budget e. cc) (λ w name s budget e. cc) in
+    λ file text told faulty free. script_lines no_submit file free text told faulty

@@ -1,4 +1,4 @@
-use Rattle.std.proofs.Common.{◌≡◌, ◌+◌, ◌++◌, [], Some, append_assoc, append-nil, take}
+use Rattle.std.proofs.Common.{◌+◌, [], Some, append_assoc, append-nil, take}
 use Rattle.ic_diagnostics.specs.Lines.{column, last_line, line_number, told_at}
 use Rattle.ic_check.specs.Telling.{fault_line, place_text, placed_line}
 use Rattle.ic_check.specs.Warnings.{warning_line}

@@ -1,4 +1,4 @@
-use Rattle.std.proofs.Common.{◌≡◌, ◌++◌, List, ℕ, length}
+use Rattle.std.proofs.Common.{◌≡◌, ◌++◌, length}
 use Rattle.ic_check.specs.Objects.{objects_of}
 use Rattle.ic_check.proofs.objects.objects.Given as goal
 
