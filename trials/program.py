@@ -53,15 +53,17 @@ OF_ROUNDS = [b"icserve: overgrown", b"icserve: names out"]
 
 
 def ran_with(command, status, out, err):
-    """A run, what it wrote on standard error parted: a line that tells of the disk's file, of standard input, of a net
-    or of a round stands by itself, and so do the four lines of a place in a text."""
+    """A run, what it wrote on standard error parted: a line that tells of the disk's file, of standard input, of a net,
+    of a round, of a script or of a history stands by itself, and so do the four lines of a place in a text."""
     line, feed, behind = err.partition(b"\n")
     of_disk = (line + feed in OF_DISKS or line.startswith(b"icserve: taken ")) and behind.count(b"\n") == 1
     of_input = line == b"icserve: read" and behind.startswith(b"standard input: ") and behind.count(b"\n") == 1
     of_text = line.startswith(b"icserve: bad ") and behind.startswith(b"line ") and behind.count(b"\n") == 4
     of_net = line in OF_NETS and behind.startswith(b"interactions ") and behind.count(b"\n") == 1
     of_round = line in OF_ROUNDS and behind.startswith(b"round ") and behind.count(b"\n") == 1
-    if of_disk or of_text or of_input or of_net or of_round:
+    of_script = line.startswith(b"icserve: script ") and behind.count(b"\n") == 1
+    of_history = line == b"icserve: log full" and behind.startswith(b"the history holds ") and behind.count(b"\n") == 1
+    if of_disk or of_text or of_input or of_net or of_round or of_script or of_history:
         return Ran(command, status, out, line + feed, behind)
     return Ran(command, status, out, err)
 

@@ -8,9 +8,10 @@ import subprocess
 import time
 
 from attending import TOLD, Attending
-from checked import MOST_BYTES
+from checked import MOST_BYTES, of_line
 from known import LOOP
 from program import PATIENCE, PROGRAM, Ran, Server, heeds_signals, run, said_of
+from test_progress import Terminal
 
 
 class Attend(Attending):
@@ -57,7 +58,9 @@ class Attend(Attending):
         """65,536 entries: 65,521 commands and 15 rounds, which are kept."""
         path = self.script("loop", [*["list"] * 65_520, f"submit loop {LOOP.text}"])
         words = self.attends(path, runners=1, turns=1_000_000)
-        self.refuses(*words, out=["client 0", *["jobs"] * 65_520, "accepted"], line="log full", status=4)
+        ran = self.refuses(*words, out=["client 0", *["jobs"] * 65_520, "accepted"], line="log full", status=4)
+        told = "the history holds 65536 commands and rounds; all that was answered is kept, and a further call goes on from there\n"
+        self.equals(ran.command, "the second line", told, ran.behind.decode())
         self.leaves(words, loop=15)
 
     def test_64_scripts_and_scripts_of_no_command_and_of_the_most_are_answered(self):
@@ -140,7 +143,18 @@ class Attend(Attending):
             for disk in (self.jobs, self.room / "missing"):
                 line = f"script 1 line {number}: {fault}"
                 ran = self.refuses(*self.attends(self.paths[0], path, disk=disk), line=line, status=1)
+                told, _ = of_line(path, number, lines[number - 1].encode(), in_script=True)
+                told = told or [f"{path}:{number}: bad limit: a script has at most 65536 commands"]
+                self.equals(ran.command, "the second line", "\n".join(told) + "\n", ran.behind.decode())
         self.leaves(ran.command)
+
+    def test_a_terminal_is_told_where_turns_may_pass_what_the_history_holds(self):
+        for turns, told in ((32_766, b""), (32_767, b"65538"), (1_000_000, b"2000004")):
+            with Terminal() as shown:
+                ran = run(*self.attends(*self.paths, runners=2, turns=turns), stderr=shown.theirs)
+            words = b"icserve: %s commands and turns; the history holds 65536, so it may end with log full\n" % told
+            begins = bytes(shown.came).startswith(words) if told else b"may end" not in shown.came
+            self.equals(ran.command, f"whether it is told, in {bytes(shown.came[:200])}", True, begins)
 
     def test_of_the_first_script_that_cant_be_read_the_path_and_the_cause_are_told(self):
         missing = (self.room / "missing", "open: no such file or folder")

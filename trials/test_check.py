@@ -42,16 +42,16 @@ class Check(Trial):
             files.append((path, as_bytes(text)))
         return files
 
-    def tells(self, files):
+    def tells(self, files, *flags):
         """Fails unless the files are told as the model says, in their order."""
-        told = [checked(path, text) for path, text in files]
-        ran = run("check", *(path for path, _ in files))
+        told = [checked(path, text, in_script=bool(flags)) for path, text in files]
+        ran = run("check", *flags, *(path for path, _ in files))
         self.agrees(ran.command, "what is told", "".join(f"{it}\n" for lines, _ in told for it in lines), ran.out)
         faulty = any(it for _, it in told)
         ends = (1, b"icserve: faults\n") if faulty else (0, b"")
         self.equals(ran.command, "how it ends", ends, (ran.status, ran.err))
         wanted = [fields_of(path, it) for (path, _), (lines, _) in zip(files, told) for it in lines]
-        self.objects(wanted, ends, *(path for path, _ in files))
+        self.objects(wanted, ends, *flags, *(path for path, _ in files))
         return ran.out.decode()
 
     def objects(self, wanted, ends, *paths):
@@ -84,6 +84,23 @@ class Check(Trial):
         ]
         self.refuses("check", *(path for path, _ in files), out=wanted, line="faults", status=1)
         self.tells(files)
+
+    def test_a_run_is_a_fault_of_a_script(self):
+        lines = ["submit one {} <x|x=Done>", "\t run 5", "fetch run", "run", "runs", "", "pause one", "run 007", "{} <|>"]
+        ((path, _),) = files = self.put("\n".join(lines))
+        told = self.tells(files, "--script").splitlines()
+        no_run = "bad syntax: run isn't for scripts, since runners make the rounds"
+        wanted = [f"{path}:2:3: {no_run}", f"{path}:4:1: {no_run}", f"{path}:8:1: {no_run}"]
+        self.equals(path, "the runs", wanted, [it for it in told if "scripts" in it])
+        self.equals(path, "all that is told", 6, len(told))
+        self.tells(files)
+        self.tells(self.put("{} <|>", "run " + "0" * 262_140, "run " + "0" * 262_141, "", "submit a {} <|>\nlist"), "--script")
+
+    def test_drawn_lines_of_scripts(self):
+        draw = self.draws()
+        for _ in range(10):
+            lines = session(draw, job_names(draw, 5), small_systems(draw, 3), 50)
+            self.tells(self.put("\n".join(lines)), "--script")
 
     def test_warnings(self):
         add = "{Add(x,x)><Z;Add(S(x),y)><S(Add(x,y))}"
@@ -141,7 +158,7 @@ class Check(Trial):
             "submit two 5": (13, "syntax", "{ is looked for here"),
             "submit a b {} <|>": (10, "syntax", budget),
             "submit two 05 Add": (12, "syntax", budget),
-            "submit a {A><B <|>": (16, "syntax", "no system goes on with this"),
+            "submit a {A><B <|>": (16, "syntax", "( or ; or } is looked for here"),
             "submit": (7, "syntax", name),
             "submit Two Add": (8, "syntax", name),
             "fetch one two": (11, "syntax", "nothing is looked for here"),

@@ -9,16 +9,18 @@ use ic_exits::{Failure, check_ending};
 use std::alloc::{AllocError, Global};
 use std::io;
 
-/// Prints the faults and warnings of the files of these paths, in their order and this format; for `-` standard input is
-/// read. One that can't be read doesn't keep the others from being checked; why it can't is appended to `told`.
+/// Prints the faults and warnings of the files of these paths, which are scripts or not, in their order and this format;
+/// for `-` standard input is read. One that can't be read doesn't keep the others from being checked; why it can't is
+/// appended to `told`.
 pub(crate) fn check(
     rt: &HostRuntime,
     paths: &[String],
     format: ReportFormat,
+    is_script: bool,
     notes: &Notes,
     told: &mut Vec<u8>,
 ) -> Result<(), Failure> {
-    let source = FileSource { rt };
+    let source = FileSource { rt, is_script };
     let mut output = NotedOutput::new(io::writer(rt), notes);
     let layout = match format {
         ReportFormat::Text => Layout::Lines,
@@ -32,6 +34,7 @@ pub(crate) fn check(
 #[derive(Drop)]
 struct FileSource<'a> {
     rt: &'a HostRuntime,
+    is_script: bool,
 }
 
 impl Source for FileSource<'_> {
@@ -40,6 +43,7 @@ impl Source for FileSource<'_> {
     fn give(&self, alloc: Global, path: &str) -> Result<Given, AllocError> {
         let notes = Notes::new();
         match noted_bytes(self.rt, path, &notes) {
+            Ok(Some(text)) if self.is_script => Ok(Given::Script(text)),
             Ok(Some(text)) => Ok(Given::Text(text)),
             Ok(None) => Ok(Given::Unread(too_long(alloc, path)?)),
             Err(error) if error.kind() == io::ErrorKind::OutOfMemory => Err(AllocError),

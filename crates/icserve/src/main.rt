@@ -10,14 +10,16 @@ mod looking;
 mod progress;
 mod reducing;
 mod scripts;
+mod session;
 mod standing;
 mod texts;
 
 use crate::input::{Input, open_file, told_of};
 use crate::progress::{Progress, WipedFirst};
+use crate::session::Session;
 use crate::standing::stand_ins;
 use ic_args::{Task, TextLimits, WordsFault, read_words};
-use ic_book::Book;
+use ic_book::{Book, BookFault};
 use ic_causes::{NotedFile, NotedFiles, NotedInput, NotedOutput, Notes};
 use ic_diagnostics::{once_telling, settle_telling};
 use ic_disk::{DiskFault, FileDisk};
@@ -82,11 +84,17 @@ fn answer<T: Threads + Wait + Copy + Send + Sync + 'static>(
     notes: &Notes,
     told: &mut Vec<u8>,
 ) -> Result<(), Failure> {
-    let mut input = match file_of(task) {
-        None => Input::Standard(NotedInput::new(rt.reader(), notes)),
-        Some(path) => Input::File(open_file(rt, path, notes).map_err(Failure::Stream)?),
+    let mut input = match (task, file_of(task)) {
+        (Task::Serve { explain, .. }, _) => {
+            let input = NotedInput::new(rt.reader(), notes);
+            Input::Session(Session::new(rt, input, *explain))
+        }
+        (_, None) => Input::Standard(NotedInput::new(rt.reader(), notes)),
+        (_, Some(path)) => Input::File(open_file(rt, path, notes).map_err(Failure::Stream)?),
     };
-    run(rt, threads, task, &mut input, notes, told)
+    run(rt, threads, task, &mut input, notes, told)?;
+    input.end();
+    Ok(())
 }
 
 /// The path of the file that a task reads a text from, none where it reads standard input or no text.
@@ -140,6 +148,7 @@ fn run<T: Threads + Wait + Copy + Send + Sync + 'static, R: Read>(
             disk,
             workers,
             every,
+            ..
         } => {
             let book = open(rt, disk.as_str(), notes)?;
             serve(rt, threads, book, input, [*workers, *every], notes).map_err(Failure::Serve)
@@ -154,7 +163,11 @@ fn run<T: Threads + Wait + Copy + Send + Sync + 'static, R: Read>(
             let scripts = scripts::read_scripts(rt, scripts, told).map_err(Failure::Attend)?;
             let disk = open_disk(rt, disk.as_str(), false, notes)?;
             let numbers = [*runners, *turns, *workers];
-            give(rt, threads, disk, scripts, numbers, notes).map_err(Failure::Attend)
+            let given = give(rt, threads, disk, scripts, numbers, notes);
+            if matches!(given, Err(ScriptsFault::Book(BookFault::LogFull))) {
+                let _ = told.extend_from_slice(scripts::FULL);
+            }
+            given.map_err(Failure::Attend)
         }
         Task::Reduce {
             steps,
@@ -190,7 +203,11 @@ fn run<T: Threads + Wait + Copy + Send + Sync + 'static, R: Read>(
         Task::Expand { .. } => texts::expand(rt, input, notes, told),
         Task::Dump { disk, names } => dumping::dump(rt, disk.as_str(), names, notes),
         Task::Inspect { disk, format } => { inspecting::inspect(rt, disk.as_str(), *format, notes) }
-        Task::Check { files, format } => checking::check(rt, files, *format, notes, told),
+        Task::Check {
+            files,
+            format,
+            script,
+        } => checking::check(rt, files, *format, *script, notes, told),
         Task::Batch {
             disk,
             rounds,
@@ -321,6 +338,7 @@ fn give<T: Threads + Wait + Sync>(
     notes: &Notes,
 ) -> Result<(), ScriptsFault> {
     let [runners, turns, workers] = numbers;
+    crate::scripts::tell_of_room(rt, &scripts, runners, turns);
     let progress = Progress::new(rt);
     let output = WipedFirst::new(&progress, NotedOutput::new(io::writer(rt), notes));
     let Ok(mut output) = BufWriter::with_capacity(rt.alloc(), ANSWERS, output) else {

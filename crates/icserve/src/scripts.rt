@@ -1,13 +1,22 @@
 //! The scripts of the program's word `attend`, which stand in files.
 
+ghost use Rattle.std.specs.Prelude.{◌<◌, IfSome, length};
+
 use crate::texts::{read_limited, too_long};
-use ic_causes::{NotedFiles, Notes, cause_line};
+use ic_book::MAX_ENTRIES;
+use ic_causes::{NotedFiles, Notes, cause_line, shown_path};
+use ic_check::check_script_line;
 use ic_jobs::Command;
 use ic_scripts::{ScriptsFault, add_script};
+use std::alloc::{AllocError, Global};
 use std::fs::OpenOptions;
-use std::io::{self, ErrorKind};
+use std::io::{self, ErrorKind, IsTerminal, Write};
 
-/// Reads the scripts in the files of these paths, in their order. Of the first that can't be read the
+/// What is told after `log full`.
+pub(crate) const FULL: &[u8] =
+    b"the history holds 65536 commands and rounds; all that was answered is kept, and a further call goes on from there\n";
+
+/// Reads the scripts in the files of these paths, in their order. Of the first that can't be read, or is refused, the
 /// line that says why is appended to `told`.
 pub(crate) fn read_scripts(
     rt: &HostRuntime,
@@ -17,9 +26,69 @@ pub(crate) fn read_scripts(
     let mut scripts = Vec::new(rt.alloc());
     for path in paths {
         let text = read_file(rt, path.as_str(), told)?;
-        add_script(rt.alloc(), &text, &mut scripts)?;
+        if let Err(fault) = add_script(rt.alloc(), &text, &mut scripts) {
+            let _ = tell_refusal(rt.alloc(), path.as_str(), &text, fault, told);
+            return Err(fault);
+        }
     }
     Ok(scripts)
+}
+
+/// Appends where the script in the file of this path is refused, and what is amiss there.
+fn tell_refusal(
+    alloc: Global,
+    path: &str,
+    text: &[u8],
+    fault: ScriptsFault,
+    told: &mut Vec<u8>,
+) -> Result<(), AllocError> {
+    let ScriptsFault::Script(_, refusal) = fault else {
+        return Ok(());
+    };
+    let number = refusal.line;
+    let file = shown_path(alloc, path.as_bytes())?;
+    let mut lines = Vec::new(alloc);
+    if check_script_line(alloc, &file, number, line_of(text, number), &mut lines)? {
+        return told.extend_from_slice(&lines);
+    }
+    told.extend_from_slice(&file)?;
+    let rest = format!(in alloc; ":{number}: bad limit: a script has at most 65536 commands\n")?;
+    told.extend_from_slice(rest.as_bytes())
+}
+
+/// The line of this number, from 1, of a text.
+fn line_of(text: &[u8], number: usize) -> &[u8] {
+    let mut rest = text;
+    for _ in 1..number {
+        match place_of_feed(rest) {
+            Some(place) => rest = &rest[place + 1..],
+            None => return &rest[rest.len()..],
+        }
+    }
+    match place_of_feed(rest) {
+        Some(place) => &rest[..place],
+        None => rest,
+    }
+}
+
+/// The place of the first line feed.
+fn place_of_feed(text: &[u8]) -> Option<usize>
+    ensures { IfSome result (λ place. place < length text.now) }
+{
+    text.iter().position(|byte| *byte == b'\n')
+}
+
+/// Tells a terminal where these scripts and turns may be more than a history holds.
+pub(crate) fn tell_of_room(rt: &HostRuntime, scripts: &[Vec<Command>], runners: u32, turns: u32) {
+    let mut most = u64::from(runners) * u64::from(turns);
+    for script in scripts {
+        most = most.saturating_add(script.len() as u64);
+    }
+    if most > MAX_ENTRIES as u64 && rt.stderr().is_terminal() {
+        let _ = eprintln!(rt;
+            "icserve: {most} commands and turns; the history holds 65536, so it may end with log full"
+        );
+    }
 }
 
 /// The bytes of the file of this path. Where it can't be read, or has too many, that is appended to

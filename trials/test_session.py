@@ -1,0 +1,145 @@
+"""Sessions of `serve`: what standard error is told of lines that are refused, and the prompt of a terminal. What is told is
+compared with the models of `checked` and `places`."""
+
+import os
+import re
+import termios
+import threading
+
+from checked import lines_of, seen_of_line, spot
+from known import LOOP, TWO
+from places import told_at
+from program import IN_MEMORY, TOP, Server, Trial, as_bytes, as_lines, run
+from test_drawn_serving import job_names, session, small_systems
+from test_progress import Terminal
+from worked_rows import expanded, rows
+
+LINES = (
+    "the lines are submit NAME [BUDGET] {RULES} <CONFIG>, copy OLD NEW, pause NAME, resume NAME, cancel NAME, fetch NAME, "
+    "list and run K"
+)
+REFUSED = ["lists", f"submit two {TWO.text}", "fetch one two", "", "run 1001", "list", "submit a {A(x,x)><A} <|>", " run 007"]
+TOLD = [
+    "line 1, column 1: bad syntax: a command is looked for here: submit, copy, pause, resume, cancel, fetch, list or run",
+    "line 3, column 11: bad syntax: nothing is looked for here",
+    "line 5, column 5: bad limit: a run makes at most 1000 rounds",
+    "line 7, column 19: bad arity: a symbol has one arity: A has 0 here and 2 where it stands first",
+    "line 8, column 6: bad syntax: a number is looked for here",
+]
+ANSWERS = ["bad syntax", "accepted", "bad syntax", "bad limit", "jobs two:running:0", "bad arity", "bad syntax"]
+
+
+def told_of(text):
+    """What a session is told of its lines."""
+    for number, line in enumerate(lines_of(text), 1):
+        fault, found, _ = seen_of_line(line)
+        if fault:
+            _, at, sentence = found
+            is_help = sentence.startswith("a command ") and re.match(rb"help(?![A-Za-z0-9-])", line[at:])
+            yield f"line {number}, column {spot(line, told_at(line, at))[1]}: {fault}: {LINES if is_help else sentence}"
+
+
+class Session(Trial):
+    seconds = 8
+    rooms = IN_MEMORY
+
+    def setUp(self):
+        super().setUp()
+        self.jobs = self.disk()
+
+    def test_with_the_option_each_refused_line_is_told_with_its_column_and_the_answers_stay(self):
+        self.equals("trials/test_session.py", "the lines by hand", TOLD, list(told_of(as_lines(REFUSED))))
+        self.serves(self.jobs, REFUSED, ANSWERS)
+        self.runs("create", "--disk", self.jobs, "--overwrite")
+        self.serves(self.jobs, REFUSED, ANSWERS, "--explain", err=TOLD)
+        self.serves(self.jobs, b"pause two\nlists", ["ok", "bad syntax"], "--explain", err=[TOLD[0].replace("1", "2", 1)])
+
+    def test_help_is_told_the_lines_there_are(self):
+        told = [f"line {number}, column {column}: bad syntax: {LINES}" for number, column in ((1, 1), (2, 3), (4, 1))]
+        given = ["help", "\t help run", "list", "help", "helps", "fetch help"]
+        told.append(TOLD[0].replace("line 1", "line 5"))
+        answers = ["bad syntax", "bad syntax", "jobs", "bad syntax", "bad syntax", "refused nojob"]
+        self.serves(self.jobs, given, answers, "--explain", err=told)
+        helped = run("help", "serve").out.decode()
+        words = re.findall(r"\w+", LINES.partition("are ")[2])
+        missing = [it for it in words if it not in helped and it != "and"]
+        self.equals("icserve help serve", "words of the lines that it hasn't", [], missing)
+
+    def test_rows_and_drawn_lines_are_told_as_the_models_say(self):
+        given = [b"submit job " + expanded(text).replace(b"\n", b" ") for _, _, text, _ in rows("texts", "system", "once", "system_place")]
+        draw = self.draws()
+        given += [as_bytes(it) for it in session(draw, job_names(draw, 8), small_systems(draw, 10), 300)]
+        text = b"\n".join(it for it in given if len(it) < 50_000)
+        ran = run("serve", "--disk", self.jobs, "--explain", given=text)
+        self.equals(ran.command, "status", 0, ran.status)
+        self.agrees(ran.command, "what is told", "".join(f"{it}\n" for it in told_of(text)), ran.err)
+        silent = run("serve", "--disk", self.disk("other.disk"), given=text)
+        self.agrees(silent.command, "the answers without the option", silent.out, ran.out)
+        self.equals(silent.command, "what is told without the option", b"", silent.err)
+
+    def test_what_is_told_comes_before_the_next_line_is_awaited(self):
+        with Server(self.jobs, "--explain") as server:
+            for number in range(1, 4):
+                self.answers(server, "lists", "bad syntax")
+                told = os.read(server.process.stderr.fileno(), 4096).decode()
+                self.equals(server.said(), "what is told", TOLD[0].replace("1", str(number), 1) + "\n", told)
+            self.answers(server, "list", "jobs")
+            self.ends(server)
+
+    def test_a_terminal_is_told_without_the_option_and_has_no_prompt_of_its_own(self):
+        with Terminal() as shown:
+            ran = run("serve", "--disk", self.jobs, given=REFUSED, stderr=shown.theirs)
+        self.agrees(ran.command, "standard output", as_lines(ANSWERS), ran.out)
+        self.agrees(ran.command, "the terminal", as_lines(TOLD), bytes(shown.came))
+
+    def typed(self, lines, *words, err=True):
+        """Runs a server at a terminal, where these lines and an end of input are typed: what it answers, what the terminal of
+        standard error shows, or what standard error has."""
+        ours, theirs = os.openpty()
+        mode = termios.tcgetattr(theirs)
+        mode[3] &= ~termios.ECHO
+        termios.tcsetattr(theirs, termios.TCSANOW, mode)
+        typing = threading.Thread(target=os.write, args=(ours, as_lines(lines) + b"\x04"))
+        typing.start()
+        try:
+            with Terminal() as shown:
+                how = {"stderr": shown.theirs} if err else {}
+                ran = run("serve", "--disk", self.jobs, *words, stdin=theirs, **how)
+        finally:
+            typing.join()
+            os.close(theirs)
+            os.close(ours)
+        self.equals(ran.command, "status", 0, ran.status)
+        return ran.command, ran.out, bytes(shown.came) if err else ran.err
+
+    def test_with_a_terminal_on_both_sides_there_is_a_prompt_for_each_line(self):
+        command, out, shown = self.typed(["help", "list", "", "fetch two"])
+        self.agrees(command, "standard output", as_lines(["bad syntax", "jobs", "refused nojob"]), out)
+        prompted = f"> line 1, column 1: bad syntax: {LINES}\n> > > > \n"
+        self.agrees(command, "the terminal", prompted, shown)
+
+    def test_with_a_terminal_on_one_side_there_is_no_prompt(self):
+        command, out, err = self.typed(["list", "lists"], err=False)
+        self.equals(command, "standard output and error", (as_lines(["jobs", "bad syntax"]), b""), (out, err))
+        command, out, err = self.typed(["list"], "--explain", err=False)
+        self.equals(command, "standard output and error", (as_lines(["jobs"]), b""), (out, err))
+
+    def test_a_run_at_a_terminal_wipes_its_line_before_the_prompt(self):
+        lines = [f"submit loop {LOOP.text}", *["run 1000"] * 3]
+        command, out, shown = self.typed(lines)
+        self.agrees(command, "standard output", as_lines(["accepted", *["ran 1000"] * 3]), out)
+        lines = re.sub(rb"\r[^\r\x1b]*\x1b\[K", b"", shown)
+        self.agrees(command, "the terminal without lines of progress", b"> " * 5 + b"\n", lines)
+
+    def test_an_error_that_cant_be_written_ends_nothing(self):
+        with open("/dev/full", "wb") as full:
+            ran = run("serve", "--disk", self.jobs, "--explain", given=REFUSED, stderr=full)
+        self.equals(ran.command, "status and standard output", (0, as_lines(ANSWERS)), (ran.status, ran.out))
+
+    def test_the_session_of_the_page_goes_as_the_page_says(self):
+        page = (TOP / "docs/serving.md").read_text()
+        given, told = re.search(r"\$ printf '(.*)' \| \./icserve serve --disk \S+ --explain\n((?:    .*\n)+)", page).groups()
+        ran = run("serve", "--disk", self.jobs, "--explain", given=given.replace("\\n", "\n"))
+        wanted = [it.strip() for it in told.splitlines()]
+        came = [*ran.out.decode().splitlines(), *ran.err.decode().splitlines()]
+        self.equals(ran.command, "what the page shows", sorted(wanted), sorted(came))
