@@ -4,13 +4,13 @@ ghost use Rattle.std.specs.List.{IsDistinct};
 ghost use Rattle.std.specs.Str.{bytes_eq};
 ghost use Rattle.ic_batch.specs.Jobs.{names};
 
-use crate::progress::{Progress, WipedFirst};
 use crate::scripts::read_file;
 use crate::{NotedDisk, open_disk};
 use ic_batch::{BatchFault, JobsFault, NewJob, read_jobs};
 use ic_book::Book;
 use ic_causes::{NotedOutput, Notes};
 use ic_exits::Failure;
+use ic_progress::{Progress, WipedFirst};
 use ic_scripts::ScriptsFault;
 use ic_slots::is_unused;
 use std::io;

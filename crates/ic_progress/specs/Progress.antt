@@ -1,7 +1,11 @@
 -- To be believed: what the line of progress says (this project's choice).
-use Rattle.std.specs.Prelude.{ℕ, List, [], ◌∷◌, ◌++◌, Option, None, Some, codes}
+use Rattle.std.specs.Prelude.{ℕ, ◌*◌, ◌/◌, ◌^◌, ◌-◌, min, max, List, [], ◌∷◌, ◌++◌, Option, None, Some, codes}
 use Rattle.std.specs.Fmt.{decimal}
-use Rattle.icserve.specs.declared.progress.Pace.{Pace}
+use Rattle.ic_progress.specs.declared.line.Pace.{Pace}
+
+-- how many there are in a second, of so many in these milliseconds; both have 64 bits
+abbrev pub a_second : (count millis : ℕ) → ℕ
+a_second count millis = min (count * 1000) (2 ^ 64 - 1) / max millis 1
 
 -- at which pace rounds land, and how many jobs are running
 abbrev pub pace_text : Option Pace → List ℕ

@@ -1,8 +1,6 @@
 //! The line of progress that a terminal shows of long work.
 
-ghost use Rattle.std.specs.Prelude.{◌≡◌, IfOk};
-ghost use Rattle.icserve.specs.Progress.{pace_text, progress_line, reducing_line};
-
+use crate::line::{Pace, a_second, progress_line, reducing_line};
 use ic_in_place::Watch;
 use ic_pool::Gate;
 use std::alloc::{AllocError, Global};
@@ -18,13 +16,6 @@ const STANDS: u64 = 100;
 /// What wipes a line of a terminal: to its begin, and erase what stands there.
 const WIPED: &[u8] = b"\r\x1b[K";
 
-/// At which pace rounds land, and how many jobs are running.
-#[derive(Clone, Copy, Debug)]
-struct Pace {
-    rounds_a_second: u64,
-    jobs_running: u64,
-}
-
 /// What a line tells of long work.
 trait Tells {
     /// What a terminal is sent, in place of the line before it, where there are so many in a second of
@@ -32,7 +23,7 @@ trait Tells {
     fn line(&self, alloc: Global, a_second: u64) -> Result<Vec<u8>, AllocError>;
 }
 
-/// When the line was last rewritten, or work began behind a pause; how many of what is counted there
+/// When the line was last rewritten, or work began after a pause; how many of what is counted there
 /// were by then; and whether there is a line.
 #[derive(Clone, Copy, Debug)]
 struct Shown {
@@ -86,7 +77,8 @@ impl<'a> Line<'a> {
         if time < Duration::from_millis(STANDS) {
             return last;
         }
-        let pace = a_second(count.saturating_sub(last.count), time);
+        let millis = u64::try_from(time.as_millis()).unwrap_or(u64::MAX);
+        let pace = a_second(count.saturating_sub(last.count), millis);
         if let Ok(line) = told.line(self.rt.alloc(), pace) {
             let _ = self.rt.stderr().write_all(&line);
         }
@@ -97,7 +89,7 @@ impl<'a> Line<'a> {
         }
     }
 
-    /// Wipes the line, where there is one. Work that comes behind it begins behind a pause.
+    /// Wipes the line, where there is one. Work that comes after it begins after a pause.
     fn wipe(&self) {
         let Some(mut shown) = self.shown.try_lock() else {
             return;
@@ -206,57 +198,6 @@ impl Tells for Seen {
     fn line(&self, alloc: Global, a_second: u64) -> Result<Vec<u8>, AllocError> {
         reducing_line(alloc, self.interactions, a_second, self.places)
     }
-}
-
-/// How many there are in a second, of so many in this time.
-pub(crate) fn a_second(count: u64, time: Duration) -> u64 {
-    let millis = u64::try_from(time.as_millis()).unwrap_or(u64::MAX);
-    count.saturating_mul(1000) / millis.max(1)
-}
-
-/// What a terminal is sent: the line of so many events and their pace, in place of the one before.
-fn progress_line(alloc: Global, events: u64, pace: Option<Pace>) -> Result<Vec<u8>, AllocError>
-    ensures { IfOk result (λ line. line.items ≡ progress_line events pace) }
-{
-    let mut line = b"\revents ".to_vec(alloc)?;
-    line.extend_from_slice(events.to_string(alloc)?.as_bytes())?;
-    line.extend_from_slice(&pace_text(alloc, pace)?)?;
-    line.extend_from_slice(b"\x1b[K")?;
-    Ok(line)
-}
-
-/// What a terminal is sent of so many interactions, so many a second and so many places, in place of
-/// the line before it.
-fn reducing_line(
-    alloc: Global,
-    interactions: u64,
-    a_second: u64,
-    places: u64,
-) -> Result<Vec<u8>, AllocError>
-    ensures { IfOk result (λ line. line.items ≡ reducing_line interactions a_second places) }
-{
-    let mut line = b"\rinteractions ".to_vec(alloc)?;
-    line.extend_from_slice(interactions.to_string(alloc)?.as_bytes())?;
-    line.extend_from_slice(b", a second ")?;
-    line.extend_from_slice(a_second.to_string(alloc)?.as_bytes())?;
-    line.extend_from_slice(b", places ")?;
-    line.extend_from_slice(places.to_string(alloc)?.as_bytes())?;
-    line.extend_from_slice(b"\x1b[K")?;
-    Ok(line)
-}
-
-/// What the line says of the pace.
-fn pace_text(alloc: Global, pace: Option<Pace>) -> Result<Vec<u8>, AllocError>
-    ensures { IfOk result (λ text. text.items ≡ pace_text pace) }
-{
-    let Some(pace) = pace else {
-        return Ok(Vec::new(alloc));
-    };
-    let mut text = b", rounds a second ".to_vec(alloc)?;
-    text.extend_from_slice(pace.rounds_a_second.to_string(alloc)?.as_bytes())?;
-    text.extend_from_slice(b", jobs running ")?;
-    text.extend_from_slice(pace.jobs_running.to_string(alloc)?.as_bytes())?;
-    Ok(text)
 }
 
 /// An output, before whose bytes the line of progress is wiped.

@@ -1,0 +1,181 @@
+//! The figures of a reduction in place, as lines and as an object of JSON.
+
+ghost use Rattle.std.specs.Prelude.{◌≡◌, ◌∷◌, ◌++◌, IfOk, OnOk};
+ghost use Rattle.std.specs.Fmt.{decimal};
+ghost use Rattle.std.specs.List.{flat_map};
+ghost use Rattle.ic_progress.specs.Figures.{count_fields, end_word, figures_line, figures_lines, figures_object};
+ghost use Rattle.ic_progress.specs.Figures.{name_steps_field, name_steps_figure, numbers_text, rule_figure, rule_figures, rules_line, seconds_text};
+
+use crate::line::a_second;
+use ic_in_place::{End, Outcome};
+use ic_text::put_decimal;
+use std::alloc::{AllocError, Global};
+
+/// The lines that tell the figures of a reduction that took so many milliseconds: how many steps were made, how many
+/// places there were and how fast it was, and how often each rule fired.
+pub fn figures_lines(alloc: Global, outcome: &Outcome, millis: u64) -> Result<Vec<u8>, AllocError>
+    ensures { IfOk result (λ lines. lines.items ≡ figures_lines outcome.now millis) }
+{
+    let mut out = Vec::new(alloc);
+    put_figures_line(outcome, millis, &mut out)?;
+    put_rules_line(alloc, &outcome.by_rule, &mut out)?;
+    Ok(out)
+}
+
+/// The same figures as an object of JSON on a line.
+pub fn figures_object(alloc: Global, outcome: &Outcome, millis: u64) -> Result<Vec<u8>, AllocError>
+    ensures { IfOk result (λ object. object.items ≡ figures_object outcome.now millis) }
+{
+    let mut out = b"{\"end\":\"".to_vec(alloc)?;
+    out.extend_from_slice(end_word(outcome.end))?;
+    put_counts(outcome, millis, &mut out)?;
+    out.extend_from_slice(b",\"by_rule\":[")?;
+    put_numbers(alloc, &outcome.by_rule, &mut out)?;
+    out.extend_from_slice(b"]}\n")?;
+    Ok(out)
+}
+
+/// Appends the line of steps, places and pace.
+fn put_figures_line(outcome: &Outcome, millis: u64, out: &mut Vec<u8>) -> Result<(), AllocError>
+    ensures { OnOk result (out.new.items ≡ out.old.items ++ figures_line outcome.now millis) }
+{
+    out.extend_from_slice(b"icserve: interactions ")?;
+    put_decimal(outcome.interactions, out)?;
+    put_name_steps(outcome.name_steps, out)?;
+    out.extend_from_slice(b", places ")?;
+    put_decimal(outcome.places, out)?;
+    out.extend_from_slice(b", seconds ")?;
+    put_seconds(millis, out)?;
+    out.extend_from_slice(b", interactions a second ")?;
+    put_decimal(a_second(outcome.interactions, millis), out)?;
+    out.push(b'\n')?;
+    Ok(())
+}
+
+/// Appends how many steps put a term for a name, where that is told.
+fn put_name_steps(name_steps: Option<u64>, out: &mut Vec<u8>) -> Result<(), AllocError>
+    ensures { OnOk result (out.new.items ≡ out.old.items ++ name_steps_figure name_steps) }
+{
+    let Some(count) = name_steps else {
+        return Ok(());
+    };
+    out.extend_from_slice(b", name steps ")?;
+    put_decimal(count, out)
+}
+
+/// Appends milliseconds as seconds.
+fn put_seconds(millis: u64, out: &mut Vec<u8>) -> Result<(), AllocError>
+    ensures { OnOk result (out.new.items ≡ out.old.items ++ seconds_text millis) }
+{
+    put_decimal(millis / 1_000, out)?;
+    out.push(b'.')?;
+    out.push(b'0' + (millis / 100 % 10) as u8)?;
+    out.push(b'0' + (millis / 10 % 10) as u8)?;
+    out.push(b'0' + (millis % 10) as u8)?;
+    Ok(())
+}
+
+/// Appends the line of how often each rule fired.
+fn put_rules_line(alloc: Global, counts: &[u64], out: &mut Vec<u8>) -> Result<(), AllocError>
+    ensures { OnOk result (out.new.items ≡ out.old.items ++ rules_line counts.now) }
+{
+    let mut figures = Vec::new(alloc);
+    put_rules(counts, &mut figures)?;
+    out.extend_from_slice(b"icserve: ")?;
+    match figures.as_slice() {
+        [] => out.extend_from_slice(b"no interactions")?,
+        [_comma, rest @ ..] => out.extend_from_slice(&rest[1..])?,
+    }
+    out.push(b'\n')?;
+    Ok(())
+}
+
+/// Appends how often each rule fired, each after a comma.
+fn put_rules(counts: &[u64], out: &mut Vec<u8>) -> Result<(), AllocError>
+    ensures { OnOk result (out.new.items ≡ out.old.items ++ rule_figures 1 counts.now) }
+{
+    for (place, count) in counts.iter().enumerate() {
+        put_rule(place as u64 + 1, *count, out)?;
+    }
+    Ok(())
+}
+
+/// Appends how often a rule fired, unless it never did.
+fn put_rule(rule: u64, count: u64, out: &mut Vec<u8>) -> Result<(), AllocError>
+    ensures { OnOk result (out.new.items ≡ out.old.items ++ rule_figure rule count) }
+{
+    if count == 0 {
+        return Ok(());
+    }
+    out.extend_from_slice(b", rule ")?;
+    put_decimal(rule, out)?;
+    if count == 1 {
+        return out.extend_from_slice(b": 1 interaction");
+    }
+    out.extend_from_slice(b": ")?;
+    put_decimal(count, out)?;
+    out.extend_from_slice(b" interactions")
+}
+
+/// Why a reduction ended, in a word.
+fn end_word(end: End) -> &'static [u8]
+    ensures { result.now ≡ end_word end }
+{
+    match end {
+        End::Quiet => b"quiet",
+        End::Steps => b"steps",
+        End::Nodes => b"places",
+        End::Limit => b"limit",
+        End::Memory => b"memory",
+    }
+}
+
+/// Appends the fields of steps, places, time and pace, after the string of the end.
+fn put_counts(outcome: &Outcome, millis: u64, out: &mut Vec<u8>) -> Result<(), AllocError>
+    ensures { OnOk result (out.new.items ≡ out.old.items ++ count_fields outcome.now millis) }
+{
+    out.extend_from_slice(b"\",\"interactions\":")?;
+    put_decimal(outcome.interactions, out)?;
+    put_name_steps_field(outcome.name_steps, out)?;
+    out.extend_from_slice(b",\"places\":")?;
+    put_decimal(outcome.places, out)?;
+    out.extend_from_slice(b",\"milliseconds\":")?;
+    put_decimal(millis, out)?;
+    out.extend_from_slice(b",\"interactions_a_second\":")?;
+    put_decimal(a_second(outcome.interactions, millis), out)
+}
+
+/// Appends the field of steps that put a term for a name, where they are told.
+fn put_name_steps_field(name_steps: Option<u64>, out: &mut Vec<u8>) -> Result<(), AllocError>
+    ensures { OnOk result (out.new.items ≡ out.old.items ++ name_steps_field name_steps) }
+{
+    let Some(count) = name_steps else {
+        return Ok(());
+    };
+    out.extend_from_slice(b",\"name_steps\":")?;
+    put_decimal(count, out)
+}
+
+/// Appends numbers with commas between them.
+fn put_numbers(alloc: Global, numbers: &[u64], out: &mut Vec<u8>) -> Result<(), AllocError>
+    ensures { OnOk result (out.new.items ≡ out.old.items ++ numbers_text numbers.now) }
+{
+    let mut text = Vec::new(alloc);
+    put_after_commas(numbers, &mut text)?;
+    match text.as_slice() {
+        [] => Ok(()),
+        [_comma, rest @ ..] => out.extend_from_slice(rest),
+    }
+}
+
+/// Appends numbers, each after a comma.
+fn put_after_commas(numbers: &[u64], out: &mut Vec<u8>) -> Result<(), AllocError>
+    ensures { OnOk result (out.new.items
+        ≡ out.old.items ++ flat_map (λ n. 44 ∷ decimal n) numbers.now) }
+{
+    for number in numbers {
+        out.push(b',')?;
+        put_decimal(*number, out)?;
+    }
+    Ok(())
+}
