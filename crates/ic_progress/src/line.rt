@@ -20,7 +20,11 @@ pub(crate) fn a_second(count: u64, millis: u64) -> u64
 }
 
 /// What a terminal is sent: the line of so many events and their pace, in place of the one before.
-pub(crate) fn progress_line(alloc: Global, events: u64, pace: Option<Pace>) -> Result<Vec<u8>, AllocError>
+pub(crate) fn progress_line(
+    alloc: Global,
+    events: u64,
+    pace: Option<Pace>,
+) -> Result<Vec<u8>, AllocError>
     ensures { IfOk result (λ line. line.items ≡ progress_line events pace) }
 {
     let mut line = b"\revents ".to_vec(alloc)?;

@@ -123,9 +123,8 @@ fn path_of(task: &Task) -> &str {
     }
 }
 
-/// Does a task on this input and standard output, but for `create`, and but for the input of `attend` and
-/// of `check`. The lines that tell the place of a fault in a text, and those that tell why a text or a
-/// script can't be read, are appended to `told`.
+/// Does a task. Only `settle`, `once`, `serve` and the tasks that `on_text` does read this input. The lines that tell the
+/// place of a fault in a text, and those that tell why a text or a script can't be read, are appended to `told`.
 fn run<T: Threads + Wait + Copy + Send + Sync + 'static, R: Read>(
     rt: &HostRuntime,
     threads: &T,
@@ -142,7 +141,14 @@ fn run<T: Threads + Wait + Copy + Send + Sync + 'static, R: Read>(
         Task::Once { .. } => {
             once_telling(rt.alloc(), input, &mut output, told).map_err(Failure::Stream)
         }
-        Task::Create { disk, overwrite } => create(rt, disk.as_str(), *overwrite, notes),
+        Task::Check {
+            files,
+            format,
+            script,
+        } => checking::check(rt, files, *format, *script, notes, told),
+        Task::Help(text) | Task::Version(text) => {
+            show(&mut output, text.as_str()).map_err(Failure::Stream)
+        }
         Task::Serve {
             disk,
             workers,
@@ -152,22 +158,24 @@ fn run<T: Threads + Wait + Copy + Send + Sync + 'static, R: Read>(
             let book = open(rt, disk.as_str(), notes)?;
             serve(rt, threads, book, input, [*workers, *every], notes).map_err(Failure::Serve)
         }
-        Task::Attend {
-            disk,
-            runners,
-            turns,
-            workers,
-            scripts,
-        } => {
-            let scripts = scripts::read_scripts(rt, scripts, told).map_err(Failure::Attend)?;
-            let disk = open_disk(rt, disk.as_str(), false, notes)?;
-            let numbers = [*runners, *turns, *workers];
-            let given = give(rt, threads, disk, scripts, numbers, notes);
-            if matches!(given, Err(ScriptsFault::Book(BookFault::LogFull))) {
-                let _ = told.extend_from_slice(scripts::FULL);
-            }
-            given.map_err(Failure::Attend)
-        }
+        Task::Create { .. } | Task::Dump { .. } | Task::Inspect { .. } => on_disk(
+            rt, threads, task, notes, told,
+        ),
+        Task::Attend { .. } | Task::Batch { .. } => on_disk(rt, threads, task, notes, told),
+        _ => on_text(rt, threads, task, input, notes, told),
+    }
+}
+
+/// Reduces, traces, draws or expands the text on this input.
+fn on_text<T: Threads, R: Read>(
+    rt: &HostRuntime,
+    threads: &T,
+    task: &Task,
+    input: &mut R,
+    notes: &Notes,
+    told: &mut Vec<u8>,
+) -> Result<(), Failure> {
+    match task {
         Task::Reduce {
             steps,
             nodes,
@@ -180,11 +188,8 @@ fn run<T: Threads + Wait + Copy + Send + Sync + 'static, R: Read>(
                 steps: *steps,
                 nodes: *nodes,
             };
-            let limits = match limits {
-                TextLimits::Served => Limits::Served,
-                TextLimits::Wide => Limits::Wide,
-            };
-            reducing::reduce(rt, limits, bounds, [*partial, *stats], input, notes, told)
+            let flags = [*partial, *stats];
+            reducing::reduce(rt, limits_of(*limits), bounds, flags, input, notes, told)
         }
         Task::ReduceByRounds {
             rounds,
@@ -200,13 +205,40 @@ fn run<T: Threads + Wait + Copy + Send + Sync + 'static, R: Read>(
         }
         Task::Draw { .. } => looking::draw(rt, input, notes, told),
         Task::Expand { .. } => texts::expand(rt, input, notes, told),
+        _ => Ok(()),
+    }
+}
+
+/// The limits of a text that were asked for.
+fn limits_of(limits: TextLimits) -> Limits {
+    match limits {
+        TextLimits::Served => Limits::Served,
+        TextLimits::Wide => Limits::Wide,
+    }
+}
+
+/// Makes the disk that a task names, looks at it, or brings jobs on it on.
+fn on_disk<T: Threads + Wait + Copy + Send + Sync + 'static>(
+    rt: &HostRuntime,
+    threads: &T,
+    task: &Task,
+    notes: &Notes,
+    told: &mut Vec<u8>,
+) -> Result<(), Failure> {
+    match task {
+        Task::Create { disk, overwrite } => create(rt, disk.as_str(), *overwrite, notes),
         Task::Dump { disk, names } => dumping::dump(rt, disk.as_str(), names, notes),
-        Task::Inspect { disk, format } => { inspecting::inspect(rt, disk.as_str(), *format, notes) }
-        Task::Check {
-            files,
-            format,
-            script,
-        } => checking::check(rt, files, *format, *script, notes, told),
+        Task::Inspect { disk, format } => inspecting::inspect(rt, disk.as_str(), *format, notes),
+        Task::Attend {
+            disk,
+            runners,
+            turns,
+            workers,
+            scripts,
+        } => {
+            let numbers = [*runners, *turns, *workers];
+            attend(rt, threads, disk.as_str(), scripts, numbers, notes, told)
+        }
         Task::Batch {
             disk,
             rounds,
@@ -218,10 +250,27 @@ fn run<T: Threads + Wait + Copy + Send + Sync + 'static, R: Read>(
             let (disk, lines) = (disk.as_str(), lines.as_str());
             batching::batch(rt, threads, disk, lines, numbers, notes, told)
         }
-        Task::Help(text) | Task::Version(text) => {
-            show(&mut output, text.as_str()).map_err(Failure::Stream)
-        }
+        _ => Ok(()),
     }
+}
+
+/// Gives the scripts in these files to the disk in the file of this path.
+fn attend<T: Threads + Wait + Sync>(
+    rt: &HostRuntime,
+    threads: &T,
+    path: &str,
+    scripts: &[String],
+    numbers: [u32; 3],
+    notes: &Notes,
+    told: &mut Vec<u8>,
+) -> Result<(), Failure> {
+    let scripts = scripts::read_scripts(rt, scripts, told).map_err(Failure::Attend)?;
+    let disk = open_disk(rt, path, false, notes)?;
+    let given = give(rt, threads, disk, scripts, numbers, notes);
+    if matches!(given, Err(ScriptsFault::Book(BookFault::LogFull))) {
+        let _ = told.extend_from_slice(scripts::FULL);
+    }
+    given.map_err(Failure::Attend)
 }
 
 /// What the words after the program's name ask for.
