@@ -3,8 +3,9 @@
 ghost use Rattle.std.specs.Prelude.{◌≡◌, ◌∷◌, ◌++◌, IfOk, OnOk};
 ghost use Rattle.std.specs.Fmt.{decimal};
 ghost use Rattle.std.specs.List.{flat_map};
-ghost use Rattle.ic_progress.specs.Figures.{count_fields, end_word, figures_line, figures_lines, figures_object};
-ghost use Rattle.ic_progress.specs.Figures.{name_steps_field, name_steps_figure, numbers_text, rule_figure, rule_figures, rules_line, seconds_text};
+ghost use Rattle.ic_progress.specs.Figures.{count_fields, end_word, figures_line, figures_lines, figures_object, firings_count, firings_figure, interactions_word, millis_field};
+ghost use Rattle.ic_progress.specs.Figures.{name_steps_field, name_steps_figure, numbers_text, pace_field, pace_figure, places_field, places_figure};
+ghost use Rattle.ic_progress.specs.Figures.{rule_figure, rule_figures, rule_name, rules_line, seconds_figure, seconds_text, step_fields, steps_figure};
 
 use crate::line::a_second;
 use ic_in_place::{End, Outcome};
@@ -39,16 +40,48 @@ pub fn figures_object(alloc: Global, outcome: &Outcome, millis: u64) -> Result<V
 fn put_figures_line(outcome: &Outcome, millis: u64, out: &mut Vec<u8>) -> Result<(), AllocError>
     ensures { OnOk result (out.new.items ≡ out.old.items ++ figures_line outcome.now millis) }
 {
+    put_steps(outcome, out)?;
+    put_places(outcome, out)?;
+    put_seconds_figure(millis, out)?;
+    put_pace(outcome, millis, out)?;
+    out.push(b'\n')?;
+    Ok(())
+}
+
+/// Appends how many steps were made.
+fn put_steps(outcome: &Outcome, out: &mut Vec<u8>) -> Result<(), AllocError>
+    ensures { OnOk result (out.new.items ≡ out.old.items ++ steps_figure outcome.now) }
+{
     out.extend_from_slice(b"icserve: interactions ")?;
     put_decimal(outcome.interactions, out)?;
     put_name_steps(outcome.name_steps, out)?;
+    Ok(())
+}
+
+/// Appends how many places there were.
+fn put_places(outcome: &Outcome, out: &mut Vec<u8>) -> Result<(), AllocError>
+    ensures { OnOk result (out.new.items ≡ out.old.items ++ places_figure outcome.now) }
+{
     out.extend_from_slice(b", places ")?;
     put_decimal(outcome.places, out)?;
+    Ok(())
+}
+
+/// Appends how long it took.
+fn put_seconds_figure(millis: u64, out: &mut Vec<u8>) -> Result<(), AllocError>
+    ensures { OnOk result (out.new.items ≡ out.old.items ++ seconds_figure millis) }
+{
     out.extend_from_slice(b", seconds ")?;
     put_seconds(millis, out)?;
+    Ok(())
+}
+
+/// Appends how fast it was.
+fn put_pace(outcome: &Outcome, millis: u64, out: &mut Vec<u8>) -> Result<(), AllocError>
+    ensures { OnOk result (out.new.items ≡ out.old.items ++ pace_figure outcome.now millis) }
+{
     out.extend_from_slice(b", interactions a second ")?;
     put_decimal(a_second(outcome.interactions, millis), out)?;
-    out.push(b'\n')?;
     Ok(())
 }
 
@@ -56,11 +89,14 @@ fn put_figures_line(outcome: &Outcome, millis: u64, out: &mut Vec<u8>) -> Result
 fn put_name_steps(name_steps: Option<u64>, out: &mut Vec<u8>) -> Result<(), AllocError>
     ensures { OnOk result (out.new.items ≡ out.old.items ++ name_steps_figure name_steps) }
 {
-    let Some(count) = name_steps else {
-        return Ok(());
-    };
-    out.extend_from_slice(b", name steps ")?;
-    put_decimal(count, out)
+    match name_steps {
+        Some(count) => {
+            out.extend_from_slice(b", name steps ")?;
+            put_decimal(count, out)?;
+            Ok(())
+        }
+        None => Ok(()),
+    }
 }
 
 /// Appends milliseconds as seconds.
@@ -82,9 +118,10 @@ fn put_rules_line(alloc: Global, counts: &[u64], out: &mut Vec<u8>) -> Result<()
     let mut figures = Vec::new(alloc);
     put_rules(counts, &mut figures)?;
     out.extend_from_slice(b"icserve: ")?;
-    match figures.as_slice() {
-        [] => out.extend_from_slice(b"no interactions")?,
-        [_comma, rest @ ..] => out.extend_from_slice(&rest[1..])?,
+    if figures.len() < 2 {
+        out.extend_from_slice(b"no interactions")?;
+    } else {
+        out.extend_from_slice(&figures[2..])?;
     }
     out.push(b'\n')?;
     Ok(())
@@ -104,17 +141,49 @@ fn put_rules(counts: &[u64], out: &mut Vec<u8>) -> Result<(), AllocError>
 fn put_rule(rule: u64, count: u64, out: &mut Vec<u8>) -> Result<(), AllocError>
     ensures { OnOk result (out.new.items ≡ out.old.items ++ rule_figure rule count) }
 {
-    if count == 0 {
-        return Ok(());
+    match count {
+        0 => Ok(()),
+        _ => put_firings(rule, count, out),
     }
+}
+
+/// Appends how often a rule fired.
+fn put_firings(rule: u64, count: u64, out: &mut Vec<u8>) -> Result<(), AllocError>
+    ensures { OnOk result (out.new.items ≡ out.old.items ++ firings_figure rule count) }
+{
+    put_rule_name(rule, out)?;
+    put_count(count, out)?;
+    Ok(())
+}
+
+/// Appends the name of a rule.
+fn put_rule_name(rule: u64, out: &mut Vec<u8>) -> Result<(), AllocError>
+    ensures { OnOk result (out.new.items ≡ out.old.items ++ rule_name rule) }
+{
     out.extend_from_slice(b", rule ")?;
     put_decimal(rule, out)?;
-    if count == 1 {
-        return out.extend_from_slice(b": 1 interaction");
-    }
+    Ok(())
+}
+
+/// Appends how often it fired.
+fn put_count(count: u64, out: &mut Vec<u8>) -> Result<(), AllocError>
+    ensures { OnOk result (out.new.items ≡ out.old.items ++ firings_count count) }
+{
     out.extend_from_slice(b": ")?;
     put_decimal(count, out)?;
-    out.extend_from_slice(b" interactions")
+    out.extend_from_slice(interactions_word(count))?;
+    Ok(())
+}
+
+/// The word for so many interactions, after a blank.
+fn interactions_word(count: u64) -> &'static [u8]
+    ensures { result.now ≡ interactions_word count }
+{
+    if count == 1 {
+        b" interaction"
+    } else {
+        b" interactions"
+    }
 }
 
 /// Why a reduction ended, in a word.
@@ -134,26 +203,62 @@ fn end_word(end: End) -> &'static [u8]
 fn put_counts(outcome: &Outcome, millis: u64, out: &mut Vec<u8>) -> Result<(), AllocError>
     ensures { OnOk result (out.new.items ≡ out.old.items ++ count_fields outcome.now millis) }
 {
+    put_step_fields(outcome, out)?;
+    put_places_field(outcome, out)?;
+    put_millis_field(millis, out)?;
+    put_pace_field(outcome, millis, out)?;
+    Ok(())
+}
+
+/// Appends the fields of steps, after the string of the end.
+fn put_step_fields(outcome: &Outcome, out: &mut Vec<u8>) -> Result<(), AllocError>
+    ensures { OnOk result (out.new.items ≡ out.old.items ++ step_fields outcome.now) }
+{
     out.extend_from_slice(b"\",\"interactions\":")?;
     put_decimal(outcome.interactions, out)?;
     put_name_steps_field(outcome.name_steps, out)?;
+    Ok(())
+}
+
+/// Appends the field of places.
+fn put_places_field(outcome: &Outcome, out: &mut Vec<u8>) -> Result<(), AllocError>
+    ensures { OnOk result (out.new.items ≡ out.old.items ++ places_field outcome.now) }
+{
     out.extend_from_slice(b",\"places\":")?;
     put_decimal(outcome.places, out)?;
+    Ok(())
+}
+
+/// Appends the field of how long it took.
+fn put_millis_field(millis: u64, out: &mut Vec<u8>) -> Result<(), AllocError>
+    ensures { OnOk result (out.new.items ≡ out.old.items ++ millis_field millis) }
+{
     out.extend_from_slice(b",\"milliseconds\":")?;
     put_decimal(millis, out)?;
+    Ok(())
+}
+
+/// Appends the field of how fast it was.
+fn put_pace_field(outcome: &Outcome, millis: u64, out: &mut Vec<u8>) -> Result<(), AllocError>
+    ensures { OnOk result (out.new.items ≡ out.old.items ++ pace_field outcome.now millis) }
+{
     out.extend_from_slice(b",\"interactions_a_second\":")?;
-    put_decimal(a_second(outcome.interactions, millis), out)
+    put_decimal(a_second(outcome.interactions, millis), out)?;
+    Ok(())
 }
 
 /// Appends the field of steps that put a term for a name, where they are told.
 fn put_name_steps_field(name_steps: Option<u64>, out: &mut Vec<u8>) -> Result<(), AllocError>
     ensures { OnOk result (out.new.items ≡ out.old.items ++ name_steps_field name_steps) }
 {
-    let Some(count) = name_steps else {
-        return Ok(());
-    };
-    out.extend_from_slice(b",\"name_steps\":")?;
-    put_decimal(count, out)
+    match name_steps {
+        Some(count) => {
+            out.extend_from_slice(b",\"name_steps\":")?;
+            put_decimal(count, out)?;
+            Ok(())
+        }
+        None => Ok(()),
+    }
 }
 
 /// Appends numbers with commas between them.
@@ -162,10 +267,10 @@ fn put_numbers(alloc: Global, numbers: &[u64], out: &mut Vec<u8>) -> Result<(), 
 {
     let mut text = Vec::new(alloc);
     put_after_commas(numbers, &mut text)?;
-    match text.as_slice() {
-        [] => Ok(()),
-        [_comma, rest @ ..] => out.extend_from_slice(rest),
+    if !text.is_empty() {
+        out.extend_from_slice(&text[1..])?;
     }
+    Ok(())
 }
 
 /// Appends numbers, each after a comma.
