@@ -167,7 +167,7 @@ fn run<T: Threads + Wait + Copy + Send + Sync + 'static, R: Read>(
 }
 
 /// Reduces, traces, draws or expands the text on this input.
-fn on_text<T: Threads, R: Read>(
+fn on_text<T: Threads + Wait, R: Read>(
     rt: &HostRuntime,
     threads: &T,
     task: &Task,
