@@ -151,9 +151,7 @@ class Causes(Trial):
     def test_nothing_is_told_behind_other_lines(self):
         path = self.disk()
         overgrown = "{A><B(C(C(D)))} <|A=B(P)," + "C(" * 8187 + "D" + ")" * 8187 + "=Q>"
-        script = self.room / "script"
-        script.write_text("lists")
-        for words, given in ((["once"], overgrown), (["serve", "--disk", path], "x" * 300_000), (["attend", "--disk", path, script], "")):
+        for words, given in ((["once"], overgrown), (["serve", "--disk", path], "x" * 300_000)):
             ran = run(*words, given=given)
             self.equals(ran.command, "lines on standard error", (1, b""), (ran.err.count(b"\n"), ran.behind))
         with subprocess.Popen([PROGRAM, "serve"], stderr=subprocess.PIPE) as started:

@@ -226,7 +226,7 @@ class Power(Stops):
         lines = [f"submit two {TWO.text}", "run 10", "list", "cancel two"]
         disk, log = self.room / "life.disk", self.room / "log"
         ways = {"env": shimmed(log=log)}, recording_by_strace(log)
-        for words, given in ((["serve"], lines), (["attend", "--runners", "0", script], b""), (["create"], b"")):
+        for words, given in ((["serve"], lines), (["attend", "--runners", "0", script], b""), (["create", "--overwrite"], b"")):
             records = []
             for how in ways:
                 put(disk, slot(1, EMPTY))
@@ -236,6 +236,13 @@ class Power(Stops):
             self.equals(ran.command, "what the shim and strace have recorded", *records)
             kinds = {it.kind for it in records[0]}
             self.equals(ran.command, f"whether writes and syncs are among {kinds}", True, {"W", "S"} <= kinds)
+
+    def test_a_create_over_the_empty_table_writes_nothing(self):
+        """So no stop in its midst can leave less than a disk."""
+        disk, log = self.room / "empty.disk", self.room / "log"
+        put(disk, slot(1, EMPTY))
+        self.runs("create", "--disk", disk, **recording(log))
+        self.equals("create", "its writes", [], [it for it in noted(log) if it.kind in "WTO"])
 
     def test_a_create_that_was_cut_short_is_done_again(self):
         """Nothing is promised of what it leaves, but that the next one makes an empty disk of it: unasked where it has left only

@@ -34,11 +34,8 @@ pub(crate) fn batch<T: Threads + Wait + Copy + Send + 'static>(
         Ok(jobs) => jobs,
         Err(fault) => return Err(Failure::Jobs(fault)),
     };
-    let disk = made_disk(rt, disk, notes)?;
-    match Book::open(rt.alloc(), disk) {
-        Ok(book) => bring(rt, threads, book, &jobs, numbers, notes).map_err(Failure::Batch),
-        Err(fault) => Err(Failure::Open(fault.cause)),
-    }
+    let book = made_book(rt, disk, notes)?;
+    bring(rt, threads, book, &jobs, numbers, notes).map_err(Failure::Batch)
 }
 
 /// The bytes of the file of lines.
@@ -50,15 +47,28 @@ fn lines_of(rt: &HostRuntime, path: &str, told: &mut Vec<u8>) -> Result<Vec<u8>,
     }
 }
 
-/// The disk in the file of this path. Where there is none, or one without a job, or what a stopped
-/// `create` has left, an empty one is made.
-fn made_disk<'a>(rt: &HostRuntime, path: &str, notes: &'a Notes) -> Result<NotedDisk<'a>, Failure> {
+/// The book on the disk in the file of this path. Where there is no disk, or what a stopped making of one
+/// has left, an empty one is made.
+fn made_book<'a>(
+    rt: &HostRuntime,
+    path: &str,
+    notes: &'a Notes,
+) -> Result<Book<NotedDisk<'a>>, Failure> {
     let disk = open_disk(rt, path, true, notes)?;
-    let (mut disk, unused) = is_unused(rt.alloc(), disk);
-    if unused.map_err(Failure::Create)? {
-        ic_slots::create(rt.alloc(), &mut disk).map_err(Failure::Create)?;
+    let fault = match Book::open(rt.alloc(), disk) {
+        Ok(book) => return Ok(book),
+        Err(fault) => fault,
+    };
+    let cause = fault.cause;
+    let (mut disk, unused) = is_unused(rt.alloc(), fault.disk);
+    if !unused.map_err(Failure::Create)? {
+        return Err(Failure::Open(cause));
     }
-    Ok(disk)
+    ic_slots::create(rt.alloc(), &mut disk).map_err(Failure::Create)?;
+    match Book::open(rt.alloc(), disk) {
+        Ok(book) => Ok(book),
+        Err(fault) => Err(Failure::Open(fault.cause)),
+    }
 }
 
 /// Brings the jobs to their ends over the book, writes what they came to, and closes the book.

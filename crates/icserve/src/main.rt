@@ -300,30 +300,22 @@ pub(crate) fn open_disk<'a>(
 }
 
 /// Puts the empty table on the disk in the file of this path. What stands there and would be lost is
-/// overwritten only where that is asked for.
+/// overwritten only where that is asked for. Where it is the empty table, nothing is written.
 fn create(rt: &HostRuntime, path: &str, overwrite: bool, notes: &Notes) -> Result<(), Failure> {
-    let disk = open_disk(rt, path, true, notes)?;
-    let mut disk = may_be_lost(rt, disk, overwrite)?;
-    match ic_slots::create(rt.alloc(), &mut disk) {
-        Ok(()) => Ok(()),
-        Err(fault) => Err(Failure::Create(fault)),
-    }
-}
-
-/// The disk, where nothing is lost if it is made anew, or may be.
-fn may_be_lost<'a>(
-    rt: &HostRuntime,
-    disk: NotedDisk<'a>,
-    overwrite: bool,
-) -> Result<NotedDisk<'a>, Failure> {
+    let mut disk = open_disk(rt, path, true, notes)?;
     if overwrite {
-        return Ok(disk);
+        return ic_slots::create(rt.alloc(), &mut disk).map_err(Failure::Create);
     }
     let (disk, unused) = is_unused(rt.alloc(), disk);
-    match unused {
-        Ok(true) => Ok(disk),
-        Ok(false) => Err(Failure::NotEmpty),
-        Err(fault) => Err(Failure::Create(fault)),
+    if !unused.map_err(Failure::Create)? {
+        return Err(Failure::NotEmpty);
+    }
+    match Book::open(rt.alloc(), disk) {
+        Ok(book) => {
+            book.close();
+            Ok(())
+        }
+        Err(mut fault) => ic_slots::create(rt.alloc(), &mut fault.disk).map_err(Failure::Create),
     }
 }
 

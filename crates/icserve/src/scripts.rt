@@ -1,7 +1,5 @@
 //! The scripts of the program's word `attend`, which stand in files.
 
-ghost use Rattle.std.specs.Prelude.{◌<◌, IfSome, length};
-
 use crate::texts::{read_limited, too_long};
 use ic_book::MAX_ENTRIES;
 use ic_causes::{NotedFiles, Notes, cause_line, shown_path};
@@ -60,22 +58,17 @@ fn tell_refusal(
 fn line_of(text: &[u8], number: usize) -> &[u8] {
     let mut rest = text;
     for _ in 1..number {
-        match place_of_feed(rest) {
-            Some(place) => rest = &rest[place + 1..],
-            None => return &rest[rest.len()..],
-        }
+        rest = split_line(rest).1;
     }
-    match place_of_feed(rest) {
-        Some(place) => &rest[..place],
-        None => rest,
-    }
+    split_line(rest).0
 }
 
-/// The place of the first line feed.
-fn place_of_feed(text: &[u8]) -> Option<usize>
-    ensures { IfSome result (λ place. place < length text.now) }
-{
-    text.iter().position(|byte| *byte == b'\n')
+/// The first line of a text, and what follows its line feed.
+fn split_line(text: &[u8]) -> (&[u8], &[u8]) {
+    match text.iter().position(|byte| *byte == b'\n') {
+        Some(place) => (&text[..place], &text[place + 1..]),
+        None => (text, &text[text.len()..]),
+    }
 }
 
 /// Tells a terminal where these scripts and turns may be more than a history holds.
