@@ -82,6 +82,7 @@ class Install(Trial):
         self.equals("icserve reduce --s", "what is offered", ["--stats", "--steps"], self.completed("reduce", "--s"))
         self.equals("icserve trace --format s", "what is offered", ["svg"], self.completed("trace", "--format", "s"))
         self.equals("icserve trace --format ''", "what is offered", ["json", "svg", "tsv"], self.completed("trace", "--format", "''"))
+        self.equals("icserve reduce --format ''", "what is offered", ["json", "lines"], self.completed("reduce", "--format", "''"))
         self.equals("icserve reduce su", "what is offered", ["sum.ic"], self.completed("reduce", "su"))
         self.equals("icserve create --disk su", "what is offered", ["sum.ic"], self.completed("create", "--disk", "su"))
         self.equals("icserve help re", "what is offered", ["reduce"], self.completed("help", "re"))

@@ -1,5 +1,5 @@
 -- What is answered to the command that was met is what the words name.
-use Rattle.std.proofs.Common.{◌≡◌, ◌≢◌, ◌∙◌, List, [], ◌∷◌, Bool, true, false, cond, ne_eqb, arith, length, Option, None, Some, codes, option_map, refl, sym, ap, ap₂, inl, inr, subst}
+use Rattle.std.proofs.Common.{◌≡◌, ◌≢◌, ◌∙◌, List, [], ◌∷◌, Bool, true, false, ◌&&◌, cond, ne_eqb, arith, length, Option, None, Some, codes, option_map, refl, sym, ap, ap₂, inl, inr, subst}
 use Rattle.std.specs.Prelude.{Result, Ok, Err, IfOk, string_bytes}
 use Rattle.std.specs.Str.{bytes_eq}
 use Rattle.clap.specs.Words.{IsAmong, Text, fault_of, subcommand_of}
@@ -9,7 +9,7 @@ use Rattle.clap.proofs.OnLiterals.{clap_on_literals}
 use Rattle.clap.specs.declared.error.ErrorKind.{ErrorKind}
 use Rattle.clap.specs.declared.error.ErrorKind.TheVariants.{DisplayHelp, DisplayVersion, InvalidSubcommand, InvalidValue, OutOfMemory}
 use Rattle.ic_args.specs.Help.{help_by, help_of}
-use Rattle.ic_args.specs.Words.{AnswersWords, GivesHelp, GivesTask, GivesVersion, Names, command_line, file_met, format_word, help_mistakes, is_format, is_limits, limits_word, mistakes_of, most_rounds, most_steps, reduce_mistakes, value_if_met, is_report_format, report_mistakes, report_word}
+use Rattle.ic_args.specs.Words.{AnswersWords, GivesHelp, GivesTask, GivesVersion, Names, command_line, file_met, format_word, help_mistakes, figures_word, is_figures, is_format, is_limits, limits_word, mistakes_of, most_rounds, most_steps, reduce_mistakes, value_if_met, is_report_format, report_mistakes, report_word}
 use Rattle.ic_args.specs.inner.Asking.{AnswersRefused, Asks, IsMet, TellsReport}
 use Rattle.ic_args.specs.declared.words.Task.{Task}
 use Rattle.ic_args.specs.declared.words.Task.TheVariants.{Settle, Once, Create, Serve, Attend, Reduce, ReduceByRounds, Trace, Draw, Dump, Inspect, Check, Batch, Help, Version, Expand}
@@ -19,6 +19,8 @@ use Rattle.ic_args.specs.declared.words.TraceFormat.{TraceFormat}
 use Rattle.ic_args.specs.declared.words.TraceFormat.TheVariants.{Tsv, Svg, Json}
 use Rattle.ic_args.specs.declared.words.TextLimits.{TextLimits}
 use Rattle.ic_args.specs.declared.words.TextLimits.TheVariants.{Served, Wide}
+use Rattle.ic_args.specs.declared.words.FiguresFormat.{FiguresFormat}
+use Rattle.ic_args.specs.declared.words.FiguresFormat.TheVariants.{Lines, Objects}
 use Rattle.ic_args.specs.declared.words.WordsFault.{WordsFault}
 use Rattle.ic_args.specs.declared.words.WordsFault.TheVariants.{Words, Memory}
 use Rattle.ic_args.proofs.OptionNumbers.{attend_numbers, batch_numbers, reduce_numbers, serve_numbers, trace_numbers}
@@ -40,6 +42,10 @@ format_is Json = refl
 limits_is : (limits : TextLimits) → is_limits (limits_word limits) ≡ true
 limits_is Served = refl
 limits_is Wide = refl
+
+figures_is : (format : FiguresFormat) → is_figures (figures_word format) ≡ true
+figures_is Lines = refl
+figures_is Objects = refl
 
 report_is : (format : ReportFormat) → is_report_format (report_word format) ≡ true
 report_is check.Text = refl
@@ -125,11 +131,12 @@ asked words none called (Ok (Attend disk runners turns workers scripts)) asks =
       settle = λ is. absurd (not_settle words (codes "attend") asks.0 refl is);
       once = λ is. absurd (not_once words (codes "attend") asks.0 refl is);
     }
-asked words none called (Ok (Reduce steps nodes partial stats limits file)) asks =
+asked words none called (Ok (Reduce steps nodes partial stats limits format quiet file)) asks =
     let begins = called_as called.0 (codes "reduce") words called.1 asks.0.0 in
     let spelt = reduce_numbers words none begins in
     record {
-      answers = ap₂ or_else none (of_reduce (subcommand_of command_line words) asks.0.0 ∙ in_place_free (subcommand_of command_line words) asks.1 (ap is_limits asks.6 ∙ limits_is limits));
+      answers = ap₂ or_else none (of_reduce (subcommand_of command_line words) asks.0.0 ∙ in_place_free (subcommand_of command_line words) asks.1
+          (ap₂ (λ (a b : Bool). a && b) (ap is_limits asks.6 ∙ limits_is limits) (ap is_figures asks.7 ∙ figures_is format)));
       named = record {
         begins = begins;
         alone = asks.1;
@@ -138,6 +145,8 @@ asked words none called (Ok (Reduce steps nodes partial stats limits file)) asks
         partial = asks.4;
         stats = asks.5;
         limits = sym asks.6;
+        format = sym asks.7;
+        quiet = asks.8;
         file = asks.0.1;
       };
       settle = λ is. absurd (not_settle words (codes "reduce") asks.0.0 refl is);
@@ -305,7 +314,7 @@ not_taken words kind (Ok (Once file)) made is = absurd is
 not_taken words kind (Ok (Create disk overwrite)) made is = absurd is
 not_taken words kind (Ok (Serve disk workers every explain)) made is = absurd is
 not_taken words kind (Ok (Attend disk runners turns workers scripts)) made is = absurd is
-not_taken words kind (Ok (Reduce steps nodes partial stats limits file)) made is = absurd is
+not_taken words kind (Ok (Reduce steps nodes partial stats limits format quiet file)) made is = absurd is
 not_taken words kind (Ok (ReduceByRounds rounds workers partial file)) made is = absurd is
 not_taken words kind (Ok (Trace rounds format file)) made is = absurd is
 not_taken words kind (Ok (Draw file)) made is = absurd is

@@ -84,7 +84,8 @@ is_attend = record { is = inr (inr (inr (inr (inl refl)))); enters = λ rest. re
 
 abbrev pub reduce_options : List Rule
 reduce_options = chosen (codes "rounds") counted ∷ chosen (codes "workers") threads ∷ chosen (codes "steps") bounded ∷ chosen (codes "nodes") bounded
-    ∷ chosen (codes "limits") vp.String ∷ built_flag (codes "partial") ∷ built_flag (codes "stats") ∷ file ∷ help ∷ []
+    ∷ chosen (codes "limits") vp.String ∷ chosen (codes "format") vp.String ∷ built_flag (codes "partial") ∷ built_flag (codes "stats")
+    ∷ built_flag (codes "quiet-answer") ∷ file ∷ help ∷ []
 
 pub is_reduce : IsCommand (codes "reduce") (below 5) reduce_options
 is_reduce = record { is = inr (inr (inr (inr (inr (inl refl))))); enters = λ rest. refl; meets = λ rest. refl }

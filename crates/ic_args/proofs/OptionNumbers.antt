@@ -113,8 +113,9 @@ module _ (target : Text) (q : ValueParser) where
   )
 
   reduce_fits : Is (codes "rounds") counted → Is (codes "workers") threads → Is (codes "steps") bounded → Is (codes "nodes") bounded → Is (codes "limits") vp.String
-      → bytes_eq (codes "partial") target ≡ false → bytes_eq (codes "stats") target ≡ false → bytes_eq (codes "file") target ≡ false → AllFit target q reduce_options
-  reduce_fits r w s n m p t l = (
+      → Is (codes "format") vp.String → bytes_eq (codes "partial") target ≡ false → bytes_eq (codes "stats") target ≡ false
+      → bytes_eq (codes "quiet-answer") target ≡ false → bytes_eq (codes "file") target ≡ false → AllFit target q reduce_options
+  reduce_fits r w s n m f p t a l = (
     option_fits target q (codes "rounds") None counted false r,
     (
       option_fits target q (codes "workers") None threads false w,
@@ -124,7 +125,13 @@ module _ (target : Text) (q : ValueParser) where
           option_fits target q (codes "nodes") None bounded false n,
           (
             option_fits target q (codes "limits") None vp.String false m,
-            (flag_fits target q (codes "partial") p, (flag_fits target q (codes "stats") t, (one_fits target q (codes "file") l false, (help_fits target q, tt)))),
+            (
+              option_fits target q (codes "format") None vp.String false f,
+              (
+                flag_fits target q (codes "partial") p,
+                (flag_fits target q (codes "stats") t, (flag_fits target q (codes "quiet-answer") a, (one_fits target q (codes "file") l false, (help_fits target q, tt)))),
+              ),
+            ),
           ),
         ),
       ),
@@ -176,8 +183,8 @@ pub reduce_numbers : (words : List Text) → fault_of command_line words ≡ [] 
     × IsSpeltIf (codes "steps") 0 most_steps words × IsSpeltIf (codes "nodes") 0 most_steps words
 reduce_numbers words none begins =
     let of = spelt_if (codes "reduce") (below 5) reduce_options is_reduce words none begins in (
-      of (codes "rounds") counted 0 most_rounds (in_range 0 most_rounds) (reduce_fits (codes "rounds") counted (λ e. refl) other other other other refl refl refl),
-      of (codes "workers") threads 1 64 (in_range 1 64) (reduce_fits (codes "workers") threads other (λ e. refl) other other other refl refl refl),
-      of (codes "steps") bounded 0 most_steps (in_range 0 most_steps) (reduce_fits (codes "steps") bounded other other (λ e. refl) other other refl refl refl),
-      of (codes "nodes") bounded 0 most_steps (in_range 0 most_steps) (reduce_fits (codes "nodes") bounded other other other (λ e. refl) other refl refl refl),
+      of (codes "rounds") counted 0 most_rounds (in_range 0 most_rounds) (reduce_fits (codes "rounds") counted (λ e. refl) other other other other other refl refl refl refl),
+      of (codes "workers") threads 1 64 (in_range 1 64) (reduce_fits (codes "workers") threads other (λ e. refl) other other other other refl refl refl refl),
+      of (codes "steps") bounded 0 most_steps (in_range 0 most_steps) (reduce_fits (codes "steps") bounded other other (λ e. refl) other other other refl refl refl refl),
+      of (codes "nodes") bounded 0 most_steps (in_range 0 most_steps) (reduce_fits (codes "nodes") bounded other other other (λ e. refl) other other refl refl refl refl),
     )

@@ -1,5 +1,5 @@
 -- Each well-formed line of `reduce` is taken, with its values.
-use Rattle.std.proofs.Common.{◌≡◌, ◌≢◌, ◌⊎◌, true≢false, unwrap_or, inl, inr, ℕ, List, [], ◌∷◌, ◌++◌, Bool, true, false, not, ◌||◌, Option, None, Some, codes, fold, refl, sym, ◌∙◌, ap, ap₂, subst, arith}
+use Rattle.std.proofs.Common.{◌≡◌, ◌≢◌, ◌⊎◌, true≢false, unwrap_or, inl, inr, ℕ, List, [], ◌∷◌, ◌++◌, Bool, true, false, not, ◌||◌, ◌&&◌, cond, Option, None, Some, codes, fold, refl, sym, ◌∙◌, ap, ap₂, subst, arith}
 use Rattle.std.specs.List.{AllByRecursion}
 use Rattle.std.specs.Str.{bytes_eq}
 use Rattle.clap.specs.Words.{Kinds, Row, Rule, Text, first_of, subcommand_of}
@@ -9,8 +9,9 @@ use Rattle.clap.specs.Faults.{check_fault, settle_fault, turn_fault}
 use Rattle.clap.proofs.OnLiterals.{clap_on_literals}
 use Rattle.clap.specs.declared.builder.value_parser.ValueParser.TheVariants as vp
 use Rattle.std.specs.Prelude.{is_some}
-use Rattle.ic_args.specs.Words.{IsDecimal, IsNumberOf, IsNumberOr, NamesReduce, asks_in_place, asks_rounds, command_line, file_met, is_flag_met, is_given, is_limits, limits_met, mistakes_of, most_rounds, most_steps, value_if_met, value_met}
-use Rattle.ic_args.specs.Lines.{AreInPlace, AreOfRounds, Given, Gives, HasFlag, HasNone, HasNumber, HasValue, IsLimitsOption, IsLimitsText, IsReduceLine, IsReduceNumber, IsReduceOption, AreWrittenBy, IsWritten}
+use Rattle.ic_args.specs.Words.{IsDecimal, IsNumberOf, IsNumberOr, NamesReduce, asks_in_place, asks_rounds, command_line, file_met, is_flag_met, figures_met, is_figures, is_given, is_limits, limits_met, mistakes_of, most_rounds, most_steps, value_if_met, value_met}
+use Rattle.ic_args.specs.Lines.{AreInPlace, AreOfRounds, AreOnce, Given, Gives, HasFlag, HasNone, HasNumber, HasValue, IsFiguresOption, IsFiguresText, IsLimitsOption, IsLimitsText, IsReduceLine, IsReduceNumber, IsReduceOption, IsReduceValue, AreWrittenBy, IsWritten}
+use Rattle.ic_args.specs.inner.Asking.{IsMet}
 use Rattle.ic_args.proofs.Accepted.{accepted}
 use Rattle.ic_args.proofs.Arguments.{HaveNoDefault, ReadsFile, file_read, found_after, none_after, none_first, none_kept}
 use Rattle.ic_args.proofs.Commands.{bounded, chosen, counted, file, is_reduce, reduce_options, threads}
@@ -44,11 +45,19 @@ is_limits_text : (v : Text) → IsLimitsText v → is_limits v ≡ true
 is_limits_text v (inl is) = ap is_limits is
 is_limits_text v (inr is) = ap is_limits is
 
-valued_read : (g : Given) → IsReduceNumber g ⊎ IsLimitsOption g → (words : List Text) → IsWritten g words → (h : Held) → settle_fault reduce_options false h ≡ []
+-- and what formats
+is_figures_text : (v : Text) → IsFiguresText v → is_figures v ≡ true
+is_figures_text v (inl is) = ap is_figures is
+is_figures_text v (inr is) = ap is_figures is
+
+valued_read : (g : Given) → IsReduceValue g → (words : List Text) → IsWritten g words → (h : Held) → settle_fault reduce_options false h ≡ []
     → has_row g.name (settled reduce_options h).rows ≡ false → ReadsGiven (below 5) reduce_options (codes "file") g words h
 valued_read g (inl number) words written h settles none = number_read g number words written h settles none
-valued_read g (inr is) words written h settles none =
+valued_read g (inr (inl is)) words written h settles none =
     given_as (below 5) reduce_options (codes "file") (codes "limits") None vp.String false refl refl refl (λ v. (refl, refl)) (refl, refl) refl
+    g is.0 words written h settles none refl
+valued_read g (inr (inr is)) words written h settles none =
+    given_as (below 5) reduce_options (codes "file") (codes "format") None vp.String false refl refl refl (λ v. (refl, refl)) (refl, refl) refl
     g is.0 words written h settles none refl
 
 -- a flag is used at once
@@ -91,6 +100,14 @@ stats_walks : (h : Held) → walked reduce_options [] (at (below 5) reduce_optio
 unfolding walked
 stats_walks h = refl
 
+quiet_turns : (h : Held) → settle_fault reduce_options false h ≡ [] → has_row (codes "quiet-answer") (settled reduce_options h).rows ≡ false
+    → turn_fault (below 5) [] (at (below 5) reduce_options h) (codes "--quiet-answer") ≡ []
+quiet_turns h settles none = ap₂ (λ (a b : Kinds). or_else (or_else a b) []) settles (flag_free (codes "quiet-answer") (settled reduce_options h).rows none)
+
+quiet_walks : (h : Held) → walked reduce_options [] (at (below 5) reduce_options h) (codes "--quiet-answer") ≡ at (below 5) reduce_options (flagged (codes "quiet-answer") h)
+unfolding walked
+quiet_walks h = refl
+
 abbrev Any : Given → Type 0
 Any g = Unit {0}
 
@@ -103,12 +120,13 @@ reduce_read : (g : Given) → Any g → (words : List Text) → IsReduceOption g
 reduce_read g is words (inl valued) h settles none = valued_read g valued.0 words valued.1 h settles none
 reduce_read g is words (inr flag) h settles none = elim flag.0.0 [
   | inl named ↦ flag_read (codes "partial") partial_turns partial_walks g named flag.0.1 words flag.1 h settles none
-  | inr named ↦ flag_read (codes "stats") stats_turns stats_walks g named flag.0.1 words flag.1 h settles none
+  | inr (inl named) ↦ flag_read (codes "stats") stats_turns stats_walks g named flag.0.1 words flag.1 h settles none
+  | inr (inr named) ↦ flag_read (codes "quiet-answer") quiet_turns quiet_walks g named flag.0.1 words flag.1 h settles none
 ]
 
 -- its FILE has no default
 plain : HaveNoDefault (codes "file") reduce_options
-plain = (inl refl, (inl refl, (inl refl, (inl refl, (inl refl, (inl refl, (inl refl, (inr refl, (inl refl, tt)))))))))
+plain = (inl refl, (inl refl, (inl refl, (inl refl, (inl refl, (inl refl, (inl refl, (inl refl, (inl refl, (inr refl, (inl refl, tt)))))))))))
 
 -- no option is named as the FILE is
 file_apart : (gs : List Given) → (words : List Text) → AreWrittenBy IsReduceOption gs words → AllByRecursion (λ g. g.name ≢ codes "file") gs
@@ -121,55 +139,64 @@ file_apart (g ∷ gs) words written = (apart written.3, file_apart gs written.1 
     of_number (inr (inr (inl is))) = named_apart g (codes "steps") (codes "file") is.0 refl
     of_number (inr (inr (inr is))) = named_apart g (codes "nodes") (codes "file") is.0 refl
 
-    of_valued : IsReduceNumber g ⊎ IsLimitsOption g → g.name ≢ codes "file"
+    of_valued : IsReduceValue g → g.name ≢ codes "file"
     of_valued (inl is) = of_number is
-    of_valued (inr is) = named_apart g (codes "limits") (codes "file") is.0 refl
+    of_valued (inr (inl is)) = named_apart g (codes "limits") (codes "file") is.0 refl
+    of_valued (inr (inr is)) = named_apart g (codes "format") (codes "file") is.0 refl
 
     apart : IsReduceOption g written.0 → g.name ≢ codes "file"
     apart (inl is) = of_valued is.0
     apart (inr is) = elim is.0.0 [
       | inl named ↦ named_apart g (codes "partial") (codes "file") named refl
-      | inr named ↦ named_apart g (codes "stats") (codes "file") named refl
+      | inr (inl named) ↦ named_apart g (codes "stats") (codes "file") named refl
+      | inr (inr named) ↦ named_apart g (codes "quiet-answer") (codes "file") named refl
     ]
 
--- limits that are given are some that there are
+-- an option with a value of another kind isn't the one of this name
+abbrev IsApart : Text → Type 0
+IsApart name = (bytes_eq (codes "rounds") name ≡ false) × (bytes_eq (codes "workers") name ≡ false) × (bytes_eq (codes "steps") name ≡ false)
+    × (bytes_eq (codes "nodes") name ≡ false) × (bytes_eq (codes "partial") name ≡ false) × (bytes_eq (codes "stats") name ≡ false)
+    × (bytes_eq (codes "quiet-answer") name ≡ false)
+
+other_named : {P : Type 0} (g : Given) (name one : Text) → bytes_eq name name ≡ true → g.name ≡ name → g.name ≡ one → bytes_eq one name ≡ false → P
+other_named g name one same is other differs = absurd (true≢false (sym same ∙ ap (λ (n : Text). bytes_eq n name) (sym is ∙ other) ∙ differs))
+
+-- a value that is given to limits, or to the format, is one that there is
+module _ (name : Text) (same : bytes_eq name name ≡ true) (apart : IsApart name) (known : Text → Bool)
+    (of_limits : (g : Given) → g.name ≡ name → IsLimitsOption g → known g.value ≡ true)
+    (of_format : (g : Given) → g.name ≡ name → IsFiguresOption g → known g.value ≡ true) where
+  known_here : (g : Given) (words : List Text) → g.name ≡ name → IsReduceOption g words → known g.value ≡ true
+  known_here g words named (inl is) = of_value is.0
+    where
+      of_value : IsReduceValue g → known g.value ≡ true
+      of_value (inl (inl is)) = other_named g name (codes "rounds") same named is.0 apart.0
+      of_value (inl (inr (inl is))) = other_named g name (codes "workers") same named is.0 apart.1
+      of_value (inl (inr (inr (inl is)))) = other_named g name (codes "steps") same named is.0 apart.2
+      of_value (inl (inr (inr (inr is)))) = other_named g name (codes "nodes") same named is.0 apart.3
+      of_value (inr (inl is)) = of_limits g named is
+      of_value (inr (inr is)) = of_format g named is
+  known_here g words named (inr is) = elim is.0.0 [
+    | inl flag ↦ other_named g name (codes "partial") same named flag apart.4
+    | inr (inl flag) ↦ other_named g name (codes "stats") same named flag apart.5
+    | inr (inr flag) ↦ other_named g name (codes "quiet-answer") same named flag apart.6
+  ]
+
+  given_known : (gs : List Given) (words : List Text) → AreWrittenBy IsReduceOption gs words → (v : Text) → Gives gs name v → known v ≡ true
+  given_known [] words written v gives = absurd gives
+  given_known (g ∷ gs) words written v (inr there) = given_known gs written.1 written.4 v there
+  given_known (g ∷ gs) words written v (inl here) = ap known (sym here.1) ∙ known_here g written.0 here.0 written.3
+
 given_limits : (gs : List Given) (words : List Text) → AreWrittenBy IsReduceOption gs words → (v : Text) → Gives gs (codes "limits") v → is_limits v ≡ true
-given_limits [] words written v gives = absurd gives
-given_limits (g ∷ gs) words written v (inr there) = given_limits gs written.1 written.4 v there
-given_limits (g ∷ gs) words written v (inl here) = go written.3
-  where
-    unnamed : (name : Text) → g.name ≡ name → bytes_eq name (codes "limits") ≡ false → is_limits v ≡ true
-    unnamed name is other = absurd (true≢false (sym (ap (λ (n : Text). bytes_eq n (codes "limits")) (sym is ∙ here.0)) ∙ other))
+given_limits = given_known (codes "limits") refl (refl, refl, refl, refl, refl, refl, refl) is_limits (λ g named is. is_limits_text g.value is.1)
+    (λ g named is. other_named g (codes "limits") (codes "format") refl named is.0 refl)
 
-    of_number : IsReduceNumber g → is_limits v ≡ true
-    of_number (inl is) = unnamed (codes "rounds") is.0 refl
-    of_number (inr (inl is)) = unnamed (codes "workers") is.0 refl
-    of_number (inr (inr (inl is))) = unnamed (codes "steps") is.0 refl
-    of_number (inr (inr (inr is))) = unnamed (codes "nodes") is.0 refl
-
-    of_valued : IsReduceNumber g ⊎ IsLimitsOption g → is_limits v ≡ true
-    of_valued (inl is) = of_number is
-    of_valued (inr is) = ap is_limits (sym here.1) ∙ is_limits_text g.value is.1
-
-    go : IsReduceOption g written.0 → is_limits v ≡ true
-    go (inl is) = of_valued is.0
-    go (inr is) = elim is.0.0 [
-      | inl named ↦ unnamed (codes "partial") named refl
-      | inr named ↦ unnamed (codes "stats") named refl
-    ]
+given_figures : (gs : List Given) (words : List Text) → AreWrittenBy IsReduceOption gs words → (v : Text) → Gives gs (codes "format") v → is_figures v ≡ true
+given_figures = given_known (codes "format") refl (refl, refl, refl, refl, refl, refl, refl) is_figures
+    (λ g named is. other_named g (codes "format") (codes "limits") refl named is.0 refl) (λ g named is. is_figures_text g.value is.1)
 
 harmless : AllByRecursion IsHarmless reduce_options
 unfolding clap_on_literals
-harmless = (
-  (λ rows. either_none _ _),
-  (
-    (λ rows. either_none _ _),
-    (
-      (λ rows. either_none _ _),
-      ((λ rows. either_none _ _), ((λ rows. either_none _ _), ((λ rows. or_none _ _ refl), ((λ rows. or_none _ _ refl), ((λ rows. either_none _ _), ((λ rows. either_none _ _), tt)))))),
-    ),
-  ),
-)
+harmless = ((λ rows. either_none _ _), ((λ rows. either_none _ _), ((λ rows. either_none _ _), ((λ rows. either_none _ _), ((λ rows. either_none _ _), ((λ rows. either_none _ _), ((λ rows. or_none _ _ refl), ((λ rows. or_none _ _ refl), ((λ rows. or_none _ _ refl), ((λ rows. either_none _ _), ((λ rows. either_none _ _), tt)))))))))))
 
 reduce_checked : (rows : List Row) → check_fault (below 5) rows false ≡ []
 reduce_checked rows = refl
@@ -177,11 +204,11 @@ reduce_checked rows = refl
 -- ---- the values of its rows
 
 abbrev flags : List Rule
-flags = built_flag (codes "partial") ∷ built_flag (codes "stats") ∷ file ∷ help ∷ []
+flags = built_flag (codes "partial") ∷ built_flag (codes "stats") ∷ built_flag (codes "quiet-answer") ∷ file ∷ help ∷ []
 
 abbrev numbers : List Rule
 numbers = chosen (codes "rounds") counted ∷ chosen (codes "workers") threads ∷ chosen (codes "steps") bounded ∷ chosen (codes "nodes") bounded
-    ∷ chosen (codes "limits") vp.String ∷ []
+    ∷ chosen (codes "limits") vp.String ∷ chosen (codes "format") vp.String ∷ []
 
 abbrev last : List Row → List Row
 last rows = fold with_default rows reduce_options
@@ -244,31 +271,39 @@ module _ (words : List Text) (gs : List Given) (path : Option Text) (line : IsRe
 
   no_rounds : HasNone gs (codes "rounds") → value_met (codes "rounds") met ≡ []
   no_rounds none = ap (value_met (codes "rounds")) entered.met ∙ ap text (none_value (codes "rounds") rows
-      (inr refl, (inl refl, (inl refl, (inl refl, (inl refl, (inl refl, (inl refl, (inl refl, (inl refl, tt))))))))) (missing (codes "rounds") refl none))
+      (inr refl, (inl refl, (inl refl, (inl refl, (inl refl, (inl refl, (inl refl, (inl refl, (inl refl, (inl refl, (inl refl, tt))))))))))) (missing (codes "rounds") refl none))
 
   no_workers : HasNone gs (codes "workers") → value_met (codes "workers") met ≡ []
   no_workers none = ap (value_met (codes "workers")) entered.met ∙ ap text (none_value (codes "workers") rows
-      (inl refl, (inr refl, (inl refl, (inl refl, (inl refl, (inl refl, (inl refl, (inl refl, (inl refl, tt))))))))) (missing (codes "workers") refl none))
+      (inl refl, (inr refl, (inl refl, (inl refl, (inl refl, (inl refl, (inl refl, (inl refl, (inl refl, (inl refl, (inl refl, tt))))))))))) (missing (codes "workers") refl none))
 
   no_steps : HasNone gs (codes "steps") → value_met (codes "steps") met ≡ []
   no_steps none = ap (value_met (codes "steps")) entered.met ∙ ap text (none_value (codes "steps") rows
-      (inl refl, (inl refl, (inr refl, (inl refl, (inl refl, (inl refl, (inl refl, (inl refl, (inl refl, tt))))))))) (missing (codes "steps") refl none))
+      (inl refl, (inl refl, (inr refl, (inl refl, (inl refl, (inl refl, (inl refl, (inl refl, (inl refl, (inl refl, (inl refl, tt))))))))))) (missing (codes "steps") refl none))
 
   no_nodes : HasNone gs (codes "nodes") → value_met (codes "nodes") met ≡ []
   no_nodes none = ap (value_met (codes "nodes")) entered.met ∙ ap text (none_value (codes "nodes") rows
-      (inl refl, (inl refl, (inl refl, (inr refl, (inl refl, (inl refl, (inl refl, (inl refl, (inl refl, tt))))))))) (missing (codes "nodes") refl none))
+      (inl refl, (inl refl, (inl refl, (inr refl, (inl refl, (inl refl, (inl refl, (inl refl, (inl refl, (inl refl, (inl refl, tt))))))))))) (missing (codes "nodes") refl none))
 
   no_limits : HasNone gs (codes "limits") → value_if_met (codes "limits") met ≡ None
   no_limits none = ap (value_if_met (codes "limits")) entered.met ∙ none_value (codes "limits") rows
-      (inl refl, (inl refl, (inl refl, (inl refl, (inr refl, (inl refl, (inl refl, (inl refl, (inl refl, tt))))))))) (missing (codes "limits") refl none)
+      (inl refl, (inl refl, (inl refl, (inl refl, (inr refl, (inl refl, (inl refl, (inl refl, (inl refl, (inl refl, (inl refl, tt))))))))))) (missing (codes "limits") refl none)
+
+  no_format : HasNone gs (codes "format") → value_if_met (codes "format") met ≡ None
+  no_format none = ap (value_if_met (codes "format")) entered.met ∙ none_value (codes "format") rows
+      (inl refl, (inl refl, (inl refl, (inl refl, (inl refl, (inr refl, (inl refl, (inl refl, (inl refl, (inl refl, (inl refl, tt))))))))))) (missing (codes "format") refl none)
 
   no_partial : HasNone gs (codes "partial") → value_met (codes "partial") met ≡ codes "false"
-  no_partial none = ap (value_met (codes "partial")) entered.met ∙ ap text (unset_value (codes "partial") numbers (built_flag (codes "stats") ∷ file ∷ help ∷ [])
-      rows refl (refl, (refl, (refl, (refl, (refl, tt))))) (missing (codes "partial") refl none))
+  no_partial none = ap (value_met (codes "partial")) entered.met ∙ ap text (unset_value (codes "partial") numbers (built_flag (codes "stats") ∷ built_flag (codes "quiet-answer") ∷ file ∷ help ∷ [])
+      rows refl (refl, (refl, (refl, (refl, (refl, (refl, tt)))))) (missing (codes "partial") refl none))
 
   no_stats : HasNone gs (codes "stats") → value_met (codes "stats") met ≡ codes "false"
-  no_stats none = ap (value_met (codes "stats")) entered.met ∙ ap text (unset_value (codes "stats") (numbers ++ built_flag (codes "partial") ∷ []) (file ∷ help ∷ [])
-      rows refl (refl, (refl, (refl, (refl, (refl, (refl, tt)))))) (missing (codes "stats") refl none))
+  no_stats none = ap (value_met (codes "stats")) entered.met ∙ ap text (unset_value (codes "stats") (numbers ++ built_flag (codes "partial") ∷ []) (built_flag (codes "quiet-answer") ∷ file ∷ help ∷ [])
+      rows refl (refl, (refl, (refl, (refl, (refl, (refl, (refl, tt))))))) (missing (codes "stats") refl none))
+
+  no_quiet : HasNone gs (codes "quiet-answer") → value_met (codes "quiet-answer") met ≡ codes "false"
+  no_quiet none = ap (value_met (codes "quiet-answer")) entered.met ∙ ap text (unset_value (codes "quiet-answer") (numbers ++ built_flag (codes "partial") ∷ built_flag (codes "stats") ∷ []) (file ∷ help ∷ [])
+      rows refl (refl, (refl, (refl, (refl, (refl, (refl, (refl, (refl, tt)))))))) (missing (codes "quiet-answer") refl none))
 
   -- ---- what is given
 
@@ -299,7 +334,9 @@ module _ (words : List Text) (gs : List Given) (path : Option Text) (line : IsRe
   alone_of_rounds most many p of =
       ap₂ (λ (a b : Bool). a || b) (none_is (codes "steps") (no_steps of.no_steps))
       (ap₂ (λ (a b : Bool). a || b) (none_is (codes "nodes") (no_nodes of.no_nodes))
-      (ap₂ (λ (a b : Bool). a || b) (flag_is (codes "stats") false of.no_stats no_stats) (ap is_some (no_limits of.no_limits))))
+      (ap₂ (λ (a b : Bool). a || b) (flag_is (codes "stats") false of.no_stats no_stats)
+      (ap₂ (λ (a b : Bool). a || b) (ap is_some (no_limits of.no_limits))
+      (ap₂ (λ (a b : Bool). a || b) (ap is_some (no_format of.no_format)) (flag_is (codes "quiet-answer") false of.no_quiet no_quiet)))))
 
   limits_are : (l : Text) → HasValue gs (codes "limits") (codes "wide") l → limits_met met ≡ l
   limits_are l (inl gives) = ap (λ (o : Option Text). unwrap_or o (codes "wide")) (given_some (codes "limits") l gives)
@@ -309,18 +346,30 @@ module _ (words : List Text) (gs : List Given) (path : Option Text) (line : IsRe
   known l (inl gives) = given_limits gs line.front line.written l gives
   known l (inr none) = ap is_limits none.1
 
-  pub in_place_taken : (s n : ℕ) (p t : Bool) (l : Text) → AreInPlace gs s n p t l → mistakes_of words ≡ []
-  in_place_taken s n p t l of = ap₂ or_else entered.free (of_reduce met entered.named
-      ∙ in_place_free met (alone_in_place of.no_rounds of.no_workers) (ap is_limits (limits_are l of.limits) ∙ known l of.limits))
+  format_is : (w : Text) → HasValue gs (codes "format") (codes "lines") w → figures_met met ≡ w
+  format_is w (inl gives) = ap (λ (o : Option Text). unwrap_or o (codes "lines")) (given_some (codes "format") w gives)
+  format_is w (inr none) = ap (λ (o : Option Text). unwrap_or o (codes "lines")) (no_format none.0) ∙ sym none.1
 
-  pub in_place_named : (s n steps nodes : ℕ) (p t partial stats : Bool) (l limits : Text) → AreInPlace gs s n p t l → (f : Option Text)
-      → NamesReduce words steps nodes partial stats limits f → (steps ≡ s) × (nodes ≡ n) × (partial ≡ p) × (stats ≡ t) × (limits ≡ l) × (f ≡ path)
-  in_place_named s n steps nodes p t partial stats l limits of f names = (
+  known_format : (w : Text) → HasValue gs (codes "format") (codes "lines") w → is_figures w ≡ true
+  known_format w (inl gives) = given_figures gs line.front line.written w gives
+  known_format w (inr none) = ap is_figures none.1
+
+  pub in_place_taken : (s n : ℕ) (p t q : Bool) (l w : Text) → AreInPlace gs s n p t q l w → mistakes_of words ≡ []
+  in_place_taken s n p t q l w of = ap₂ or_else entered.free (of_reduce met entered.named
+      ∙ in_place_free met (alone_in_place of.no_rounds of.no_workers) (ap₂ (λ (a b : Bool). a && b)
+      (ap is_limits (limits_are l of.limits) ∙ known l of.limits) (ap is_figures (format_is w of.format) ∙ known_format w of.format)))
+
+  pub in_place_named : (s n steps nodes : ℕ) (p t q partial stats quiet : Bool) (l w limits format : Text) → AreInPlace gs s n p t q l w → (f : Option Text)
+      → NamesReduce words steps nodes partial stats quiet limits format f
+      → (steps ≡ s) × (nodes ≡ n) × (partial ≡ p) × (stats ≡ t) × (quiet ≡ q) × (limits ≡ l) × (format ≡ w) × (f ≡ path)
+  in_place_named s n steps nodes p t q partial stats quiet l w limits format of f names = (
     number_is (codes "steps") 0 most_steps most_steps s steps of.steps no_steps names.steps,
     number_is (codes "nodes") 0 most_steps 134217728 n nodes of.nodes no_nodes names.nodes,
     names.partial ∙ flag_is (codes "partial") p of.partial no_partial,
     names.stats ∙ flag_is (codes "stats") t of.stats no_stats,
+    names.quiet ∙ flag_is (codes "quiet-answer") q of.quiet no_quiet,
     names.limits ∙ limits_are l of.limits,
+    names.format ∙ format_is w of.format,
     names.file ∙ file_is,
   )
 

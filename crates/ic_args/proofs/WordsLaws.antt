@@ -15,8 +15,8 @@ use Rattle.clap.proofs.WalkLemmas.{first_value-rows, raw_values-rows}
 use Rattle.std.specs.Str.{bytes_eq}
 use Rattle.std.proofs.lemmas.Slice.Eq.{bytes_eq-Decides}
 use Rattle.clap.specs.Kinds.{or_else}
-use Rattle.ic_args.specs.Words.{BeginsWith, asks_in_place, asks_rounds, command_line, format_mistakes, has_help, help_mistakes, is_format, is_given, is_limits, is_met, limits_met, own_mistakes, reduce_faults, reduce_mistakes, value_if_met, value_met, values_met, is_report_format, report_mistakes, tells_report}
-use Rattle.ic_args.specs.inner.Asking.{IsMet, TellsReport}
+use Rattle.ic_args.specs.Words.{BeginsWith, asks_in_place, asks_rounds, command_line, format_mistakes, has_help, help_mistakes, is_format, is_given, figures_met, is_figures, is_limits, is_met, limits_met, own_mistakes, reduce_faults, reduce_mistakes, value_if_met, value_met, values_met, is_report_format, report_mistakes, tells_report}
+use Rattle.ic_args.specs.inner.Asking.{IsIn, IsMet, commands, TellsReport}
 use Rattle.ic_args.proofs.WordsExact.{IsCalled, first_met}
 
 command_line_simple : is_simple_and_free command_line ≡ true
@@ -249,18 +249,22 @@ abbrev faults_by : Bool → Bool → Bool → Bool → Kinds
 faults_by rounds known in_place counted =
     cond (not rounds) (cond known [] (InvalidValue ∷ [])) (cond in_place (ArgumentConflict ∷ []) (cond counted [] (MissingRequiredArgument ∷ [])))
 
-pub in_place_free : (met : Option (Text × List Row)) → asks_rounds met ≡ false → is_limits (limits_met met) ≡ true → reduce_faults met ≡ []
+-- the limits and the format are some that there are
+abbrev pub are_known : Option (Text × List Row) → Bool
+are_known met = is_limits (limits_met met) && is_figures (figures_met met)
+
+pub in_place_free : (met : Option (Text × List Row)) → asks_rounds met ≡ false → are_known met ≡ true → reduce_faults met ≡ []
 in_place_free met alone known = ap₂ (λ (r k : Bool). faults_by r k (asks_in_place met) (is_given (codes "rounds") met)) alone known
 
 pub rounds_free : (met : Option (Text × List Row)) → is_given (codes "rounds") met ≡ true → asks_in_place met ≡ false → reduce_faults met ≡ []
-rounds_free met given alone = ap₂ (λ (r p : Bool). faults_by (r || is_given (codes "workers") met) (is_limits (limits_met met)) p r) given alone
+rounds_free met given alone = ap₂ (λ (r p : Bool). faults_by (r || is_given (codes "workers") met) (are_known met) p r) given alone
 
 -- a kind of mistake that asks for nothing
 abbrev pub IsMistake : ErrorKind → Type 0
 IsMistake kind = (kind ≢ DisplayHelp) × (kind ≢ DisplayVersion)
 
 pub reduce_wrong : (met : Option (Text × List Row)) → reduce_faults met ≢ [] → (kind : ErrorKind) × (reduce_faults met ≡ kind ∷ []) × IsMistake kind
-reduce_wrong met wrong = go (asks_rounds met) (is_limits (limits_met met)) (asks_in_place met) (is_given (codes "rounds") met) wrong
+reduce_wrong met wrong = go (asks_rounds met) (are_known met) (asks_in_place met) (is_given (codes "rounds") met) wrong
   where
     go : (r k p c : Bool) → faults_by r k p c ≢ [] → (kind : ErrorKind) × (faults_by r k p c ≡ kind ∷ []) × IsMistake kind
     go false true p c other = absurd (other refl)

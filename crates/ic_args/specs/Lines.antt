@@ -85,8 +85,8 @@ IsReduceNumber given = IsRoundsOption given
 
 -- a flag of `reduce`, whose value is that it is given
 abbrev pub IsReduceFlag : Given → Type 0
-IsReduceFlag given = ((given.name ≡ codes "partial") ⊎ (given.name ≡ codes "stats"))
-    × (given.value ≡ codes "true")
+IsReduceFlag given = ((given.name ≡ codes "partial") ⊎ (given.name ≡ codes "stats")
+    ⊎ (given.name ≡ codes "quiet-answer")) × (given.value ≡ codes "true")
 
 -- one of the words of limits
 abbrev pub IsLimitsText : Text → Type 0
@@ -96,10 +96,21 @@ IsLimitsText text = (text ≡ codes "served") ⊎ (text ≡ codes "wide")
 abbrev pub IsLimitsOption : Given → Type 0
 IsLimitsOption given = (given.name ≡ codes "limits") × IsLimitsText given.value
 
+-- one of the words of formats of figures
+abbrev pub IsFiguresText : Text → Type 0
+IsFiguresText text = (text ≡ codes "lines") ⊎ (text ≡ codes "json")
+
+-- the option of `reduce` with such a format
+abbrev pub IsFiguresOption : Given → Type 0
+IsFiguresOption given = (given.name ≡ codes "format") × IsFiguresText given.value
+
+-- an option of `reduce` that has a value
+abbrev pub IsReduceValue : Given → Type 0
+IsReduceValue given = IsReduceNumber given ⊎ IsLimitsOption given ⊎ IsFiguresOption given
+
 -- how an option of `reduce` is written; a flag is one word
 abbrev pub IsReduceOption : Given → List Text → Type 0
-IsReduceOption given words =
-    ((IsReduceNumber given ⊎ IsLimitsOption given) × IsWritten given words)
+IsReduceOption given words = (IsReduceValue given × IsWritten given words)
     ⊎ (IsReduceFlag given × (words ≡ (45 ∷ 45 ∷ given.name) ∷ []))
 
 -- one of the formats
@@ -258,8 +269,9 @@ pub record IsReduceLine (words : List Text) (given : List Given) (file : Option 
   pub once : AreOnce given
   pub last : IsFileWord file rest
 
--- options by which a net is reduced in place: bounds on interactions and on places, two flags, and limits
-pub record AreInPlace (given : List Given) (s n : ℕ) (p t : Bool) (l : Text) : Type 0 where
+-- options by which a net is reduced in place: bounds on interactions and on places, three flags, limits,
+-- and a format
+pub record AreInPlace (given : List Given) (s n : ℕ) (p t q : Bool) (l w : Text) : Type 0 where
   pub no_rounds : HasNone given (codes "rounds")
   pub no_workers : HasNone given (codes "workers")
   pub steps : HasNumber given (codes "steps") most_steps s
@@ -267,6 +279,8 @@ pub record AreInPlace (given : List Given) (s n : ℕ) (p t : Bool) (l : Text) :
   pub partial : HasFlag given (codes "partial") p
   pub stats : HasFlag given (codes "stats") t
   pub limits : HasValue given (codes "limits") (codes "wide") l
+  pub format : HasValue given (codes "format") (codes "lines") w
+  pub quiet : HasFlag given (codes "quiet-answer") q
 
 -- options by which rounds are made: how many at most, by how many threads, and a flag
 pub record AreOfRounds (given : List Given) (most threads : ℕ) (p : Bool) : Type 0 where
@@ -277,6 +291,8 @@ pub record AreOfRounds (given : List Given) (most threads : ℕ) (p : Bool) : Ty
   pub partial : HasFlag given (codes "partial") p
   pub no_stats : HasNone given (codes "stats")
   pub no_limits : HasNone given (codes "limits")
+  pub no_format : HasNone given (codes "format")
+  pub no_quiet : HasNone given (codes "quiet-answer")
 
 -- `trace`, with `--rounds N` and `--format tsv|svg|json` or without, in any order, each once, and its FILE
 pub record IsTraceLine (words : List Text) (most shown : Text) (file : Option Text) : Type 0 where

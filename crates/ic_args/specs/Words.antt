@@ -25,6 +25,8 @@ use Rattle.ic_args.specs.declared.words.TraceFormat.{TraceFormat}
 use Rattle.ic_args.specs.declared.words.TraceFormat.TheVariants.{Tsv, Svg, Json}
 use Rattle.ic_args.specs.declared.words.TextLimits.{TextLimits}
 use Rattle.ic_args.specs.declared.words.TextLimits.TheVariants.{Served, Wide}
+use Rattle.ic_args.specs.declared.words.FiguresFormat.{FiguresFormat}
+use Rattle.ic_args.specs.declared.words.FiguresFormat.TheVariants.{Lines, Objects}
 use Rattle.ic_args.specs.Help.{help_by, help_of, named_help, program_help}
 use Rattle.ic_args.specs.declared.words.WordsFault.{WordsFault}
 use Rattle.ic_args.specs.declared.words.WordsFault.TheVariants.{Words, Memory}
@@ -132,7 +134,8 @@ reduce_command = command_with (codes "reduce") (number_option (codes "rounds") 0
     ∷ number_option (codes "workers") 1 64 []
     ∷ number_option (codes "steps") 0 most_steps []
     ∷ number_option (codes "nodes") 0 most_steps [] ∷ text_option (codes "limits")
-    ∷ flag (codes "partial") ∷ flag (codes "stats") ∷ input_argument ∷ [])
+    ∷ text_option (codes "format") ∷ flag (codes "partial") ∷ flag (codes "stats")
+    ∷ flag (codes "quiet-answer") ∷ input_argument ∷ [])
 
 abbrev pub trace_command : App
 trace_command = command_with (codes "trace")
@@ -285,6 +288,18 @@ is_limits text = bytes_eq text (limits_word Served) || bytes_eq text (limits_wor
 abbrev pub limits_met : Option (Text × List Row) → Text
 limits_met met = unwrap_or (value_if_met (codes "limits") met) (limits_word Wide)
 
+-- the word of a format of figures
+abbrev pub figures_word : FiguresFormat → Text
+figures_word Lines = codes "lines"
+figures_word Objects = codes "json"
+
+abbrev pub is_figures : Text → Bool
+is_figures text = bytes_eq text (figures_word Lines) || bytes_eq text (figures_word Objects)
+
+-- the word of the format of figures that `reduce` is given, that of lines where it is given none
+abbrev pub figures_met : Option (Text × List Row) → Text
+figures_met met = unwrap_or (value_if_met (codes "format") met) (figures_word Lines)
+
 -- an option of rounds is given to `reduce`, or one of reducing in place alone
 abbrev pub asks_rounds : Option (Text × List Row) → Bool
 asks_rounds met = is_given (codes "rounds") met || is_given (codes "workers") met
@@ -292,12 +307,14 @@ asks_rounds met = is_given (codes "rounds") met || is_given (codes "workers") me
 abbrev pub asks_in_place : Option (Text × List Row) → Bool
 asks_in_place met = is_given (codes "steps") met
     || (is_given (codes "nodes") met || (is_flag_met (codes "stats") met
-    || is_some (value_if_met (codes "limits") met)))
+    || (is_some (value_if_met (codes "limits") met) || (is_some (value_if_met (codes "format") met)
+    || is_flag_met (codes "quiet-answer") met))))
 
--- `reduce` makes rounds or reduces in place with limits that there are, and workers are those of rounds
+-- `reduce` makes rounds or reduces in place with limits and a format that there are, and workers are
+-- those of rounds
 abbrev pub reduce_faults : Option (Text × List Row) → Kinds
 reduce_faults met = if not (asks_rounds met)
-    then (if is_limits (limits_met met) then [] else InvalidValue ∷ [])
+    then (if is_limits (limits_met met) && is_figures (figures_met met) then [] else InvalidValue ∷ [])
     else if asks_in_place met then ArgumentConflict ∷ []
     else if is_given (codes "rounds") met then [] else MissingRequiredArgument ∷ []
 
@@ -332,7 +349,7 @@ AnswersWords mistakes (Ok (Once file)) = mistakes ≡ []
 AnswersWords mistakes (Ok (Create disk overwrite)) = mistakes ≡ []
 AnswersWords mistakes (Ok (Serve disk workers every explain)) = mistakes ≡ []
 AnswersWords mistakes (Ok (Attend disk runners turns workers scripts)) = mistakes ≡ []
-AnswersWords mistakes (Ok (Reduce steps nodes partial stats limits file)) = mistakes ≡ []
+AnswersWords mistakes (Ok (Reduce steps nodes partial stats limits format quiet file)) = mistakes ≡ []
 AnswersWords mistakes (Ok (ReduceByRounds rounds workers partial file)) = mistakes ≡ []
 AnswersWords mistakes (Ok (Trace rounds format file)) = mistakes ≡ []
 AnswersWords mistakes (Ok (Draw file)) = mistakes ≡ []
@@ -363,7 +380,7 @@ GivesHelp (Ok (Once file)) = ⊥
 GivesHelp (Ok (Create disk overwrite)) = ⊥
 GivesHelp (Ok (Serve disk workers every explain)) = ⊥
 GivesHelp (Ok (Attend disk runners turns workers scripts)) = ⊥
-GivesHelp (Ok (Reduce steps nodes partial stats limits file)) = ⊥
+GivesHelp (Ok (Reduce steps nodes partial stats limits format quiet file)) = ⊥
 GivesHelp (Ok (ReduceByRounds rounds workers partial file)) = ⊥
 GivesHelp (Ok (Trace rounds format file)) = ⊥
 GivesHelp (Ok (Draw file)) = ⊥
@@ -384,7 +401,7 @@ GivesVersion (Ok (Once file)) = ⊥
 GivesVersion (Ok (Create disk overwrite)) = ⊥
 GivesVersion (Ok (Serve disk workers every explain)) = ⊥
 GivesVersion (Ok (Attend disk runners turns workers scripts)) = ⊥
-GivesVersion (Ok (Reduce steps nodes partial stats limits file)) = ⊥
+GivesVersion (Ok (Reduce steps nodes partial stats limits format quiet file)) = ⊥
 GivesVersion (Ok (ReduceByRounds rounds workers partial file)) = ⊥
 GivesVersion (Ok (Trace rounds format file)) = ⊥
 GivesVersion (Ok (Draw file)) = ⊥
@@ -437,8 +454,9 @@ abbrev pub help_asked : List Text → Text
 help_asked words = if is_empty (fault_of command_line words)
     then help_by (value_if_met (codes "word") (subcommand_of command_line words)) else help_of words
 
--- the words of `reduce` give two bounds, two flags, limits and a file, and no option of rounds
-pub record NamesReduce (words : List Text) (s n : ℕ) (p t : Bool) (l : Text) (f : Option Text)
+-- the words of `reduce` give two bounds, three flags, limits, a format and a file, and no option of
+-- rounds
+pub record NamesReduce (words : List Text) (s n : ℕ) (p t q : Bool) (l w : Text) (f : Option Text)
     : Type 0 where
   pub begins : BeginsWith (codes "reduce") words
   pub alone : asks_rounds (subcommand_of command_line words) ≡ false
@@ -447,6 +465,8 @@ pub record NamesReduce (words : List Text) (s n : ℕ) (p t : Bool) (l : Text) (
   pub partial : p ≡ is_flag_met (codes "partial") (subcommand_of command_line words)
   pub stats : t ≡ is_flag_met (codes "stats") (subcommand_of command_line words)
   pub limits : l ≡ limits_met (subcommand_of command_line words)
+  pub format : w ≡ figures_met (subcommand_of command_line words)
+  pub quiet : q ≡ is_flag_met (codes "quiet-answer") (subcommand_of command_line words)
   pub file : f ≡ file_met (subcommand_of command_line words)
 
 -- the words of `attend` give a disk's path, three numbers and the paths of scripts
@@ -482,8 +502,9 @@ Names words (Serve disk workers every explain) = BeginsWith (codes "serve") word
     × (explain ≡ is_flag_met (codes "explain") (subcommand_of command_line words))
 Names words (Attend disk runners turns workers scripts) =
     NamesAttend words (string_bytes disk) runners turns workers (map string_bytes scripts.items)
-Names words (Reduce steps nodes partial stats limits file) =
-    NamesReduce words steps nodes partial stats (limits_word limits) (option_map string_bytes file)
+Names words (Reduce steps nodes partial stats limits format quiet file) =
+    NamesReduce words steps nodes partial stats quiet (limits_word limits) (figures_word format)
+    (option_map string_bytes file)
 Names words (ReduceByRounds rounds workers partial file) =
     NamesText (codes "reduce") words (option_map string_bytes file)
     × (asks_in_place (subcommand_of command_line words) ≡ false)

@@ -11,8 +11,9 @@ ghost use Rattle.ic_args.specs.declared.words.Task.TheVariants.{Trace, Draw, Dum
 ghost use Rattle.ic_args.specs.declared.words.ReportFormat.{ReportFormat};
 ghost use Rattle.ic_args.specs.declared.words.TraceFormat.{TraceFormat};
 ghost use Rattle.ic_args.specs.declared.words.TextLimits.{TextLimits};
+ghost use Rattle.ic_args.specs.declared.words.FiguresFormat.{FiguresFormat};
 ghost use Rattle.ic_args.specs.declared.words.WordsFault.TheVariants.{Words, Memory};
-ghost use Rattle.ic_args.specs.Words.{AnswersWords, format_word, limits_word, help_asked, mistakes_of, words_fault_number, IsDecimal, Names, report_word};
+ghost use Rattle.ic_args.specs.Words.{AnswersWords, figures_word, format_word, limits_word, help_asked, mistakes_of, words_fault_number, IsDecimal, Names, report_word};
 ghost use Rattle.ic_args.specs.Help.{help_by, help_of, Says, program_help, help_help, settle_help, once_help, create_help, serve_help, attend_help};
 ghost use Rattle.ic_args.specs.Help.{batch_help, check_help, draw_help, dump_help, expand_help, inspect_help, reduce_help, trace_help};
 ghost use Rattle.ic_args.specs.Lines.{AreInPlace, AreOfRounds, Given, HasNoHyphen, IsAttendLine, IsBatchLine, IsCheckLine, IsCreateLine, IsDumpLine};
@@ -143,7 +144,9 @@ pub fn each_command_has_its_help()
         ∷ codes "from 0 to 4611686018427387903 [default: 4611686018427387903]" ∷ codes "--nodes <N>"
         ∷ codes "from 0 to 4611686018427387903 [default: 134217728]"
         ∷ codes "--partial" ∷ codes "--stats" ∷ codes "--limits <L>" ∷ codes "(served)"
-        ∷ codes "(wide)" ∷ codes "[default: wide]" ∷ []) }
+        ∷ codes "(wide)" ∷ codes "[default: wide]" ∷ codes "--format <FORMAT>"
+        ∷ codes "(lines)" ∷ codes "(json)" ∷ codes "without --stats this changes nothing"
+        ∷ codes "[default: lines]" ∷ codes "--quiet-answer" ∷ []) }
     ensures formats { AllByRecursion (Says trace_help) (codes "icserve trace" ∷ codes "--rounds <N>"
         ∷ codes "from 0 to 4611686018427387904 [default: 1000000]" ∷ codes "--format <FORMAT>"
         ∷ codes "(tsv)" ∷ codes "(svg)" ∷ codes "(json)" ∷ codes "[default: tsv]" ∷ []) }
@@ -227,19 +230,20 @@ pub fn attend_lines_are_taken(disk: &String, paths: &Vec<String>)
 
 /// A well-formed line of `reduce` without options of rounds is taken, in whatever order its options
 /// stand, and names the bounds that it is given, or their defaults, 2^62 - 1 interactions and 2^27
-/// places, whether it has the flags, and its limits, or wide ones. One with rounds, and without bounds and `--stats`, is taken
-/// too, and names its rounds, its workers, or 2, and whether it has `--partial`. Both name the FILE that
-/// they are given, or standard input. Both kinds of options in one line are a mistake, and so are
-/// workers without rounds and limits that there aren't.
+/// places, whether it has the flags, its limits, or wide ones, and its format, or lines. One with rounds, and
+/// with no other option but `--partial`, is taken too, and names its rounds, its workers, or 2, and whether
+/// it has that flag. Both name the FILE that they are given, or standard input. Both kinds of options in one
+/// line are a mistake, and so are workers without rounds, and limits and formats that there aren't.
 pub fn reduce_lines_are_taken(path: &Option<String>)
-    ensures taken { (words : List Text) (given : List Given) (file : Option Text) (s n : ℕ) (p t : Bool)
-        (l : Text) → IsReduceLine words given file → AreInPlace given s n p t l
+    ensures taken { (words : List Text) (given : List Given) (file : Option Text) (s n : ℕ)
+        (p t q : Bool) (l w : Text) → IsReduceLine words given file → AreInPlace given s n p t q l w
         → mistakes_of words ≡ [] }
     ensures named { (words : List Text) (given : List Given) (file : Option Text) (s n steps nodes : ℕ)
-        (p t partial stats : Bool) (l : Text) (limits : TextLimits)
-        → IsReduceLine words given file → AreInPlace given s n p t l
-        → Names words (Reduce steps nodes partial stats limits path.now)
-        → (steps ≡ s) × (nodes ≡ n) × (partial ≡ p) × (stats ≡ t) × (limits_word limits ≡ l)
+        (p t q partial stats quiet : Bool) (l w : Text) (limits : TextLimits) (format : FiguresFormat)
+        → IsReduceLine words given file → AreInPlace given s n p t q l w
+        → Names words (Reduce steps nodes partial stats limits format quiet path.now)
+        → (steps ≡ s) × (nodes ≡ n) × (partial ≡ p) × (stats ≡ t) × (quiet ≡ q)
+        × (limits_word limits ≡ l) × (figures_word format ≡ w)
         × (option_map string_bytes path.now ≡ file) }
     ensures rounds { (words : List Text) (given : List Given) (file : Option Text) (most threads : ℕ)
         (p : Bool) → IsReduceLine words given file → AreOfRounds given most threads p
@@ -251,12 +255,13 @@ pub fn reduce_lines_are_taken(path: &Option<String>)
         → (rounds ≡ most) × (workers ≡ threads) × (partial ≡ p)
         × (option_map string_bytes path.now ≡ file) }
     ensures both { map (λ option. mistakes_of (codes "reduce" ∷ codes "--rounds=1" ∷ option ∷ []))
-        (codes "--steps=1" ∷ codes "--nodes=1" ∷ codes "--stats" ∷ codes "--limits=wide" ∷ [])
+        (codes "--steps=1" ∷ codes "--nodes=1" ∷ codes "--stats" ∷ codes "--limits=wide"
+        ∷ codes "--format=lines" ∷ codes "--quiet-answer" ∷ [])
         ≡ (ArgumentConflict ∷ []) ∷ (ArgumentConflict ∷ []) ∷ (ArgumentConflict ∷ [])
-        ∷ (ArgumentConflict ∷ []) ∷ [] }
+        ∷ (ArgumentConflict ∷ []) ∷ (ArgumentConflict ∷ []) ∷ (ArgumentConflict ∷ []) ∷ [] }
     ensures other { map (λ option. mistakes_of (codes "reduce" ∷ option ∷ []))
-        (codes "--limits=none" ∷ codes "--limits=" ∷ [])
-        ≡ (InvalidValue ∷ []) ∷ (InvalidValue ∷ []) ∷ [] }
+        (codes "--limits=none" ∷ codes "--limits=" ∷ codes "--format=tsv" ∷ codes "--format=" ∷ [])
+        ≡ (InvalidValue ∷ []) ∷ (InvalidValue ∷ []) ∷ (InvalidValue ∷ []) ∷ (InvalidValue ∷ []) ∷ [] }
     ensures no_rounds { mistakes_of (codes "reduce" ∷ codes "--workers=1" ∷ [])
         ≡ MissingRequiredArgument ∷ [] }
 {}
@@ -353,14 +358,20 @@ pub fn common_lines_are_well_formed()
         → IsBatchLine (codes "batch" ∷ codes "--disk" ∷ path ∷ codes "--rounds=10" ∷ file ∷ [])
         path (codes "10") (codes "100") (codes "2") file }
     ensures reduce { IsReduceLine (codes "reduce" ∷ []) [] None
-        × AreInPlace [] 4611686018427387903 134217728 false false (codes "wide") }
+        × AreInPlace [] 4611686018427387903 134217728 false false false (codes "wide") (codes "lines") }
     ensures reduced { (path : Text) → HasNoHyphen path → (given : List Given)
         × IsReduceLine (codes "reduce" ∷ codes "--stats" ∷ codes "--nodes=9" ∷ codes "--steps"
         ∷ codes "10" ∷ path ∷ []) given (Some path)
-        × AreInPlace given 10 9 false true (codes "wide") }
+        × AreInPlace given 10 9 false true false (codes "wide") (codes "lines") }
     ensures limited { (given : List Given)
         × IsReduceLine (codes "reduce" ∷ codes "--limits" ∷ codes "served" ∷ []) given None
-        × AreInPlace given 4611686018427387903 134217728 false false (codes "served") }
+        × AreInPlace given 4611686018427387903 134217728 false false false (codes "served")
+        (codes "lines") }
+    ensures figures { (given : List Given)
+        × IsReduceLine (codes "reduce" ∷ codes "--stats" ∷ codes "--format=json"
+        ∷ codes "--quiet-answer" ∷ []) given None
+        × AreInPlace given 4611686018427387903 134217728 false true true (codes "wide")
+        (codes "json") }
     ensures by_rounds { (given : List Given) × IsReduceLine (codes "reduce" ∷ codes "--workers=3"
         ∷ codes "--rounds" ∷ codes "10" ∷ []) given None × AreOfRounds given 10 3 false }
     ensures trace { (path : Text) → HasNoHyphen path

@@ -7,4 +7,6 @@ mod help;
 pub mod laws;
 mod words;
 
-pub use words::{ReportFormat, Task, TextLimits, TraceFormat, WordsFault, read_words};
+pub use words::{
+    FiguresFormat, ReportFormat, Task, TextLimits, TraceFormat, WordsFault, read_words,
+};

@@ -10,6 +10,7 @@ ghost use Rattle.ic_args.specs.Words.{is_report_format, lines_argument, most_rou
 ghost use Rattle.ic_args.specs.Words.{script_argument};
 ghost use Rattle.ic_args.specs.Words.{input_argument, optional_argument, text_command};
 ghost use Rattle.ic_args.specs.Words.{asks_in_place, asks_rounds, is_limits, limits_met, limits_word, text_option, is_flag_met, is_given, mistakes_of, reduce_faults, value_met, values_met};
+ghost use Rattle.ic_args.specs.Words.{figures_met, figures_word, is_figures};
 ghost use Rattle.clap.specs.declared.builder.value_parser.ValueParser.TheVariants.{Unsigned};
 ghost use Rattle.ic_args.specs.inner.Making.{IsMade};
 ghost use Rattle.ic_args.specs.inner.Asking.{AnswersRefused, Asks, IsCommandMet, IsIn, IsMet, IsReadFrom, IsReadOr, commands};
@@ -53,9 +54,12 @@ const STANDARD: &str = "-";
 /// What names wide limits, which a text has that `reduce` reads where nothing else is said.
 const WIDE: &str = "wide";
 
+/// What names lines, as which `reduce` tells figures where nothing else is said.
+const LINES: &str = "lines";
+
 /// What is said where `reduce` is asked for rounds and for reducing in place.
 const BOTH_WAYS: &str = "\
-error: the arguments '--rounds <N>' and '--workers <N>' cannot be used with '--steps <N>', '--nodes <N>', '--limits <L>' or '--stats'
+error: the arguments '--rounds <N>' and '--workers <N>' cannot be used with '--steps <N>', '--nodes <N>', '--limits <L>', '--stats', '--format <FORMAT>' or '--quiet-answer'
 
 Usage: icserve reduce [OPTIONS] [FILE]
 
@@ -129,6 +133,10 @@ pub enum Task {
         stats: bool,
         /// The limits of the text.
         limits: TextLimits,
+        /// How that is told.
+        format: FiguresFormat,
+        /// Whether nothing is printed on standard output.
+        quiet: bool,
         /// The path of the text.
         file: Option<String>,
     },
@@ -211,6 +219,15 @@ pub enum TextLimits {
     Served,
     /// Much wider ones.
     Wide,
+}
+
+/// How it is told how many interactions were made, and how fast.
+#[derive(Clone, Copy, Debug)]
+pub enum FiguresFormat {
+    /// As lines.
+    Lines,
+    /// As an object of JSON on a line.
+    Objects,
 }
 
 /// How a trace is told.
@@ -448,32 +465,28 @@ fn reduce_task(alloc: Global, matches: &ArgMatches) -> Result<Task, WordsFault>
     rounds_task(alloc, matches)
 }
 
-/// The task of `reduce` in place. Limits that there aren't are refused as the parser refuses such a value.
+/// The task of `reduce` in place. Limits that there aren't, or a format, are refused as the parser refuses such a value.
 fn in_place_task(alloc: Global, matches: &ArgMatches) -> Result<Task, WordsFault>
     requires met { IsMet (codes "reduce") (subcommand_rows_of matches.now) }
     requires alone { asks_rounds (subcommand_rows_of matches.now) ≡ false }
     ensures { Asks (subcommand_rows_of matches.now) result }
 {
-    let file = file_of(alloc, matches)?;
-    let steps = number_or(matches, "steps", 0, MAX_STEPS, MAX_STEPS);
-    let nodes = number_or(matches, "nodes", 0, MAX_STEPS, NODES);
-    let partial = is_flag_met(matches, "partial");
-    let stats = is_flag_met(matches, "stats");
-    let word = limits_met(matches);
-    match limits_named(word) {
-        Some(limits) => Ok(Task::Reduce {
-            steps,
-            nodes,
-            partial,
-            stats,
-            limits,
-            file,
-        }),
-        None => Err(WordsFault::Words(format!(in alloc;
-            "error: invalid value '{word}' for '--limits <L>'\n  [possible values: served, wide]\n\n\
-             For more information, try '--help'.\n"
-        )?)),
-    }
+    let Some(limits) = limits_named(limits_met(matches)) else {
+        return Err(WordsFault::Words(no_limits(alloc, matches)?));
+    };
+    let Some(format) = figures_named(figures_met(matches)) else {
+        return Err(WordsFault::Words(no_figures(alloc, matches)?));
+    };
+    Ok(Task::Reduce {
+        steps: number_or(matches, "steps", 0, MAX_STEPS, MAX_STEPS),
+        nodes: number_or(matches, "nodes", 0, MAX_STEPS, NODES),
+        partial: is_flag_met(matches, "partial"),
+        stats: is_flag_met(matches, "stats"),
+        limits,
+        format,
+        quiet: is_flag_met(matches, "quiet-answer"),
+        file: file_of(alloc, matches)?,
+    })
 }
 
 /// The limits of this word, if it is that of some.
@@ -493,6 +506,43 @@ fn limits_met<'a>(matches: &ArgMatches<'a>) -> &'a str
     ensures { result.now ≡ limits_met (subcommand_rows_of matches.now) }
 {
     value_if_met(matches, "limits").unwrap_or(WIDE)
+}
+
+/// What is said where there are no such limits.
+fn no_limits(alloc: Global, matches: &ArgMatches) -> Result<String, AllocError> {
+    let other = limits_met(matches);
+    format!(in alloc;
+        "error: invalid value '{other}' for '--limits <L>'\n  [possible values: served, wide]\n\n\
+         For more information, try '--help'.\n"
+    )
+}
+
+/// The format of figures of this word, if it is that of one.
+fn figures_named(word: &str) -> Option<FiguresFormat>
+    ensures named { IfSome result (λ format. word.now ≡ figures_word format) }
+    ensures none { IfNone result (is_figures word.now ≡ false) }
+{
+    match word {
+        "lines" => Some(FiguresFormat::Lines),
+        "json" => Some(FiguresFormat::Objects),
+        _ => None,
+    }
+}
+
+/// The word of the format of figures that `reduce` is given, that of lines where it is given none.
+fn figures_met<'a>(matches: &ArgMatches<'a>) -> &'a str
+    ensures { result.now ≡ figures_met (subcommand_rows_of matches.now) }
+{
+    value_if_met(matches, "format").unwrap_or(LINES)
+}
+
+/// What is said where there is no such format of figures.
+fn no_figures(alloc: Global, matches: &ArgMatches) -> Result<String, AllocError> {
+    let other = figures_met(matches);
+    format!(in alloc;
+        "error: invalid value '{other}' for '--format <FORMAT>'\n  [possible values: lines, json]\n\n\
+         For more information, try '--help'.\n"
+    )
 }
 
 /// The task of `reduce` by rounds.
@@ -529,6 +579,8 @@ fn asks_in_place(matches: &ArgMatches) -> bool
         || is_given(matches, "nodes")
         || is_flag_met(matches, "stats")
         || value_if_met(matches, "limits").is_some()
+        || value_if_met(matches, "format").is_some()
+        || is_flag_met(matches, "quiet-answer")
 }
 
 /// The task of `trace`. A format that there isn't is refused as the parser refuses such a value.
@@ -997,8 +1049,10 @@ fn reduce_command<'a>(alloc: Global) -> Result<Command<'a>, AllocError>
     let command = with_arg(command, chosen_option(alloc, "steps", steps()));
     let command = with_arg(command, chosen_option(alloc, "nodes", steps()));
     let command = with_arg(command, text_option(alloc, "limits", "L"));
+    let command = with_arg(command, text_option(alloc, "format", "FORMAT"));
     let command = with_arg(command, flag(alloc, "partial"));
     let command = with_arg(command, flag(alloc, "stats"));
+    let command = with_arg(command, flag(alloc, "quiet-answer"));
     with_arg(command, input_argument(alloc))
 }
 

@@ -1,6 +1,6 @@
 //! The words after the program's name.
 
-use ic_args::{ReportFormat, Task, TextLimits, TraceFormat, read_words};
+use ic_args::{FiguresFormat, ReportFormat, Task, TextLimits, TraceFormat, read_words};
 use ic_notation::Trouble;
 use std::alloc::{AllocError, Global};
 
@@ -56,13 +56,16 @@ fn asked(alloc: Global, task: &Task) -> Result<String, AllocError> {
             partial,
             stats,
             limits,
+            format,
+            quiet,
             file,
         } => {
             let mut asked = format!(in alloc; "in place {steps} {nodes}")?;
             if matches!(limits, TextLimits::Served) {
                 asked.push_str(" served")?;
             }
-            with_file(with_flags(asked, *partial, *stats)?, file)
+            let asked = with_flags(asked, *partial, *stats)?;
+            with_file(with_figures(asked, *format, *quiet)?, file)
         }
         Task::ReduceByRounds {
             rounds,
@@ -133,6 +136,21 @@ fn with_flags(mut asked: String, partial: bool, stats: bool) -> Result<String, A
     }
     if stats {
         asked.push_str(" stats")?;
+    }
+    Ok(asked)
+}
+
+/// What is asked for of a reduction in place, and after it how figures are told and whether they are all.
+fn with_figures(
+    mut asked: String,
+    format: FiguresFormat,
+    quiet: bool,
+) -> Result<String, AllocError> {
+    if matches!(format, FiguresFormat::Objects) {
+        asked.push_str(" json")?;
+    }
+    if quiet {
+        asked.push_str(" quiet")?;
     }
     Ok(asked)
 }

@@ -4,7 +4,7 @@ use Rattle.clap.specs.Words.{Row, Text}
 use Rattle.clap.specs.declared.error.ErrorKind.{ErrorKind}
 use Rattle.clap.specs.declared.error.ErrorKind.TheVariants.{DisplayHelp, DisplayVersion, OutOfMemory}
 use Rattle.ic_args.specs.Help.{help_by, help_of}
-use Rattle.ic_args.specs.Words.{IsDecimal, asks_in_place, asks_rounds, format_word, is_flag_met, limits_met, limits_word, is_format, is_given, most_rounds, most_steps, is_report_format, report_word}
+use Rattle.ic_args.specs.Words.{IsDecimal, asks_in_place, asks_rounds, format_word, is_flag_met, figures_met, figures_word, limits_met, limits_word, is_format, is_given, most_rounds, most_steps, is_report_format, report_word}
 use Rattle.ic_args.specs.Words.{file_met, has_help, value_if_met}
 use Rattle.ic_args.specs.Words.{number_met, reduce_faults, value_met, values_met, version_line}
 use Rattle.ic_args.specs.declared.words.Task.{Task}
@@ -67,12 +67,13 @@ Asks met (Ok (Attend disk runners turns workers scripts)) = IsMet (codes "attend
     × IsReadFrom (codes "runners") 0 64 met runners × IsReadFrom (codes "turns") 0 1000000 met turns
     × IsReadFrom (codes "workers") 1 64 met workers
     × (map string_bytes scripts.items ≡ values_met (codes "script") met)
-Asks met (Ok (Reduce steps nodes partial stats limits file)) =
+Asks met (Ok (Reduce steps nodes partial stats limits format quiet file)) =
     AsksText (codes "reduce") met (option_map string_bytes file) × (asks_rounds met ≡ false)
     × IsReadOr (codes "steps") 0 most_steps most_steps met steps
     × IsReadOr (codes "nodes") 0 most_steps 134217728 met nodes
     × (partial ≡ is_flag_met (codes "partial") met) × (stats ≡ is_flag_met (codes "stats") met)
-    × (limits_met met ≡ limits_word limits)
+    × (limits_met met ≡ limits_word limits) × (figures_met met ≡ figures_word format)
+    × (quiet ≡ is_flag_met (codes "quiet-answer") met)
 Asks met (Ok (ReduceByRounds rounds workers partial file)) =
     AsksText (codes "reduce") met (option_map string_bytes file)
     × (is_given (codes "rounds") met ≡ true) × (asks_in_place met ≡ false)

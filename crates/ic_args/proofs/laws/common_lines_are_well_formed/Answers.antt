@@ -145,6 +145,8 @@ returns-clause-reduce c = (
     partial = tt;
     stats = tt;
     limits = inr (tt, refl);
+    format = inr (tt, refl);
+    quiet = tt;
   },
 )
 
@@ -159,7 +161,7 @@ returns-clause-reduced c = λ path plain. (
       (codes "--stats" ∷ []),
       (codes "--nodes=9" ∷ codes "--steps" ∷ codes "10" ∷ []),
       refl,
-      inr ((inr refl, refl), refl),
+      inr ((inr (inl refl), refl), refl),
       (
         (codes "--nodes=9" ∷ []),
         (codes "--steps" ∷ codes "10" ∷ []),
@@ -179,6 +181,8 @@ returns-clause-reduced c = λ path plain. (
     partial = (other (codes "stats") (codes "partial") refl, (other (codes "nodes") (codes "partial") refl, (other (codes "steps") (codes "partial") refl, tt)));
     stats = inl (refl, refl);
     limits = inr ((other (codes "stats") (codes "limits") refl, (other (codes "nodes") (codes "limits") refl, (other (codes "steps") (codes "limits") refl, tt))), refl);
+    format = inr ((other (codes "stats") (codes "format") refl, (other (codes "nodes") (codes "format") refl, (other (codes "steps") (codes "format") refl, tt))), refl);
+    quiet = (other (codes "stats") (codes "quiet-answer") refl, (other (codes "nodes") (codes "quiet-answer") refl, (other (codes "steps") (codes "quiet-answer") refl, tt)));
   },
 )
 
@@ -189,7 +193,7 @@ returns-clause-limited c = (
     front = codes "--limits" ∷ codes "served" ∷ [];
     rest = [];
     begins = refl;
-    written = ((codes "--limits" ∷ codes "served" ∷ []), [], refl, inl (inr (refl, inl refl), inr (refl, λ same. cc)), refl);
+    written = ((codes "--limits" ∷ codes "served" ∷ []), [], refl, inl (inr (inl (refl, inl refl)), inr (refl, λ same. cc)), refl);
     once = (tt, tt);
     last = inl refl;
   },
@@ -201,6 +205,44 @@ returns-clause-limited c = (
     partial = (other (codes "limits") (codes "partial") refl, tt);
     stats = (other (codes "limits") (codes "stats") refl, tt);
     limits = inl (inl (refl, refl));
+    format = inr ((other (codes "limits") (codes "format") refl, tt), refl);
+    quiet = (other (codes "limits") (codes "quiet-answer") refl, tt);
+  },
+)
+
+pub returns-clause-figures : goal.returns-clause-figures
+returns-clause-figures c = (
+  given_as (codes "stats") (codes "true") ∷ given_as (codes "format") (codes "json") ∷ given_as (codes "quiet-answer") (codes "true") ∷ [],
+  record {
+    front = codes "--stats" ∷ codes "--format=json" ∷ codes "--quiet-answer" ∷ [];
+    rest = [];
+    begins = refl;
+    written = (
+      (codes "--stats" ∷ []),
+      (codes "--format=json" ∷ codes "--quiet-answer" ∷ []),
+      refl,
+      inr ((inr (inl refl), refl), refl),
+      (
+        (codes "--format=json" ∷ []),
+        (codes "--quiet-answer" ∷ []),
+        refl,
+        inl (inr (inr (refl, inr refl)), inl refl),
+        ((codes "--quiet-answer" ∷ []), [], refl, inr ((inr (inr refl), refl), refl), refl),
+      ),
+    );
+    once = ((other (codes "stats") (codes "format") refl, (other (codes "stats") (codes "quiet-answer") refl, tt)), ((other (codes "format") (codes "quiet-answer") refl, tt), (tt, tt)));
+    last = inl refl;
+  },
+  record {
+    no_rounds = (other (codes "stats") (codes "rounds") refl, (other (codes "format") (codes "rounds") refl, (other (codes "quiet-answer") (codes "rounds") refl, tt)));
+    no_workers = (other (codes "stats") (codes "workers") refl, (other (codes "format") (codes "workers") refl, (other (codes "quiet-answer") (codes "workers") refl, tt)));
+    steps = inr ((other (codes "stats") (codes "steps") refl, (other (codes "format") (codes "steps") refl, (other (codes "quiet-answer") (codes "steps") refl, tt))), refl);
+    nodes = inr ((other (codes "stats") (codes "nodes") refl, (other (codes "format") (codes "nodes") refl, (other (codes "quiet-answer") (codes "nodes") refl, tt))), refl);
+    partial = (other (codes "stats") (codes "partial") refl, (other (codes "format") (codes "partial") refl, (other (codes "quiet-answer") (codes "partial") refl, tt)));
+    stats = inl (refl, refl);
+    limits = inr ((other (codes "stats") (codes "limits") refl, (other (codes "format") (codes "limits") refl, (other (codes "quiet-answer") (codes "limits") refl, tt))), refl);
+    format = inl (inr (inl (refl, refl)));
+    quiet = inr (inr (inl (refl, refl)));
   },
 )
 
@@ -229,6 +271,8 @@ returns-clause-by_rounds c = (
     partial = (other (codes "workers") (codes "partial") refl, (other (codes "rounds") (codes "partial") refl, tt));
     no_stats = (other (codes "workers") (codes "stats") refl, (other (codes "rounds") (codes "stats") refl, tt));
     no_limits = (other (codes "workers") (codes "limits") refl, (other (codes "rounds") (codes "limits") refl, tt));
+    no_format = (other (codes "workers") (codes "format") refl, (other (codes "rounds") (codes "format") refl, tt));
+    no_quiet = (other (codes "workers") (codes "quiet-answer") refl, (other (codes "rounds") (codes "quiet-answer") refl, tt));
   },
 )
 

@@ -12,6 +12,8 @@ returns c =
     let third = c.with_arg-command-3.ensures _ (number_option (codes "steps") 0 most_steps ([])) second (c.chosen_option-3.ensures.rule 0 most_steps c.steps.ensures) c.chosen_option-3.ensures.local in
     let fourth = c.with_arg-command-4.ensures _ (number_option (codes "nodes") 0 most_steps ([])) third (c.chosen_option-4.ensures.rule 0 most_steps c.steps-2.ensures) c.chosen_option-4.ensures.local in
     let limits = c.with_arg-command-5.ensures _ (text_option (codes "limits")) fourth c.text_option.ensures.rule c.text_option.ensures.local in
-    let fifth = c.with_arg-command-6.ensures _ (flag (codes "partial")) limits c.flag.ensures.rule c.flag.ensures.local in
-    let sixth = c.with_arg-command-7.ensures _ (flag (codes "stats")) fifth c.flag-2.ensures.rule c.flag-2.ensures.local in
-    c.with_arg.ensures _ input_argument sixth c.input_argument.ensures.rule c.input_argument.ensures.local
+    let format = c.with_arg-command-6.ensures _ (text_option (codes "format")) limits c.text_option-2.ensures.rule c.text_option-2.ensures.local in
+    let partial = c.with_arg-command-7.ensures _ (flag (codes "partial")) format c.flag.ensures.rule c.flag.ensures.local in
+    let stats = c.with_arg-command-8.ensures _ (flag (codes "stats")) partial c.flag-2.ensures.rule c.flag-2.ensures.local in
+    let quiet = c.with_arg-command-9.ensures _ (flag (codes "quiet-answer")) stats c.flag-3.ensures.rule c.flag-3.ensures.local in
+    c.with_arg.ensures _ input_argument quiet c.input_argument.ensures.rule c.input_argument.ensures.local
