@@ -1,8 +1,7 @@
 -- Lemmas: what was read back of a machine that has stopped is what a reduction answers.
 use Rattle.std.proofs.Common.{◌≡◌, ℕ, ◌+◌, ◌*◌, ◌^◌, ◌<◌, List, [], ◌∷◌, Bool, false, None, Some, IsTrue, length, map, cond, slice_get, refl, sym, ap, ◌∙◌, subst as transport}
 use Rattle.std.proofs.lemmas.Bool.{false≢true}
-use Rattle.ic_streams.specs.Streams.{line_of}
-use Rattle.ic_in_place.specs.Reductions.{is_written, line_reached, stuck_at}
+use Rattle.ic_in_place.specs.Reductions.{is_written, stuck_at}
 use Rattle.std.specs.Prelude.{◌↔◌}
 use Rattle.std.specs.List.{flat_map, AllByRecursion}
 use Rattle.std.proofs.lemmas.List.{length-map}
@@ -15,7 +14,7 @@ use Rattle.ic_flat.specs.declared.word.Word.{Word as FlatWord}
 use Rattle.ic_flat.specs.Words.{forest, IsWhole, word_names}
 use Rattle.ic_flat.specs.Flat.{configuration_of}
 use Rattle.ic_flat.specs.lemmas.FlatLaws.{length-equations, names-configuration_of, over-configuration_of}
-use Rattle.ic_naming.specs.Naming.{RenamesUntold, renamed_word, renumbered, renumbered_words, told_name}
+use Rattle.ic_naming.specs.Naming.{RenamesUntold, renamed_word, renumbered, renumbered_words}
 use Rattle.ic_naming.specs.lemmas.RenamedWords.{forest-renamed, whole-renamed, word_over-renamed}
 use Rattle.ic_naming.specs.lemmas.Renumbered.{renumbered-written}
 use Rattle.ic_round.specs.Naming.{HasNames}
@@ -33,27 +32,32 @@ use Rattle.ic_in_place.specs.declared.running.Bounds.{Bounds}
 use Rattle.ic_in_place.specs.declared.running.End.{End}
 use Rattle.ic_in_place.specs.declared.running.End.TheVariants.{Quiet, Steps, Nodes, Limit}
 use Rattle.ic_in_place.specs.declared.running.End.TheVariants as end
-use Rattle.ic_in_place.specs.Reducing.{CanInteract, IsPutTogether, EndsBy, IsReachedBy, Writes}
+use Rattle.ic_in_place.specs.Reducing.{CanInteract, IsPutTogether, EndsBy, IsReachedBy}
 use Rattle.ic_in_place.specs.Counting.{TellsNameSteps}
 use Rattle.ic_in_place.specs.Running.{IsFullNext}
 use Rattle.ic_in_place.specs.Holding.{AreGiven, IsHeldAt}
 use Rattle.ic_in_place.specs.inner.Numbering.{written_numbers, HasNumber, IsNumbered}
 use Rattle.ic_in_place.specs.inner.Stopping.{arities_of, StopsBy, HasStopped}
+use Rattle.ic_in_place.specs.inner.Unwritten.{WritesAlike}
+use Rattle.ic_text.specs.declared.limits.TheConstants.{MAX_NAME}
+use Rattle.ic_in_place.specs.declared.stream.Asked.TheVariants as asked
 use Rattle.ic_in_place.proofs.Naming.{Rewrites, rewrites, names_of}
 
 -- ---- the words that are written
 
--- whole words whose names are numbered anew
-pub writes_so : (ss : List Symbol) (ws : List FlatWord) (terms equations : ℕ) (answer : Configuration) → IsWhole ws → length (forest ws) ≡ terms + 2 * equations
+-- whole words whose names are turned into others, of which nothing is told once they are numbered anew
+alike_so : (ss : List Symbol) (f : ℕ → ℕ) (ws : List FlatWord) (terms equations : ℕ) (answer : Configuration)
+    → renumbered_words (map (renamed_word f) ws) ≡ renumbered_words ws → IsWhole ws → length (forest ws) ≡ terms + 2 * equations
     → renumbered (configuration_of ws terms 0) ≡ renumbered answer → is_over ss (configuration_of ws terms 0) ≡ is_over ss answer → IsTrue (is_over ss answer)
-    → Writes ss (renumbered_words ws) terms equations answer
-writes_so ss ws terms equations answer whole counted same same_over over =
-    let f : ℕ → ℕ = told_name (flat_map word_names ws) in
+    → WritesAlike ss (map (renamed_word f) ws) terms equations answer
+alike_so ss f ws terms equations answer forgets whole counted same same_over over =
+    let as_many : length (forest (map (renamed_word f) ws)) ≡ terms + 2 * equations = ap length (forest-renamed f ws) ∙ length-map (forest ws) _ ∙ counted in
     record {
       whole = whole-renamed f ws whole;
       over = word_over-renamed f ss ws ∙ sym (over-configuration_of ws terms equations 0 counted ss whole) ∙ same_over ∙ over;
-      counted = ap length (forest-renamed f ws) ∙ length-map (forest ws) _ ∙ counted;
-      written = renumbered-written ws terms equations 0 counted ∙ same;
+      counted = as_many;
+      alike = sym (renumbered-written (map (renamed_word f) ws) terms equations 0 as_many)
+          ∙ ap (λ (l : List FlatWord). configuration_of l terms (MAX_NAME + 1)) forgets ∙ renumbered-written ws terms equations 0 counted ∙ same;
     }
 
 -- what the laws say that this one builds on
@@ -140,9 +144,9 @@ pub answered_so : AnswerLaws → (s : SystemParts) (bounds : Bounds) (given : Li
     → AreGiven stopped.held.numbers.given (configuration_read stopped.held.numbers ts terms)
     → (m.pending ≡ [] → IsQuiet s.rules.rules (configuration_read stopped.held.numbers ts terms)) × IsPutTogether (configuration_read stopped.held.numbers ts terms))
     → IsWhole (flat_words stopped.held.numbers ts) → length (forest (flat_words stopped.held.numbers ts)) ≡ terms + 2 * equations
-    → AllByRecursion (IsNumbered given) ts → words ≡ renumbered_words (flat_words (written_numbers (arities_of s) given) ts)
+    → AllByRecursion (IsNumbered given) ts → words ≡ flat_words (written_numbers (arities_of s) given) ts
     → (answer : Configuration) × IsReachedBy s bounds answer end m.interactions places by_rule × IsPutTogether answer
-    × (length answer.equations ≡ equations) × Writes s.rules.symbols words terms equations answer
+    × (length answer.equations ≡ equations) × WritesAlike s.rules.symbols words terms equations answer
 answered_so laws s bounds given m end places by_rule stopped ts terms equations words net next quiet whole counted numbered written =
     let held = stopped.held in
     let n : Numbers = held.numbers in
@@ -166,8 +170,7 @@ answered_so laws s bounds given m end places by_rule stopped ts terms equations 
     (transport (λ (g : List ℕ). AllByRecursion (HasNumber g) (names_of ts)) (sym held.names) (numbered_names given ts numbered)) once in
     let numbers : written_numbers (arities_of s) given ≡ written_numbers n.arities n.given =
     (λ i. written_numbers (sym (held.arities ∙ stopped.arities) i) (sym held.names i)) in
-    let words_are : words ≡ renumbered_words ws =
-    written ∙ ap (λ (k : Numbers). renumbered_words (flat_words k ts)) numbers ∙ ap renumbered_words (sym r.words) ∙ laws.forgets r.turn ws r.untold in (
+    let words_are : words ≡ map (renamed_word r.turn) ws = written ∙ ap (λ (k : Numbers). flat_words k ts) numbers ∙ sym r.words in (
       answer,
       (record {
         reached = record {
@@ -184,50 +187,47 @@ answered_so laws s bounds given m end places by_rule stopped ts terms equations 
       }),
       (quiet net.names_too are).1,
       length-equations ws terms equations 0 counted,
-      transport (λ (l : List FlatWord). Writes rs.symbols l terms equations answer) (sym words_are) (writes_so rs.symbols ws terms equations answer whole counted refl refl over),
+      transport (λ (l : List FlatWord). WritesAlike rs.symbols l terms equations answer) (sym words_are)
+          (alike_so rs.symbols r.turn ws terms equations answer (laws.forgets r.turn ws r.untold) whole counted refl refl over),
     )
 
 -- ---- what isn't written
 
--- a machine that stopped at a bound of places or a limit holds what was reached
-pub record IsUnread (s : SystemParts) (bounds : Bounds) (partial : Bool) (end : End) (interactions places : ℕ) (by_rule : List ℕ) : Type 0 where
+-- a machine that stopped at a bound of places or a limit, or for want of memory, holds what was reached
+pub record IsUnread (s : SystemParts) (bounds : Bounds) (end : End) (interactions places : ℕ) (by_rule : List ℕ) : Type 0 where
   pub answer : Configuration
   pub reached : IsReachedBy s bounds answer end interactions places by_rule
   pub name_steps : TellsNameSteps s.rules.rules s.config interactions (length answer.equations) end None
-  pub prints : [] ≡ line_reached partial end s.rules.symbols answer
   pub stuck : None ≡ stuck_at end s.rules.symbols answer
 
-pub unread_so : ((c : Configuration) → HasNames c → OneNet c c) → (s : SystemParts) (bounds : Bounds) (given : List ℕ) (m : Net) (end : End) (places : ℕ) (by_rule : List ℕ) (partial : Bool) → HasStopped s bounds given by_rule m end places
-    → is_written partial end ≡ false → IsUnread s bounds partial end m.interactions places by_rule
-unread_so itself s bounds given m Quiet places by_rule partial stopped none = absurd (false≢true (sym none))
-unread_so itself s bounds given m Steps places by_rule partial stopped none = absurd (false≢true (sym none))
-unread_so itself s bounds given m Nodes places by_rule partial stopped none = record {
+pub unread_so : ((c : Configuration) → HasNames c → OneNet c c) → (s : SystemParts) (bounds : Bounds) (given : List ℕ) (m : Net) (end : End) (places : ℕ) (by_rule : List ℕ) → HasStopped s bounds given by_rule m end places
+    → is_written asked.Answer end ≡ false → IsUnread s bounds end m.interactions places by_rule
+unread_so itself s bounds given m Quiet places by_rule stopped none = absurd (false≢true (sym none))
+unread_so itself s bounds given m Steps places by_rule stopped none = absurd (false≢true (sym none))
+unread_so itself s bounds given m Nodes places by_rule stopped none = record {
   answer = net_of stopped.held.numbers m.interface (pieces m);
   reached = record {
     reached = record { fired = stopped.fired; reached = stopped.held.reached; counted = stopped.counted; within = stopped.within; held = held_at s bounds given m Nodes places by_rule _ stopped (itself _ stopped.held.has_names); ended = (stopped.ended.0, stopped.ended.1, stopped.ended.2); next = left_over bounds stopped.plans m places Nodes stopped.ended; full = full_at bounds stopped.plans m places Nodes stopped.ended };
     counts = stopped.counts;
   };
   name_steps = refl;
-  prints = sym (ap (λ b. cond b (line_of s.rules.symbols (renumbered (net_of stopped.held.numbers m.interface (pieces m)))) []) none);
   stuck = refl;
 }
-unread_so itself s bounds given m Limit places by_rule partial stopped none = record {
+unread_so itself s bounds given m Limit places by_rule stopped none = record {
   answer = net_of stopped.held.numbers m.interface (pieces m);
   reached = record {
     reached = record { fired = stopped.fired; reached = stopped.held.reached; counted = stopped.counted; within = stopped.within; held = held_at s bounds given m Limit places by_rule _ stopped (itself _ stopped.held.has_names); ended = tt; next = left_over bounds stopped.plans m places Limit stopped.ended; full = full_at bounds stopped.plans m places Limit stopped.ended };
     counts = stopped.counts;
   };
   name_steps = refl;
-  prints = sym (ap (λ b. cond b (line_of s.rules.symbols (renumbered (net_of stopped.held.numbers m.interface (pieces m)))) []) none);
   stuck = refl;
 }
-unread_so itself s bounds given m end.Memory places by_rule partial stopped none = record {
+unread_so itself s bounds given m end.Memory places by_rule stopped none = record {
   answer = net_of stopped.held.numbers m.interface (pieces m);
   reached = record {
     reached = record { fired = stopped.fired; reached = stopped.held.reached; counted = stopped.counted; within = stopped.within; held = held_at s bounds given m end.Memory places by_rule _ stopped (itself _ stopped.held.has_names); ended = stopped.ended; next = left_over bounds stopped.plans m places end.Memory stopped.ended; full = full_at bounds stopped.plans m places end.Memory stopped.ended };
     counts = stopped.counts;
   };
   name_steps = refl;
-  prints = sym (ap (λ b. cond b (line_of s.rules.symbols (renumbered (net_of stopped.held.numbers m.interface (pieces m)))) []) none);
   stuck = refl;
 }

@@ -1,5 +1,5 @@
 -- What a text of a system is answered when it is reduced in place (this project's choice).
-use Rattle.std.specs.Prelude.{◌≡◌, ◌≢◌, List, [], Bool, true, Option, None, Ok, Err, ℕ, IsTrue, length, if◌then◌else◌}
+use Rattle.std.specs.Prelude.{◌≡◌, ◌≢◌, List, [], Bool, true, false, Option, None, Ok, Err, ℕ, IsTrue, length, if◌then◌else◌}
 use Rattle.std.specs.Option.{option_map}
 use Rattle.std.specs.Io.KnownBytes.{Appends}
 use Rattle.ic_term.specs.Configuration.{Configuration}
@@ -20,20 +20,24 @@ use Rattle.ic_in_place.specs.declared.running.Bounds.{Bounds}
 use Rattle.ic_in_place.specs.declared.running.End.{End}
 use Rattle.ic_in_place.specs.declared.running.End.TheVariants as end
 use Rattle.ic_in_place.specs.declared.stream.Outcome.{Outcome}
+use Rattle.ic_in_place.specs.declared.stream.Asked.{Asked}
+use Rattle.ic_in_place.specs.declared.stream.Asked.TheVariants.{Answer, AlsoPart, Nothing}
 
--- whether what was reached is written: where a bound of places or a limit was met, or memory ran out, only if part of the
--- way is asked for
-abbrev pub is_written : (partial : Bool) → End → Bool
-is_written partial end.Quiet = true
-is_written partial end.Steps = true
-is_written partial end.Nodes = partial
-is_written partial end.Limit = partial
-is_written partial end.Memory = partial
+-- whether what was reached is written: where a bound of places or a limit was met, or memory ran out, only if a part is
+-- asked for, too
+abbrev pub is_written : Asked → End → Bool
+is_written Nothing e = false
+is_written AlsoPart e = true
+is_written Answer end.Quiet = true
+is_written Answer end.Steps = true
+is_written Answer end.Nodes = false
+is_written Answer end.Limit = false
+is_written Answer end.Memory = false
 
 -- the line of a configuration whose names are numbered anew, or nothing
-abbrev pub line_reached : (partial : Bool) → End → List Symbol → Configuration → List ℕ
-line_reached partial end symbols c =
-    if is_written partial end then line_of symbols (renumbered c) else []
+abbrev pub line_reached : Asked → End → List Symbol → Configuration → List ℕ
+line_reached asked end symbols c =
+    if is_written asked end then line_of symbols (renumbered c) else []
 
 -- the symbols of the first equation of two agents, told where the end is quiet: no rule has them
 abbrev pub stuck_at : End → List Symbol → Configuration → Option (List ℕ)
@@ -45,7 +49,7 @@ stuck_at end.Memory symbols c = None
 
 -- A text is read as a system with these limits, of which a configuration is reached. This is its line, and this tells of it.
 -- The system keeps what the laws of every order ask for.
-pub record EndsAs (limits : Limits) (bounds : Bounds) (partial : Bool) (input : List ℕ)
+pub record EndsAs (limits : Limits) (bounds : Bounds) (asked : Asked) (input : List ℕ)
     (outcome : Outcome) (line : List ℕ) : Type 0 where
   pub system : SystemParts
   pub answer : Configuration
@@ -57,24 +61,24 @@ pub record EndsAs (limits : Limits) (bounds : Bounds) (partial : Bool) (input : 
       outcome.by_rule.items
   pub name_steps : TellsNameSteps system.rules.rules system.config outcome.interactions
       (length answer.equations) outcome.end outcome.name_steps
-  pub together : is_written partial outcome.end ≡ true → IsPutTogether answer
-  pub prints : line ≡ line_reached partial outcome.end system.rules.symbols answer
+  pub together : is_written asked outcome.end ≡ true → IsPutTogether answer
+  pub prints : line ≡ line_reached asked outcome.end system.rules.symbols answer
   pub stuck : option_map (λ text. text.items) outcome.stuck
       ≡ stuck_at outcome.end system.rules.symbols answer
 
 -- the answers of reducing in place within limits of the text and bounds of the way
-abbrev pub ReducesInPlace : Limits → Bounds → Bool → Answering
-ReducesInPlace limits bounds partial input (Ok line) =
-    (outcome : Outcome) × EndsAs limits bounds partial input outcome line
-ReducesInPlace limits bounds partial input (Err (Text fault)) =
+abbrev pub ReducesInPlace : Limits → Bounds → Asked → Answering
+ReducesInPlace limits bounds asked input (Ok line) =
+    (outcome : Outcome) × EndsAs limits bounds asked input outcome line
+ReducesInPlace limits bounds asked input (Err (Text fault)) =
     ReadsSystemWithin limits input (Err fault) × (fault ≢ text.Memory)
-ReducesInPlace limits bounds partial input (Err (Round fault)) = ⊥
-ReducesInPlace limits bounds partial input (Err Read) = ⊥
-ReducesInPlace limits bounds partial input (Err Memory) = ⊥
-ReducesInPlace limits bounds partial input (Err Write) = ⊥
+ReducesInPlace limits bounds asked input (Err (Round fault)) = ⊥
+ReducesInPlace limits bounds asked input (Err Read) = ⊥
+ReducesInPlace limits bounds asked input (Err Memory) = ⊥
+ReducesInPlace limits bounds asked input (Err Write) = ⊥
 
 -- what is appended for a text, and the outcome that tells of it
-abbrev pub Tells : Limits → Bounds → Bool → List ℕ → Outcome → Option (List ℕ)
+abbrev pub Tells : Limits → Bounds → Asked → List ℕ → Outcome → Option (List ℕ)
     → Option (List ℕ) → Type 0
-Tells limits bounds partial input outcome old new =
-    (line : List ℕ) × EndsAs limits bounds partial input outcome line × Appends old new line
+Tells limits bounds asked input outcome old new =
+    (line : List ℕ) × EndsAs limits bounds asked input outcome line × Appends old new line

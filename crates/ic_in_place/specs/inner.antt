@@ -1,5 +1,6 @@
 -- For private functions. No public clause needs what stands here.
 pub mod Told
+pub mod Unwritten
 pub mod Stopping
 pub mod Numbering
 pub mod Summing

@@ -1,6 +1,6 @@
 //! Laws of what a machine holds, and of what is answered.
 
-ghost use Rattle.std.specs.Prelude.{◌≡◌, ℕ, suc, ◌+◌, ◌*◌, ◌^◌, ◌<◌, ◌≤◌, List, [], ◌∷◌, Bool, Option, Some, Ok, IsTrue, length, map, sum, sum_by};
+ghost use Rattle.std.specs.Prelude.{◌≡◌, ◌≢◌, ℕ, suc, ◌+◌, ◌*◌, ◌^◌, ◌<◌, ◌≤◌, List, [], ◌∷◌, Option, Some, Ok, IsTrue, length, map, sum, sum_by};
 ghost use Rattle.ic_term.specs.Configuration.{Configuration};
 ghost use Rattle.ic_term.specs.Symbol.{is_over};
 ghost use Rattle.ic_rules.specs.RuleSet.{Rules, IsRuleSet};
@@ -24,6 +24,8 @@ ghost use Rattle.ic_in_place.specs.declared.running.Bounds.{Bounds};
 ghost use Rattle.ic_in_place.specs.declared.running.End.{End};
 ghost use Rattle.ic_in_place.specs.declared.running.End.TheVariants.{Quiet, Steps, Nodes};
 ghost use Rattle.ic_in_place.specs.declared.running.TheConstants.{PIECE};
+ghost use Rattle.ic_in_place.specs.declared.stream.Asked.{Asked};
+ghost use Rattle.ic_in_place.specs.declared.stream.Asked.TheVariants.{Nothing};
 ghost use Rattle.ic_in_place.specs.declared.stream.Outcome.{Outcome};
 ghost use Rattle.ic_in_place.specs.Agents.{agents_with_arguments};
 ghost use Rattle.ic_in_place.specs.Counting.{AreCounts, AreNameSteps, TellsNameSteps, arguments_at, name_steps};
@@ -209,26 +211,32 @@ pub fn counts_are_how_often_each_rule_fired()
         → a ≡ b }
 {}
 
-/// Where a text is reduced to a quiet end, its line is that of the net in which every order of steps ends, of the system
-/// that the text is read as, and the interactions that are told are those of every order. Where no equation is left in that
-/// net, the line is written as the end of any order is.
+/// Where a text is reduced to a quiet end and its line is asked for, this is the line of the net in which every order of
+/// steps ends, of the system that the text is read as. Where no equation is left in that net, the line is written as the
+/// end of any order is. Whatever is asked for, the interactions that are told are those of every order.
 pub fn a_line_is_the_net_of_every_order()
-    ensures net { (limits : Limits) (bounds : Bounds) (partial : Bool) (input line : List ℕ)
+    ensures net { (limits : Limits) (bounds : Bounds) (asked : Asked) (input line : List ℕ)
         (outcome : Outcome) (s : SystemParts) (e : Configuration) (kinds : List Kind)
-        → EndsAs limits bounds partial input outcome line → outcome.end ≡ Quiet
-        → ReadsSystemWithin limits input (Ok s)
+        → EndsAs limits bounds asked input outcome line → outcome.end ≡ Quiet
+        → asked ≢ Nothing → ReadsSystemWithin limits input (Ok s)
         → Chain s.rules.rules kinds s.config e → IsQuiet s.rules.rules e
         → (answer : Configuration) × (line ≡ line_of s.rules.symbols (renumbered answer))
         × OneNet answer e × (length (rules_fired kinds) ≡ outcome.interactions) }
-    ensures text { (limits : Limits) (bounds : Bounds) (partial : Bool) (input line : List ℕ)
+    ensures text { (limits : Limits) (bounds : Bounds) (asked : Asked) (input line : List ℕ)
         (outcome : Outcome) (s : SystemParts) (e : Configuration) (kinds : List Kind)
-        → EndsAs limits bounds partial input outcome line → outcome.end ≡ Quiet
-        → ReadsSystemWithin limits input (Ok s)
+        → EndsAs limits bounds asked input outcome line → outcome.end ≡ Quiet
+        → asked ≢ Nothing → ReadsSystemWithin limits input (Ok s)
         → Chain s.rules.rules kinds s.config e → IsQuiet s.rules.rules e → e.equations ≡ []
         → line ≡ line_of s.rules.symbols (renumbered e) }
-    ensures rounds { (limits : Limits) (bounds : Bounds) (partial : Bool) (input line : List ℕ)
+    ensures counted { (limits : Limits) (bounds : Bounds) (asked : Asked) (input line : List ℕ)
+        (outcome : Outcome) (s : SystemParts) (e : Configuration) (kinds : List Kind)
+        → EndsAs limits bounds asked input outcome line → outcome.end ≡ Quiet
+        → ReadsSystemWithin limits input (Ok s)
+        → Chain s.rules.rules kinds s.config e → IsQuiet s.rules.rules e
+        → length (rules_fired kinds) ≡ outcome.interactions }
+    ensures rounds { (limits : Limits) (bounds : Bounds) (asked : Asked) (input line : List ℕ)
         (outcome : Outcome) (s : SystemParts)
-        → EndsAs limits bounds partial input outcome line → outcome.end ≡ Quiet
+        → EndsAs limits bounds asked input outcome line → outcome.end ≡ Quiet
         → ReadsSystemWithin limits input (Ok s)
         → (n : ℕ) × IsQuiet s.rules.rules (iterate s.rules.rules n s.config) }
 {

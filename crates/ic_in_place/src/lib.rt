@@ -14,4 +14,4 @@ mod writing;
 
 pub use reducing::{Reduced, reduce_in_place};
 pub use running::{Bounds, End, PIECE, Watch};
-pub use stream::{Outcome, reduce_in_place_stream};
+pub use stream::{Asked, Outcome, reduce_in_place_stream};

@@ -8,6 +8,7 @@ ghost use Rattle.ic_in_place.specs.declared.running.Bounds.{Bounds as AnyBounds}
 ghost use Rattle.ic_in_place.specs.Counting.{TellsNameSteps};
 ghost use Rattle.ic_in_place.specs.Reducing.{IsPutTogether, IsReachedBy, Writes};
 ghost use Rattle.ic_in_place.specs.inner.Stopping.{HasStopped, IsBegun, IsSound, arities_of};
+ghost use Rattle.ic_in_place.specs.inner.Unwritten.{WritesAlike};
 
 use crate::counting::{name_steps_at, no_counts, sum_by_rule};
 use crate::running::{Bounds, End, Watch, run_in_pieces};
@@ -44,7 +45,7 @@ pub struct Reduced {
 #[derive(Drop)]
 pub(crate) struct Stopped {
     pub(crate) machine: Machine,
-    given: Vec<u64>,
+    pub(crate) given: Vec<u64>,
     pub(crate) by_rule: Vec<u64>,
     pub(crate) places: u64,
     pub(crate) end: End,
@@ -89,6 +90,38 @@ pub(crate) fn read_stopped(
         × Writes system.now.rules.symbols reduced.words.items reduced.terms reduced.equations answer) }
     ensures places { IfOk result (λ reduced. reduced.places ≡ stopped.places) }
 {
+    let reached = read_words(alloc, system, stopped)?;
+    Ok(Reduced {
+        words: renumbered_words(alloc, &reached.words)?,
+        terms: reached.terms,
+        equations: reached.equations,
+        interactions: reached.interactions,
+        by_rule: reached.by_rule,
+        name_steps: reached.name_steps,
+        places: reached.places,
+        end: reached.end,
+    })
+}
+
+/// Reads back what a machine holds that began with the configuration of a system. Its names have any numbers.
+pub(crate) fn read_words(
+    alloc: Global,
+    system: &WideSystem,
+    stopped: Stopped,
+) -> Result<Reduced, AllocError>
+    ensures reached { IfOk result (λ read. (bounds : AnyBounds)
+        → HasStopped system.now bounds stopped.given.items stopped.by_rule.items
+        stopped.machine stopped.end stopped.places
+        → (answer : Configuration)
+        × IsReachedBy system.now bounds answer read.end read.interactions read.places
+        read.by_rule.items
+        × IsPutTogether answer
+        × TellsNameSteps system.now.rules.rules system.now.config read.interactions
+        (length answer.equations) read.end read.name_steps
+        × WritesAlike system.now.rules.symbols read.words.items read.terms read.equations answer) }
+    ensures places { IfOk result (λ read. read.places ≡ stopped.places) }
+    ensures end { IfOk result (λ read. read.end ≡ stopped.end) }
+{
     ic_reaching::laws::one_net_is_an_equivalence();
     ic_reaching::laws::what_is_reached_is_one_net();
     ic_meaning::laws::what_is_reached_has_the_same_free_names();
@@ -111,7 +144,7 @@ pub(crate) fn read_stopped(
         read.equations,
     );
     Ok(Reduced {
-        words: renumbered_words(alloc, &words)?,
+        words,
         terms: read.terms,
         equations: read.equations,
         interactions,

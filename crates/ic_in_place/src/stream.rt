@@ -9,17 +9,32 @@ ghost use Rattle.ic_flat.specs.Flat.{configuration_of};
 ghost use Rattle.ic_diagnostics.specs.Telling.{AppendedWithin, AppendedAtWithin};
 ghost use Rattle.ic_streams.specs.Streams.{OfText, IsAnswered, FaultOf, TakesAtWithin, TakesTextWithin, line_of};
 ghost use Rattle.ic_in_place.specs.Reductions.{EndsAs, ReducesInPlace, Tells, is_written};
+ghost use Rattle.ic_in_place.specs.declared.running.Bounds.{Bounds as AnyBounds};
+ghost use Rattle.ic_in_place.specs.inner.Stopping.{HasStopped};
 ghost use Rattle.ic_in_place.specs.inner.Told.{words_stuck};
+ghost use Rattle.ic_in_place.specs.inner.Unwritten.{IsTold};
 
-use crate::reducing::{Reduced, read_stopped, run_system};
+use crate::reducing::{Reduced, Stopped, read_stopped, read_words, run_system};
 use crate::running::{Bounds, End, Watch};
 use crate::stuck::stuck_text;
 use ic_diagnostics::{Kind, refused_within};
+use ic_flat::WideSystem;
 use ic_streams::{StreamFault, read_text_within, write_line};
 use ic_term::Symbols;
 use ic_text::{Limits, find_wide_system, put_words};
 use std::alloc::{AllocError, Global};
 use std::io::{Read, Write};
+
+/// What of a reduction is asked for, as a line.
+#[derive(Clone, Copy, Debug)]
+pub enum Asked {
+    /// What is reached, unless a bound of places or a limit is met, or memory runs out.
+    Answer,
+    /// What is reached then, too.
+    AlsoPart,
+    /// Nothing.
+    Nothing,
+}
 
 /// How a text was reduced.
 #[derive(Debug, Drop)]
@@ -38,8 +53,8 @@ pub struct Outcome {
     pub stuck: Option<Vec<u8>>,
 }
 
-/// Reduces the system that the reader gives in place, and writes what was reached as a line. Where a bound of places or a
-/// limit was met, or memory ran out, that is written only if `partial` is asked for.
+/// Reduces the system that the reader gives in place, and writes what was reached as a line, if that is asked for. What is
+/// told of it is the same whatever is asked for.
 ///
 /// Nothing is written before the text is read and reduced. A text that passes these limits is `TextFault::Limit`, and at most
 /// one byte more is read than a text may have. Where the text is refused, the lines that tell of it are appended to `told`.
@@ -47,7 +62,7 @@ pub fn reduce_in_place_stream<V: Watch, R: Read, W: Write>(
     alloc: Global,
     limits: Limits,
     bounds: Bounds,
-    partial: bool,
+    asked: Asked,
     watch: &V,
     reader: &mut R,
     writer: &mut W,
@@ -55,9 +70,9 @@ pub fn reduce_in_place_stream<V: Watch, R: Read, W: Write>(
 ) -> Result<Outcome, StreamFault>
     // There is a text of which this holds: the reader's, where it tells its bytes.
     ensures answered { OfText (R.remaining reader.old)
-        (λ text. IsAnswered (ReducesInPlace limits bounds partial) text result
+        (λ text. IsAnswered (ReducesInPlace limits bounds asked) text result
         (W.contents writer.old) (W.contents writer.new) × IfOk result (λ outcome. Tells limits
-        bounds partial text outcome (W.contents writer.old) (W.contents writer.new))) }
+        bounds asked text outcome (W.contents writer.old) (W.contents writer.new))) }
     ensures silent { IfErr result (λ fault. fault ≢ StreamFault.Write
         → Keeps (W.contents writer.old) (W.contents writer.new)) }
     ensures taken { OnOk result
@@ -65,40 +80,38 @@ pub fn reduce_in_place_stream<V: Watch, R: Read, W: Write>(
     ensures taken_at_fault { IfErr result
         (λ fault. TakesAtWithin limits fault (R.remaining reader.old) (R.remaining reader.new)) }
     ensures told { IfErr result (λ fault. AppendedWithin limits
-        (ReducesInPlace limits bounds partial) Kind.System
+        (ReducesInPlace limits bounds asked) Kind.System
         (R.remaining reader.old) (R.remaining reader.new) fault
         told.old.items told.new.items) }
     ensures quiet { OnOk result (told.new.items ≡ told.old.items) }
 {
     let text = read_text_within(alloc, limits, reader)?;
-    let (line, outcome) = reached_line(alloc, limits, bounds, partial, watch, &text, told)?;
+    let (line, outcome) = reached_line(alloc, limits, bounds, asked, watch, &text, told)?;
     write_line(writer, &line)?;
     Ok(outcome)
 }
 
-/// The line of a text that is reduced in place, and how that ended. Where the line isn't to be written, it is empty, and the
-/// net isn't read back.
+/// The line of a text that is reduced in place, and how that ended. Where the line isn't to be written, it is empty.
 fn reached_line<V: Watch>(
     alloc: Global,
     limits: Limits,
     bounds: Bounds,
-    partial: bool,
+    asked: Asked,
     watch: &V,
     text: &[u8],
     told: &mut Vec<u8>,
 ) -> Result<(Vec<u8>, Outcome), StreamFault>
     ensures line { IfOk result
-        (λ answer. EndsAs limits bounds partial text.now answer.1 answer.0.items) }
+        (λ answer. EndsAs limits bounds asked text.now answer.1 answer.0.items) }
     ensures refused { IfErr result
-        (λ fault. FaultOf (ReducesInPlace limits bounds partial) text.now fault) }
+        (λ fault. FaultOf (ReducesInPlace limits bounds asked) text.now fault) }
     ensures told { IfErr result (λ fault. AppendedAtWithin limits
-        (ReducesInPlace limits bounds partial) Kind.System
+        (ReducesInPlace limits bounds asked) Kind.System
         text.now fault told.old.items told.new.items) }
     ensures quiet { OnOk result (told.new.items ≡ told.old.items) }
     ensures sort { IfErr result
         (λ fault. (fault ≢ StreamFault.Write) × (fault ≢ StreamFault.Read)) }
 {
-    ic_reaching::laws::one_net_is_an_equivalence();
     let system = match find_wide_system(alloc, limits, text) {
         Ok(found) => found,
         Err(misread) => {
@@ -106,20 +119,13 @@ fn reached_line<V: Watch>(
         }
     };
     let stopped = run_system(alloc, &system, bounds, watch)?;
-    if !is_written(partial, stopped.end) {
-        let outcome = Outcome {
-            end: stopped.end,
-            interactions: stopped.machine.interactions(),
-            by_rule: stopped.by_rule,
-            name_steps: None,
-            places: stopped.places,
-            stuck: None,
-        };
+    if !is_written(asked, stopped.end) {
+        let outcome = unwritten(alloc, &system, stopped)?;
         return Ok((Vec::new(alloc), outcome));
     }
     let reduced = read_stopped(alloc, &system, stopped)?;
     let symbols = system.rules().symbols();
-    let line = line_reached(alloc, symbols, &reduced, partial)?;
+    let line = line_reached(alloc, symbols, &reduced, asked)?;
     let stuck = stuck_at_end(alloc, symbols, &reduced)?;
     let outcome = Outcome {
         end: reduced.end,
@@ -133,13 +139,70 @@ fn reached_line<V: Watch>(
 }
 
 /// Whether what was reached is written.
-fn is_written(partial: bool, end: End) -> bool
-    ensures { result ≡ is_written partial end }
+fn is_written(asked: Asked, end: End) -> bool
+    ensures { result ≡ is_written asked end }
 {
-    match end {
-        End::Quiet | End::Steps => true,
-        End::Nodes | End::Limit | End::Memory => partial,
+    match asked {
+        Asked::Nothing => false,
+        Asked::AlsoPart => true,
+        Asked::Answer => match end {
+            End::Quiet | End::Steps => true,
+            End::Nodes | End::Limit | End::Memory => false,
+        },
     }
+}
+
+/// What is told of a reduction whose line isn't written. Its names aren't numbered anew, and it is read back only where its
+/// end is one of an answer.
+fn unwritten(alloc: Global, system: &WideSystem, stopped: Stopped) -> Result<Outcome, AllocError>
+    requires { (bounds : AnyBounds)
+        × HasStopped system.now bounds stopped.given.items stopped.by_rule.items
+        stopped.machine stopped.end stopped.places }
+    ensures told { IfOk result (λ outcome. (bounds : AnyBounds)
+        → HasStopped system.now bounds stopped.given.items stopped.by_rule.items
+        stopped.machine stopped.end stopped.places
+        → IsTold system.now bounds outcome) }
+    ensures end { IfOk result (λ outcome. outcome.end ≡ stopped.end) }
+{
+    ic_reaching::laws::one_net_is_an_equivalence();
+    if is_written(Asked::Answer, stopped.end) {
+        return read_unwritten(alloc, system, stopped);
+    }
+    Ok(Outcome {
+        end: stopped.end,
+        interactions: stopped.machine.interactions(),
+        by_rule: stopped.by_rule,
+        name_steps: None,
+        places: stopped.places,
+        stuck: None,
+    })
+}
+
+/// The same, where it is read back.
+fn read_unwritten(
+    alloc: Global,
+    system: &WideSystem,
+    stopped: Stopped,
+) -> Result<Outcome, AllocError>
+    requires { (bounds : AnyBounds)
+        × HasStopped system.now bounds stopped.given.items stopped.by_rule.items
+        stopped.machine stopped.end stopped.places }
+    ensures told { IfOk result (λ outcome. (bounds : AnyBounds)
+        → HasStopped system.now bounds stopped.given.items stopped.by_rule.items
+        stopped.machine stopped.end stopped.places
+        → IsTold system.now bounds outcome) }
+    ensures end { IfOk result (λ outcome. outcome.end ≡ stopped.end) }
+{
+    let read = read_words(alloc, system, stopped)?;
+    let stuck = stuck_at_end(alloc, system.rules().symbols(), &read)?;
+    Ok(Outcome {
+        end: read.end,
+        interactions: read.interactions,
+        by_rule: read.by_rule,
+        name_steps: read.name_steps,
+        places: read.places,
+        stuck,
+    })
 }
 
 /// The line of what was reached, or nothing.
@@ -147,19 +210,19 @@ fn line_reached(
     alloc: Global,
     symbols: &Symbols,
     reduced: &Reduced,
-    partial: bool,
+    asked: Asked,
 ) -> Result<Vec<u8>, AllocError>
     requires whole { IsWhole reduced.now.words.items }
     requires over { IsTrue (list_all (is_word_over symbols.now) reduced.now.words.items) }
     requires counted { length (forest reduced.now.words.items)
         ≡ reduced.now.terms + 2 * reduced.now.equations }
     ensures { IfOk result (λ line. line.items
-        ≡ if is_written partial reduced.now.end
+        ≡ if is_written asked reduced.now.end
         then line_of symbols.now (configuration_of reduced.now.words.items reduced.now.terms 0)
         else []) }
 {
     let mut line = Vec::new(alloc);
-    if is_written(partial, reduced.end) {
+    if is_written(asked, reduced.end) {
         let (terms, equations) = (reduced.terms, reduced.equations);
         put_words(alloc, symbols, &reduced.words, terms, equations, &mut line)?;
         line.push(b'\n')?;

@@ -1,4 +1,4 @@
-use Rattle.std.proofs.Common.{◌≡◌, ℕ, List, [], ◌∷◌, Bool, Result, Ok, length, refl, sym, ap, ◌∙◌, subst, arith}
+use Rattle.std.proofs.Common.{◌≡◌, ◌≢◌, ℕ, List, [], ◌∷◌, cond, Result, Ok, length, refl, sym, ap, ◌∙◌, subst, arith}
 use Rattle.ic_term.specs.Tree.{Pair}
 use Rattle.ic_term.specs.Configuration.{Configuration}
 use Rattle.ic_rules.specs.System.{SystemParts}
@@ -11,14 +11,23 @@ use Rattle.ic_streams.specs.Streams.{line_of}
 use Rattle.ic_text.specs.declared.fault.TextFault.{TextFault}
 use Rattle.ic_in_place.specs.declared.running.End.{End}
 use Rattle.ic_in_place.specs.Reducing.{IsReached}
-use Rattle.ic_in_place.specs.Reductions.{line_reached}
+use Rattle.ic_in_place.specs.declared.running.End.TheVariants.{Quiet}
+use Rattle.ic_in_place.specs.declared.stream.Asked.{Asked}
+use Rattle.ic_in_place.specs.declared.stream.Asked.TheVariants.{Answer, AlsoPart, Nothing}
+use Rattle.ic_in_place.specs.Reductions.{is_written, line_reached}
 use Rattle.ic_in_place.proofs.laws.a_line_is_the_net_of_every_order.Goals as goal
+
+-- a line that is asked for is written at a quiet end
+asked_for : (asked : Asked) → asked ≢ Nothing → (line : List ℕ) → cond (is_written asked Quiet) line [] ≡ line
+asked_for Answer some line = refl
+asked_for AlsoPart some line = refl
+asked_for Nothing some line = absurd (some refl)
 
 one_system : (s t : SystemParts) → ◌≡◌ {A = Result SystemParts TextFault} (Ok s) (Ok t) → s ≡ t
 one_system s t same = cc
 
 pub returns-clause-net : goal.returns-clause-net
-returns-clause-net c = λ limits bounds partial input line outcome s e kinds is quiet reads chain still.
+returns-clause-net c = λ limits bounds asked input line outcome s e kinds is quiet some reads chain still.
     let same : is.system ≡ s = one_system is.system s (c.one_system_reading.ensures.answer limits input (Ok is.system) (Ok s) is.reads reads) in
     let reached = subst (λ (x : End). IsReached is.system bounds is.answer x outcome.interactions outcome.places) quiet is.reached.reached in
     let every : Chain is.system.rules.rules kinds is.system.config e → IsQuiet is.system.rules.rules e
@@ -26,7 +35,7 @@ returns-clause-net c = λ limits bounds partial input line outcome s e kinds is 
     (λ chain still.
     let order = c.a_quiet_end_is_that_of_every_order.ensures.every_order is.system bounds is.answer e outcome.interactions outcome.places kinds
     is.rule_set is.over is.names reached chain still in
-    (is.prints ∙ ap (λ (x : End). line_reached partial x is.system.rules.symbols is.answer) quiet, order.0, order.1)) in
+    (is.prints ∙ ap (λ (x : End). line_reached asked x is.system.rules.symbols is.answer) quiet ∙ asked_for asked some _, order.0, order.1)) in
     let all = subst (λ (t : SystemParts). Chain t.rules.rules kinds t.config e → IsQuiet t.rules.rules e
     → (line ≡ line_of t.rules.symbols (renumbered is.answer)) × OneNet is.answer e × (length (rules_fired kinds) ≡ outcome.interactions)) same every chain still in
     (is.answer, all.0, all.1, all.2)
@@ -36,11 +45,11 @@ nothing_left [] none = refl
 nothing_left (e ∷ es) none = absurd (omega (arith, none))
 
 pub returns-clause-text : goal.returns-clause-text
-returns-clause-text c = λ limits bounds partial input line outcome s e kinds is quiet reads chain still bare.
+returns-clause-text c = λ limits bounds asked input line outcome s e kinds is quiet some reads chain still bare.
     let same : is.system ≡ s = one_system is.system s (c.one_system_reading.ensures.answer limits input (Ok is.system) (Ok s) is.reads reads) in
     let reached = subst (λ (x : End). IsReached is.system bounds is.answer x outcome.interactions outcome.places) quiet is.reached.reached in
     let printed : line ≡ line_of is.system.rules.symbols (renumbered is.answer) =
-    is.prints ∙ ap (λ (x : End). line_reached partial x is.system.rules.symbols is.answer) quiet in
+    is.prints ∙ ap (λ (x : End). line_reached asked x is.system.rules.symbols is.answer) quiet ∙ asked_for asked some _ in
     let every : Chain is.system.rules.rules kinds is.system.config e → IsQuiet is.system.rules.rules e → line ≡ line_of is.system.rules.symbols (renumbered e) =
     (λ chain still.
     let net = (c.what_is_reached_quiet_is_the_end_of_every_order.ensures.every_order is.system.rules is.system.config is.answer e reached.fired kinds
@@ -52,8 +61,17 @@ returns-clause-text c = λ limits bounds partial input line outcome s e kinds is
     printed ∙ ap (line_of is.system.rules.symbols) one) in
     subst (λ (t : SystemParts). Chain t.rules.rules kinds t.config e → IsQuiet t.rules.rules e → line ≡ line_of t.rules.symbols (renumbered e)) same every chain still
 
+pub returns-clause-counted : goal.returns-clause-counted
+returns-clause-counted c = λ limits bounds asked input line outcome s e kinds is quiet reads chain still.
+    let same : is.system ≡ s = one_system is.system s (c.one_system_reading.ensures.answer limits input (Ok is.system) (Ok s) is.reads reads) in
+    let reached = subst (λ (x : End). IsReached is.system bounds is.answer x outcome.interactions outcome.places) quiet is.reached.reached in
+    let every : Chain is.system.rules.rules kinds is.system.config e → IsQuiet is.system.rules.rules e → length (rules_fired kinds) ≡ outcome.interactions =
+    (λ chain still. (c.a_quiet_end_is_that_of_every_order.ensures.every_order is.system bounds is.answer e outcome.interactions outcome.places kinds
+    is.rule_set is.over is.names reached chain still).1) in
+    subst (λ (t : SystemParts). Chain t.rules.rules kinds t.config e → IsQuiet t.rules.rules e → length (rules_fired kinds) ≡ outcome.interactions) same every chain still
+
 pub returns-clause-rounds : goal.returns-clause-rounds
-returns-clause-rounds c = λ limits bounds partial input line outcome s is quiet reads.
+returns-clause-rounds c = λ limits bounds asked input line outcome s is quiet reads.
     let same : is.system ≡ s = one_system is.system s (c.one_system_reading.ensures.answer limits input (Ok is.system) (Ok s) is.reads reads) in
     let reached = subst (λ (x : End). IsReached is.system bounds is.answer x outcome.interactions outcome.places) quiet is.reached.reached in
     let some = c.a_quiet_end_is_that_of_every_order.ensures.some_rounds is.system bounds is.answer outcome.interactions outcome.places is.rule_set is.over is.names reached in
