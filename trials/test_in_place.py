@@ -1,6 +1,7 @@
 """The word `reduce` without rounds, which reduces a net in place: the rows of trials/rows, each bound and ending, hard nets,
 and what goes wrong on the way."""
 
+import json
 import re
 import resource
 import signal
@@ -51,6 +52,25 @@ def name_steps_of(err):
     """How many steps that put a term for a name a run with `--stats` tells, if it does."""
     told = STATS.match(err)
     return int(told[2]) if told and told[2] else None
+
+
+def figures_of(err):
+    """The figures that a run with `--stats` tells as lines, by their names in an object, and what else it says. Time and pace
+    are none of them."""
+    told = STATS.match(err)
+    if not told:
+        return None, err
+    figures = {"interactions": int(told[1]), "name_steps": told[2] and int(told[2]), "places": int(told[3])}
+    figures["fired"] = {int(rule): int(count) for rule, count in re.findall(rb"rule (\d+): (\d+)", told[4])}
+    return {name: it for name, it in figures.items() if it is not None}, err[told.end() :]
+
+
+def object_of(err):
+    """The same of a run with `--format json`, with the end, time and pace and how many rules there are."""
+    line, _, rest = err.partition(b"\n")
+    told = json.loads(line)
+    told["fired"] = {at + 1: count for at, count in enumerate(told["by_rule"]) if count}
+    return told, rest
 
 
 class InPlace(Trial):
@@ -176,15 +196,18 @@ class Bounds(InPlace):
     def test_rounds_and_reducing_in_place_exclude_each_other(self):
         two = f"{ADD} <r|Add(r,S(Z))=S(Z)>"
         wanted = "error: the arguments '--rounds <N>' and '--workers <N>' cannot be used with '--steps <N>', '--nodes <N>', "
-        wanted += "'--limits <L>' or '--stats'\n\nUsage: icserve reduce [OPTIONS] [FILE]\n\nFor more information, try '--help'.\n"
-        for option in (["--steps", 1], ["--nodes=1"], ["--stats"], ["--partial", "--stats"], ["--limits", "wide"]):
+        wanted += "'--limits <L>', '--stats', '--format <FORMAT>' or '--quiet-answer'\n\n"
+        wanted += "Usage: icserve reduce [OPTIONS] [FILE]\n\nFor more information, try '--help'.\n"
+        options = [["--steps", 1], ["--nodes=1"], ["--stats"], ["--partial", "--stats"], ["--limits", "wide"]]
+        for option in (*options, ["--format", "lines"], ["--format=json"], ["--quiet-answer"], ["--quiet-answer", "--partial"]):
             for rounds in (["--rounds", 1], ["--workers", 1], ["--rounds", 1, "--workers", 2]):
                 self.runs("reduce", *rounds, *option, given=two, err=wanted, status=2)
                 self.runs("reduce", *option, *rounds, given=two, err=wanted, status=2)
         wanted = "error: the following required arguments were not provided:\n  --rounds <N>\n\n"
         wanted += "Usage: icserve reduce --rounds <N> --workers <N> [FILE]\n\nFor more information, try '--help'.\n"
         self.runs("reduce", "--workers", 3, given=two, err=wanted, status=2)
-        for wrong in (["--steps", -1], ["--steps"], ["--nodes", "many"], ["--partial=1"], ["--steps", 1, "--steps", 2], ["--stats", "--stats"]):
+        wrongs = [["--steps", -1], ["--steps"], ["--nodes", "many"], ["--partial=1"], ["--steps", 1, "--steps", 2], ["--stats", "--stats"]]
+        for wrong in (*wrongs, ["--format"], ["--format", "tsv"], ["--format="], ["--quiet-answer=1"], ["--quiet-answer"] * 2):
             ran = run("reduce", *wrong, given=two)
             self.equals(ran.command, "how it ends", (2, b"", b"error:"), (ran.status, ran.out, ran.err[:6]))
 
@@ -297,6 +320,60 @@ class HardNets(InPlace):
         ):
             ran = run("reduce", "--stats", *words, given=two)
             self.equals(ran.command, f"{ran.err} is as {told}", True, bool(re.fullmatch(told, ran.err)))
+
+    def shown(self):
+        """Texts and options with their ends: quiet, with a stuck pair or without, and each bound."""
+        two, drawn = f"{ADD} <r|Add(r,S(Z))=S(Z)>", self.draws()
+        yield two, [], "quiet", 0
+        yield "{} <a,b|>", [], "quiet", 0
+        yield f"{POWER} <r|Exp(r)={numeral(drawn.randint(3, 9))}>", [], "quiet", 0
+        yield "{A><B} <|C=D>", [], "quiet", 0
+        yield two, ["--steps", drawn.randint(0, 1)], "steps", 5
+        yield LOOP.text, ["--steps", drawn.randint(0, 9_999)], "steps", 5
+        yield DOUBLES, ["--nodes", drawn.randint(100, 9_999)], "places", 1
+
+    def test_figures_as_an_object_are_those_as_lines(self):
+        fields = ["end", "interactions", "name_steps", "places", "milliseconds", "interactions_a_second", "by_rule"]
+        for text, words, end, status in self.shown():
+            lines = run("reduce", "--stats", *words, given=text)
+            told, rest = figures_of(lines.err)
+            for more in ([], ["--partial"], ["--quiet-answer"]):
+                ran = run("reduce", *more, "--format", "json", "--stats", *words, given=text)
+                came, behind = object_of(ran.err)
+                self.equals(ran.command, "status, end and what else is said", (status, end, rest), (ran.status, came["end"], behind))
+                self.equals(ran.command, "figures", told, {name: came[name] for name in told})
+                self.equals(ran.command, "fields", [it for it in fields if it in came], list(came)[:-1])
+                self.equals(ran.command, "whether name steps are told", end == "quiet", "name_steps" in came)
+                self.equals(ran.command, "rules", text.partition("}")[0].count("><"), len(came["by_rule"]))
+                pace = came["interactions"] * 1000 // max(came["milliseconds"], 1)
+                self.equals(ran.command, "interactions a second", pace, came["interactions_a_second"])
+
+    def test_a_format_alone_tells_nothing(self):
+        for text, words, _, status in self.shown():
+            bare = run("reduce", *words, given=text)
+            self.equals(bare.command, "status", status, bare.status)
+            for form in ("lines", "json"):
+                ran = run("reduce", *words, "--format", form, given=text)
+                self.equals(ran.command, "how it ends", (bare.status, bare.out, bare.err), (ran.status, ran.out, ran.err))
+
+    def test_where_no_answer_is_wanted_all_else_is_as_with_it(self):
+        for text, words, _, status in self.shown():
+            for more in ([], ["--partial"]):
+                told = run("reduce", *words, *more, given=text)
+                quiet = run("reduce", "--quiet-answer", *words, *more, given=text)
+                self.equals(quiet.command, "standard output", b"", quiet.out)
+                self.equals(quiet.command, "status and what is told", (told.status, told.err, told.behind), (quiet.status, quiet.err, quiet.behind))
+                self.equals(told.command, "status", status, told.status)
+                counted = run("reduce", "--quiet-answer", "--stats", *words, *more, given=text)
+                self.equals(counted.command, "standard output", b"", counted.out)
+                figures = figures_of(run("reduce", "--stats", *words, *more, given=text).err)
+                self.equals(counted.command, "figures", figures, figures_of(counted.err))
+
+    def test_a_refused_text_is_told_where_no_answer_is_wanted(self):
+        for text in ("{A><B}", "<x|x=y>{", f"{ADD} <r|Add(r)=Z>"):
+            told = run("reduce", given=text)
+            ran = run("reduce", "--quiet-answer", "--stats", "--format=json", given=text)
+            self.equals(ran.command, "how it ends", (1, b"", told.err, told.behind), (ran.status, ran.out, ran.err, ran.behind))
 
     def test_places_are_used_again(self):
         """A net that stays small takes few places, however many interactions it makes."""

@@ -14,6 +14,7 @@ mod standing;
 mod texts;
 
 use crate::input::{Input, open_file, told_of};
+use crate::reducing::Wanted;
 use crate::session::Session;
 use crate::standing::stand_ins;
 use ic_args::{Task, TextLimits, WordsFault, read_words};
@@ -22,7 +23,7 @@ use ic_causes::{NotedFile, NotedFiles, NotedInput, NotedOutput, Notes};
 use ic_diagnostics::{once_telling, settle_telling};
 use ic_disk::{DiskFault, FileDisk};
 use ic_exits::{Failure, opening_failure};
-use ic_in_place::Bounds;
+use ic_in_place::{Asked, Bounds};
 use ic_jobs::Command;
 use ic_progress::{Progress, WipedFirst};
 use ic_scripts::{ScriptsFault, attend_scripts};
@@ -176,21 +177,7 @@ fn on_text<T: Threads + Wait, R: Read>(
     told: &mut Vec<u8>,
 ) -> Result<(), Failure> {
     match task {
-        Task::Reduce {
-            steps,
-            nodes,
-            partial,
-            stats,
-            limits,
-            ..
-        } => {
-            let bounds = Bounds {
-                steps: *steps,
-                nodes: *nodes,
-            };
-            let flags = [*partial, *stats];
-            reducing::reduce(rt, limits_of(*limits), bounds, flags, input, notes, told)
-        }
+        Task::Reduce { .. } => reduce_in_place(rt, task, input, notes, told),
         Task::ReduceByRounds {
             rounds,
             workers,
@@ -206,6 +193,48 @@ fn on_text<T: Threads + Wait, R: Read>(
         Task::Draw { .. } => looking::draw(rt, input, notes, told),
         Task::Expand { .. } => texts::expand(rt, input, notes, told),
         _ => Ok(()),
+    }
+}
+
+/// Reduces the text on this input in place, as the task asks for it.
+fn reduce_in_place<R: Read>(
+    rt: &HostRuntime,
+    task: &Task,
+    input: &mut R,
+    notes: &Notes,
+    told: &mut Vec<u8>,
+) -> Result<(), Failure> {
+    match task {
+        Task::Reduce {
+            steps,
+            nodes,
+            partial,
+            stats,
+            limits,
+            format,
+            quiet,
+            ..
+        } => {
+            let bounds = Bounds {
+                steps: *steps,
+                nodes: *nodes,
+            };
+            let wanted = Wanted {
+                asked: asked_of(*quiet, *partial),
+                figures: if *stats { Some(*format) } else { None },
+            };
+            reducing::reduce(rt, limits_of(*limits), bounds, wanted, input, notes, told)
+        }
+        _ => Ok(()),
+    }
+}
+
+/// What of a reduction in place is printed, by whether nothing is, and whether a part of the way is, too.
+fn asked_of(quiet: bool, partial: bool) -> Asked {
+    match (quiet, partial) {
+        (true, _) => Asked::Nothing,
+        (false, true) => Asked::AlsoPart,
+        (false, false) => Asked::Answer,
     }
 }
 

@@ -1,27 +1,36 @@
 //! The program's word `reduce` where no rounds are asked for: a net reduced in place.
 
 use crate::looking::tell_stuck;
+use ic_args::FiguresFormat;
 use ic_causes::{NotedOutput, Notes};
 use ic_exits::{Failure, Reached, reduce_ending};
-use ic_in_place::{Bounds, Outcome, reduce_in_place_stream};
-use ic_progress::{Watching, WipedFirst, figures_lines};
+use ic_in_place::{Asked, Bounds, Outcome, reduce_in_place_stream};
+use ic_progress::{Watching, WipedFirst, figures_lines, figures_object};
 use ic_text::Limits;
 use std::io::{self, Read, Write};
 use std::time::{Duration, Instant};
 
-/// Reduces the system on standard input in place, within these limits of its text and these bounds, and prints what is reached. Where the net grew too
-/// large or memory ran out, that is printed only if the first flag asks for a part. With the second it is told how many
-/// interactions were made, in all and by each rule. A stuck pair is told on standard error, and how far a long reduction has come.
+/// What is wanted of a reduction in place.
+#[derive(Clone, Copy, Debug)]
+pub(crate) struct Wanted {
+    /// What of it is printed.
+    pub(crate) asked: Asked,
+    /// How its figures are told, if they are.
+    pub(crate) figures: Option<FiguresFormat>,
+}
+
+/// Reduces the system on standard input in place, within these limits of its text and these bounds, and prints what is
+/// reached, as far as that is wanted. Figures and a stuck pair are told on standard error, and how far a long reduction
+/// has come.
 pub(crate) fn reduce<R: Read>(
     rt: &HostRuntime,
     limits: Limits,
     bounds: Bounds,
-    flags: [bool; 2],
+    wanted: Wanted,
     input: &mut R,
     notes: &Notes,
     told: &mut Vec<u8>,
 ) -> Result<(), Failure> {
-    let [partial, stats] = flags;
     let begun = Instant::now(rt);
     let watching = Watching::new(rt);
     let mut output = WipedFirst::watching(&watching, NotedOutput::new(io::writer(rt), notes));
@@ -29,7 +38,7 @@ pub(crate) fn reduce<R: Read>(
         rt.alloc(),
         limits,
         bounds,
-        partial,
+        wanted.asked,
         &watching,
         input,
         &mut output,
@@ -37,8 +46,8 @@ pub(crate) fn reduce<R: Read>(
     );
     watching.wipe();
     let outcome = reduced.map_err(Failure::Stream)?;
-    if stats {
-        tell_figures(rt, &outcome, time_since(rt, begun));
+    if let Some(format) = wanted.figures {
+        tell_figures(rt, &outcome, time_since(rt, begun), format);
     }
     if let Some(pair) = &outcome.stuck {
         tell_stuck(rt, pair);
@@ -59,9 +68,13 @@ fn time_since(rt: &HostRuntime, begun: io::Result<Instant>) -> Duration {
 }
 
 /// Tells on standard error how many steps were made, how fast, and how many interactions by each rule.
-fn tell_figures(rt: &HostRuntime, outcome: &Outcome, time: Duration) {
+fn tell_figures(rt: &HostRuntime, outcome: &Outcome, time: Duration, format: FiguresFormat) {
     let millis = u64::try_from(time.as_millis()).unwrap_or(u64::MAX);
-    if let Ok(lines) = figures_lines(rt.alloc(), outcome, millis) {
-        let _ = rt.stderr().write_all(&lines);
+    let figures = match format {
+        FiguresFormat::Lines => figures_lines(rt.alloc(), outcome, millis),
+        FiguresFormat::Objects => figures_object(rt.alloc(), outcome, millis),
+    };
+    if let Ok(figures) = figures {
+        let _ = rt.stderr().write_all(&figures);
     }
 }
