@@ -1,4 +1,6 @@
 pub mod Places
+pub mod Counts
+pub mod Spares
 pub mod Numberings
 pub mod Kept
 pub mod Forgetting

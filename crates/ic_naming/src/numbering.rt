@@ -1,23 +1,19 @@
 //! Words with their names numbered anew.
 
-ghost use Rattle.std.specs.Prelude.{◌≡◌, ℕ, map, unwrap_or, IfOk};
+ghost use Rattle.std.specs.Prelude.{◌≡◌, ◌<◌, length, map, IfOk};
 ghost use Rattle.std.specs.List.{flat_map};
-ghost use Rattle.std.specs.Ordering.{nat_cmp};
-ghost use Rattle.std.specs.BTreeMap.{get};
-ghost use Rattle.ic_term.specs.Configuration.{occurrences};
-ghost use Rattle.ic_rules.specs.Renaming.{first_occurrences};
 ghost use Rattle.ic_flat.specs.Words.{word_names};
-ghost use Rattle.ic_naming.specs.Naming.{is_counted_kept, renamed_word, renumbered_words, spare_numbers};
-ghost use Rattle.ic_naming.specs.inner.Numbering.{told_by};
+ghost use Rattle.ic_naming.specs.Naming.{is_counted_kept, renamed_word, renumbered_words};
+ghost use Rattle.ic_naming.specs.inner.Numbering.{AreCounts, ArePlaces, AreSpare, counted, told_by};
 
 use ic_flat::Word;
+use ic_names::NameTable;
 use ic_text::MAX_NAME;
-use indexmap::IndexSet;
 use std::alloc::{AllocError, Global};
-use std::collections::BTreeMap;
 
 /// The words with names that may stand in a text: a name that occurs once keeps its number where that may stand there,
-/// and all others are numbered by first occurrence. Takes n log n steps.
+/// and all others are numbered by first occurrence. Memory is said to have run out where there are 2^32 - 1 names or
+/// more.
 pub fn renumbered_words(alloc: Global, words: &[Word]) -> Result<Vec<Word>, AllocError>
     ensures { IfOk result (λ out. out.items ≡ renumbered_words words.now) }
 {
@@ -39,12 +35,13 @@ fn names_of(alloc: Global, words: &[Word]) -> Result<Vec<u64>, AllocError>
     Ok(names)
 }
 
-/// What some names are numbered by: their first occurrences, how often each of them stands there, and the numbers that
-/// are no names which are kept.
+/// What some names are numbered by: the places of their first occurrences, how many different ones there are, how often
+/// each of them stands there that may stand in a text, and the first numbers that are no names which are kept.
 #[derive(Drop)]
 struct Numbering {
-    firsts: IndexSet<u64>,
-    counts: BTreeMap<u64, usize>,
+    places: NameTable,
+    firsts: u32,
+    counts: NameTable,
     spare: Vec<u64>,
 }
 
@@ -54,10 +51,14 @@ impl Numbering {
     fn new(alloc: Global, names: &[u64]) -> Result<Numbering, AllocError>
         ensures { IfOk result (IsNumbering names.now) }
     {
-        let firsts = first_occurrences(alloc, names)?;
+        if names.len() >= u32::MAX as usize {
+            return Err(AllocError);
+        }
+        let (places, firsts) = places_of(alloc, names)?;
         let counts = counts_of(alloc, names)?;
-        let spare = spare_numbers(alloc, names, &counts)?;
+        let spare = spare_numbers(alloc, names, &counts, firsts)?;
         Ok(Numbering {
+            places,
             firsts,
             counts,
             spare,
@@ -71,53 +72,64 @@ impl Numbering {
         if is_kept(&self.counts, name) {
             return name;
         }
-        let place = self.firsts.get_index_of(&name).unwrap_or(self.firsts.len());
-        self.spare.get(place).copied().unwrap_or(0)
+        let place = self.places.get(name).unwrap_or(self.firsts);
+        self.spare.get(place as usize).copied().unwrap_or(0)
     }
 }
 
-/// The names of a list in the order in which they first occur.
-fn first_occurrences(alloc: Global, names: &[u64]) -> Result<IndexSet<u64>, AllocError>
-    ensures { IfOk result (λ firsts. firsts.keys ≡ first_occurrences names.now) }
+/// The place of each name of a list among their first occurrences, and how many these are.
+fn places_of(alloc: Global, names: &[u64]) -> Result<(NameTable, u32), AllocError>
+    requires { length names.now < u32.MAX }
+    ensures { IfOk result (λ places. ArePlaces names.now places.0 places.1) }
 {
-    let mut firsts = IndexSet::new(alloc);
+    let mut places = NameTable::new(alloc, names)?;
+    let mut firsts = 0u32;
     for name in names {
-        firsts.insert(*name)?;
+        if places.get(*name).is_none() {
+            places.set(*name, firsts)?;
+            firsts += 1;
+        }
     }
-    Ok(firsts)
+    Ok((places, firsts))
 }
 
-/// How often each name of a list occurs there.
-fn counts_of(alloc: Global, names: &[u64]) -> Result<BTreeMap<u64, usize>, AllocError>
-    ensures { IfOk result
-        (λ counts. (n : ℕ) → unwrap_or (get nat_cmp counts n) 0 ≡ occurrences n names.now) }
+/// How often each name of a list occurs there that may stand in a text.
+fn counts_of(alloc: Global, names: &[u64]) -> Result<NameTable, AllocError>
+    requires { length names.now < u32.MAX }
+    ensures { IfOk result (AreCounts names.now) }
 {
-    let mut counts: BTreeMap<u64, usize> = BTreeMap::new(alloc);
+    let mut counts = NameTable::new(alloc, names)?;
     for name in names {
-        let count = counts.get(name).copied().unwrap_or(0);
-        counts.insert(*name, count + 1)?;
+        if *name <= MAX_NAME {
+            let count = counts.get(*name).unwrap_or(0);
+            counts.set(*name, count + 1)?;
+        }
     }
     Ok(counts)
 }
 
 /// Whether a name is kept, among names that are counted so.
-fn is_kept(counts: &BTreeMap<u64, usize>, name: u64) -> bool
-    ensures { result ≡ is_counted_kept (unwrap_or (get nat_cmp counts.now name) 0) name }
+fn is_kept(counts: &NameTable, name: u64) -> bool
+    ensures { result ≡ is_counted_kept (counted counts.now name) name }
 {
-    counts.get(&name).copied().unwrap_or(0) == 1 && name <= MAX_NAME
+    name <= MAX_NAME && counts.get(name).unwrap_or(0) == 1
 }
 
-/// The numbers that are no names which are kept, among names that are counted so.
+/// The first numbers that are no names which are kept, among names that are counted so: one more than so many, or all.
 fn spare_numbers(
     alloc: Global,
     names: &[u64],
-    counts: &BTreeMap<u64, usize>,
+    counts: &NameTable,
+    firsts: u32,
 ) -> Result<Vec<u64>, AllocError>
-    requires { (n : ℕ) → unwrap_or (get nat_cmp counts.now n) 0 ≡ occurrences n names.now }
-    ensures { IfOk result (λ spare. spare.items ≡ spare_numbers names.now) }
+    requires { AreCounts names.now counts.now }
+    ensures { IfOk result (λ spare. AreSpare names.now firsts spare.items) }
 {
     let mut spare = Vec::new(alloc);
     for number in 0..names.len() as u64 + names.len() as u64 {
+        if spare.len() > firsts as usize {
+            return Ok(spare);
+        }
         if !is_kept(counts, number) {
             spare.push(number)?;
         }

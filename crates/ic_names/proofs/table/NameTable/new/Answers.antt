@@ -1,0 +1,11 @@
+use Rattle.std.proofs.Common.{◌≡◌, ◌==◌, None, rules}
+use Rattle.std.specs.HashMap.{get}
+use Rattle.ic_names.specs.Table.{found}
+use Rattle.ic_names.proofs.Numbers.{none_told}
+use Rattle.ic_names.proofs.table.NameTable.new.Goals as goal
+
+pub returns : goal.returns
+unfolding found
+returns c = λ x.
+    let none : get (λ a b. a == b) c.new.result x ≡ None = search rules in
+    none_told c.in_ok-rows_for.field-0.items c.in_ok-rows_for.ensures x (get (λ a b. a == b) c.new.result x) none

@@ -1,0 +1,77 @@
+//! The table.
+
+ghost use Rattle.std.specs.Prelude.{◌≡◌, ◌==◌, ◌&&◌, ◌<◌, ℕ, Some, None, is_some, if◌then◌else◌, IfOk, OnOk, OnErr};
+ghost use Rattle.ic_names.specs.Table.{found, slot_of};
+
+use crate::row::{NONE, Row, column_of, row_of};
+use crate::span::rows_for;
+use std::alloc::{AllocError, Global};
+use std::collections::HashMap;
+
+/// For each name a number, if it has one.
+#[derive(Drop)]
+pub struct NameTable {
+    rows: Vec<Row>,
+    /// The numbers of names that have no place in the rows.
+    others: HashMap<u64, u32>,
+}
+
+impl NameTable {
+    ghost use Rattle.ic_names.specs.Table.{found, slot_of};
+
+    /// A table in which no name has a number yet, laid out for these names. It takes four slots of 4 bytes for each of
+    /// them at most, as often as it stands there, and time in proportion.
+    pub fn new(alloc: Global, names: &[u64]) -> Result<NameTable, AllocError>
+        ensures { IfOk result (λ table. (x : ℕ) → found table x ≡ None) }
+    {
+        Ok(NameTable {
+            rows: rows_for(alloc, names)?,
+            others: HashMap::new(alloc),
+        })
+    }
+
+    /// The number that a name has.
+    pub fn get(&self, name: u64) -> Option<u32>
+        ensures { result ≡ found self.now name }
+    {
+        match slot(&self.rows, name) {
+            Some(number) if number == NONE => None,
+            Some(number) => Some(number),
+            None => self.others.get(&name).copied(),
+        }
+    }
+
+    /// Gives a name a number in the place of the one that it has. It fails only for a name that the table isn't laid out
+    /// for, and changes nothing then.
+    pub fn set(&mut self, name: u64, number: u32) -> Result<(), AllocError>
+        requires { number < u32.MAX }
+        ensures set { OnOk result ((x : ℕ) → found self.new x
+            ≡ (if name == x then Some number else found self.old x)) }
+        ensures refused { OnErr result ((x : ℕ) → found self.new x ≡ found self.old x) }
+    {
+        if !fill(&mut self.rows, name, number) {
+            self.others.insert(name, number)?;
+        }
+        Ok(())
+    }
+}
+
+/// What stands in the place of a name, if it has one in these rows.
+fn slot(rows: &[Row], name: u64) -> Option<u32>
+    ensures { result ≡ slot_of rows.now name }
+{
+    rows.get(row_of(name))?.slot(column_of(name))
+}
+
+/// Puts a number in the place of a name, if it has one in these rows, and tells whether it has.
+fn fill(rows: &mut Vec<Row>, name: u64, number: u32) -> bool
+    ensures there { result ≡ is_some (slot_of rows.old.items name) }
+    ensures filled { (x : ℕ) → slot_of rows.new.items x
+        ≡ (if result && (name == x) then Some number else slot_of rows.old.items x) }
+{
+    let row = row_of(name);
+    if rows.len() <= row {
+        return false;
+    }
+    rows[row].fill(column_of(name), number)
+}
