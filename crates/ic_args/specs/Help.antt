@@ -172,21 +172,22 @@ reduce_help = text_of (codes "Reduces a system until no step is possible, and pr
     ++ codes " 4611686018427387903 [default: 4611686018427387903]")
     ∷ (codes "      --nodes <N>        How many names, and agents with arguments, the net has"
     ++ codes " at most, from 0 to 4611686018427387903 [default: 134217728]")
-    ∷ (codes "      --limits <L>       The limits of the text: those of a job (served) or"
-    ++ codes " wide ones (wide) [default: wide]")
+    ∷ (codes "      --limits <L>       The text's limits: those of a job (served) or wide"
+    ++ codes " ones (wide) [default: wide]")
     ∷ (codes "      --partial          Print the configuration too where the net, a round or"
     ++ codes " memory ends it")
     ∷ (codes "      --quiet-answer     Print no configuration, where only figures or the exit"
     ++ codes " status are wanted")
     ∷ codes "      --stats            Tell how many interactions were made, and how fast"
-    ∷ (codes "      --format <FORMAT>  --stats tells it as lines (lines) or a JSON object"
-    ++ codes " (json); without --stats this changes nothing [default: lines]")
+    ∷ (codes "      --format <FORMAT>  How --stats tells it: lines (lines) or a JSON object"
+    ++ codes " (json) [default: lines]")
     ∷ codes "      --rounds <N>       Make rounds, and at most so many, from 0 to 4611686018427387904"
     ∷ (codes "      --workers <N>      Threads for a round of 4000 equations or more, from 1"
     ++ codes " to 64 [default: 2]")
     ∷ codes "  -h, --help             Print help"
     ∷ []
     ∷ codes "The exit status is 5 where a step is still possible after the last interaction or round."
+    ∷ codes "Without --stats, --format changes nothing."
     ∷ []
     ∷ codes "The language:"
     ∷ codes "  {Add(x,x)><Z; Add(S(x),y)><S(Add(x,y))}  rules, separated by ;"

@@ -164,16 +164,17 @@ Arguments:
 Options:
       --steps <N>        How many interactions are made at most, from 0 to 4611686018427387903 [default: 4611686018427387903]
       --nodes <N>        How many names, and agents with arguments, the net has at most, from 0 to 4611686018427387903 [default: 134217728]
-      --limits <L>       The limits of the text: those of a job (served) or wide ones (wide) [default: wide]
+      --limits <L>       The text's limits: those of a job (served) or wide ones (wide) [default: wide]
       --partial          Print the configuration too where the net, a round or memory ends it
       --quiet-answer     Print no configuration, where only figures or the exit status are wanted
       --stats            Tell how many interactions were made, and how fast
-      --format <FORMAT>  --stats tells it as lines (lines) or a JSON object (json); without --stats this changes nothing [default: lines]
+      --format <FORMAT>  How --stats tells it: lines (lines) or a JSON object (json) [default: lines]
       --rounds <N>       Make rounds, and at most so many, from 0 to 4611686018427387904
       --workers <N>      Threads for a round of 4000 equations or more, from 1 to 64 [default: 2]
   -h, --help             Print help
 
 The exit status is 5 where a step is still possible after the last interaction or round.
+Without --stats, --format changes nothing.
 
 The language:
   {Add(x,x)><Z; Add(S(x),y)><S(Add(x,y))}  rules, separated by ;

@@ -145,7 +145,7 @@ pub fn each_command_has_its_help()
         ∷ codes "from 0 to 4611686018427387903 [default: 134217728]"
         ∷ codes "--partial" ∷ codes "--stats" ∷ codes "--limits <L>" ∷ codes "(served)"
         ∷ codes "(wide)" ∷ codes "[default: wide]" ∷ codes "--format <FORMAT>"
-        ∷ codes "(lines)" ∷ codes "(json)" ∷ codes "without --stats this changes nothing"
+        ∷ codes "(lines)" ∷ codes "(json)" ∷ codes "Without --stats, --format changes nothing"
         ∷ codes "[default: lines]" ∷ codes "--quiet-answer" ∷ []) }
     ensures formats { AllByRecursion (Says trace_help) (codes "icserve trace" ∷ codes "--rounds <N>"
         ∷ codes "from 0 to 4611686018427387904 [default: 1000000]" ∷ codes "--format <FORMAT>"
