@@ -271,10 +271,11 @@ class Faults(Stops):
             self.are(10, self.in_turn("disk", ["once"], lambda *it, words=words: attempt([*words, "--disk", disk], *it)))
 
     def test_create_syncs_a_new_file_and_its_folder_before_it_writes(self):
-        """One sync more than where the file is there: that of the folder, whatever the path is."""
+        """One sync more than where the file is there: that of the folder, whatever the path is. Without `--overwrite` each look at
+        what stands there makes one: whether it may be made anew, and whether it is made already."""
         (self.room / "a").mkdir()
         for path in ("one.disk", "a/two.disk", "./a/../three.disk", self.room / "a/four.disk"):
-            for words, wanted in (["create"], 3), (["create", "--overwrite"], 2), (["serve"], 2):
+            for words, wanted in (["create"], 4), (["create", "--overwrite"], 2), (["serve"], 2):
                 ran = run(*words, "--disk", path, given="", cwd=self.room, env=shimmed(log=self.log))
                 calls = "".join(it.kind for it in noted(self.log) if it.kind in "WS")
                 self.equals(ran.command, f"syncs before the first write, of {calls}", wanted, len(calls.partition("W")[0]))

@@ -7,7 +7,7 @@ ghost use Rattle.ic_batch.specs.Jobs.{names};
 use crate::scripts::read_file;
 use crate::{NotedDisk, open_disk};
 use ic_batch::{BatchFault, JobsFault, NewJob, read_jobs};
-use ic_book::Book;
+use ic_book::{Book, OpenCause, OpenFault};
 use ic_causes::{NotedOutput, Notes};
 use ic_exits::Failure;
 use ic_progress::{Progress, WipedFirst};
@@ -55,14 +55,19 @@ fn made_book<'a>(
     notes: &'a Notes,
 ) -> Result<Book<NotedDisk<'a>>, Failure> {
     let disk = open_disk(rt, path, true, notes)?;
-    let fault = match Book::open(rt.alloc(), disk) {
+    let disk = match Book::open(rt.alloc(), disk) {
         Ok(book) => return Ok(book),
-        Err(fault) => fault,
+        Err(
+            OpenFault {
+                disk,
+                cause: OpenCause::NoSlot,
+            },
+        ) => disk,
+        Err(fault) => return Err(Failure::Open(fault.cause)),
     };
-    let cause = fault.cause;
-    let (mut disk, unused) = is_unused(rt.alloc(), fault.disk);
+    let (mut disk, unused) = is_unused(rt.alloc(), disk);
     if !unused.map_err(Failure::Create)? {
-        return Err(Failure::Open(cause));
+        return Err(Failure::Open(OpenCause::NoSlot));
     }
     ic_slots::create(rt.alloc(), &mut disk).map_err(Failure::Create)?;
     match Book::open(rt.alloc(), disk) {

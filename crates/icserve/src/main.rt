@@ -18,7 +18,7 @@ use crate::reducing::Wanted;
 use crate::session::Session;
 use crate::standing::stand_ins;
 use ic_args::{Task, TextLimits, WordsFault, read_words};
-use ic_book::{Book, BookFault};
+use ic_book::{Book, BookFault, OpenCause, OpenFault};
 use ic_causes::{NotedFile, NotedFiles, NotedInput, NotedOutput, Notes};
 use ic_diagnostics::{once_telling, settle_telling};
 use ic_disk::{DiskFault, FileDisk};
@@ -339,13 +339,20 @@ fn create(rt: &HostRuntime, path: &str, overwrite: bool, notes: &Notes) -> Resul
     if !unused.map_err(Failure::Create)? {
         return Err(Failure::NotEmpty);
     }
-    match Book::open(rt.alloc(), disk) {
+    let mut disk = match Book::open(rt.alloc(), disk) {
         Ok(book) => {
             book.close();
-            Ok(())
+            return Ok(());
         }
-        Err(mut fault) => ic_slots::create(rt.alloc(), &mut fault.disk).map_err(Failure::Create),
-    }
+        Err(
+            OpenFault {
+                disk,
+                cause: OpenCause::NoSlot,
+            },
+        ) => disk,
+        Err(fault) => return Err(Failure::Open(fault.cause)),
+    };
+    ic_slots::create(rt.alloc(), &mut disk).map_err(Failure::Create)
 }
 
 /// Opens the book on the disk in the file of this path.
