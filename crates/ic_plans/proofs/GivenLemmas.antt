@@ -1,15 +1,10 @@
 -- The registers of the names of a configuration: a word more.
-use Rattle.std.proofs.Common.{◌≡◌, ◌↔◌, ◌⊎◌, ℕ, zero, suc, ◌+◌, ◌≤◌, ◌<◌, ◌==◌, List, [], ◌∷◌, ◌++◌, Bool, true, false, cond, Option, None, Some, length, take, drop, get_or, slice_get, append-nil, true≢false, refl, sym, ap, ◌∙◌, arith, inl, inr}
+use Rattle.std.proofs.Common.{◌≡◌, ◌↔◌, ◌⊎◌, ℕ, zero, suc, ◌+◌, ◌≤◌, ◌<◌, ◌==◌, List, [], ◌∷◌, ◌++◌, Bool, true, false, cond, Option, None, Some, length, take, drop, get_or, slice_get, true≢false, refl, sym, ap, ◌∙◌, arith, inl, inr}
 use Rattle.std.specs.Prelude.{is_some, unwrap_or}
 use Rattle.std.proofs.lemmas.Option.{none-some}
-use Rattle.std.proofs.lemmas.List.{take_more, drop_more, take-append-drop}
-use Rattle.std.proofs.lemmas.List.Concat.{flat_map-append}
+use Rattle.std.proofs.lemmas.List.{drop_more, take-append-drop}
 use Rattle.std.specs.Cmp.{unsigned_Decides}
-use Rattle.std.specs.List.{flat_map}
 use Rattle.ic_term.specs.Configuration.{occurrences}
-use Rattle.ic_flat.specs.declared.word.Word.{Word}
-use Rattle.ic_flat.specs.declared.word.Word.TheVariants.{Name, Agent}
-use Rattle.ic_flat.specs.Words.{word_names}
 use Rattle.ic_plans.specs.inner.Registers.{Registers, found}
 use Rattle.ic_plans.specs.inner.Given.{AreGiven, AreFresh}
 use Rattle.ic_plans.proofs.FlatLemmas.{count-append, count-cons, count-other, count-same}
@@ -35,46 +30,17 @@ occurrences-more x ns n =
     let one = count-cons x n [] in
     omega arith
 
--- the names of words, a word more
-pub names-more : (ws : List Word) (i : ℕ) (d w : Word) → i < length ws → get_or ws i d ≡ w
-    → flat_map word_names (take (i + 1) ws) ≡ flat_map word_names (take i ws) ++ word_names w
-names-more ws i d w within is =
-    ap (flat_map word_names) (take_more ws i d within)
-    ∙ flat_map-append word_names (take i ws) (get_or ws i d ∷ [])
-    ∙ ap (λ v. flat_map word_names (take i ws) ++ flat_map word_names (v ∷ [])) is
-    ∙ ap (λ l. flat_map word_names (take i ws) ++ l) (append-nil (word_names w))
-
--- the same where the word is no name
-pub names-same : (ws : List Word) (i : ℕ) (d : Word) (s n : ℕ) → i < length ws → get_or ws i d ≡ Agent s n
-    → flat_map word_names (take (i + 1) ws) ≡ flat_map word_names (take i ws)
-names-same ws i d s n within is = names-more ws i d (Agent s n) within is ∙ append-nil (flat_map word_names (take i ws))
-
--- a name that stands once among words stands among none before
-pub once-before : (ws : List Word) (i : ℕ) (d : Word) (n : ℕ) → i < length ws → get_or ws i d ≡ Name n → occurrences n (flat_map word_names ws) ≡ 1
-    → occurrences n (flat_map word_names (take i ws)) ≡ 0
-once-before ws i d n within is once =
-    let front = flat_map word_names (take i ws) in
-    let back = flat_map word_names (drop (i + 1) ws) in
-    let split : flat_map word_names ws ≡ front ++ n ∷ back =
-    ap (flat_map word_names) (sym (take-append-drop i ws))
-    ∙ flat_map-append word_names (take i ws) (drop i ws)
-    ∙ ap (λ l. front ++ flat_map word_names l) (drop_more ws i d within ∙ ap (λ w. w ∷ drop (i + 1) ws) is) in
+-- a name that stands once in a list stands nowhere before
+pub once-before : (ns : List ℕ) (i n : ℕ) → i < length ns → get_or ns i 0 ≡ n → occurrences n ns ≡ 1 → occurrences n (take i ns) ≡ 0
+once-before ns i n within is once =
+    let front = take i ns in
+    let back = drop (i + 1) ns in
+    let split : ns ≡ front ++ n ∷ back = sym (take-append-drop i ns) ∙ ap (λ l. front ++ l) (drop_more ns i 0 within ∙ ap (λ m. m ∷ back) is) in
     let whole = ap (occurrences n) split in
     let parts = count-append n front (n ∷ back) in
     let one = count-cons n n back in
     let same = count-same n n refl in
     omega arith
-
--- there are no more names than words
-pub names-few : (ws : List Word) (x : ℕ) → occurrences x (flat_map word_names ws) ≤ length ws
-names-few [] x = omega arith
-names-few (Name n ∷ ws) x = let one = count-cons x n (flat_map word_names ws) in let rest = names-few ws x in at (n == x) one rest
-  where
-    at : (b : Bool) → occurrences x (n ∷ flat_map word_names ws) ≡ cond b 1 0 + occurrences x (flat_map word_names ws)
-        → occurrences x (flat_map word_names ws) ≤ length ws → occurrences x (n ∷ flat_map word_names ws) ≤ suc (length ws)
-    at true one rest = omega arith
-    at false one rest = omega arith
-names-few (Agent s n ∷ ws) x = let rest = names-few ws x in omega arith
 
 -- ---- a register more
 

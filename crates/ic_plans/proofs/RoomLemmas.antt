@@ -1,6 +1,5 @@
 -- There are enough registers: names of words and agents of words have no more together than there are words.
-use Rattle.std.proofs.Common.{◌≡◌, ◌⊎◌, ℕ, zero, suc, ◌+◌, ◌-◌, ◌^◌, ◌≤◌, ◌<◌, ◌==◌, List, [], ◌∷◌, ◌++◌, Bool, true, false, cond, Option, None, Some, length, take, drop, get_or, slice_get, refl, sym, ap, subst, ◌∙◌, arith, inl, inr}
-use Rattle.std.proofs.lemmas.Option.{none-some}
+use Rattle.std.proofs.Common.{◌≡◌, ◌⊎◌, ℕ, zero, suc, ◌+◌, ◌-◌, ◌^◌, ◌≤◌, ◌<◌, ◌==◌, List, [], ◌∷◌, ◌++◌, Bool, true, false, cond, Some, length, take, drop, get_or, slice_get, refl, sym, ap, subst, ◌∙◌, arith, inl, inr}
 use Rattle.std.proofs.lemmas.List.{drop_more, length-append, take-append-drop, length-take-le}
 use Rattle.std.proofs.lemmas.List.Concat.{flat_map-append}
 use Rattle.std.specs.Cmp.{unsigned_Decides}
@@ -74,12 +73,11 @@ names-here ws i d within =
     ap (λ l. length (flat_map word_names l)) (drop_more ws i d within)
     ∙ length-append (word_names (get_or ws i d)) (flat_map word_names (drop (i + 1) ws))
 
--- no name stands more often in front of a place than among all words
-names-front : (ws : List Word) (i x : ℕ) → occurrences x (flat_map word_names (take i ws)) ≤ occurrences x (flat_map word_names ws)
-names-front ws i x =
-    let parts = ap (λ l. occurrences x (flat_map word_names l)) (sym (take-append-drop i ws))
-    ∙ ap (occurrences x) (flat_map-append word_names (take i ws) (drop i ws)) in
-    let both = count-append x (flat_map word_names (take i ws)) (flat_map word_names (drop i ws)) in
+-- no name stands more often in front of a place than in the whole list
+front-few : (ns : List ℕ) (i x : ℕ) → occurrences x (take i ns) ≤ occurrences x ns
+front-few ns i x =
+    let parts = ap (occurrences x) (sym (take-append-drop i ns)) in
+    let both = count-append x (take i ns) (drop i ns) in
     omega arith
 
 -- the agents after a place, and the register of one more
@@ -132,11 +130,9 @@ module _ (ns ms : List ℕ) (count : ℕ) (given others : List ℕ) (mid all : R
   registers-few = let few = no_longer listed ns below in omega (arith, few, length-append given others)
 
 -- there is a register for one more, where those so far are of names before a place
-pub room-for : (ws : List Word) (i : ℕ) (next : ℕ) (names : List ℕ) (old new : Registers) → LeavesRoom (flat_map word_names ws) next old
-    → AreFresh (flat_map word_names (take i ws)) next names old new → next + length names ≤ 2 ^ 32 - 1
-room-for ws i next names old new leaves fresh =
-    let ns = flat_map word_names ws in
-    let ms = flat_map word_names (take i ws) in
-    let behind = subst (λ k. AreFresh ms k names old new) leaves.next_is fresh in
-    let few = registers-few ns ms leaves.start leaves.given names old new leaves.are_given behind (names-front ws i) in
+pub room-for : (ns : List ℕ) (i next : ℕ) (names : List ℕ) (old new : Registers) → LeavesRoom ns next old
+    → AreFresh (take i ns) next names old new → next + length names < 2 ^ 32 - 1
+room-for ns i next names old new leaves fresh =
+    let behind = subst (λ k. AreFresh (take i ns) k names old new) leaves.next_is fresh in
+    let few = registers-few ns (take i ns) leaves.start leaves.given names old new leaves.are_given behind (front-few ns i) in
     omega (arith, few, leaves.next_is, leaves.room)

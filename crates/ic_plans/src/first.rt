@@ -1,6 +1,6 @@
 //! The plan of a configuration, which a machine begins with.
 
-ghost use Rattle.std.specs.Prelude.{◌≡◌, ◌↔◌, ℕ, ◌+◌, ◌≤◌, None, map, length, take, drop, unwrap_or, IfOk};
+ghost use Rattle.std.specs.Prelude.{◌≡◌, ◌↔◌, ℕ, ◌+◌, ◌<◌, ◌≤◌, None, map, length, take, drop, unwrap_or, IfOk};
 ghost use Rattle.std.specs.List.{flat_map, Contains};
 ghost use Rattle.ic_term.specs.Configuration.{configuration_nodes, configuration_names, occurrences};
 ghost use Rattle.ic_flat.specs.Words.{word_names};
@@ -13,8 +13,8 @@ ghost use Rattle.ic_plans.specs.inner.Given.{AreGiven, AreFresh, LeavesRoom, ope
 use crate::flattening::flatten;
 use ic_flat::{WideSystem, Word};
 use ic_machine::{Link, Plan};
+use ic_names::NameTable;
 use std::alloc::{AllocError, Global};
-use std::collections::HashMap;
 
 /// What a machine begins with: a plan, the names that are given to it, and the registers of its interface.
 #[derive(Debug, Drop)]
@@ -42,10 +42,13 @@ pub fn first_plan(alloc: Global, system: &WideSystem) -> Result<First, AllocErro
     let config = system.config();
     let words = config.words();
     let count = system.rules().symbols().len() as u32;
-    let mut registers = HashMap::new(alloc);
-    let given = read_given(alloc, words, count, &mut registers)?;
+    let occurring = names_of(alloc, words)?;
+    let all = occurring.as_slice();
+    let mut registers = NameTable::new(alloc, all)?;
+    let given = read_given(alloc, all, count, &mut registers)?;
     let start = count + given.len() as u32;
-    let others = add_others(alloc, words, start, &mut registers)?;
+    let others = add_others(alloc, all, start, &mut registers)?;
+    drop(occurring);
     let names = others.len() as u32;
     let (makes, operands) = flatten(alloc, words, &registers, start + names)?;
     let (interface, links) = split_operands(alloc, &operands, config.interface_len())?;
@@ -61,70 +64,76 @@ pub fn first_plan(alloc: Global, system: &WideSystem) -> Result<First, AllocErro
     })
 }
 
-/// How often each name occurs among words.
-fn occurrences_of(alloc: Global, words: &[Word]) -> Result<HashMap<u64, u32>, AllocError>
-    requires { length words.now ≤ u32.MAX }
-    ensures { IfOk result (λ counts. (x : ℕ) → unwrap_or (found counts x) 0
-        ≡ occurrences x (flat_map word_names words.now)) }
+/// The names among words in their order, each as often as it occurs.
+fn names_of(alloc: Global, words: &[Word]) -> Result<Vec<u64>, AllocError>
+    ensures { IfOk result (λ names. names.items ≡ flat_map word_names words.now) }
 {
-    let mut counts: HashMap<u64, u32> = HashMap::new(alloc);
+    let mut names = Vec::with_capacity(alloc, words.len())?;
     for word in words {
         if let Word::Name(name) = *word {
-            let count = counts.get(&name).copied().unwrap_or(0);
-            counts.insert(name, count + 1)?;
+            names.push(name)?;
         }
+    }
+    Ok(names)
+}
+
+/// How often each name of a list occurs there.
+fn occurrences_of(alloc: Global, names: &[u64]) -> Result<NameTable, AllocError>
+    requires { length names.now < u32.MAX }
+    ensures { IfOk result
+        (λ counts. (x : ℕ) → unwrap_or (found counts x) 0 ≡ occurrences x names.now) }
+{
+    let mut counts = NameTable::new(alloc, names)?;
+    for name in names {
+        let count = counts.get(*name).unwrap_or(0);
+        counts.set(*name, count + 1)?;
     }
     Ok(counts)
 }
 
-/// The names that occur once among words, each with a register, the first of which is `start`.
+/// The names that occur once in a list, each with a register, the first of which is `start`.
 fn read_given(
     alloc: Global,
-    words: &[Word],
+    names: &[u64],
     start: u32,
-    registers: &mut HashMap<u64, u32>,
+    registers: &mut NameTable,
 ) -> Result<Vec<u64>, AllocError>
-    requires room { start + length words.now ≤ u32.MAX }
+    requires room { start + length names.now < u32.MAX }
     requires none { (x : ℕ) → found registers.old x ≡ None }
-    ensures few { IfOk result (λ given. length given.items ≤ length words.now) }
-    ensures given { IfOk result (λ given. AreGiven (flat_map word_names words.now)
-        start given.items registers.new) }
+    ensures few { IfOk result (λ given. length given.items ≤ length names.now) }
+    ensures given { IfOk result (λ given. AreGiven names.now start given.items registers.new) }
 {
-    let counts = occurrences_of(alloc, words)?;
+    let counts = occurrences_of(alloc, names)?;
     let mut given = Vec::new(alloc);
-    for word in words {
-        if let Word::Name(name) = *word {
-            if counts.get(&name).copied().unwrap_or(0) == 1 {
-                registers.insert(name, start + given.len() as u32)?;
-                given.push(name)?;
-            }
+    for name in names {
+        if counts.get(*name).unwrap_or(0) == 1 {
+            registers.set(*name, start + given.len() as u32)?;
+            given.push(*name)?;
         }
     }
     Ok(given)
 }
 
-/// The names among words that have no register yet, each with one, the first of which is `start`.
+/// The names of a list that have no register yet, each with one, the first of which is `start`.
 fn add_others(
     alloc: Global,
-    words: &[Word],
+    names: &[u64],
     start: u32,
-    registers: &mut HashMap<u64, u32>,
+    registers: &mut NameTable,
 ) -> Result<Vec<u64>, AllocError>
-    requires { LeavesRoom (flat_map word_names words.now) start registers.old }
-    ensures few { IfOk result (λ names. length names.items ≤ length words.now) }
-    ensures fresh { IfOk result (λ names. AreFresh (flat_map word_names words.now)
-        start names.items registers.old registers.new) }
+    requires { LeavesRoom names.now start registers.old }
+    ensures few { IfOk result (λ others. length others.items ≤ length names.now) }
+    ensures fresh { IfOk result (λ others. AreFresh names.now start others.items registers.old
+        registers.new) }
 {
-    let mut names = Vec::new(alloc);
-    for word in words {
-        if let Word::Name(name) = *word {
-            if !registers.contains_key(&name) {
-                registers.insert(name, start + names.len() as u32)?;
-                names.push(name)?;
-            }
+    let mut others = Vec::new(alloc);
+    for name in names {
+        if registers.get(*name).is_none() {
+            registers.set(*name, start + others.len() as u32)?;
+            others.push(*name)?;
         }
     }
-    Ok(names)
+    Ok(others)
 }
 
 /// The registers of so many terms, and those of the others two by two, as the sides of equations.

@@ -9,8 +9,8 @@ ghost use Rattle.ic_plans.specs.inner.Flattening.{WouldBeFlat};
 
 use ic_flat::Word;
 use ic_machine::Make;
+use ic_names::NameTable;
 use std::alloc::{AllocError, Global};
-use std::collections::HashMap;
 
 /// Has an agent made of as many registers from the top of the stack.
 fn make_agent(
@@ -38,7 +38,7 @@ fn make_agent(
 /// Puts the register of a word's term on the stack, and has its agent made of those on top.
 fn put_word(
     word: Word,
-    registers: &HashMap<u64, u32>,
+    registers: &NameTable,
     first: u32,
     makes: &mut Vec<Make>,
     operands: &mut Vec<u32>,
@@ -57,7 +57,7 @@ fn put_word(
         (map made_of makes.new.items) (reverse operands.new.items)) }
 {
     let register = match word {
-        Word::Name(name) => registers.get(&name).copied().unwrap_or(0),
+        Word::Name(name) => registers.get(name).unwrap_or(0),
         Word::Agent(symbol, 0) => symbol,
         Word::Agent(symbol, arity) => {
             let register = first + makes.len() as u32;
@@ -73,7 +73,7 @@ fn put_word(
 pub(crate) fn flatten(
     alloc: Global,
     words: &[Word],
-    registers: &HashMap<u64, u32>,
+    registers: &NameTable,
     first: u32,
 ) -> Result<(Vec<Make>, Vec<u32>), AllocError>
     requires whole { IsWhole words.now }

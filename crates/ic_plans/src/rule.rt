@@ -15,12 +15,13 @@ ghost use Rattle.ic_plans.specs.inner.Registers.{AreFreshNames, AreRegisters, Is
 use crate::flattening::flatten;
 use ic_flat::{Word, write_terms};
 use ic_machine::{Link, Plan};
+use ic_names::NameTable;
 use ic_term::Term;
 use std::alloc::{AllocError, Global};
-use std::collections::HashMap;
 
 /// Has a name that is an argument by itself read from the argument's register, if it has none yet.
-fn read_argument(term: &Term, own: u32, registers: &mut HashMap<u64, u32>) -> Result<(), AllocError>
+fn read_argument(term: &Term, own: u32, registers: &mut NameTable) -> Result<(), AllocError>
+    requires { own < u32.MAX }
     ensures { OnOk result
         ((arguments : List Argument) (start : ℕ) → AllByRecursion (λ a. a.register < own) arguments
         → AreRegisters arguments start 0 registers.old
@@ -28,19 +29,15 @@ fn read_argument(term: &Term, own: u32, registers: &mut HashMap<u64, u32>) -> Re
         registers.new) }
 {
     if let Term::Name(name) = term {
-        if !registers.contains_key(name) {
-            registers.insert(*name, own)?;
+        if registers.get(*name).is_none() {
+            registers.set(*name, own)?;
         }
     }
     Ok(())
 }
 
 /// The same of arguments, the first of which is in the register `from`.
-fn read_arguments(
-    terms: &[Term],
-    from: u32,
-    registers: &mut HashMap<u64, u32>,
-) -> Result<(), AllocError>
+fn read_arguments(terms: &[Term], from: u32, registers: &mut NameTable) -> Result<(), AllocError>
     requires { from + length terms.now ≤ u32.MAX }
     ensures { OnOk result
         ((count start : ℕ) (before : List Tree) → from ≡ count + length before
@@ -55,7 +52,7 @@ fn read_arguments(
 }
 
 /// Gives each name that has no register a fresh one, the first of which is `start`, and tells how many these are.
-fn add_fresh(names: usize, start: u32, registers: &mut HashMap<u64, u32>) -> Result<u32, AllocError>
+fn add_fresh(names: usize, start: u32, registers: &mut NameTable) -> Result<u32, AllocError>
     requires { start + names ≤ u32.MAX }
     ensures few { IfOk result (λ fresh. fresh ≤ names) }
     ensures all { OnOk result ((x : ℕ) → x < names → IsSome (found registers.new x)) }
@@ -68,8 +65,8 @@ fn add_fresh(names: usize, start: u32, registers: &mut HashMap<u64, u32>) -> Res
     let mut fresh = 0u32;
     for number in 0..names {
         let name = number as u64;
-        if !registers.contains_key(&name) {
-            registers.insert(name, start + fresh)?;
+        if registers.get(name).is_none() {
+            registers.set(name, start + fresh)?;
             fresh += 1;
         }
     }
@@ -77,12 +74,12 @@ fn add_fresh(names: usize, start: u32, registers: &mut HashMap<u64, u32>) -> Res
 }
 
 /// Whether an argument is a name that is read from the argument's register.
-fn is_read(term: &Term, own: u32, registers: &HashMap<u64, u32>) -> bool
+fn is_read(term: &Term, own: u32, registers: &NameTable) -> bool
     ensures { result
         ≡ is_read (register_of registers.now) (record { register = own; term = tree term.now }) }
 {
     match term {
-        Term::Name(name) => registers.get(name).copied().unwrap_or(0) == own,
+        Term::Name(name) => registers.get(*name).unwrap_or(0) == own,
         Term::Agent(_) => false,
     }
 }
@@ -91,7 +88,7 @@ fn is_read(term: &Term, own: u32, registers: &HashMap<u64, u32>) -> bool
 fn link_arguments(
     terms: &[Term],
     from: u32,
-    registers: &HashMap<u64, u32>,
+    registers: &NameTable,
     operands: &[u32],
     links: &mut Vec<Link>,
 ) -> Result<(), AllocError>
@@ -149,7 +146,7 @@ fn registers_of(
     names: usize,
     left: &[Term],
     right: &[Term],
-) -> Result<(HashMap<u64, u32>, u32), AllocError>
+) -> Result<(NameTable, u32), AllocError>
     requires room { constants + length left.now + length right.now + names ≤ u32.MAX }
     ensures few { IfOk result (λ made. made.1 ≤ names) }
     ensures all { IfOk result (λ made. (x : ℕ) → x < names → IsSome (found made.0 x)) }
@@ -161,7 +158,7 @@ fn registers_of(
 {
     let middle = constants + left.len() as u32;
     let start = middle + right.len() as u32;
-    let mut registers = HashMap::new(alloc);
+    let mut registers = NameTable::new(alloc, &[])?;
     read_arguments(left, constants, &mut registers)?;
     read_arguments(right, middle, &mut registers)?;
     let fresh = add_fresh(names, start, &mut registers)?;
@@ -185,7 +182,7 @@ fn links_of_sides(
     constants: u32,
     left: &[Term],
     right: &[Term],
-    registers: &HashMap<u64, u32>,
+    registers: &NameTable,
     operands: &[u32],
 ) -> Result<Vec<Link>, AllocError>
     requires counted { length operands.now ≡ length left.now + length right.now }

@@ -1,5 +1,5 @@
 -- For private functions: the registers of the names of a configuration.
-use Rattle.std.specs.Prelude.{◌≡◌, ◌↔◌, ◌⊎◌, ℕ, ◌+◌, ◌-◌, ◌^◌, ◌≤◌, List, [], ◌∷◌, None, Some, length, slice_get}
+use Rattle.std.specs.Prelude.{◌≡◌, ◌↔◌, ◌⊎◌, ℕ, ◌+◌, ◌-◌, ◌^◌, ◌<◌, ◌≤◌, List, [], ◌∷◌, None, Some, length, slice_get}
 use Rattle.ic_term.specs.Configuration.{occurrences}
 use Rattle.ic_machine.specs.declared.plan.Link.{Link}
 use Rattle.ic_plans.specs.inner.Registers.{Registers, found}
@@ -18,13 +18,13 @@ pub record AreFresh (ns : List ℕ) (start : ℕ) (names : List ℕ) (old new : 
       ↔ ((found old x ≡ Some r) ⊎ ((j : ℕ) × (slice_get names j ≡ Some x) × (r ≡ start + j)))
 
 -- Names of a list that stand there once have registers, from one on, and the next one is told. There are enough registers for
--- all names of the list.
+-- all names of the list, and one more.
 pub record LeavesRoom (ns : List ℕ) (next : ℕ) (registers : Registers) : Type 0 where
   pub start : ℕ
   pub given : List ℕ
   pub are_given : AreGiven ns start given registers
   pub next_is : next ≡ start + length given
-  pub room : start + length ns ≤ 2 ^ 32 - 1
+  pub room : start + length ns < 2 ^ 32 - 1
 
 -- registers two by two
 abbrev pub operand_links : List ℕ → List Link

@@ -1,21 +1,16 @@
 -- For private functions: the registers that names are read from.
-use Rattle.std.specs.Prelude.{◌≡◌, ◌⊎◌, ℕ, ◌+◌, ◌<◌, ◌≤◌, ◌==◌, List, [], ◌∷◌, Option, Some, length, slice_get, unwrap_or, if◌then◌else◌}
-use Rattle.std.specs.HashMap.{HashMap, get}
-use Rattle.std.specs.declared.hash.FoldHasher.{FoldHasher}
-use Rattle.std.specs.declared.hash.BuildHasherDefault.{BuildHasherDefault}
+use Rattle.std.specs.Prelude.{◌≡◌, ◌⊎◌, ℕ, ◌+◌, ◌<◌, ◌≤◌, List, [], ◌∷◌, Some, length, slice_get, unwrap_or, if◌then◌else◌}
+use Rattle.ic_names.specs.declared.table.NameTable.{NameTable}
+pub use Rattle.ic_names.specs.Table.{found}
 use Rattle.ic_term.specs.Tree.{name}
 use Rattle.ic_rules.specs.Rule.{Rule}
 use Rattle.ic_machine.specs.Plan.{Planned, IsPlan}
 use Rattle.ic_machine.specs.declared.plan.Link.{Link}
 use Rattle.ic_meaning.specs.Plans.{Argument, is_read, rule_arguments, StandsFor}
 
--- a map from names to registers
+-- the registers of names
 abbrev pub Registers : Type 0
-Registers = HashMap ℕ ℕ (BuildHasherDefault FoldHasher)
-
--- the register of a name, if it has one
-abbrev pub found : Registers → ℕ → Option ℕ
-found registers x = get (λ a b. a == b) registers x
+Registers = NameTable
 
 -- the register of a name, which is 0 for a name that has none
 abbrev pub register_of : Registers → ℕ → ℕ

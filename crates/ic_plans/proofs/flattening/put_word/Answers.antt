@@ -21,7 +21,7 @@ returns-clause-flat c =
     let put = ap reverse c.in_ok-push.ensures.items ∙ reverse-append c.match-word.operands.items (c.match-word.register ∷ []) in
     elim c.match-word.branch [
       | in-Name w ↦ λ arities ws would.
-          let register = w.register-is ∙ w.unwrap_or-register.ensures ∙ ap (λ o. unwrap_or o 0) (w.copied.ensures ∙ w.get.ensures.value) in
+          let register = w.register-is ∙ w.unwrap_or-register.ensures ∙ ap (λ o. unwrap_or o 0) w.get.ensures in
           rw w.makes-is (put-name arities registers c.args.first ws made operands after c.args.word w.in-Name.name w.in-Name.is
           (put ∙ (λ i. register i ∷ reverse (w.operands-is i).items)) would)
       | in-Agent-default-eq0 w ↦ λ arities ws would.

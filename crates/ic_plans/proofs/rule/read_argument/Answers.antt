@@ -1,4 +1,5 @@
-use Rattle.std.proofs.Common.{◌≡◌, ℕ, ap, sym, ◌∙◌}
+use Rattle.std.proofs.Common.{◌≡◌, ℕ, not, ap, sym, ◌∙◌}
+use Rattle.std.specs.Prelude.{is_some}
 use Rattle.ic_term.specs.Tree.{Trees, name, agent}
 use Rattle.ic_term.specs.Term.{tree}
 use Rattle.ic_term.specs.lemmas.TermLaws.{cell_tree-out, tree-Agent, tree-Name}
@@ -10,13 +11,13 @@ use Rattle.ic_plans.proofs.rule.read_argument.Goals as goal
 no_name : (s : ℕ) (ts : Trees) (x : ℕ) → agent s ts ≡ name x → ⊥
 no_name s ts x e = cc
 
-pub returns-in_ok-insert : goal.returns-in_ok-insert
-returns-in_ok-insert c = λ arguments start below regs.
-    rw (c.in-Name.is, tree-Name c.in-Name.name) (argument-added arguments start c.args.registers.now c.insert.new.self c.in-Name.name c.args.own c.in_ok-insert.ensures.updates.0 below regs)
+pub returns-in_ok-set : goal.returns-in_ok-set
+returns-in_ok-set c = λ arguments start below regs.
+    rw (c.in-Name.is, tree-Name c.in-Name.name) (argument-added arguments start c.args.registers.now c.set.new.self c.in-Name.name c.args.own c.in_ok-set.ensures.set below regs)
 
-pub returns-else-not-contains_key : goal.returns-else-not-contains_key
-returns-else-not-contains_key c = λ arguments start below regs.
-    let here = some_there (found c.args.registers.now c.in-Name.name) (sym c.contains_key.ensures ∙ c.if-not-contains_key.false) in
+pub returns-else-is_none : goal.returns-else-is_none
+returns-else-is_none c = λ arguments start below regs.
+    let here = some_there (found c.args.registers.now c.in-Name.name) (ap is_some (sym c.get.ensures) ∙ c.is_none.ensures ∙ ap not c.if-is_none.false) in
     rw (c.in-Name.is, tree-Name c.in-Name.name)
     (argument-kept arguments start (record { register = c.args.own; term = name c.in-Name.name }) c.args.registers.now regs
     (λ x e. (here.0, ap (found c.args.registers.now) (sym (ap number_in e)) ∙ here.1)))
