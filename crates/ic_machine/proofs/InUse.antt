@@ -73,7 +73,7 @@ equations_at_none kind [] = refl
 equations_at_none kind (e ∷ es) =
     sum_by-cons (λ x. cond (is_at kind x) 1 0) (equated_of e) (map equated_of es) ∙ omega (arith, equations_at_none kind es)
 
-links_at_none : (kind : ℕ) (rs : List Word) (ls : List Link) → in_use kind (map (linked rs) ls) ≡ 0
+pub links_at_none : (kind : ℕ) (rs : List Word) (ls : List Link) → in_use kind (map (linked rs) ls) ≡ 0
 links_at_none kind rs [] = refl
 links_at_none kind rs (l ∷ ls) =
     sum_by-cons (λ x. cond (is_at kind x) 1 0) (linked rs l) (map (linked rs) ls) ∙ omega (arith, links_at_none kind rs ls)

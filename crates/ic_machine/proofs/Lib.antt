@@ -18,3 +18,4 @@ pub mod Taking
 pub mod Limits
 pub mod InUse
 pub mod PlaceLaws
+pub mod Growth

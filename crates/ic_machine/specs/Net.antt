@@ -1,5 +1,5 @@
 -- The net that a machine holds.
-use Rattle.std.specs.Prelude.{◌≡◌, ℕ, zero, suc, ◌+◌, ◌^◌, ◌<◌, ◌≤◌, ◌==◌, ◌⊎◌, [], ◌∷◌, ◌++◌, Bool, false, List, length, map, None, Some, Contains, count_by, slice_index_or}
+use Rattle.std.specs.Prelude.{◌≡◌, ℕ, zero, suc, ◌+◌, ◌^◌, ◌<◌, ◌≤◌, ◌==◌, ◌⊎◌, [], ◌∷◌, ◌++◌, Bool, false, List, length, map, None, Some, Contains, count_by, slice_index_or, sum}
 use Rattle.ic_arena.specs.declared.word.Word.{Word}
 use Rattle.ic_arena.specs.declared.word.TheConstants.{NAME}
 use Rattle.ic_arena.specs.Piece.{Piece, equated, idle, waits, agent_of}
@@ -85,6 +85,10 @@ in_use kind ps = count_by (is_at kind) ps
 abbrev pub places_of : ℕ → Net → ℕ
 places_of zero n = n.names
 places_of (suc s) n = slice_index_or n.agents s 0
+
+-- how many places there are in all, the free ones too
+abbrev pub all_places : Net → ℕ
+all_places n = n.names + sum n.agents
 
 -- what is at a place, and no equation
 abbrev pub IsAtPlace : Piece → Type 0

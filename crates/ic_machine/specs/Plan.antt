@@ -1,6 +1,7 @@
 -- What a rule makes of two agents, ready to be made.
 use Rattle.std.specs.Prelude.{◌≡◌, ℕ, ◌+◌, ◌&&◌, ◌<◌, ◌≤◌, List, [], ◌∷◌, ◌++◌, Option, None, Some, length, map, slice_get, count_by, ◌==◌, if◌then◌else◌, nat_lt, IfSome}
 use Rattle.std.specs.List.{flat_map, position_from, range_with_len, AllByRecursion}
+use Rattle.std.specs.Option.{option_map_or}
 use Rattle.ic_arena.specs.declared.word.Word.{Word}
 use Rattle.ic_arena.specs.Word.{agent_word}
 use Rattle.ic_arena.specs.Piece.{Piece, equated, idle, agent_of}
@@ -104,6 +105,14 @@ plan_at ps (Some i) = slice_get ps i
 -- the plan of two symbols, if they have one
 abbrev pub plan_of : Plans → ℕ → ℕ → Option Planned
 plan_of p a b = plan_at p.plans (number_of p a b)
+
+-- how many places a plan takes for what it makes: one for each name, and one for each agent
+abbrev pub places_made : Planned → ℕ
+places_made p = p.names + length p.made
+
+-- the same of the plan with this number, if there is one
+abbrev pub places_made_by : Plans → ℕ → ℕ
+places_made_by p i = option_map_or places_made (slice_get p.plans i) 0
 
 -- What plans keep: each has a pair of known symbols, and the plan of a pair is one for their arguments.
 pub record ArePlans (p : Plans) : Type 0 where

@@ -9,3 +9,4 @@ pub mod PairLaws
 pub mod Balance
 pub mod Active
 pub mod RunsOn
+pub mod Upto

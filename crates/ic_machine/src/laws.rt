@@ -1,10 +1,10 @@
 //! Laws of steps.
 
-ghost use Rattle.std.specs.Prelude.{◌≡◌, ◌⊎◌, ◌≤◌, ℕ, List, Contains};
+ghost use Rattle.std.specs.Prelude.{◌≡◌, ◌⊎◌, ◌+◌, ◌≤◌, ℕ, List, Contains, length, sum, sum_by};
 ghost use Rattle.ic_arena.specs.declared.word.Word.{Word};
 ghost use Rattle.ic_arena.specs.Piece.{Piece};
-ghost use Rattle.ic_machine.specs.Net.{Net, in_use, pieces, places_of};
-ghost use Rattle.ic_machine.specs.Plan.{Planned, Plans, ArePlans};
+ghost use Rattle.ic_machine.specs.Net.{Net, all_places, in_use, pieces, places_of};
+ghost use Rattle.ic_machine.specs.Plan.{Planned, Plans, ArePlans, places_made_by};
 ghost use Rattle.ic_machine.specs.Runs.{Ran, Starts};
 ghost use Rattle.ic_machine.specs.Separate.{IsSeparate};
 ghost use Rattle.ic_machine.specs.Steps.{Steps};
@@ -32,4 +32,16 @@ pub fn places_are_those_that_were_in_use()
     ensures no_more { (p : Plans) (old new : Net) (kind : ℕ) (run : Ran p old new)
         → (places_of kind new ≡ places_of kind old) ⊎ ((moment : List Piece)
         × Contains run.moments moment × (in_use kind moment ≡ places_of kind new)) }
+{}
+
+/// A machine begins with a place for each name and for each agent that its plan makes. Each pair that fires adds at most as
+/// many places as its plan makes names and agents.
+pub fn places_are_made_by_plans()
+    ensures names { (p : Plans) (given : ℕ) (plan : Planned) (operands : List ℕ) (n : Net)
+        → Starts p given plan operands n → n.names ≡ plan.names }
+    ensures agents { (p : Plans) (given : ℕ) (plan : Planned) (operands : List ℕ) (n : Net)
+        → Starts p given plan operands n → sum n.agents ≡ length plan.made }
+    ensures fired { (p : Plans) (old new : Net) (run : Ran p old new)
+        → ((kind : ℕ) → in_use kind (pieces old) ≤ places_of kind old)
+        → all_places new ≤ all_places old + sum_by (places_made_by p) run.fired }
 {}

@@ -123,6 +123,7 @@ impl Machine {
         ensures pairs { AllByRecursion IsPair self.new.pending }
         ensures limit { result ≡ Err MachineFault.Limit
             → (next : HasNext program.now self.new.pending) × IsFull next.active.plan self.new }
+        ensures broken { OnErr result (self.new.pending ≢ []) }
     {
         for step in 0..steps {
             if !self.step(program)? {
@@ -151,6 +152,7 @@ impl Machine {
         ensures pairs { AllByRecursion IsPair self.new.pending }
         ensures limit { result ≡ Err MachineFault.Limit
             → (next : HasNext program.now self.new.pending) × IsFull next.active.plan self.new }
+        ensures broken { OnErr result (self.new.pending ≢ []) }
     {
         let found = find_plan(program, &mut self.tables.pending, &mut self.aside)?;
         let Some((pair, number)) = found else {
@@ -173,6 +175,7 @@ impl Machine {
         ensures places { AllByRecursion IsAtPlace self.new.places }
         ensures pairs { AllByRecursion IsPair self.new.pending }
         ensures limit { result ≢ Err MachineFault.Limit }
+        ensures broken { OnErr result (self.new.pending ≢ []) }
     {
         let found = find_plan(program, &mut self.tables.pending, &mut self.aside)?;
         Ok(found.is_none())
@@ -280,6 +283,7 @@ fn find_plan(
     ensures found { IfOk result (λ o. MatchOption o (pending.new.items ≡ [])
         (λ f. IsLast f.0 pending.new.items × HasNumber program.now f.0 f.1)) }
     ensures limit { result ≢ Err MachineFault.Limit }
+    ensures broken { OnErr result (pending.new.items ≢ []) }
 {
     while let Some(pair) = pending.last() {
         let pair = *pair;

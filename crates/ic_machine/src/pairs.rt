@@ -2,6 +2,7 @@
 
 ghost use Rattle.std.specs.Prelude.{◌≡◌, ℕ, ◌*◌, ◌^◌, ◌<◌, ◌&&◌, ◌==◌, [], ◌∷◌, ◌++◌, None, Some, if◌then◌else◌, length, IfOk, OnOk, OnErr};
 ghost use Rattle.ic_machine.specs.Plan.{place_of};
+ghost use Rattle.std.specs.HashMap.{get};
 ghost use Rattle.ic_machine.specs.inner.PairIndex.{key_of, number_in};
 
 use std::alloc::{AllocError, Global};
@@ -56,9 +57,10 @@ impl PairIndex {
     {
         let (row, column) = (a as usize, b as usize);
         if row < self.rows && column < self.rows {
-            return self.entries[row * self.rows + column];
+            self.entries[row * self.rows + column]
+        } else {
+            get_other(&self.others, a, b)
         }
-        self.others.get(&key_of(a, b)).copied()
     }
 
     /// Adds a pair as the last one.
@@ -74,6 +76,15 @@ impl PairIndex {
         self.pairs.push_reserved((a, b));
         Ok(())
     }
+}
+
+/// The number of a pair that has no entry. It stands apart, so that a look-up of an entry is a few instructions.
+#[cold]
+#[inline(never)]
+fn get_other(others: &HashMap<u64, u32>, a: u32, b: u32) -> Option<u32>
+    ensures { result ≡ get (λ m n. m == n) others.now (key_of a b) }
+{
+    others.get(&key_of(a, b)).copied()
 }
 
 /// Gives a pair this number.
