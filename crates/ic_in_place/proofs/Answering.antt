@@ -1,5 +1,5 @@
 -- Lemmas: what was read back of a machine that has stopped is what a reduction answers.
-use Rattle.std.proofs.Common.{◌≡◌, ℕ, ◌+◌, ◌*◌, ◌^◌, ◌<◌, List, [], ◌∷◌, Bool, false, None, Some, IsTrue, length, map, cond, slice_get, refl, sym, ap, ◌∙◌, subst as transport}
+use Rattle.std.proofs.Common.{◌≡◌, ◌≢◌, ℕ, ◌+◌, ◌*◌, ◌^◌, ◌<◌, List, [], ◌∷◌, false, None, Some, IsTrue, length, map, slice_get, refl, sym, ap, ◌∙◌, subst as transport}
 use Rattle.std.proofs.lemmas.Bool.{false≢true}
 use Rattle.ic_in_place.specs.Reductions.{is_written, stuck_at}
 use Rattle.std.specs.Prelude.{◌↔◌}
@@ -79,7 +79,7 @@ ends_alike s bounds p d m places Quiet next quiet together is = (quiet is, toget
 ends_alike s bounds p d m places Steps next quiet together is = (is.0, next is.1, together)
 ends_alike s bounds p d m places Nodes next quiet together is = (is.0, is.1, is.2)
 ends_alike s bounds p d m places Limit next quiet together is = tt
-ends_alike s bounds p d m places end.Memory next quiet together is = is
+ends_alike s bounds p d m places end.Memory next quiet together is = tt
 
 -- a quiet end is that of a quiet configuration
 pub quiet_at : (rs : List Rule) (bounds : Bounds) (d : Configuration) (interactions places : ℕ) (end : End)
@@ -106,6 +106,15 @@ full_at bounds p m places Quiet is e = cc
 full_at bounds p m places Steps is e = cc
 full_at bounds p m places Nodes is e = cc
 full_at bounds p m places end.Memory is e = cc
+
+-- a pair was left where memory ran out
+left_at : (bounds : Bounds) (p : Plans) (m : Net) (places : ℕ) (stop : End) → StopsBy bounds p m places stop → stop ≡ end.Memory
+    → m.pending ≢ []
+left_at bounds p m places end.Memory is e = is
+left_at bounds p m places Quiet is e = cc
+left_at bounds p m places Steps is e = cc
+left_at bounds p m places Nodes is e = cc
+left_at bounds p m places Limit is e = cc
 
 numbered_names : (given : List ℕ) (ts : List Token) → AllByRecursion (IsNumbered given) ts → AllByRecursion (HasNumber given) (names_of ts)
 numbered_names given [] all = tt
@@ -182,6 +191,7 @@ answered_so laws s bounds given m end places by_rule stopped ts terms equations 
           ended = ends_alike s bounds stopped.plans answer m places end next (quiet net.names_too are).0 (quiet net.names_too are).1 stopped.ended;
           next = left_over bounds stopped.plans m places end stopped.ended;
           full = full_at bounds stopped.plans m places end stopped.ended;
+          left = left_at bounds stopped.plans m places end stopped.ended;
         };
         counts = stopped.counts;
       }),
@@ -207,7 +217,7 @@ unread_so itself s bounds given m Steps places by_rule stopped none = absurd (fa
 unread_so itself s bounds given m Nodes places by_rule stopped none = record {
   answer = net_of stopped.held.numbers m.interface (pieces m);
   reached = record {
-    reached = record { fired = stopped.fired; reached = stopped.held.reached; counted = stopped.counted; within = stopped.within; held = held_at s bounds given m Nodes places by_rule _ stopped (itself _ stopped.held.has_names); ended = (stopped.ended.0, stopped.ended.1, stopped.ended.2); next = left_over bounds stopped.plans m places Nodes stopped.ended; full = full_at bounds stopped.plans m places Nodes stopped.ended };
+    reached = record { fired = stopped.fired; reached = stopped.held.reached; counted = stopped.counted; within = stopped.within; held = held_at s bounds given m Nodes places by_rule _ stopped (itself _ stopped.held.has_names); ended = (stopped.ended.0, stopped.ended.1, stopped.ended.2); next = left_over bounds stopped.plans m places Nodes stopped.ended; full = full_at bounds stopped.plans m places Nodes stopped.ended; left = left_at bounds stopped.plans m places Nodes stopped.ended };
     counts = stopped.counts;
   };
   name_steps = refl;
@@ -216,7 +226,7 @@ unread_so itself s bounds given m Nodes places by_rule stopped none = record {
 unread_so itself s bounds given m Limit places by_rule stopped none = record {
   answer = net_of stopped.held.numbers m.interface (pieces m);
   reached = record {
-    reached = record { fired = stopped.fired; reached = stopped.held.reached; counted = stopped.counted; within = stopped.within; held = held_at s bounds given m Limit places by_rule _ stopped (itself _ stopped.held.has_names); ended = tt; next = left_over bounds stopped.plans m places Limit stopped.ended; full = full_at bounds stopped.plans m places Limit stopped.ended };
+    reached = record { fired = stopped.fired; reached = stopped.held.reached; counted = stopped.counted; within = stopped.within; held = held_at s bounds given m Limit places by_rule _ stopped (itself _ stopped.held.has_names); ended = tt; next = left_over bounds stopped.plans m places Limit stopped.ended; full = full_at bounds stopped.plans m places Limit stopped.ended; left = left_at bounds stopped.plans m places Limit stopped.ended };
     counts = stopped.counts;
   };
   name_steps = refl;
@@ -225,7 +235,7 @@ unread_so itself s bounds given m Limit places by_rule stopped none = record {
 unread_so itself s bounds given m end.Memory places by_rule stopped none = record {
   answer = net_of stopped.held.numbers m.interface (pieces m);
   reached = record {
-    reached = record { fired = stopped.fired; reached = stopped.held.reached; counted = stopped.counted; within = stopped.within; held = held_at s bounds given m end.Memory places by_rule _ stopped (itself _ stopped.held.has_names); ended = stopped.ended; next = left_over bounds stopped.plans m places end.Memory stopped.ended; full = full_at bounds stopped.plans m places end.Memory stopped.ended };
+    reached = record { fired = stopped.fired; reached = stopped.held.reached; counted = stopped.counted; within = stopped.within; held = held_at s bounds given m end.Memory places by_rule _ stopped (itself _ stopped.held.has_names); ended = tt; next = left_over bounds stopped.plans m places end.Memory stopped.ended; full = full_at bounds stopped.plans m places end.Memory stopped.ended; left = left_at bounds stopped.plans m places end.Memory stopped.ended };
     counts = stopped.counts;
   };
   name_steps = refl;

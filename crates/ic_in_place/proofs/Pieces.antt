@@ -17,6 +17,7 @@ ended_before p all left steps end first old new counted low other others runs = 
   more = λ is. absurd (other is);
   early = λ is. absurd (others is);
   full = runs.full;
+  left = runs.left;
 }
 
 -- the last piece
@@ -29,6 +30,7 @@ all_made p all left steps first old new counted low none runs = record {
   more = runs.more;
   early = λ is. cc;
   full = λ is. cc;
+  left = λ is. cc;
 }
 
 -- a piece after which there are too many places
@@ -41,6 +43,7 @@ too_many p all left steps first old new counted low some runs = record {
   more = λ is. cc;
   early = λ is. omega (arith, counted, low, some, runs.all refl);
   full = λ is. cc;
+  left = λ is. cc;
 }
 
 pub goes_on : (p : Plans) (all left steps : ℕ) (first old new : Net) → old.interactions + left ≡ first.interactions + all → steps ≤ left

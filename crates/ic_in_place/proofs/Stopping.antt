@@ -66,7 +66,7 @@ by_end bounds p old m places Nodes none runs nodes looked =
     let at : IsLookedAt p old m = looked refl in
     (nodes refl, omega (arith, none, runs.early refl), (at.looks, omega (arith, at.whole, none)), at.more)
 by_end bounds p old m places Limit none runs nodes looked = runs.full refl
-by_end bounds p old m places Memory none runs nodes looked = tt
+by_end bounds p old m places Memory none runs nodes looked = runs.left refl
 
 -- each plan that fired is there
 known_step : (p : Plans) (xs ys : List Piece) (fired : List ℕ) → Step p fired xs ys → AllByRecursion (λ i. i < length p.plans) fired

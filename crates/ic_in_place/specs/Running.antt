@@ -1,11 +1,11 @@
 -- How a run of a machine ended.
-use Rattle.std.specs.Prelude.{◌≡◌, ℕ, suc, ◌+◌, ◌*◌, ◌<◌, ◌≤◌, List, [], ◌++◌, length, sum}
+use Rattle.std.specs.Prelude.{◌≡◌, ◌≢◌, ℕ, suc, ◌+◌, ◌*◌, ◌<◌, ◌≤◌, List, [], ◌++◌, length, sum}
 use Rattle.ic_machine.specs.Net.{Net, HasNext, IsFull}
 use Rattle.ic_machine.specs.Plan.{Plans}
 use Rattle.ic_machine.specs.Runs.{Ran}
 use Rattle.ic_in_place.specs.declared.running.TheConstants.{PIECE}
 use Rattle.ic_in_place.specs.declared.running.End.{End}
-use Rattle.ic_in_place.specs.declared.running.End.TheVariants.{Quiet, Steps, Nodes, Limit}
+use Rattle.ic_in_place.specs.declared.running.End.TheVariants.{Quiet, Steps, Nodes, Limit, Memory}
 
 -- The last pair that is left can fire, and by its plan a table would be full.
 abbrev pub IsFullNext : Plans → Net → Type 0
@@ -13,7 +13,7 @@ IsFullNext p m = (next : HasNext p m.pending) × IsFull next.active.plan m
 
 -- A run of at most so many interactions came to this end. Where that is quiet, no pair is left, and where it has made all,
 -- the last one that is left can fire. Where it stopped for its places, it hasn't made all. Where it stopped at a limit, a
--- table would be full.
+-- table would be full, and where memory ran out, a pair is left.
 pub record RunsOn (p : Plans) (steps : ℕ) (end : End) (old new : Net) : Type 0 where
   pub within : new.interactions ≤ old.interactions + steps
   pub quiet : end ≡ Quiet → new.pending ≡ []
@@ -21,6 +21,7 @@ pub record RunsOn (p : Plans) (steps : ℕ) (end : End) (old new : Net) : Type 0
   pub more : end ≡ Steps → HasNext p new.pending
   pub early : end ≡ Nodes → new.interactions < old.interactions + steps
   pub full : end ≡ Limit → IsFullNext p new
+  pub left : end ≡ Memory → new.pending ≢ []
 
 -- Whole pieces of a run were made, at least one, and the last pair that is left can fire.
 pub record IsLookedAt (p : Plans) (old new : Net) : Type 0 where

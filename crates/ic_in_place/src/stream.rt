@@ -54,7 +54,7 @@ pub struct Outcome {
 }
 
 /// Reduces the system that the reader gives in place, and writes what was reached as a line, if that is asked for. What is
-/// told of it is the same whatever is asked for.
+/// told of it is of the same kind whatever is asked for.
 ///
 /// Nothing is written before the text is read and reduced. A text that passes these limits is `TextFault::Limit`, and at most
 /// one byte more is read than a text may have. Where the text is refused, the lines that tell of it are appended to `told`.

@@ -1,5 +1,5 @@
 -- For private functions: a machine that begins with the configuration of a system, and where it stops.
-use Rattle.std.specs.Prelude.{◌≡◌, ℕ, suc, ◌+◌, ◌*◌, ◌^◌, ◌<◌, ◌≤◌, List, [], ◌++◌, IsTrue, length, map, sum}
+use Rattle.std.specs.Prelude.{◌≡◌, ◌≢◌, ℕ, suc, ◌+◌, ◌*◌, ◌^◌, ◌<◌, ◌≤◌, List, [], ◌++◌, IsTrue, length, map, sum}
 use Rattle.std.specs.List.{AllByRecursion}
 use Rattle.ic_term.specs.Configuration.{configuration_nodes}
 use Rattle.ic_term.specs.Symbol.{is_over}
@@ -51,7 +51,7 @@ StopsBy bounds p m places Nodes =
     (bounds.nodes < places) × (m.interactions < bounds.steps)
     × ((looks : ℕ) × (m.interactions ≡ suc looks * PIECE)) × HasNext p m.pending
 StopsBy bounds p m places Limit = IsFullNext p m
-StopsBy bounds p m places Memory = Unit {0}
+StopsBy bounds p m places Memory = m.pending ≢ []
 
 -- A machine began with the configuration of a system, whose names that occur once are given, and has stopped.
 pub record HasStopped (s : SystemParts) (bounds : Bounds) (given by_rule : List ℕ) (m : Net)

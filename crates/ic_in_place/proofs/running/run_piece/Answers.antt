@@ -9,4 +9,5 @@ returns-in-Err-Limit-clause-ended c = record {
   more = λ is. cc;
   early = λ is. cc;
   full = λ is. c.in-Err-Limit.ensures.limit (ap Err c.in-Err-Limit.field-0-is);
+  left = λ is. cc;
 }
