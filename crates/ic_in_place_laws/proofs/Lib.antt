@@ -1,0 +1,7 @@
+pub mod Weights
+pub mod Sizes
+pub mod Fired
+pub mod Taken
+pub mod Told
+pub mod Pending
+pub mod Onward

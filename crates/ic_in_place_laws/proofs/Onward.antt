@@ -1,0 +1,87 @@
+-- Lemmas: one interaction more, and how many were made.
+use Rattle.std.proofs.Common.{◌≡◌, ℕ, ◌+◌, ◌*◌, List, [], ◌∷◌, ◌++◌, length, map, sym, ap, ◌∙◌, arith, IsTrue, suc, subst as transport}
+use Rattle.std.proofs.lemmas.List.{length-append, length-map}
+use Rattle.ic_term.specs.Configuration.{Configuration}
+use Rattle.ic_term.specs.Symbol.{is_over}
+use Rattle.ic_rules.specs.RuleSet.{Rules, IsRuleSet}
+use Rattle.ic_rules.specs.System.{SystemParts}
+use Rattle.ic_round.specs.Naming.{HasNames}
+use Rattle.ic_reaching.specs.Reaching.{Reaches}
+use Rattle.ic_arena.specs.declared.word.Word.{Word}
+use Rattle.ic_arena.specs.Piece.{Piece}
+use Rattle.ic_machine.specs.Net.{Net, HasNext, pieces}
+use Rattle.ic_machine.specs.Plan.{Plans, ArePlans}
+use Rattle.ic_machine.specs.Steps.{Steps, fires}
+use Rattle.ic_machine.specs.lemmas.StepsOn.{one_step}
+use Rattle.ic_meaning.specs.Words.{Numbers, AreNumbers}
+use Rattle.ic_meaning.specs.Nets.{net_of, AreNetPieces}
+use Rattle.ic_meaning.specs.Plans.{ArePlansOf, rule_number}
+use Rattle.ic_in_place.specs.declared.running.Bounds.{Bounds}
+use Rattle.ic_in_place.specs.declared.running.End.{End}
+use Rattle.ic_in_place.specs.declared.running.TheConstants.{PIECE}
+use Rattle.ic_in_place.specs.Running.{Looked, no_look, one_more_look}
+use Rattle.ic_in_place.specs.Reducing.{IsReached}
+use Rattle.ic_in_place_laws.proofs.Pending.{CanFire, next_fires}
+
+-- what the law of steps says
+abbrev pub StepsLaw : Type 0
+StepsLaw = (rs : Rules) (numbers : List ℕ) (p : Plans) (n : Numbers) (c : Configuration) (i : List Word) (fired : List ℕ) (xs ys : List Piece) (before : List ℕ)
+    → IsRuleSet rs → IsTrue (is_over rs.symbols c) → HasNames c → ArePlans p → ArePlansOf rs numbers p → AreNumbers n → n.arities ≡ p.arities
+    → AreNetPieces n.arities i xs → Reaches rs.rules c (net_of n i xs) before → Steps p fired xs ys
+    → Reaches rs.rules c (net_of n i ys) (before ++ map (rule_number numbers) fired)
+
+-- where a pair that can fire is left, one interaction more is possible
+pub one_more : StepsLaw → (s : SystemParts) (bounds : Bounds) (answer : Configuration) (end : End) (interactions places : ℕ)
+    → IsRuleSet s.rules → IsTrue (is_over s.rules.symbols s.config) → HasNames s.config
+    → (is : IsReached s bounds answer end interactions places) → HasNext is.held.plans is.held.machine.pending
+    → (d : Configuration) × (fired : List ℕ) × Reaches s.rules.rules s.config d fired × (length fired ≡ interactions + 1)
+one_more law s bounds answer end interactions places set over named is next =
+    let p : Plans = is.held.plans in
+    let m : Net = is.held.machine in
+    let held = is.held.held in
+    let n : Numbers = held.numbers in
+    let f : CanFire p (pieces m) = next_fires p m held.are_pieces next in
+    let steps : Steps p (f.number ∷ []) (pieces m) f.after = one_step p (f.number ∷ []) (pieces m) f.after (fires f.number (pieces m) f.after f.fires) in
+    let reached = law s.rules is.held.rule_numbers p n s.config m.interface (f.number ∷ []) (pieces m) f.after is.fired set over named
+    is.held.compiled.plans is.held.compiled.of_rules held.sound held.arities
+    (transport (λ (a : List ℕ). AreNetPieces a m.interface (pieces m)) (sym held.arities) held.are_pieces) held.reached steps in (
+      net_of n m.interface f.after,
+      is.fired ++ map (rule_number is.held.rule_numbers) (f.number ∷ []),
+      reached,
+      omega (arith, is.counted, length-append is.fired (map (rule_number is.held.rule_numbers) (f.number ∷ []))),
+    )
+
+-- ---- how many pairs fired
+
+looked_counted : (p : Plans) (nodes : ℕ) (fired : List ℕ) (first last : Net) → Looked p nodes fired first last
+    → last.interactions ≡ first.interactions + length fired
+looked_counted p nodes fired first last (no_look m) = omega arith
+looked_counted p nodes fired first last (one_more_look before a m b looked next) =
+    let then = looked_counted p nodes before a m looked in
+    let counted = next.ran.counted in
+    omega (arith, then, counted, length-append before next.ran.fired)
+
+pub all_counted : (s : SystemParts) (bounds : Bounds) (answer : Configuration) (end : End) (interactions places : ℕ)
+    → (is : IsReached s bounds answer end interactions places) → is.held.machine.interactions ≡ interactions
+all_counted s bounds answer end interactions places is =
+    let w = is.held.watched in
+    let all : List ℕ = w.before ++ w.after.fired in
+    let looked = looked_counted is.held.plans bounds.nodes w.before is.held.first w.mark w.looked in
+    let after = w.after.counted in
+    let many : length is.fired ≡ length all = ap (length {A = ℕ}) is.held.by_plans ∙ length-map all (rule_number is.held.rule_numbers) in
+    omega (arith, looked, after, many, is.counted, is.held.none, length-append w.before w.after.fired)
+
+-- places are looked at after whole pieces
+looked_whole : (p : Plans) (nodes : ℕ) (fired : List ℕ) (first last : Net) → Looked p nodes fired first last
+    → (looks : ℕ) × (last.interactions ≡ first.interactions + looks * PIECE)
+looked_whole p nodes fired first last (no_look m) = (0, omega arith)
+looked_whole p nodes fired first last (one_more_look before a m b looked next) =
+    let then = looked_whole p nodes before a m looked in
+    let whole = next.whole in
+    (suc then.0, omega (arith, then.1, whole))
+
+pub mark_whole : (s : SystemParts) (bounds : Bounds) (answer : Configuration) (end : End) (interactions places : ℕ)
+    → (is : IsReached s bounds answer end interactions places) → (looks : ℕ) × (is.held.watched.mark.interactions ≡ looks * 4096)
+mark_whole s bounds answer end interactions places is =
+    let whole = looked_whole is.held.plans bounds.nodes is.held.watched.before is.held.first is.held.watched.mark is.held.watched.looked in
+    (whole.0, omega (arith, whole.1, is.held.none))

@@ -1,0 +1,17 @@
+use Rattle.std.proofs.Common.{ap, ◌∙◌, subst}
+use Rattle.ic_in_place.specs.Reducing.{EndsBy}
+use Rattle.ic_in_place.specs.Reductions.{stuck_at}
+use Rattle.ic_in_place.specs.declared.running.End.{End}
+use Rattle.ic_in_place_laws.proofs.laws.a_stuck_pair_is_of_a_quiet_end.Goals as goal
+
+pub returns : goal.returns
+returns c = λ limits bounds asked input line outcome is quiet.
+    let ended = subst (λ (x : End). EndsBy is.system.rules.rules bounds is.answer outcome.interactions outcome.places x) quiet is.reached.reached.ended in (
+      is.system,
+      is.answer,
+      is.reached.reached.fired,
+      is.reads,
+      is.reached.reached.reached,
+      ended.0,
+      is.stuck ∙ ap (λ (x : End). stuck_at x is.system.rules.symbols is.answer) quiet,
+    )

@@ -1,0 +1,119 @@
+//! Laws of what a reduction in place answers and tells.
+
+ghost use Rattle.std.specs.Prelude.{◌≡◌, ◌≢◌, ℕ, ◌+◌, ◌≤◌, List, [], false, Option, None, Some, Ok, Err, IsTrue, length};
+ghost use Rattle.std.specs.Option.{option_map};
+ghost use Rattle.ic_term.specs.Configuration.{Configuration};
+ghost use Rattle.ic_term.specs.Symbol.{is_over};
+ghost use Rattle.ic_rules.specs.Rule.{Rule};
+ghost use Rattle.ic_rules.specs.RuleSet.{IsRuleSet};
+ghost use Rattle.ic_rules.specs.System.{SystemParts};
+ghost use Rattle.ic_round.specs.Naming.{HasNames};
+ghost use Rattle.ic_round.specs.Rounds.{IsQuiet};
+ghost use Rattle.ic_confluence.specs.Kinds.{Kind, Chain};
+ghost use Rattle.ic_reaching.specs.OneNet.{OneNet};
+ghost use Rattle.ic_reaching.specs.Reaching.{Reaches, rules_fired};
+ghost use Rattle.ic_naming.specs.Naming.{renumbered};
+ghost use Rattle.ic_text.specs.SystemText.{ReadsSystemWithin};
+ghost use Rattle.ic_text.specs.declared.fault.TextFault.{TextFault};
+ghost use Rattle.ic_text.specs.declared.limits.Limits.{Limits};
+ghost use Rattle.ic_streams.specs.Streams.{line_of};
+ghost use Rattle.ic_streams.specs.declared.fault.StreamFault.TheVariants as stream;
+ghost use Rattle.ic_by_rounds.specs.Stuck.{stuck_text};
+ghost use Rattle.ic_in_place.specs.declared.running.Bounds.{Bounds};
+ghost use Rattle.ic_in_place.specs.declared.running.End.{End};
+ghost use Rattle.ic_in_place.specs.declared.running.End.TheVariants.{Quiet, Steps, Nodes, Limit, Memory};
+ghost use Rattle.ic_in_place.specs.declared.stream.Asked.{Asked};
+ghost use Rattle.ic_in_place.specs.declared.stream.Asked.TheVariants.{Nothing};
+ghost use Rattle.ic_in_place.specs.declared.stream.Outcome.{Outcome};
+ghost use Rattle.ic_in_place.specs.Counting.{TellsNameSteps};
+ghost use Rattle.ic_in_place.specs.Reducing.{IsPutTogether, IsReached};
+ghost use Rattle.ic_in_place.specs.Reductions.{EndsAs, ReducesInPlace, Tells, is_written};
+
+/// What stands in an empty output after a reduction to a quiet end is the line of the net of every order, and the outcome
+/// that was told counts the interactions of every order.
+pub fn what_is_told_is_of_the_text()
+    ensures { (limits : Limits) (bounds : Bounds) (asked : Asked) (input line : List ℕ)
+        (outcome : Outcome) (s : SystemParts) (e : Configuration) (kinds : List Kind)
+        → Tells limits bounds asked input outcome (Some []) (Some line) → outcome.end ≡ Quiet
+        → asked ≢ Nothing → ReadsSystemWithin limits input (Ok s)
+        → Chain s.rules.rules kinds s.config e → IsQuiet s.rules.rules e
+        → (answer : Configuration) × (line ≡ line_of s.rules.symbols (renumbered answer))
+        × OneNet answer e × (length (rules_fired kinds) ≡ outcome.interactions) }
+{
+    ic_in_place::laws::a_line_is_the_net_of_every_order();
+}
+
+/// A text that is read as a system isn't refused.
+pub fn what_is_a_system_is_not_refused()
+    ensures { (limits : Limits) (bounds : Bounds) (asked : Asked) (input : List ℕ) (s : SystemParts)
+        (fault : TextFault) → ReadsSystemWithin limits input (Ok s)
+        → ¬ ReducesInPlace limits bounds asked input (Err (stream.Text fault)) }
+{
+    ic_text::laws::one_system_reading();
+}
+
+/// No more interactions are made than may be. Name steps are told at a quiet end alone.
+pub fn bounds_are_kept()
+    ensures steps { (s : SystemParts) (bounds : Bounds) (answer : Configuration) (end : End)
+        (interactions places : ℕ) → IsReached s bounds answer end interactions places
+        → interactions ≤ bounds.steps }
+    ensures name_steps { (rs : List Rule) (c : Configuration) (interactions left : ℕ) (end : End)
+        (told : Option ℕ) → end ≢ Quiet → TellsNameSteps rs c interactions left end told
+        → told ≡ None }
+{}
+
+/// Where as many interactions were made as may be and a line is asked for, it is that of a configuration which as many
+/// interactions reach, with no name left to replace. Where nothing is asked for, there is no line.
+pub fn a_cut_is_told_as_it_stands()
+    ensures cut { (limits : Limits) (bounds : Bounds) (asked : Asked) (input line : List ℕ)
+        (outcome : Outcome) → EndsAs limits bounds asked input outcome line → outcome.end ≡ Steps
+        → asked ≢ Nothing → (s : SystemParts) × (answer : Configuration) × (fired : List ℕ)
+        × ReadsSystemWithin limits input (Ok s) × Reaches s.rules.rules s.config answer fired
+        × (length fired ≡ bounds.steps) × IsPutTogether answer
+        × (line ≡ line_of s.rules.symbols (renumbered answer)) }
+    ensures nothing { (limits : Limits) (bounds : Bounds) (input line : List ℕ) (outcome : Outcome)
+        → EndsAs limits bounds Nothing input outcome line → line ≡ [] }
+    ensures unwritten { (limits : Limits) (bounds : Bounds) (asked : Asked) (input line : List ℕ)
+        (outcome : Outcome) → EndsAs limits bounds asked input outcome line
+        → is_written asked outcome.end ≡ false → line ≡ [] }
+{}
+
+/// The stuck pair that is told is the first one of a quiet configuration which the text's system reaches.
+pub fn a_stuck_pair_is_of_a_quiet_end()
+    ensures { (limits : Limits) (bounds : Bounds) (asked : Asked) (input line : List ℕ)
+        (outcome : Outcome) → EndsAs limits bounds asked input outcome line → outcome.end ≡ Quiet
+        → (s : SystemParts) × (answer : Configuration) × (fired : List ℕ)
+        × ReadsSystemWithin limits input (Ok s) × Reaches s.rules.rules s.config answer fired
+        × IsQuiet s.rules.rules answer
+        × (option_map (λ text. text.items) outcome.stuck
+        ≡ stuck_text s.rules.symbols (renumbered answer)) }
+{}
+
+/// Where there were too many places, or a table would be full, one more interaction is possible. Where memory ran out, a pair
+/// was left.
+pub fn a_stop_comes_before_an_interaction()
+    ensures nodes { (s : SystemParts) (bounds : Bounds) (answer : Configuration)
+        (interactions places : ℕ)
+        → IsRuleSet s.rules → IsTrue (is_over s.rules.symbols s.config) → HasNames s.config
+        → IsReached s bounds answer Nodes interactions places
+        → (d : Configuration) × (fired : List ℕ) × Reaches s.rules.rules s.config d fired
+        × (length fired ≡ interactions + 1) }
+    ensures full { (s : SystemParts) (bounds : Bounds) (answer : Configuration)
+        (interactions places : ℕ)
+        → IsRuleSet s.rules → IsTrue (is_over s.rules.symbols s.config) → HasNames s.config
+        → IsReached s bounds answer Limit interactions places
+        → (d : Configuration) × (fired : List ℕ) × Reaches s.rules.rules s.config d fired
+        × (length fired ≡ interactions + 1) }
+    ensures memory { (s : SystemParts) (bounds : Bounds) (answer : Configuration)
+        (interactions places : ℕ) → (is : IsReached s bounds answer Memory interactions places)
+        → is.held.machine.pending ≢ [] }
+{
+    ic_meaning::laws::steps_of_pieces_are_steps_of_the_net();
+}
+
+/// The machine that held what was reached has fired as many pairs as interactions are told.
+pub fn interactions_are_pairs_that_fired()
+    ensures { (s : SystemParts) (bounds : Bounds) (answer : Configuration) (end : End)
+        (interactions places : ℕ) → (is : IsReached s bounds answer end interactions places)
+        → is.held.machine.interactions ≡ interactions }
+{}

@@ -1,0 +1,5 @@
+//! Laws of what a reduction in place answers and tells. No program calls them.
+#![tactic(auto)]
+
+pub mod laws;
+pub mod places;
