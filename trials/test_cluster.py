@@ -1,14 +1,18 @@
 """The scripts of cluster/ by themselves: what they do with words, files and folders, whatever these have."""
 
 import os
+import shutil
 
 from known import LOOP, TWO
-from program import IN_MEMORY, Server, grows_to
-from shards import Shards
+from program import IN_MEMORY, Server, grows_to, run
+from shards import SCRIPTS, Shards
 
 LOOPING = f"submit loop {LOOP.text}"
 TWICE = f"submit two {TWO.text}"
 NONE = "submit none {} <|>"
+
+# The folders of the path that have no program `icserve`.
+WITHOUT = ":".join(it for it in os.environ["PATH"].split(":") if not os.path.exists(f"{it}/icserve"))
 
 
 class Scripts(Shards):
@@ -133,10 +137,44 @@ class Scripts(Shards):
         files[1].unlink()
         self.ended(self.script("gather", "jobs"), err=none[1:2], status=1)
 
+    def test_progress_tells_stuck_jobs_of_answers_and_disks(self):
+        """Of answers and of disks alike, those jobs are stuck that are done with an equation of two agents."""
+        stuck = ["<|A=B>", "<A,r|r=Z,B(x)=A>", "<|x=A,A=B(x)>", "<|A=B(C,x)>"]
+        whole = ["<|>", "<A,Z(B)|>", "<x,y|x=A(z),y=B(x2)>", "<A(x)|x=B>", "<a|b=A(c),d=B(e)>"]
+        lines = [f"submit j{at} {{}} {it}" for at, it in enumerate(stuck + whole)]
+        folder = self.cut([*lines, "submit run {A(x)><B(A(B(x)))} <|A(x)=B(x)>"])
+        shard = folder / "00001"
+        self.runs("create", "--disk", shard / "disk")
+        self.serves(shard / "disk", [*lines, "submit run {A(x)><B(A(B(x)))} <|A(x)=B(x)>", "run 2"], ["accepted"] * 10 + ["ran 2"])
+        told = "running 1, paused 0, done 9 (stuck 4), spent 0, halted 0"
+        of_shards = ["1 shards: answered 0, begun 1, waiting 0", "1 shards: answered 1, begun 0, waiting 0"]
+        of_jobs = f"10 jobs: {told}, waiting 0, rounds 2"
+        self.ended(self.script("progress", "jobs"), out=[f"00001: {told}, rounds 2", of_shards[0], of_jobs])
+        answers = [f"j{at} done 0 {it}\n" for at, it in enumerate(stuck + whole)]
+        (shard / "answers").write_text("".join([*answers, "run running 2 <|A=B>\n"]))
+        self.ended(self.script("progress", "jobs"), out=[of_shards[1], of_jobs])
+
+    def test_the_program_is_that_on_the_path_or_that_of_the_clone(self):
+        """Where ICSERVE names none, a script runs the icserve on the path, and else the one beside the folder of the scripts."""
+        self.cut([TWICE])
+        (self.room / "bin").mkdir()
+        (self.room / "clone/cluster").mkdir(parents=True)
+        for place, says in (("bin", "path"), ("clone", "clone")):
+            (self.room / place / "icserve").write_text(f"#!/bin/sh\necho {says} >&2\nexit 1\n")
+            (self.room / place / "icserve").chmod(0o755)
+        for script, words in {"cut": ["jobs.txt", "new"], "shard": ["jobs/00001"], "progress": ["jobs"]}.items():
+            shutil.copy(SCRIPTS / script, self.room / "clone/cluster" / script)
+            if script == "progress":
+                (self.room / "jobs/00001/disk").touch()
+            for path, says in ((f"{self.room / 'bin'}:{os.environ['PATH']}", b"path\n"), (WITHOUT, b"clone\n")):
+                env = {name: it for name, it in os.environ.items() if name != "ICSERVE"} | {"PATH": path}
+                ran = run(*words, program=self.room / "clone/cluster" / script, cwd=self.room, env=env)
+                self.equals(ran.command, f"the program that ran, of {ran.err}", True, says in ran.err)
+
     def test_progress_adds_up_answers_and_disks(self):
         folder = self.cut([LOOPING, TWICE, NONE, "submit a {} <|>", "submit b {} <|>"], 2)
         waits = "3 shards: answered 0, begun 0, waiting 3"
-        jobs = "5 jobs: running 0, paused 0, done 0, spent 0, halted 0, waiting 5, rounds 0"
+        jobs = "5 jobs: running 0, paused 0, done 0 (stuck 0), spent 0, halted 0, waiting 5, rounds 0"
         self.ended(self.script("progress", "jobs"), out=[waits, jobs])
         disk = folder / "00001/disk"
         self.runs("create", "--disk", disk)
@@ -145,13 +183,13 @@ class Scripts(Shards):
             server.ask(TWICE)
             self.equals(server.said(), "the run", "ran 12", server.ask("run 12"))
             (folder / "00003/answers").write_text("b spent 4611686018427387904 <|A=B>\n")
-            begun = "00001: running 1, paused 0, done 1, spent 0, halted 0, rounds 12"
+            begun = "00001: running 1, paused 0, done 1 (stuck 0), spent 0, halted 0, rounds 12"
             waits = "3 shards: answered 1, begun 1, waiting 1"
-            jobs = "5 jobs: running 1, paused 0, done 1, spent 1, halted 0, waiting 2, rounds 4611686018427387904"
+            jobs = "5 jobs: running 1, paused 0, done 1 (stuck 0), spent 1, halted 0, waiting 2, rounds 4611686018427387904"
             self.ended(self.script("progress", "jobs/"), out=[begun, waits, jobs])
         (self.room / "fails").write_text("#!/bin/sh\nexit 3\n")
         (self.room / "fails").chmod(0o755)
-        lines = ["00001: running 0, paused 0, done 0, spent 0, halted 0, rounds 0", waits]
-        lines += ["5 jobs: running 0, paused 0, done 0, spent 1, halted 0, waiting 4, rounds 4611686018427387904"]
+        lines = ["00001: running 0, paused 0, done 0 (stuck 0), spent 0, halted 0, rounds 0", waits]
+        lines += ["5 jobs: running 0, paused 0, done 0 (stuck 0), spent 1, halted 0, waiting 4, rounds 4611686018427387904"]
         fault = "progress: jobs/00001/disk can't be looked at"
         self.ended(self.script("progress", "jobs", program_of_scripts=self.room / "fails"), out=lines, err=[fault], status=1)

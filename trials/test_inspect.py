@@ -34,10 +34,16 @@ def cause(job):
     return ""
 
 
+def stuck(job):
+    """The first equation of two agents of a job, as it is told."""
+    pairs = ([job.rules.symbols[~node[0]][0] for node in it] for it in job.config.equations if max(it[0][0], it[1][0]) < 0)
+    return next((f", stuck {left}><{right}" for left, right in pairs), "")
+
+
 def job_line(job):
     """The line of a job of the newest table."""
     pairs = sum(job.rules.find(*it) is not None for it in job.config.equations)
-    why = cause(job) if job.state == "halted" else ""
+    why = cause(job) if job.state == "halted" else stuck(job) if job.state == "done" else ""
     return f"{job.name}: {job.state}, rounds {job.rounds}, nodes {model.nodes_of(job.config)}, active pairs {pairs}{why}"
 
 
@@ -75,7 +81,7 @@ def report(data):
 
 # The lines that tell what a file holds, with the fields of their objects.
 SLOT = re.compile(r"slot (?P<slot>[12]): (?:(?P<cut>cut off)|(?P<state>open|closed), number (?P<number>\d+), body (?P<size>\d+), (?P<body>.*))")
-JOB = re.compile(r"(?P<job>\S+): (?P<state>\w+), rounds (?P<rounds>\d+), nodes (?P<nodes>\d+), active pairs (?P<active_pairs>\d+)(?:, (?P<halt>.*))?")
+JOB = re.compile(r"(?P<job>\S+): (?P<state>\w+), rounds (?P<rounds>\d+), nodes (?P<nodes>\d+), active pairs (?P<active_pairs>\d+)(?:, stuck (?P<stuck>\S+)|, (?P<halt>.*))?")
 
 
 def fields_of(line):
@@ -129,6 +135,18 @@ class Inspect(ModelTrial):
             ],
             ran.out.decode().splitlines()[2:],
         )
+
+    def test_done_jobs_are_told_with_the_first_pair_that_is_stuck(self):
+        """Jobs that are done with a pair without a rule: one from the start, and one after rounds, behind a free name. Of one that
+        is done without such a pair, and of those that aren't done, no pair is told."""
+        self.runs("create", "--disk", self.path)
+        lines = ["submit a {} <r|r=Z,B(x)=C(D),A=B>", "submit b {A><B(E)} <|x=A,A=B(F)>", "submit c {} <A,r|r=B(C)>"]
+        lines += ["submit d {A(x)><B(C(x))} <|A(x)=B(x),C=D>", "submit e 1 {A(x)><B(C(x))} <|A(x)=B(A(x)),C=D>", "pause d"]
+        self.serves(self.path, [*lines, "run 3"], ["accepted"] * 5 + ["ok", "ran 3"])
+        data = self.path.read_bytes()
+        told = report(data)
+        self.equals("trials/test_inspect.py", "pairs by hand", ["B><C", "E><F", "", "", ""], [it.partition(", stuck ")[2] for it in told[3:]])
+        self.tells(told)
 
     def test_halted_jobs_are_told_with_their_cause(self):
         """A job of 8,191 nodes whose next round has one too many; one whose names are used up, and one whose rounds are; and a

@@ -10,8 +10,8 @@ use ic_flat_round::facing;
 use ic_term::Symbols;
 use std::alloc::{AllocError, Global};
 
-/// The text of the first equation of two agents.
-pub(crate) fn stuck_text(
+/// The text `A><B` of the symbols of the first equation of two agents. Where no step is possible, no rule has them.
+pub fn stuck_text(
     alloc: Global,
     symbols: &Symbols,
     flat: &Flat,

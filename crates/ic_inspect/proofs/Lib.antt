@@ -1,6 +1,7 @@
 pub mod FieldLemmas
 pub mod LineLemmas
 pub mod HaltLemmas
+pub mod StuckLemmas
 pub mod HeldLemmas
 pub mod FrontLemmas
 pub mod ReadLemmas

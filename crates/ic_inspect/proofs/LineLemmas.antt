@@ -2,8 +2,7 @@
 use Rattle.std.proofs.Common.{◌≡◌, ℕ, suc, ◌+◌, ◌<◌, Result, Ok, Err, OnOk, List, [], ◌∷◌, ◌++◌, length, drop, drop-cons, get_or, add-one, sym, ap, ◌∙◌, append_assoc}
 use Rattle.std.specs.List.{flat_map}
 use Rattle.ic_jobs.specs.Job.{JobParts}
-use Rattle.ic_inspect.specs.Halts.{halt_of}
-use Rattle.ic_inspect.specs.Report.{counts_text, halt_text, job_line, sizes_text, standing_text}
+use Rattle.ic_inspect.specs.Report.{counts_text, job_line, sizes_text, standing_text, why_text}
 
 next_job : (i : ℕ) (js : List JobParts) (j : JobParts) → i < length js → j ≡ get_or js i j → drop i js ≡ j ∷ drop (i + 1) js
 next_job i js j below is = rw add-one (drop-cons js i j below ∙ ap (λ x. x ∷ drop (suc i) js) (sym is))
@@ -25,9 +24,9 @@ counts_written (Ok v) old new n p nodes pairs e f is = is ∙ (λ i. old ++ coun
 counts_written (Err x) old new n p nodes pairs e f is = tt
 
 -- a job's line is what was written of it, and a line feed
-pub job_written : (j : JobParts) (old stands sizes why new : List ℕ) → stands ≡ old ++ standing_text j → sizes ≡ stands ++ sizes_text j → why ≡ sizes ++ halt_text (halt_of j)
+pub job_written : (j : JobParts) (old stands sizes why new : List ℕ) → stands ≡ old ++ standing_text j → sizes ≡ stands ++ sizes_text j → why ≡ sizes ++ why_text j
     → new ≡ why ++ 10 ∷ [] → new ≡ old ++ job_line j
 job_written j old stands sizes why new one other last end =
-    end ∙ ap (λ l. l ++ 10 ∷ []) (last ∙ ap (λ l. l ++ halt_text (halt_of j)) (other ∙ ap (λ l. l ++ sizes_text j) one ∙ append_assoc old (standing_text j) (sizes_text j))
-    ∙ append_assoc old (standing_text j ++ sizes_text j) (halt_text (halt_of j)))
-    ∙ append_assoc old (standing_text j ++ sizes_text j ++ halt_text (halt_of j)) (10 ∷ [])
+    end ∙ ap (λ l. l ++ 10 ∷ []) (last ∙ ap (λ l. l ++ why_text j) (other ∙ ap (λ l. l ++ sizes_text j) one ∙ append_assoc old (standing_text j) (sizes_text j))
+    ∙ append_assoc old (standing_text j ++ sizes_text j) (why_text j))
+    ∙ append_assoc old (standing_text j ++ sizes_text j ++ why_text j) (10 ∷ [])

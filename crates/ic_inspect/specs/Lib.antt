@@ -2,6 +2,7 @@
 pub mod Seeing
 pub mod Held
 pub mod Halts
+pub mod Stuck
 pub mod Report
 pub mod Objects
 pub mod Inspecting

@@ -12,6 +12,7 @@ use Rattle.ic_inspect.specs.declared.seen.Body.TheVariants.{TooLong, CutShort, N
 use Rattle.ic_inspect.specs.declared.seen.Seen.{Seen}
 use Rattle.ic_inspect.specs.declared.halts.Halt.{Halt}
 use Rattle.ic_inspect.specs.Halts.{halt_of, halt_words}
+use Rattle.ic_inspect.specs.Stuck.{stuck_of}
 use Rattle.ic_inspect.specs.Held.{newest_of, held_of}
 use Rattle.ic_inspect.specs.Report.{active_pairs, line, newest_text}
 
@@ -62,10 +63,15 @@ abbrev pub halt_field : Option Halt → List ℕ
 halt_field None = []
 halt_field (Some halt) = codes ",\"halt\":\"" ++ halt_words halt ++ codes "\""
 
+-- which pair of it is stuck, where one is
+abbrev pub stuck_field : Option (List ℕ) → List ℕ
+stuck_field None = []
+stuck_field (Some pair) = codes ",\"stuck\":\"" ++ pair ++ codes "\""
+
 -- the object of a job
 abbrev pub job_object : JobParts → List ℕ
 job_object j = concat (codes "{" ∷ standing_fields j ∷ nodes_field j ∷ pairs_field j
-    ∷ halt_field (halt_of j) ∷ codes "}" ∷ (10 ∷ []) ∷ [])
+    ∷ halt_field (halt_of j) ∷ stuck_field (stuck_of j) ∷ codes "}" ∷ (10 ∷ []) ∷ [])
 
 -- the object of what is held
 abbrev pub held_object : List ℕ → List ℕ

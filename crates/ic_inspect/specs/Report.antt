@@ -15,6 +15,7 @@ use Rattle.ic_inspect.specs.declared.seen.Body.TheVariants.{TooLong, CutShort, N
 use Rattle.ic_inspect.specs.declared.seen.Seen.{Seen}
 use Rattle.ic_inspect.specs.declared.halts.Halt.{Halt}
 use Rattle.ic_inspect.specs.Halts.{halt_of, halt_words}
+use Rattle.ic_inspect.specs.Stuck.{stuck_of}
 use Rattle.ic_inspect.specs.Held.{newest_of, held_of}
 
 -- a line with its line feed
@@ -73,10 +74,18 @@ abbrev pub halt_text : Option Halt → List ℕ
 halt_text None = []
 halt_text (Some halt) = codes ", " ++ halt_words halt
 
--- `NAME: STATE, rounds R, nodes N, active pairs P`, and of a halted job why its next round can't be
--- made
+-- `, stuck A><B`, where a pair of a job is stuck
+abbrev pub stuck_part : Option (List ℕ) → List ℕ
+stuck_part None = []
+stuck_part (Some pair) = codes ", stuck " ++ pair
+
+-- why a halted job's next round can't be made, and which pair of a done job is stuck
+abbrev pub why_text : JobParts → List ℕ
+why_text j = halt_text (halt_of j) ++ stuck_part (stuck_of j)
+
+-- `NAME: STATE, rounds R, nodes N, active pairs P`, and what is to be said of the job's end
 abbrev pub job_line : JobParts → List ℕ
-job_line j = line (standing_text j ++ sizes_text j ++ halt_text (halt_of j))
+job_line j = line (standing_text j ++ sizes_text j ++ why_text j)
 
 -- which slot is the newest, or why none is
 abbrev pub newest_text : Newest → List ℕ

@@ -2,18 +2,19 @@
 
 ghost use Rattle.std.specs.Prelude.{◌≡◌, ◌≢◌, IsTrue, ◌+◌, ◌++◌, ◌<◌, ◌≤◌, ℕ, List, [], ◌∷◌, Option, None, Some, Contains, IsSome, OnOk, codes, drop, length, map, take, false, true};
 ghost use Rattle.std.specs.Fmt.{decimal};
-ghost use Rattle.std.specs.List.{flat_map};
+ghost use Rattle.std.specs.List.{AllByRecursion, find, flat_map};
 ghost use Rattle.ic_term.specs.Configuration.{Configuration, configuration_nodes};
 ghost use Rattle.ic_term.specs.Tree.{Pair};
 ghost use Rattle.ic_rules.specs.Rule.{Rule};
 ghost use Rattle.ic_round.specs.Firing.{fired, rule_of_sides};
 ghost use Rattle.ic_term.specs.declared.limits.TheConstants.{MAX_NEXT, MAX_NODES};
 ghost use Rattle.ic_pool.specs.declared.limits.TheConstants.{MAX_ROUNDS};
-ghost use Rattle.ic_jobs.specs.declared.state.State.TheVariants.{Halted};
+ghost use Rattle.ic_jobs.specs.declared.state.State.TheVariants.{Done, Halted};
 ghost use Rattle.ic_disk.specs.Images.{Torn};
 ghost use Rattle.ic_codec.specs.Tables.{IsFormOf};
 ghost use Rattle.ic_commands.specs.ReplyText.{state_text};
-ghost use Rattle.ic_jobs.specs.Job.{JobParts, can_move};
+ghost use Rattle.ic_jobs.specs.Job.{IsJob, JobParts, can_move};
+ghost use Rattle.ic_by_rounds.specs.Stuck.{is_of_agents, pair_text};
 ghost use Rattle.ic_jobs.specs.Table.{IsTable};
 ghost use Rattle.ic_frames.specs.declared.frame.TheConstants.{HEAD, MAX_BODY};
 ghost use Rattle.ic_frames.specs.declared.slot.Slot.{Slot};
@@ -33,8 +34,10 @@ ghost use Rattle.ic_inspect.specs.declared.seen.Seen.{Seen};
 ghost use Rattle.ic_inspect.specs.Seeing.{IsSeen};
 ghost use Rattle.ic_inspect.specs.declared.halts.Halt.TheVariants as halt;
 ghost use Rattle.ic_inspect.specs.Halts.{halt_of};
+ghost use Rattle.ic_inspect.specs.Stuck.{stuck_of};
+ghost use Rattle.ic_inspect.specs.Objects.{stuck_field};
 ghost use Rattle.ic_inspect.specs.Held.{as_newest, held_of, newest_of};
-ghost use Rattle.ic_inspect.specs.Report.{active_pairs, counts_text, job_line, line, newest_text, report, slot_line, table_lines, told_held, halt_text};
+ghost use Rattle.ic_inspect.specs.Report.{active_pairs, counts_text, job_line, line, newest_text, report, slot_line, stuck_part, table_lines, told_held, halt_text, why_text};
 ghost use Rattle.ic_inspect.specs.Moments.{IsReading, IsServed, IsServerStep, IsReadTwice, IsReadTwiceBetween, IsWholeNewest};
 ghost use Rattle.ic_inspect.specs.Inspecting.{Tells, WritesTold, all_inspect_faults, inspect_fault_number};
 
@@ -139,6 +142,27 @@ pub fn halts_are_told_with_their_cause()
     ensures none_line { halt_text None ≡ [] }
 {}
 
+/// Of a done job the first equation of two agents is told. It is stuck: no rule has its symbols, so what it waits for
+/// never comes. Of a done job without one, and of a job in another state, nothing is told.
+pub fn stuck_pairs_are_told()
+    ensures no_rule { (j : JobParts) (p : Pair) → IsJob j → j.state ≡ Done
+        → find is_of_agents j.config.equations ≡ Some p
+        → rule_of_sides j.rules.rules p.left p.right ≡ None }
+    ensures told { (j : JobParts) (p : Pair) → j.state ≡ Done
+        → find is_of_agents j.config.equations ≡ Some p
+        → stuck_of j ≡ Some (pair_text j.rules.symbols p) }
+    ensures none { (j : JobParts) → j.state ≡ Done
+        → AllByRecursion (λ p. is_of_agents p ≡ false) j.config.equations → stuck_of j ≡ None }
+    ensures others { (j : JobParts) → j.state ≢ Done → stuck_of j ≡ None }
+    ensures line { (pair : List ℕ) → stuck_part (Some pair) ≡ codes ", stuck " ++ pair }
+    ensures none_line { stuck_part None ≡ [] }
+    ensures field { (pair : List ℕ)
+        → stuck_field (Some pair) ≡ codes ",\"stuck\":\"" ++ pair ++ codes "\"" }
+    ensures none_field { stuck_field None ≡ [] }
+{
+    ic_by_rounds::laws::stuck_pairs_have_no_rule();
+}
+
 /// What is held is told word for word.
 pub fn what_is_held_is_told_so()
     ensures table { (words : List ℕ) (t : List JobParts) → told_held words (the_table t)
@@ -146,7 +170,7 @@ pub fn what_is_held_is_told_so()
     ensures job { (j : JobParts) → job_line j
         ≡ line (j.name ++ codes ": " ++ state_text j.state ++ codes ", rounds " ++ decimal j.rounds
         ++ counts_text (configuration_nodes j.config) (active_pairs j.rules.rules j.config)
-        ++ halt_text (halt_of j)) }
+        ++ why_text j) }
     ensures no_slot { (words : List ℕ) → told_held words no_slot
         ≡ line (codes "held: no slot") }
     ensures two_alike { (words : List ℕ) → told_held words two_alike

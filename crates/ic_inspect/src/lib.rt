@@ -13,6 +13,7 @@ pub mod laws;
 mod looking;
 mod objects;
 mod seen;
+mod stuck;
 mod telling;
 
 pub use choosing::Newest;

@@ -4,13 +4,15 @@ ghost use Rattle.std.specs.Prelude.{◌≡◌, ◌++◌, IfOk, OnOk, Some};
 ghost use Rattle.std.specs.List.{flat_map};
 ghost use Rattle.ic_inspect.specs.Held.{held_by_body, held_by_slot, held_of, newest_of};
 ghost use Rattle.ic_inspect.specs.Objects.{body_field, gate_field, halt_field, held_object, held_objects, job_object, name_field, nodes_field, objects, pairs_field};
-ghost use Rattle.ic_inspect.specs.Objects.{rounds_field, slot_fields, slot_object, standing_fields, state_field};
+ghost use Rattle.ic_inspect.specs.Objects.{rounds_field, slot_fields, slot_object, standing_fields, state_field, stuck_field};
 ghost use Rattle.ic_inspect.specs.Halts.{halt_of};
+ghost use Rattle.ic_inspect.specs.Stuck.{stuck_of};
 ghost use Rattle.ic_inspect.specs.Report.{newest_text};
 
 use crate::choosing::{Newest, newest_of};
 use crate::halts::{halt_of, halt_words};
 use crate::seen::{Body, Seen};
+use crate::stuck::stuck_of;
 use crate::telling::{nodes_of, pairs_of, state_word};
 use ic_jobs::{Job, Table};
 use ic_text::put_decimal;
@@ -179,6 +181,7 @@ fn put_job(alloc: Global, job: &Job, out: &mut Vec<u8>) -> Result<(), AllocError
     put_nodes(job, out)?;
     put_pairs(job, out)?;
     put_halt(alloc, job, out)?;
+    put_stuck(alloc, job, out)?;
     out.extend_from_slice(b"}\n")?;
     Ok(())
 }
@@ -247,6 +250,18 @@ fn put_halt(alloc: Global, job: &Job, out: &mut Vec<u8>) -> Result<(), AllocErro
     if let Some(halt) = halt_of(alloc, job)? {
         out.extend_from_slice(b",\"halt\":\"")?;
         out.extend_from_slice(halt_words(halt))?;
+        out.push(b'"')?;
+    }
+    Ok(())
+}
+
+/// Appends which pair of a job is stuck, where one is.
+fn put_stuck(alloc: Global, job: &Job, out: &mut Vec<u8>) -> Result<(), AllocError>
+    ensures { OnOk result (out.new.items ≡ out.old.items ++ stuck_field (stuck_of job.now)) }
+{
+    if let Some(pair) = stuck_of(alloc, job)? {
+        out.extend_from_slice(b",\"stuck\":\"")?;
+        out.extend_from_slice(&pair)?;
         out.push(b'"')?;
     }
     Ok(())

@@ -5,12 +5,14 @@ ghost use Rattle.std.specs.List.{flat_map};
 ghost use Rattle.ic_term.specs.Configuration.{configuration_nodes};
 ghost use Rattle.ic_commands.specs.ReplyText.{state_text};
 ghost use Rattle.ic_inspect.specs.Held.{held_by_body, held_by_slot};
-ghost use Rattle.ic_inspect.specs.Report.{report, slot_line, seen_text, gate_text, body_text, held_lines, told_held, table_lines, job_line, standing_text, sizes_text, counts_text, count_text, active_pairs, halt_text};
+ghost use Rattle.ic_inspect.specs.Report.{report, slot_line, seen_text, gate_text, body_text, held_lines, told_held, table_lines, job_line, standing_text, sizes_text, counts_text, count_text, active_pairs, halt_text, stuck_part, why_text};
 ghost use Rattle.ic_inspect.specs.Halts.{halt_of};
+ghost use Rattle.ic_inspect.specs.Stuck.{stuck_of};
 
 use crate::choosing::{Newest, newest_of};
 use crate::halts::{halt_of, halt_words};
 use crate::seen::{Body, Seen};
+use crate::stuck::stuck_of;
 use ic_flat_round::active_equations;
 use ic_jobs::{Job, State, Table};
 use ic_text::put_decimal;
@@ -158,8 +160,28 @@ fn put_job(alloc: Global, job: &Job, out: &mut Vec<u8>) -> Result<(), AllocError
 {
     put_standing(job, out)?;
     put_sizes(job, out)?;
-    put_halt(alloc, job, out)?;
+    put_why(alloc, job, out)?;
     out.push(b'\n')?;
+    Ok(())
+}
+
+/// Appends why no further round of a halted job can be made, and which pair of a done job is stuck.
+fn put_why(alloc: Global, job: &Job, out: &mut Vec<u8>) -> Result<(), AllocError>
+    ensures { OnOk result (out.new.items ≡ out.old.items ++ why_text job.now) }
+{
+    put_halt(alloc, job, out)?;
+    put_stuck(alloc, job, out)?;
+    Ok(())
+}
+
+/// Appends which pair of a job is stuck, where one is.
+fn put_stuck(alloc: Global, job: &Job, out: &mut Vec<u8>) -> Result<(), AllocError>
+    ensures { OnOk result (out.new.items ≡ out.old.items ++ stuck_part (stuck_of job.now)) }
+{
+    if let Some(pair) = stuck_of(alloc, job)? {
+        out.extend_from_slice(b", stuck ")?;
+        out.extend_from_slice(&pair)?;
+    }
     Ok(())
 }
 
