@@ -20,8 +20,8 @@ from worked_rows import expanded, rows
 MOST = 2**62 - 1
 
 STATS = re.compile(
-    rb"icserve: interactions (\d+)(?:, name steps (\d+))?, places (\d+), seconds \d+\.\d{3}, interactions a second \d+\n"
-    rb"icserve: (no interactions|rule \d+: \d+ interactions?(?:, rule \d+: \d+ interactions?)*)\n"
+    rb"icserve: interactions (\d+)(?:, name steps (\d+))?, places (\d+), seconds (?:0\.000|\d+\.\d{3}, interactions a second \d+)\n"
+    rb"icserve: (no interactions|rule \d+ \S+><\S+: \d+ interactions?(?:, rule \d+ \S+><\S+: \d+ interactions?)*)\n"
 )
 REACHED = re.compile(rb"interactions (\d+), places (\d+)(?:, --nodes (\d+))?\n")
 
@@ -61,7 +61,8 @@ def figures_of(err):
     if not told:
         return None, err
     figures = {"interactions": int(told[1]), "name_steps": told[2] and int(told[2]), "places": int(told[3])}
-    figures["fired"] = {int(rule): int(count) for rule, count in re.findall(rb"rule (\d+): (\d+)", told[4])}
+    fired = re.findall(rb"rule (\d+) (\S+): (\d+)", told[4])
+    figures["fired"] = {int(rule): (pair.decode(), int(count)) for rule, pair, count in fired}
     return {name: it for name, it in figures.items() if it is not None}, err[told.end() :]
 
 
@@ -69,7 +70,8 @@ def object_of(err):
     """The same of a run with `--format json`, with the end, time and pace and how many rules there are."""
     line, _, rest = err.partition(b"\n")
     told = json.loads(line)
-    told["fired"] = {at + 1: count for at, count in enumerate(told["by_rule"]) if count}
+    fired = [(it["rule"], it["interactions"]) for it in told["by_rule"]]
+    told["fired"] = {at: it for at, it in enumerate(fired, 1) if it[1]}
     return told, rest
 
 
@@ -333,7 +335,7 @@ class HardNets(InPlace):
         yield DOUBLES, ["--nodes", drawn.randint(100, 9_999)], "places", 1
 
     def test_figures_as_an_object_are_those_as_lines(self):
-        fields = ["end", "interactions", "name_steps", "places", "milliseconds", "interactions_a_second", "by_rule"]
+        fields = ["end", "stuck", "interactions", "name_steps", "places", "milliseconds", "interactions_a_second", "by_rule"]
         for text, words, end, status in self.shown():
             lines = run("reduce", "--stats", *words, given=text)
             told, rest = figures_of(lines.err)
@@ -344,9 +346,12 @@ class HardNets(InPlace):
                 self.equals(ran.command, "figures", told, {name: came[name] for name in told})
                 self.equals(ran.command, "fields", [it for it in fields if it in came], list(came)[:-1])
                 self.equals(ran.command, "whether name steps are told", end == "quiet", "name_steps" in came)
-                self.equals(ran.command, "rules", text.partition("}")[0].count("><"), len(came["by_rule"]))
-                pace = came["interactions"] * 1000 // max(came["milliseconds"], 1)
-                self.equals(ran.command, "interactions a second", pace, came["interactions_a_second"])
+                pairs = re.findall(r"(\w+)(?:\([^<>]*\))?><(\w+)", text.partition("}")[0])
+                self.equals(ran.command, "rules", ["><".join(it) for it in pairs], [it["rule"] for it in came["by_rule"]])
+                stuck = f"icserve: stuck {came['stuck']}\n".encode() if came["stuck"] else b""
+                self.equals(ran.command, "the stuck pair", rest if end == "quiet" else b"", stuck)
+                pace = came["milliseconds"] and came["interactions"] * 1000 // came["milliseconds"] or None
+                self.equals(ran.command, "interactions a second", pace, came["interactions_a_second"] or None)
 
     def test_a_format_alone_tells_nothing(self):
         for text, words, _, status in self.shown():

@@ -1,5 +1,6 @@
 -- What a text of a system is answered when it is reduced in place (this project's choice).
 use Rattle.std.specs.Prelude.{◌≡◌, ◌≢◌, List, [], Bool, true, false, Option, None, Ok, Err, ℕ, IsTrue, length, if◌then◌else◌}
+use Rattle.std.specs.Arc.{arc_value}
 use Rattle.std.specs.Option.{option_map}
 use Rattle.std.specs.Io.KnownBytes.{Appends}
 use Rattle.ic_term.specs.Configuration.{Configuration}
@@ -65,6 +66,7 @@ pub record EndsAs (limits : Limits) (bounds : Bounds) (asked : Asked) (input : L
   pub prints : line ≡ line_reached asked outcome.end system.rules.symbols answer
   pub stuck : option_map (λ text. text.items) outcome.stuck
       ≡ stuck_at outcome.end system.rules.symbols answer
+  pub rules : arc_value outcome.rules ≡ system.rules
 
 -- the answers of reducing in place within limits of the text and bounds of the way
 abbrev pub ReducesInPlace : Limits → Bounds → Asked → Answering

@@ -19,11 +19,13 @@ use crate::running::{Bounds, End, Watch};
 use crate::stuck::stuck_text;
 use ic_diagnostics::{Kind, refused_within};
 use ic_flat::WideSystem;
+use ic_rules::RuleSet;
 use ic_streams::{StreamFault, read_text_within, write_line};
 use ic_term::Symbols;
 use ic_text::{Limits, find_wide_system, put_words};
 use std::alloc::{AllocError, Global};
 use std::io::{Read, Write};
+use std::sync::Arc;
 
 /// What of a reduction is asked for, as a line.
 #[derive(Clone, Copy, Debug)]
@@ -43,6 +45,8 @@ pub struct Outcome {
     pub end: End,
     /// How many interactions were made.
     pub interactions: u64,
+    /// The rules of the text, and its symbols.
+    pub rules: Arc<RuleSet>,
     /// How often each rule fired, in the order of the rules.
     pub by_rule: Vec<u64>,
     /// How many steps put a term for a name, told if the end is quiet. Every order makes as many.
@@ -120,16 +124,18 @@ fn reached_line<V: Watch>(
     };
     let stopped = run_system(alloc, &system, bounds, watch)?;
     if !is_written(asked, stopped.end) {
-        let outcome = unwritten(alloc, &system, stopped)?;
+        let outcome = unwritten(alloc, system, stopped)?;
         return Ok((Vec::new(alloc), outcome));
     }
     let reduced = read_stopped(alloc, &system, stopped)?;
     let symbols = system.rules().symbols();
     let line = line_reached(alloc, symbols, &reduced, asked)?;
     let stuck = stuck_at_end(alloc, symbols, &reduced)?;
+    let (shared, _) = system.into_parts();
     let outcome = Outcome {
         end: reduced.end,
         interactions: reduced.interactions,
+        rules: shared,
         by_rule: reduced.by_rule,
         name_steps: reduced.name_steps,
         places: reduced.places,
@@ -154,23 +160,25 @@ fn is_written(asked: Asked, end: End) -> bool
 
 /// What is told of a reduction whose line isn't written. Its names aren't numbered anew, and it is read back only where its
 /// end is one of an answer.
-fn unwritten(alloc: Global, system: &WideSystem, stopped: Stopped) -> Result<Outcome, AllocError>
+fn unwritten(alloc: Global, system: WideSystem, stopped: Stopped) -> Result<Outcome, AllocError>
     requires { (bounds : AnyBounds)
-        × HasStopped system.now bounds stopped.given.items stopped.by_rule.items
+        × HasStopped system bounds stopped.given.items stopped.by_rule.items
         stopped.machine stopped.end stopped.places }
     ensures told { IfOk result (λ outcome. (bounds : AnyBounds)
-        → HasStopped system.now bounds stopped.given.items stopped.by_rule.items
+        → HasStopped system bounds stopped.given.items stopped.by_rule.items
         stopped.machine stopped.end stopped.places
-        → IsTold system.now bounds outcome) }
+        → IsTold system bounds outcome) }
     ensures end { IfOk result (λ outcome. outcome.end ≡ stopped.end) }
 {
     ic_reaching::laws::one_net_is_an_equivalence();
     if is_written(Asked::Answer, stopped.end) {
         return read_unwritten(alloc, system, stopped);
     }
+    let (shared, _) = system.into_parts();
     Ok(Outcome {
         end: stopped.end,
         interactions: stopped.machine.interactions(),
+        rules: shared,
         by_rule: stopped.by_rule,
         name_steps: None,
         places: stopped.places,
@@ -181,23 +189,25 @@ fn unwritten(alloc: Global, system: &WideSystem, stopped: Stopped) -> Result<Out
 /// The same, where it is read back.
 fn read_unwritten(
     alloc: Global,
-    system: &WideSystem,
+    system: WideSystem,
     stopped: Stopped,
 ) -> Result<Outcome, AllocError>
     requires { (bounds : AnyBounds)
-        × HasStopped system.now bounds stopped.given.items stopped.by_rule.items
+        × HasStopped system bounds stopped.given.items stopped.by_rule.items
         stopped.machine stopped.end stopped.places }
     ensures told { IfOk result (λ outcome. (bounds : AnyBounds)
-        → HasStopped system.now bounds stopped.given.items stopped.by_rule.items
+        → HasStopped system bounds stopped.given.items stopped.by_rule.items
         stopped.machine stopped.end stopped.places
-        → IsTold system.now bounds outcome) }
+        → IsTold system bounds outcome) }
     ensures end { IfOk result (λ outcome. outcome.end ≡ stopped.end) }
 {
-    let read = read_words(alloc, system, stopped)?;
+    let read = read_words(alloc, &system, stopped)?;
     let stuck = stuck_at_end(alloc, system.rules().symbols(), &read)?;
+    let (shared, _) = system.into_parts();
     Ok(Outcome {
         end: read.end,
         interactions: read.interactions,
+        rules: shared,
         by_rule: read.by_rule,
         name_steps: read.name_steps,
         places: read.places,

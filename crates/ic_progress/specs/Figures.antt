@@ -1,7 +1,12 @@
 -- To be believed: what is told of a reduction in place that took so many milliseconds (this project's choice).
-use Rattle.std.specs.Prelude.{ℕ, zero, suc, ◌+◌, ◌==◌, ◌/◌, ◌%◌, List, [], ◌∷◌, ◌++◌, Option, None, Some, codes, drop, length, nat_lt, if◌then◌else◌}
+use Rattle.std.specs.Prelude.{ℕ, zero, suc, ◌+◌, ◌==◌, ◌/◌, ◌%◌, List, [], ◌∷◌, ◌++◌, Option, None, Some, codes, drop, length, nat_lt, option_map, slice_get, if◌then◌else◌}
+use Rattle.std.specs.Arc.{arc_value}
 use Rattle.std.specs.Fmt.{decimal}
-use Rattle.std.specs.List.{concat, flat_map}
+use Rattle.std.specs.List.{concat}
+use Rattle.ic_term.specs.Symbol.{Symbol}
+use Rattle.ic_rules.specs.Rule.{Rule}
+use Rattle.ic_rules.specs.RuleSet.{Rules}
+use Rattle.ic_text.specs.Text.{text_or_none}
 use Rattle.ic_in_place.specs.declared.running.End.{End}
 use Rattle.ic_in_place.specs.declared.running.End.TheVariants.{Quiet, Steps, Nodes, Limit, Memory}
 use Rattle.ic_in_place.specs.declared.stream.Outcome.{Outcome}
@@ -27,17 +32,32 @@ places_figure o = codes ", places " ++ decimal o.places
 abbrev pub seconds_figure : (millis : ℕ) → List ℕ
 seconds_figure millis = codes ", seconds " ++ seconds_text millis
 
-abbrev pub pace_figure : Outcome → (millis : ℕ) → List ℕ
-pace_figure o millis =
-    codes ", interactions a second " ++ decimal (a_second o.interactions millis)
+-- told of what took a millisecond at least
+abbrev pub pace_figure : (interactions millis : ℕ) → List ℕ
+pace_figure n zero = []
+pace_figure n (suc m) = codes ", interactions a second " ++ decimal (a_second n (suc m))
 
 -- the line of how many steps were made, of places, and how fast it was
 abbrev pub figures_line : Outcome → (millis : ℕ) → List ℕ
 figures_line o millis = concat (steps_figure o ∷ places_figure o ∷ seconds_figure millis
-    ∷ pace_figure o millis ∷ (10 ∷ []) ∷ [])
+    ∷ pace_figure o.interactions millis ∷ (10 ∷ []) ∷ [])
 
-abbrev pub rule_name : ℕ → List ℕ
-rule_name rule = codes ", rule " ++ decimal rule
+-- the text of a symbol
+abbrev pub symbol_text : List Symbol → ℕ → List ℕ
+symbol_text ss s = text_or_none (slice_get ss s)
+
+-- `A><B`, as a rule begins
+abbrev pub pair_text : List Symbol → Option Rule → List ℕ
+pair_text ss None = []
+pair_text ss (Some r) = symbol_text ss r.left ++ codes "><" ++ symbol_text ss r.right
+
+-- the same of the rule at a place, of which the first is 0
+abbrev pub rule_text : Rules → (place : ℕ) → List ℕ
+rule_text rs place = pair_text rs.symbols (slice_get rs.rules place)
+
+-- `, rule I A><B`: rules have their numbers from 1 on
+abbrev pub rule_name : Rules → (place : ℕ) → List ℕ
+rule_name rs place = codes ", rule " ++ decimal (place + 1) ++ 32 ∷ rule_text rs place
 
 abbrev pub interactions_word : ℕ → List ℕ
 interactions_word n = if n == 1 then codes " interaction" else codes " interactions"
@@ -45,19 +65,20 @@ interactions_word n = if n == 1 then codes " interaction" else codes " interacti
 abbrev pub firings_count : ℕ → List ℕ
 firings_count n = codes ": " ++ decimal n ++ interactions_word n
 
--- how often a rule fired, which is named by its number from 1
-abbrev pub firings_figure : (rule count : ℕ) → List ℕ
-firings_figure rule count = rule_name rule ++ firings_count count
+-- how often a rule fired
+abbrev pub firings_figure : Rules → (place count : ℕ) → List ℕ
+firings_figure rs place count = rule_name rs place ++ firings_count count
 
 -- the same, or nothing of a rule that never did
-abbrev pub rule_figure : (rule count : ℕ) → List ℕ
-rule_figure rule zero = []
-rule_figure rule (suc n) = firings_figure rule (suc n)
+abbrev pub rule_figure : Rules → (place count : ℕ) → List ℕ
+rule_figure rs place zero = []
+rule_figure rs place (suc n) = firings_figure rs place (suc n)
 
--- of rules from a number on
-abbrev pub rule_figures : (rule : ℕ) → List ℕ → List ℕ
-rule_figures rule [] = []
-rule_figures rule (count ∷ counts) = rule_figure rule count ++ rule_figures (suc rule) counts
+-- of the rules from a place on
+abbrev pub rule_figures : Rules → (place : ℕ) → List ℕ → List ℕ
+rule_figures rs place [] = []
+rule_figures rs place (count ∷ counts) =
+    rule_figure rs place count ++ rule_figures rs (suc place) counts
 
 -- the figures of rules, without the comma and the blank before the first one
 abbrev pub first_figures : List ℕ → List ℕ
@@ -65,13 +86,14 @@ first_figures figures =
     if nat_lt (length figures) 2 then codes "no interactions" else drop 2 figures
 
 -- the line of how often each rule fired
-abbrev pub rules_line : List ℕ → List ℕ
-rules_line counts =
-    concat (codes "icserve: " ∷ first_figures (rule_figures 1 counts) ∷ (10 ∷ []) ∷ [])
+abbrev pub rules_line : Rules → List ℕ → List ℕ
+rules_line rs counts =
+    concat (codes "icserve: " ∷ first_figures (rule_figures rs 0 counts) ∷ (10 ∷ []) ∷ [])
 
 -- both lines
 abbrev pub figures_lines : Outcome → (millis : ℕ) → List ℕ
-figures_lines o millis = figures_line o millis ++ rules_line o.by_rule.items
+figures_lines o millis =
+    figures_line o millis ++ rules_line (arc_value o.rules) o.by_rule.items
 
 -- why it ended
 abbrev pub end_word : End → List ℕ
@@ -85,13 +107,32 @@ abbrev pub name_steps_field : Option ℕ → List ℕ
 name_steps_field None = []
 name_steps_field (Some n) = codes ",\"name_steps\":" ++ decimal n
 
--- numbers with commas between them
-abbrev pub numbers_text : List ℕ → List ℕ
-numbers_text ns = drop 1 (flat_map (λ n. 44 ∷ decimal n) ns)
+-- how often a rule fired, as an object after a comma
+abbrev pub rule_object : Rules → (place count : ℕ) → List ℕ
+rule_object rs place count = concat (codes ",{\"rule\":\"" ∷ rule_text rs place
+    ∷ codes "\",\"interactions\":" ∷ decimal count ∷ codes "}" ∷ [])
+
+-- of the rules from a place on
+abbrev pub rule_objects : Rules → (place : ℕ) → List ℕ → List ℕ
+rule_objects rs place [] = []
+rule_objects rs place (count ∷ counts) =
+    rule_object rs place count ++ rule_objects rs (suc place) counts
+
+-- the objects of all rules with commas between them
+abbrev pub rules_text : Rules → List ℕ → List ℕ
+rules_text rs counts = drop 1 (rule_objects rs 0 counts)
+
+-- the pair that is stuck, or null
+abbrev pub stuck_field : Option (List ℕ) → List ℕ
+stuck_field None = codes ",\"stuck\":null"
+stuck_field (Some pair) = codes ",\"stuck\":\"" ++ pair ++ codes "\""
+
+abbrev pub stuck_fields : Outcome → List ℕ
+stuck_fields o = codes "\"" ++ stuck_field (option_map (λ text. text.items) o.stuck)
 
 abbrev pub step_fields : Outcome → List ℕ
 step_fields o =
-    codes "\",\"interactions\":" ++ decimal o.interactions ++ name_steps_field o.name_steps
+    codes ",\"interactions\":" ++ decimal o.interactions ++ name_steps_field o.name_steps
 
 abbrev pub places_field : Outcome → List ℕ
 places_field o = codes ",\"places\":" ++ decimal o.places
@@ -99,16 +140,21 @@ places_field o = codes ",\"places\":" ++ decimal o.places
 abbrev pub millis_field : ℕ → List ℕ
 millis_field millis = codes ",\"milliseconds\":" ++ decimal millis
 
-abbrev pub pace_field : Outcome → (millis : ℕ) → List ℕ
-pace_field o millis =
-    codes ",\"interactions_a_second\":" ++ decimal (a_second o.interactions millis)
+-- null for what took less than a millisecond
+abbrev pub pace_text : (interactions millis : ℕ) → List ℕ
+pace_text n zero = codes "null"
+pace_text n (suc m) = decimal (a_second n (suc m))
+
+abbrev pub pace_field : (interactions millis : ℕ) → List ℕ
+pace_field n millis = codes ",\"interactions_a_second\":" ++ pace_text n millis
 
 -- how many steps were made, of places, how long it took, and how fast it was
 abbrev pub count_fields : Outcome → (millis : ℕ) → List ℕ
 count_fields o millis = concat (step_fields o ∷ places_field o ∷ millis_field millis
-    ∷ pace_field o millis ∷ [])
+    ∷ pace_field o.interactions millis ∷ [])
 
 -- the figures as an object of JSON (RFC 8259) on a line
 abbrev pub figures_object : Outcome → (millis : ℕ) → List ℕ
-figures_object o millis = concat (codes "{\"end\":\"" ∷ end_word o.end ∷ count_fields o millis
-    ∷ codes ",\"by_rule\":[" ∷ numbers_text o.by_rule.items ∷ codes "]}" ∷ (10 ∷ []) ∷ [])
+figures_object o millis = concat (codes "{\"end\":\"" ∷ end_word o.end ∷ stuck_fields o
+    ∷ count_fields o millis ∷ codes ",\"by_rule\":["
+    ∷ rules_text (arc_value o.rules) o.by_rule.items ∷ codes "]}" ∷ (10 ∷ []) ∷ [])

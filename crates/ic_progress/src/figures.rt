@@ -1,14 +1,15 @@
 //! The figures of a reduction in place, as lines and as an object of JSON.
 
-ghost use Rattle.std.specs.Prelude.{◌≡◌, ◌∷◌, ◌++◌, IfOk, OnOk};
-ghost use Rattle.std.specs.Fmt.{decimal};
-ghost use Rattle.std.specs.List.{flat_map};
+ghost use Rattle.std.specs.Prelude.{◌≡◌, ◌++◌, ◌<◌, ◌-◌, ◌^◌, IfOk, OnOk, Some, option_map};
 ghost use Rattle.ic_progress.specs.Figures.{count_fields, end_word, figures_line, figures_lines, figures_object, firings_count, firings_figure, interactions_word, millis_field};
-ghost use Rattle.ic_progress.specs.Figures.{name_steps_field, name_steps_figure, numbers_text, pace_field, pace_figure, places_field, places_figure};
-ghost use Rattle.ic_progress.specs.Figures.{rule_figure, rule_figures, rule_name, rules_line, seconds_figure, seconds_text, step_fields, steps_figure};
+ghost use Rattle.ic_progress.specs.Figures.{name_steps_field, name_steps_figure, pace_field, pace_figure, pace_text, pair_text, places_field, places_figure};
+ghost use Rattle.ic_progress.specs.Figures.{rule_figure, rule_figures, rule_name, rule_object, rule_objects, rule_text, rules_line, rules_text, seconds_figure};
+ghost use Rattle.ic_progress.specs.Figures.{seconds_text, step_fields, steps_figure, stuck_field, stuck_fields, symbol_text};
 
 use crate::line::a_second;
 use ic_in_place::{End, Outcome};
+use ic_rules::{Rule, RuleSet};
+use ic_term::Symbols;
 use ic_text::put_decimal;
 use std::alloc::{AllocError, Global};
 
@@ -19,7 +20,7 @@ pub fn figures_lines(alloc: Global, outcome: &Outcome, millis: u64) -> Result<Ve
 {
     let mut out = Vec::new(alloc);
     put_figures_line(outcome, millis, &mut out)?;
-    put_rules_line(alloc, &outcome.by_rule, &mut out)?;
+    put_rules_line(alloc, &outcome.rules, &outcome.by_rule, &mut out)?;
     Ok(out)
 }
 
@@ -29,9 +30,10 @@ pub fn figures_object(alloc: Global, outcome: &Outcome, millis: u64) -> Result<V
 {
     let mut out = b"{\"end\":\"".to_vec(alloc)?;
     out.extend_from_slice(end_word(outcome.end))?;
+    put_stuck_fields(outcome, &mut out)?;
     put_counts(outcome, millis, &mut out)?;
     out.extend_from_slice(b",\"by_rule\":[")?;
-    put_numbers(alloc, &outcome.by_rule, &mut out)?;
+    put_rules_text(alloc, &outcome.rules, &outcome.by_rule, &mut out)?;
     out.extend_from_slice(b"]}\n")?;
     Ok(out)
 }
@@ -43,7 +45,7 @@ fn put_figures_line(outcome: &Outcome, millis: u64, out: &mut Vec<u8>) -> Result
     put_steps(outcome, out)?;
     put_places(outcome, out)?;
     put_seconds_figure(millis, out)?;
-    put_pace(outcome, millis, out)?;
+    put_pace(outcome.interactions, millis, out)?;
     out.push(b'\n')?;
     Ok(())
 }
@@ -76,13 +78,17 @@ fn put_seconds_figure(millis: u64, out: &mut Vec<u8>) -> Result<(), AllocError>
     Ok(())
 }
 
-/// Appends how fast it was.
-fn put_pace(outcome: &Outcome, millis: u64, out: &mut Vec<u8>) -> Result<(), AllocError>
-    ensures { OnOk result (out.new.items ≡ out.old.items ++ pace_figure outcome.now millis) }
+/// Appends how fast it was, where it took a millisecond at least.
+fn put_pace(interactions: u64, millis: u64, out: &mut Vec<u8>) -> Result<(), AllocError>
+    ensures { OnOk result (out.new.items ≡ out.old.items ++ pace_figure interactions millis) }
 {
-    out.extend_from_slice(b", interactions a second ")?;
-    put_decimal(a_second(outcome.interactions, millis), out)?;
-    Ok(())
+    match millis {
+        0 => Ok(()),
+        _ => {
+            out.extend_from_slice(b", interactions a second ")?;
+            put_decimal(a_second(interactions, millis), out)
+        }
+    }
 }
 
 /// Appends how many steps put a term for a name, where that is told.
@@ -112,11 +118,16 @@ fn put_seconds(millis: u64, out: &mut Vec<u8>) -> Result<(), AllocError>
 }
 
 /// Appends the line of how often each rule fired.
-fn put_rules_line(alloc: Global, counts: &[u64], out: &mut Vec<u8>) -> Result<(), AllocError>
-    ensures { OnOk result (out.new.items ≡ out.old.items ++ rules_line counts.now) }
+fn put_rules_line(
+    alloc: Global,
+    rules: &RuleSet,
+    counts: &[u64],
+    out: &mut Vec<u8>,
+) -> Result<(), AllocError>
+    ensures { OnOk result (out.new.items ≡ out.old.items ++ rules_line rules.now counts.now) }
 {
     let mut figures = Vec::new(alloc);
-    put_rules(counts, &mut figures)?;
+    put_rules(rules, counts, &mut figures)?;
     out.extend_from_slice(b"icserve: ")?;
     if figures.len() < 2 {
         out.extend_from_slice(b"no interactions")?;
@@ -128,41 +139,84 @@ fn put_rules_line(alloc: Global, counts: &[u64], out: &mut Vec<u8>) -> Result<()
 }
 
 /// Appends how often each rule fired, each after a comma.
-fn put_rules(counts: &[u64], out: &mut Vec<u8>) -> Result<(), AllocError>
-    ensures { OnOk result (out.new.items ≡ out.old.items ++ rule_figures 1 counts.now) }
+fn put_rules(rules: &RuleSet, counts: &[u64], out: &mut Vec<u8>) -> Result<(), AllocError>
+    ensures { OnOk result (out.new.items ≡ out.old.items ++ rule_figures rules.now 0 counts.now) }
 {
     for (place, count) in counts.iter().enumerate() {
-        put_rule(place as u64 + 1, *count, out)?;
+        put_rule(rules, place, *count, out)?;
     }
     Ok(())
 }
 
-/// Appends how often a rule fired, unless it never did.
-fn put_rule(rule: u64, count: u64, out: &mut Vec<u8>) -> Result<(), AllocError>
-    ensures { OnOk result (out.new.items ≡ out.old.items ++ rule_figure rule count) }
+/// Appends how often the rule at a place fired, unless it never did.
+fn put_rule(rules: &RuleSet, place: usize, count: u64, out: &mut Vec<u8>) -> Result<(), AllocError>
+    requires { place < 2 ^ 64 - 1 }
+    ensures { OnOk result (out.new.items ≡ out.old.items ++ rule_figure rules.now place count) }
 {
     match count {
         0 => Ok(()),
-        _ => put_firings(rule, count, out),
+        _ => put_firings(rules, place, count, out),
     }
 }
 
-/// Appends how often a rule fired.
-fn put_firings(rule: u64, count: u64, out: &mut Vec<u8>) -> Result<(), AllocError>
-    ensures { OnOk result (out.new.items ≡ out.old.items ++ firings_figure rule count) }
+/// Appends how often the rule at a place fired.
+fn put_firings(
+    rules: &RuleSet,
+    place: usize,
+    count: u64,
+    out: &mut Vec<u8>,
+) -> Result<(), AllocError>
+    requires { place < 2 ^ 64 - 1 }
+    ensures { OnOk result
+        (out.new.items ≡ out.old.items ++ firings_figure rules.now place count) }
 {
-    put_rule_name(rule, out)?;
+    put_rule_name(rules, place, out)?;
     put_count(count, out)?;
     Ok(())
 }
 
-/// Appends the name of a rule.
-fn put_rule_name(rule: u64, out: &mut Vec<u8>) -> Result<(), AllocError>
-    ensures { OnOk result (out.new.items ≡ out.old.items ++ rule_name rule) }
+/// Appends the number and the text of the rule at a place.
+fn put_rule_name(rules: &RuleSet, place: usize, out: &mut Vec<u8>) -> Result<(), AllocError>
+    requires { place < 2 ^ 64 - 1 }
+    ensures { OnOk result (out.new.items ≡ out.old.items ++ rule_name rules.now place) }
 {
     out.extend_from_slice(b", rule ")?;
-    put_decimal(rule, out)?;
+    put_decimal(place as u64 + 1, out)?;
+    out.push(b' ')?;
+    put_rule_text(rules, place, out)?;
     Ok(())
+}
+
+/// Appends the two symbols of the rule at a place.
+fn put_rule_text(rules: &RuleSet, place: usize, out: &mut Vec<u8>) -> Result<(), AllocError>
+    ensures { OnOk result (out.new.items ≡ out.old.items ++ rule_text rules.now place) }
+{
+    match rules.rules().get(place) {
+        Some(rule) => put_pair(rules.symbols(), rule, out),
+        None => Ok(()),
+    }
+}
+
+/// Appends the two symbols of a rule.
+fn put_pair(symbols: &Symbols, rule: &Rule, out: &mut Vec<u8>) -> Result<(), AllocError>
+    ensures { OnOk result
+        (out.new.items ≡ out.old.items ++ pair_text symbols.now (Some rule.now)) }
+{
+    out.extend_from_slice(symbol_text(symbols, rule.left()))?;
+    out.extend_from_slice(b"><")?;
+    out.extend_from_slice(symbol_text(symbols, rule.right()))?;
+    Ok(())
+}
+
+/// The text of a symbol, where there is one of this number.
+fn symbol_text(symbols: &Symbols, symbol: u32) -> &[u8]
+    ensures { result.now ≡ symbol_text symbols.now symbol }
+{
+    if (symbol as usize) < symbols.len() {
+        symbols.text(symbol)
+    } else {
+        b""
+    }
 }
 
 /// Appends how often it fired.
@@ -199,22 +253,46 @@ fn end_word(end: End) -> &'static [u8]
     }
 }
 
-/// Appends the fields of steps, places, time and pace, after the string of the end.
+/// Ends the string of the end, and appends the field of the pair that is stuck.
+fn put_stuck_fields(outcome: &Outcome, out: &mut Vec<u8>) -> Result<(), AllocError>
+    ensures { OnOk result (out.new.items ≡ out.old.items ++ stuck_fields outcome.now) }
+{
+    out.push(b'"')?;
+    put_stuck_field(&outcome.stuck, out)?;
+    Ok(())
+}
+
+/// Appends the field of the pair that is stuck.
+fn put_stuck_field(stuck: &Option<Vec<u8>>, out: &mut Vec<u8>) -> Result<(), AllocError>
+    ensures { OnOk result (out.new.items
+        ≡ out.old.items ++ stuck_field (option_map (λ text. text.items) stuck.now)) }
+{
+    match stuck {
+        Some(pair) => {
+            out.extend_from_slice(b",\"stuck\":\"")?;
+            out.extend_from_slice(pair)?;
+            out.extend_from_slice(b"\"")
+        }
+        None => out.extend_from_slice(b",\"stuck\":null"),
+    }
+}
+
+/// Appends the fields of steps, places, time and pace.
 fn put_counts(outcome: &Outcome, millis: u64, out: &mut Vec<u8>) -> Result<(), AllocError>
     ensures { OnOk result (out.new.items ≡ out.old.items ++ count_fields outcome.now millis) }
 {
     put_step_fields(outcome, out)?;
     put_places_field(outcome, out)?;
     put_millis_field(millis, out)?;
-    put_pace_field(outcome, millis, out)?;
+    put_pace_field(outcome.interactions, millis, out)?;
     Ok(())
 }
 
-/// Appends the fields of steps, after the string of the end.
+/// Appends the fields of steps.
 fn put_step_fields(outcome: &Outcome, out: &mut Vec<u8>) -> Result<(), AllocError>
     ensures { OnOk result (out.new.items ≡ out.old.items ++ step_fields outcome.now) }
 {
-    out.extend_from_slice(b"\",\"interactions\":")?;
+    out.extend_from_slice(b",\"interactions\":")?;
     put_decimal(outcome.interactions, out)?;
     put_name_steps_field(outcome.name_steps, out)?;
     Ok(())
@@ -239,12 +317,22 @@ fn put_millis_field(millis: u64, out: &mut Vec<u8>) -> Result<(), AllocError>
 }
 
 /// Appends the field of how fast it was.
-fn put_pace_field(outcome: &Outcome, millis: u64, out: &mut Vec<u8>) -> Result<(), AllocError>
-    ensures { OnOk result (out.new.items ≡ out.old.items ++ pace_field outcome.now millis) }
+fn put_pace_field(interactions: u64, millis: u64, out: &mut Vec<u8>) -> Result<(), AllocError>
+    ensures { OnOk result (out.new.items ≡ out.old.items ++ pace_field interactions millis) }
 {
     out.extend_from_slice(b",\"interactions_a_second\":")?;
-    put_decimal(a_second(outcome.interactions, millis), out)?;
+    put_pace_text(interactions, millis, out)?;
     Ok(())
+}
+
+/// Appends how fast it was, or null where it took less than a millisecond.
+fn put_pace_text(interactions: u64, millis: u64, out: &mut Vec<u8>) -> Result<(), AllocError>
+    ensures { OnOk result (out.new.items ≡ out.old.items ++ pace_text interactions millis) }
+{
+    match millis {
+        0 => out.extend_from_slice(b"null"),
+        _ => put_decimal(a_second(interactions, millis), out),
+    }
 }
 
 /// Appends the field of steps that put a term for a name, where they are told.
@@ -261,26 +349,46 @@ fn put_name_steps_field(name_steps: Option<u64>, out: &mut Vec<u8>) -> Result<()
     }
 }
 
-/// Appends numbers with commas between them.
-fn put_numbers(alloc: Global, numbers: &[u64], out: &mut Vec<u8>) -> Result<(), AllocError>
-    ensures { OnOk result (out.new.items ≡ out.old.items ++ numbers_text numbers.now) }
+/// Appends the objects of rules with commas between them.
+fn put_rules_text(
+    alloc: Global,
+    rules: &RuleSet,
+    counts: &[u64],
+    out: &mut Vec<u8>,
+) -> Result<(), AllocError>
+    ensures { OnOk result (out.new.items ≡ out.old.items ++ rules_text rules.now counts.now) }
 {
     let mut text = Vec::new(alloc);
-    put_after_commas(numbers, &mut text)?;
+    put_rule_objects(rules, counts, &mut text)?;
     if !text.is_empty() {
         out.extend_from_slice(&text[1..])?;
     }
     Ok(())
 }
 
-/// Appends numbers, each after a comma.
-fn put_after_commas(numbers: &[u64], out: &mut Vec<u8>) -> Result<(), AllocError>
-    ensures { OnOk result (out.new.items
-        ≡ out.old.items ++ flat_map (λ n. 44 ∷ decimal n) numbers.now) }
+/// Appends the objects of rules, each after a comma.
+fn put_rule_objects(rules: &RuleSet, counts: &[u64], out: &mut Vec<u8>) -> Result<(), AllocError>
+    ensures { OnOk result (out.new.items ≡ out.old.items ++ rule_objects rules.now 0 counts.now) }
 {
-    for number in numbers {
-        out.push(b',')?;
-        put_decimal(*number, out)?;
+    for (place, count) in counts.iter().enumerate() {
+        put_rule_object(rules, place, *count, out)?;
     }
+    Ok(())
+}
+
+/// Appends how often the rule at a place fired, as an object after a comma.
+fn put_rule_object(
+    rules: &RuleSet,
+    place: usize,
+    count: u64,
+    out: &mut Vec<u8>,
+) -> Result<(), AllocError>
+    ensures { OnOk result (out.new.items ≡ out.old.items ++ rule_object rules.now place count) }
+{
+    out.extend_from_slice(b",{\"rule\":\"")?;
+    put_rule_text(rules, place, out)?;
+    out.extend_from_slice(b"\",\"interactions\":")?;
+    put_decimal(count, out)?;
+    out.extend_from_slice(b"}")?;
     Ok(())
 }

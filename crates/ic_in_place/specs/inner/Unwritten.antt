@@ -1,6 +1,7 @@
 -- For private functions: what is read back and isn't numbered anew, and what is told of it.
 use Rattle.std.specs.Prelude.{◌≡◌, ℕ, ◌+◌, ◌*◌, List, IsTrue, length}
 use Rattle.std.specs.List.{list_all}
+use Rattle.std.specs.Arc.{arc_value}
 use Rattle.std.specs.Option.{option_map}
 use Rattle.ic_term.specs.Configuration.{Configuration}
 use Rattle.ic_term.specs.Symbol.{Symbol}
@@ -33,3 +34,4 @@ pub record IsTold (s : SystemParts) (bounds : Bounds) (outcome : Outcome) : Type
       (length answer.equations) outcome.end outcome.name_steps
   pub stuck : option_map (λ text. text.items) outcome.stuck
       ≡ stuck_at outcome.end s.rules.symbols answer
+  pub rules : arc_value outcome.rules ≡ s.rules

@@ -48,6 +48,7 @@ returns-clause-line g c =
       together = λ written. (c.in_ok-reduced.ensures.reached c.args.bounds c.in_ok-stopped.ensures).2;
       prints = line_so c.args.asked reduced.end ss other reduced.words.items reduced.terms answer _ c.in_ok-line.ensures same written;
       stuck = stuck_so reduced.end ss other reduced.words.items reduced.terms answer _ c.in_ok-stuck.ensures same written;
+      rules = c.into_parts-shared.ensures.rules;
     }
 
 pub returns-then-not-is_written-clause-line : goal.returns-then-not-is_written-clause-line
@@ -68,4 +69,5 @@ returns-then-not-is_written-clause-line g c =
       together = λ written. absurd (false≢true (sym none ∙ written));
       prints = c.new.ensures.items ∙ sym (ap (λ (b : Bool). cond b (line_of s.rules.symbols (renumbered told.answer)) []) none);
       stuck = told.stuck;
+      rules = told.rules;
     }

@@ -25,4 +25,5 @@ returns-clause-told c = λ bounds stopped.
       reached = read.1;
       name_steps = read.3;
       stuck = stuck_alike c.in_ok-read.read.end _ _ _ _ _ read.0 _ c.in_ok-stuck.ensures same read.4;
+      rules = c.into_parts-shared.ensures.rules;
     }
