@@ -17,9 +17,43 @@ def nested(depth, closed=True):
     return "A(" * depth + "Z" + ")" * (depth if closed else 0)
 
 
-class DrawnTexts(ModelTrial):
-    seconds = 8
+def well_formed(drawn):
+    text = draws.system_text(*draws.system(drawn, drawn.choice([1, 2, 3, 5, 9]), drawn.choice([3, 6, 15])))
+    return draws.spaced(drawn, text) if drawn.random() < 0.3 else text
 
+
+def spoilt(drawn):
+    text = draws.system_text(*draws.system(drawn, drawn.choice([1, 1, 2, 3]), drawn.choice([2, 3, 6]))).encode()
+    for _ in range(drawn.choice([1, 1, 2, 3])):
+        text = draws.spoilt(drawn, text)
+    return text
+
+
+def of_several_faults(drawn):
+    rule_set, config = draws.system(drawn, drawn.choice([2, 3, 4]), 3, lopsided=0.4)
+    listed = [draws.rule_text(rule_set, it) for it in rule_set.rules]
+    listed += drawn.sample(listed, min(len(listed), drawn.choice([0, 0, 1, 2])))
+    drawn.shuffle(listed)
+    rules, rest = ("{" + ";".join(listed) + "}").encode(), model.printed(rule_set, config).encode()
+    for _ in range(drawn.choice([0, 0, 1, 3])):
+        rules = draws.renamed(drawn, rules)
+    for _ in range(drawn.choice([0, 1, 4])):
+        rest = draws.renamed(drawn, rest)
+    return rules + rest
+
+
+def of_faulty_rules(drawn):
+    rule_set, config = draws.system(drawn, drawn.choice([1, 2, 3]), 4, lopsided=0.5)
+    listed = [draws.rule_text(rule_set, it) for it in rule_set.rules]
+    if listed and drawn.random() < 0.4:
+        left, right = drawn.choice(listed).split("><")
+        again = drawn.choice([f"{right}><{left}", f"{left}><{right}", f"{left}><{left}"])
+        listed.insert(drawn.randrange(len(listed) + 1), again)
+    text = "{" + ";".join(listed) + "}" + model.printed(rule_set, config)
+    return draws.altered(drawn, text.encode()) if drawn.random() < 0.3 else text
+
+
+class TextTrial(ModelTrial):
     def reads(self, texts):
         """Texts as systems that are submitted, shown and cancelled again."""
         lines = []
@@ -27,6 +61,10 @@ class DrawnTexts(ModelTrial):
             lines += [b"submit a " + (text.encode() if isinstance(text, str) else text), b"fetch a", b"cancel a"]
         for at in range(0, len(lines), 3_000):
             self.serve(self.new_disk(), lines[at : at + 3_000])
+
+
+class DrawnTexts(TextTrial):
+    seconds = 8
 
     def test_each_front_of_a_system(self):
         self.reads(dict.fromkeys(text[:at] for text in SYSTEMS for at in range(len(text) + 1)))
@@ -55,51 +93,19 @@ class DrawnTexts(ModelTrial):
 
     def test_systems(self):
         drawn = self.draws()
-        texts = []
-        for _ in range(700):
-            text = draws.system_text(*draws.system(drawn, drawn.choice([1, 2, 3, 5, 9]), drawn.choice([3, 6, 15])))
-            texts.append(draws.spaced(drawn, text) if drawn.random() < 0.3 else text)
-        self.reads(texts)
+        self.reads([well_formed(drawn) for _ in range(700)])
 
     def test_spoilt_systems(self):
         drawn = self.draws()
-        texts = []
-        for _ in range(1_500):
-            text = draws.system_text(*draws.system(drawn, drawn.choice([1, 1, 2, 3]), drawn.choice([2, 3, 6]))).encode()
-            for _ in range(drawn.choice([1, 1, 2, 3])):
-                text = draws.spoilt(drawn, text)
-            texts.append(text)
-        self.reads(texts)
+        self.reads([spoilt(drawn) for _ in range(1_500)])
 
     def test_several_faults_at_once(self):
         drawn = self.draws()
-        texts = []
-        for _ in range(1_000):
-            rule_set, config = draws.system(drawn, drawn.choice([2, 3, 4]), 3, lopsided=0.4)
-            listed = [draws.rule_text(rule_set, it) for it in rule_set.rules]
-            listed += drawn.sample(listed, min(len(listed), drawn.choice([0, 0, 1, 2])))
-            drawn.shuffle(listed)
-            rules, rest = ("{" + ";".join(listed) + "}").encode(), model.printed(rule_set, config).encode()
-            for _ in range(drawn.choice([0, 0, 1, 3])):
-                rules = draws.renamed(drawn, rules)
-            for _ in range(drawn.choice([0, 1, 4])):
-                rest = draws.renamed(drawn, rest)
-            texts.append(rules + rest)
-        self.reads(texts)
+        self.reads([of_several_faults(drawn) for _ in range(1_000)])
 
     def test_rules_with_faults(self):
         drawn = self.draws()
-        texts = []
-        for _ in range(1_000):
-            rule_set, config = draws.system(drawn, drawn.choice([1, 2, 3]), 4, lopsided=0.5)
-            listed = [draws.rule_text(rule_set, it) for it in rule_set.rules]
-            if listed and drawn.random() < 0.4:
-                left, right = drawn.choice(listed).split("><")
-                again = drawn.choice([f"{right}><{left}", f"{left}><{right}", f"{left}><{left}"])
-                listed.insert(drawn.randrange(len(listed) + 1), again)
-            text = "{" + ";".join(listed) + "}" + model.printed(rule_set, config)
-            texts.append(draws.altered(drawn, text.encode()) if drawn.random() < 0.3 else text)
-        self.reads(texts)
+        self.reads([of_faulty_rules(drawn) for _ in range(1_000)])
 
     def test_faults_of_late_rules(self):
         drawn = self.draws()

@@ -11,8 +11,8 @@ from program import IN_MEMORY, Trial, run
 # The limits of what is served.
 NODES, TERMS, BYTES, SYMBOLS, RULES, RULE_NODES = 8_192, 64, 262_144, 64, 256, 2_048
 
-# Those of symbols for `reduce`.
-WIDE_SYMBOLS = 65_536
+# Those of symbols for `reduce`, and of the numbers of names.
+WIDE_SYMBOLS, MAX_NAME = 65_536, 2**32 - 1
 
 TOO_MANY_NODES = f"a configuration has at most {NODES} nodes"
 TOO_MANY_TERMS = f"an interface has at most {TERMS} terms"
@@ -206,6 +206,36 @@ class Large(Trial):
         ran = run("reduce", given=text)
         self.equals(ran.command, "status and first line", (1, b"icserve: bad name a\n"), (ran.status, ran.err))
         self.equals(ran.command, "the column", len(text) - 2, int(PLACE.fullmatch(ran.behind)[2]))
+
+    def test_names_near_each_other_and_far_apart(self):
+        drawn = self.draws()
+        near, far = range(50_000), drawn.sample(range(50_000, MAX_NAME + 1), 50_000)
+        twice = [*near, *near, *far, *far]
+        drawn.shuffle(twice)
+        numbers = {}
+        told = [numbers.setdefault(name, len(numbers)) for name in twice]
+        text, answer = (f"<{','.join(map(model.name_text, names))}|>" for names in (twice, told))
+        self.reduces(f"{{}} {text}", answer, 0)
+        once = sorted(set(twice), key=lambda _: drawn.random())
+        text = f"<{','.join(map(model.name_text, once))}|>"
+        self.reduces(f"{{}} {text}", text, 0)
+
+    def test_thousands_of_symbols_in_any_order(self):
+        drawn = self.draws()
+        symbols = [f"{drawn.choice('AZ09')}{number}{'z' * drawn.randint(0, 20)}" for number in range(5_000)]
+        arities = {it: drawn.randint(0, 3) for it in symbols}
+        constants = [it for it in symbols if not arities[it]]
+        terms = []
+        for _ in range(40_000):
+            symbol = drawn.choice(symbols)
+            listed = ",".join(drawn.choice(constants) for _ in range(arities[symbol]))
+            terms.append(f"{symbol}({listed})" if listed else symbol)
+        text = f"<{','.join(terms)}|>"
+        self.reduces(f"{{}} {text}", text, 0)
+        wrong = next(it for it in symbols if arities[it] == 1 and f"{it}(" in text)
+        ran = run("reduce", given=f"{{}} {text[:-2]},{wrong}|>")
+        self.equals(ran.command, "status and first line", (1, b"icserve: bad arity\n"), (ran.status, ran.err))
+        self.equals(ran.command, "the column", len(text) + 3, int(PLACE.fullmatch(ran.behind)[2]))
 
     def test_a_text_of_more_bytes_than_are_served(self):
         for count in (BYTES, BYTES + 1, 10 * BYTES):
