@@ -1,5 +1,5 @@
 -- The plans of pairs of symbols: one more, and what they are once those of all rules are there.
-use Rattle.std.proofs.Common.{◌≡◌, ◌⊎◌, ℕ, zero, suc, ◌+◌, ◌≤◌, ◌<◌, ◌==◌, ◌&&◌, ◌||◌, List, [], ◌∷◌, ◌++◌, Bool, true, false, cond, Option, None, Some, Result, Ok, Err, is_some, length, map, take, slice_get, refl, sym, ap, subst, ◌∙◌, arith}
+use Rattle.std.proofs.Common.{◌≡◌, ℕ, zero, suc, ◌+◌, ◌<◌, ◌==◌, ◌&&◌, ◌||◌, List, [], ◌∷◌, ◌++◌, Bool, true, false, cond, Option, None, Some, Result, Ok, Err, is_some, length, map, take, slice_get, refl, sym, ap, subst, ◌∙◌, arith}
 use Rattle.std.specs.Prelude.{IfSome, IsSome, OnOk}
 use Rattle.std.specs.Option.{option_map}
 use Rattle.std.specs.List.{list_any, AllByRecursion}
@@ -12,7 +12,7 @@ use Rattle.ic_rules.specs.Rule.{Rule, stands_for}
 use Rattle.ic_rules.specs.RuleSet.{Rules, IsRuleSet, rule_for, has_pair, stands_turned}
 use Rattle.ic_rules.specs.lemmas.FindLaws.{rule_for-found, rule_for-none}
 use Rattle.ic_rules.specs.lemmas.FitLaws.{rule_over_at}
-use Rattle.ic_machine.specs.Plan.{Planned, Plans, IsPlan, ArePlans, number_of, place_of, plan_of}
+use Rattle.ic_machine.specs.Plan.{Planned, Plans, IsPlan, number_of, place_of, plan_of}
 use Rattle.ic_machine.specs.lemmas.PairLaws.{found_on, no_number, pair_same, place_pushed, plans_added, same_pair}
 use Rattle.ic_meaning.specs.Plans.{IsOfRule, ArePlansOf, StandsFor, met_as}
 use Rattle.ic_plans.specs.inner.Entries.{arities_of, ArePlanned, HasPlans, Continues}

@@ -1,12 +1,12 @@
 -- The registers of the names of a configuration: a word more.
 use Rattle.std.proofs.Common.{◌≡◌, ◌↔◌, ◌⊎◌, ℕ, zero, suc, ◌+◌, ◌≤◌, ◌<◌, ◌==◌, List, [], ◌∷◌, ◌++◌, Bool, true, false, cond, Option, None, Some, length, take, drop, get_or, slice_get, true≢false, refl, sym, ap, ◌∙◌, arith, inl, inr}
-use Rattle.std.specs.Prelude.{is_some, unwrap_or}
+use Rattle.std.specs.Prelude.{is_some}
 use Rattle.std.proofs.lemmas.Option.{none-some}
 use Rattle.std.proofs.lemmas.List.{drop_more, take-append-drop}
 use Rattle.std.specs.Cmp.{unsigned_Decides}
 use Rattle.ic_term.specs.Configuration.{occurrences}
 use Rattle.ic_plans.specs.inner.Registers.{Registers, found}
-use Rattle.ic_plans.specs.inner.Given.{AreGiven, AreFresh}
+use Rattle.ic_plans.specs.inner.Given.{AreFresh}
 use Rattle.ic_plans.proofs.FlatLemmas.{count-append, count-cons, count-other, count-same}
 use Rattle.ic_plans.proofs.RegisterLemmas.{some_same, there_front, there_last}
 use Rattle.ic_plans.proofs.RuleLemmas.{not_same}
@@ -77,12 +77,6 @@ module _ (n r : ℕ) (old new : Registers) (updated : (q : ℕ) → found new q 
 pub record AreGivenSoFar (all before : List ℕ) (start : ℕ) (given : List ℕ) (registers : Registers) : Type 0 where
   pub once : (x : ℕ) → ((occurrences x all ≡ 1) × (1 ≤ occurrences x before)) ↔ ((j : ℕ) × (slice_get given j ≡ Some x))
   pub registers_are : (x r : ℕ) → (found registers x ≡ Some r) ↔ ((j : ℕ) × (slice_get given j ≡ Some x) × (r ≡ start + j))
-
-pub given-all : (all : List ℕ) (start : ℕ) (given : List ℕ) (registers : Registers) → AreGivenSoFar all all start given registers → AreGiven all start given registers
-given-all all start given registers so_far = record {
-  once = λ x. (λ e. (so_far.once x).0 (e, omega (arith, e)), λ w. ((so_far.once x).1 w).0);
-  registers_are = so_far.registers_are;
-}
 
 -- a name more that stands more often
 pub given-other : (all before : List ℕ) (start : ℕ) (given : List ℕ) (registers : Registers) (n : ℕ) → (occurrences n all ≡ 1 → ⊥)
@@ -225,24 +219,3 @@ fresh-more before start names old mid new n m none place_is updated fresh = reco
         by : (slice_get names w.0 ≡ Some x) ⊎ ((n ≡ x) × (w.0 ≡ length names)) → found new x ≡ Some r
         by (inl p) = kept x r ((fresh.registers_are x r).1 (inr (w.0, p, w.2)))
         by (inr q) = found-new n m mid new updated x q.0 ∙ ap Some (place_is ∙ sym (w.2 ∙ ap (λ k. start + k) q.1))
-
--- ---- how often names stand
-
-pub counted-more : (before : List ℕ) (n count : ℕ) (old new : Registers) → count ≡ unwrap_or (found old n) 0
-    → ((q : ℕ) → found new q ≡ cond (n == q) (Some (count + 1)) (found old q))
-    → ((x : ℕ) → unwrap_or (found old x) 0 ≡ occurrences x before) → (x : ℕ) → unwrap_or (found new x) 0 ≡ occurrences x (before ++ n ∷ [])
-counted-more before n count old new was updated counts x = at (n == x) refl
-  where
-    at : (b : Bool) → (n == x) ≡ b → unwrap_or (found new x) 0 ≡ occurrences x (before ++ n ∷ [])
-    at true e =
-        let same = (unsigned_Decides n x).0 e in
-        let here = updated x ∙ ap (λ b. cond b (Some (count + 1)) (found old x)) e in
-        let one = occurrences-more x before n in
-        let more = count-same n x same in
-        let old_count = was ∙ counts n ∙ ap (λ y. occurrences y before) same in
-        ap (λ o. unwrap_or o 0) here ∙ omega arith
-    at false e =
-        let here = updated x ∙ ap (λ b. cond b (Some (count + 1)) (found old x)) e in
-        let one = occurrences-more x before n in
-        let other = count-other n x (not_same n x e) in
-        ap (λ o. unwrap_or o 0) here ∙ counts x ∙ omega arith

@@ -9,3 +9,4 @@ pub mod EntryLemmas
 pub mod GivenLemmas
 pub mod NetLemmas
 pub mod RoomLemmas
+pub mod ListedLemmas

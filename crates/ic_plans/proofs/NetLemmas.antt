@@ -76,7 +76,7 @@ all-places : (P : ℕ → Type 0) (xs : List ℕ) → ((j x : ℕ) → slice_get
 all-places P [] each = tt
 all-places P (x ∷ xs) each = (each 0 x refl, all-places P xs (λ j y there. each (suc j) y there))
 
-there-occurs : (x : ℕ) (xs : List ℕ) (j : ℕ) → slice_get xs j ≡ Some x → 1 ≤ occurrences x xs
+pub there-occurs : (x : ℕ) (xs : List ℕ) (j : ℕ) → slice_get xs j ≡ Some x → 1 ≤ occurrences x xs
 there-occurs x [] j there = absurd (none-some x there)
 there-occurs x (y ∷ xs) zero there =
     let one = count-cons x y xs in

@@ -134,5 +134,5 @@ pub room-for : (ns : List ℕ) (i next : ℕ) (names : List ℕ) (old new : Regi
     → AreFresh (take i ns) next names old new → next + length names < 2 ^ 32 - 1
 room-for ns i next names old new leaves fresh =
     let behind = subst (λ k. AreFresh (take i ns) k names old new) leaves.next_is fresh in
-    let few = registers-few ns (take i ns) leaves.start leaves.given names old new leaves.are_given behind (front-few ns i) in
+    let few = registers-few leaves.all (take i ns) leaves.start leaves.given names old new leaves.are_given behind (λ x. omega (arith, front-few ns i x, leaves.of_them x)) in
     omega (arith, few, leaves.next_is, leaves.room)

@@ -1,6 +1,6 @@
 //! The plan of a configuration, which a machine begins with.
 
-ghost use Rattle.std.specs.Prelude.{◌≡◌, ◌↔◌, ℕ, ◌+◌, ◌<◌, ◌≤◌, None, map, length, take, drop, unwrap_or, IfOk};
+ghost use Rattle.std.specs.Prelude.{◌≡◌, ◌==◌, ◌↔◌, ℕ, ◌+◌, ◌<◌, ◌≤◌, List, None, false, map, length, take, drop, slice_index_or, if◌then◌else◌, IfOk};
 ghost use Rattle.std.specs.List.{flat_map, Contains};
 ghost use Rattle.ic_term.specs.Configuration.{configuration_nodes, configuration_names, occurrences};
 ghost use Rattle.ic_flat.specs.Words.{word_names};
@@ -8,7 +8,7 @@ ghost use Rattle.ic_machine.specs.Plan.{planned};
 ghost use Rattle.ic_machine.specs.Runs.{IsStart};
 ghost use Rattle.ic_meaning.specs.Plans.{StandsForNet};
 ghost use Rattle.ic_plans.specs.inner.Registers.{found};
-ghost use Rattle.ic_plans.specs.inner.Given.{AreGiven, AreFresh, LeavesRoom, operand_links};
+ghost use Rattle.ic_plans.specs.inner.Given.{AreGiven, AreFresh, AreListed, LeavesRoom, operand_links};
 
 use crate::flattening::flatten;
 use ic_flat::{WideSystem, Word};
@@ -44,10 +44,15 @@ pub fn first_plan(alloc: Global, system: &WideSystem) -> Result<First, AllocErro
     let count = system.rules().symbols().len() as u32;
     let occurring = names_of(alloc, words)?;
     let all = occurring.as_slice();
+    let (firsts, single) = list_names(alloc, all)?;
     let mut registers = NameTable::new(alloc, all)?;
-    let given = read_given(alloc, all, count, &mut registers)?;
+    let different = firsts.as_slice();
+    let once = single.as_slice();
+    let given = read_given(alloc, different, once, count, &mut registers)?;
     let start = count + given.len() as u32;
-    let others = add_others(alloc, all, start, &mut registers)?;
+    let others = add_others(alloc, different, start, &mut registers)?;
+    drop(firsts);
+    drop(single);
     drop(occurring);
     let names = others.len() as u32;
     let (makes, operands) = flatten(alloc, words, &registers, start + names)?;
@@ -77,36 +82,65 @@ fn names_of(alloc: Global, words: &[Word]) -> Result<Vec<u64>, AllocError>
     Ok(names)
 }
 
-/// How often each name of a list occurs there.
-fn occurrences_of(alloc: Global, names: &[u64]) -> Result<NameTable, AllocError>
+/// The different names of a list in the order of their first occurrences, and of each whether it occurs once.
+fn list_names(alloc: Global, names: &[u64]) -> Result<(Vec<u64>, Vec<bool>), AllocError>
     requires { length names.now < u32.MAX }
-    ensures { IfOk result
-        (λ counts. (x : ℕ) → unwrap_or (found counts x) 0 ≡ occurrences x names.now) }
+    ensures { IfOk result (λ listed. AreListed names.now listed.0.items listed.1.items) }
 {
-    let mut counts = NameTable::new(alloc, names)?;
+    let mut places = NameTable::new(alloc, names)?;
+    let mut firsts = Vec::new(alloc);
+    let mut single = Vec::new(alloc);
     for name in names {
-        let count = counts.get(*name).unwrap_or(0);
-        counts.set(*name, count + 1)?;
+        if let Some(place) = places.get(*name) {
+            note_again(&mut single, place);
+        } else {
+            places.set(*name, firsts.len() as u32)?;
+            firsts.push(*name)?;
+            single.push(true)?;
+        }
     }
-    Ok(counts)
+    Ok((firsts, single))
 }
 
-/// The names that occur once in a list, each with a register, the first of which is `start`.
+/// Notes that the name at a place occurs again.
+fn note_again(single: &mut Vec<bool>, place: u32)
+    ensures len { length single.new.items ≡ length single.old.items }
+    ensures each { (j : ℕ) → slice_index_or single.new.items j false
+        ≡ if place == j then false else slice_index_or single.old.items j false }
+{
+    if (place as usize) < single.len() {
+        single[place as usize] = false;
+    }
+}
+
+/// Whether the name at a place occurs once.
+fn is_single(single: &[bool], place: usize) -> bool
+    ensures { result ≡ slice_index_or single.now place false }
+{
+    match single.get(place) {
+        Some(once) => *once,
+        None => false,
+    }
+}
+
+/// The names that occur once in a list, of which these are the different ones, each with a register, the first of which is
+/// `start`.
 fn read_given(
     alloc: Global,
-    names: &[u64],
+    firsts: &[u64],
+    single: &[bool],
     start: u32,
     registers: &mut NameTable,
 ) -> Result<Vec<u64>, AllocError>
-    requires room { start + length names.now < u32.MAX }
+    requires room { start + length firsts.now < u32.MAX }
     requires none { (x : ℕ) → found registers.old x ≡ None }
-    ensures few { IfOk result (λ given. length given.items ≤ length names.now) }
-    ensures given { IfOk result (λ given. AreGiven names.now start given.items registers.new) }
+    ensures few { IfOk result (λ given. length given.items ≤ length firsts.now) }
+    ensures given { IfOk result (λ given. (ns : List ℕ) → AreListed ns firsts.now single.now
+        → AreGiven ns start given.items registers.new) }
 {
-    let counts = occurrences_of(alloc, names)?;
     let mut given = Vec::new(alloc);
-    for name in names {
-        if counts.get(*name).unwrap_or(0) == 1 {
+    for (place, name) in firsts.iter().enumerate() {
+        if is_single(single, place) {
             registers.set(*name, start + given.len() as u32)?;
             given.push(*name)?;
         }

@@ -11,51 +11,65 @@ use Rattle.ic_machine.specs.Plan.{made_of}
 use Rattle.ic_machine.specs.Runs.{IsStart}
 use Rattle.ic_meaning.specs.Plans.{StandsForNet}
 use Rattle.ic_plans.specs.inner.Registers.{register_of}
-use Rattle.ic_plans.specs.inner.Given.{AreFresh, AreGiven, operand_links}
+use Rattle.ic_plans.specs.inner.Given.{AreFresh, operand_links}
 use Rattle.ic_plans.specs.inner.Flattening.{WouldBeFlat}
 use Rattle.ic_plans.proofs.NetLemmas.{words-few, enough-operands, given-exactly, first_starts, first_stands}
+use Rattle.ic_plans.proofs.ListedLemmas.{fresh-listed, listed-few, listed-there}
 use Rattle.ic_plans.proofs.RoomLemmas.{names-length, registers-few}
 use Rattle.ic_plans.proofs.first.first_plan.Goals as goal
+
+pub list_names-requires : goal.list_names-requires
+list_names-requires c =
+    let few = words-few c.config-config.result.now c.symbols.result.now c.words-words.result.now c.len-count.result c.words-words.ensures.sound c.len-count.ensures.sound c.words-words.ensures.words c.len-count.ensures.len in
+    omega (arith, few.0, few.1, ap length (c.as_slice-all.ensures.value ∙ c.in_ok-occurring.ensures), names-length c.words-words.result.now)
 
 pub read_given-requires-clause-room : goal.read_given-requires-clause-room
 read_given-requires-clause-room c =
     let few = words-few c.config-config.result.now c.symbols.result.now c.words-words.result.now c.len-count.result c.words-words.ensures.sound c.len-count.ensures.sound c.words-words.ensures.words c.len-count.ensures.len in
-    omega (arith, few.0, few.1, ap length (c.as_slice-all.ensures.value ∙ c.in_ok-occurring.ensures), names-length c.words-words.result.now)
+    let listed = listed-there c.as_slice-all.result.now (flat_map word_names c.words-words.result.now) c.in_ok-firsts.firsts.items c.as_slice-different.result.now c.in_ok-firsts.single.items c.as_slice-once.result.now (c.as_slice-all.ensures.value ∙ c.in_ok-occurring.ensures) c.as_slice-different.ensures.value c.as_slice-once.ensures.value c.in_ok-firsts.ensures in
+    omega (arith, few.0, few.1, listed.few, names-length c.words-words.result.now)
 
 pub overflow_cast-start : goal.overflow_cast-start
 overflow_cast-start c =
     let few = words-few c.config-config.result.now c.symbols.result.now c.words-words.result.now c.len-count.result c.words-words.ensures.sound c.len-count.ensures.sound c.words-words.ensures.words c.len-count.ensures.len in
-    omega (arith, few.0, few.1, c.len.ensures, c.in_ok-given.ensures.few, ap length (c.as_slice-all.ensures.value ∙ c.in_ok-occurring.ensures), names-length c.words-words.result.now)
+    let listed = listed-there c.as_slice-all.result.now (flat_map word_names c.words-words.result.now) c.in_ok-firsts.firsts.items c.as_slice-different.result.now c.in_ok-firsts.single.items c.as_slice-once.result.now (c.as_slice-all.ensures.value ∙ c.in_ok-occurring.ensures) c.as_slice-different.ensures.value c.as_slice-once.ensures.value c.in_ok-firsts.ensures in
+    omega (arith, few.0, few.1, c.len.ensures, c.in_ok-given.ensures.few, listed.few, names-length c.words-words.result.now)
 
 pub overflow_add-start : goal.overflow_add-start
 overflow_add-start c =
     let few = words-few c.config-config.result.now c.symbols.result.now c.words-words.result.now c.len-count.result c.words-words.ensures.sound c.len-count.ensures.sound c.words-words.ensures.words c.len-count.ensures.len in
-    omega (arith, few.0, few.1, c.len.ensures, c.in_ok-given.ensures.few, ap length (c.as_slice-all.ensures.value ∙ c.in_ok-occurring.ensures), names-length c.words-words.result.now)
+    let listed = listed-there c.as_slice-all.result.now (flat_map word_names c.words-words.result.now) c.in_ok-firsts.firsts.items c.as_slice-different.result.now c.in_ok-firsts.single.items c.as_slice-once.result.now (c.as_slice-all.ensures.value ∙ c.in_ok-occurring.ensures) c.as_slice-different.ensures.value c.as_slice-once.ensures.value c.in_ok-firsts.ensures in
+    omega (arith, few.0, few.1, c.len.ensures, c.in_ok-given.ensures.few, listed.few, names-length c.words-words.result.now)
 
 pub add_others-requires : goal.add_others-requires
 add_others-requires c =
     let few = words-few c.config-config.result.now c.symbols.result.now c.words-words.result.now c.len-count.result c.words-words.ensures.sound c.len-count.ensures.sound c.words-words.ensures.words c.len-count.ensures.len in
+    let listed = listed-there c.as_slice-all.result.now (flat_map word_names c.words-words.result.now) c.in_ok-firsts.firsts.items c.as_slice-different.result.now c.in_ok-firsts.single.items c.as_slice-once.result.now (c.as_slice-all.ensures.value ∙ c.in_ok-occurring.ensures) c.as_slice-different.ensures.value c.as_slice-once.ensures.value c.in_ok-firsts.ensures in
     record {
+      all = flat_map word_names c.words-words.result.now;
+      of_them = listed-few (flat_map word_names c.words-words.result.now) c.as_slice-different.result.now c.as_slice-once.result.now listed;
       start = c.len-count.result;
       given = c.in_ok-given.given.items;
-      are_given = c.in_ok-given.ensures.given;
+      are_given = c.in_ok-given.ensures.given (flat_map word_names c.words-words.result.now) listed;
       next_is = omega (arith, c.len.ensures);
-      room = omega (arith, few.0, few.1, ap length (c.as_slice-all.ensures.value ∙ c.in_ok-occurring.ensures), names-length c.words-words.result.now);
+      room = omega (arith, few.0, few.1, listed.few, names-length c.words-words.result.now);
     }
 
 pub overflow_cast-names : goal.overflow_cast-names
 overflow_cast-names c =
     let few = words-few c.config-config.result.now c.symbols.result.now c.words-words.result.now c.len-count.result c.words-words.ensures.sound c.len-count.ensures.sound c.words-words.ensures.words c.len-count.ensures.len in
-    omega (arith, few.0, few.1, c.len-names.ensures, c.in_ok-others.ensures.few, ap length (c.as_slice-all.ensures.value ∙ c.in_ok-occurring.ensures), names-length c.words-words.result.now)
+    let listed = listed-there c.as_slice-all.result.now (flat_map word_names c.words-words.result.now) c.in_ok-firsts.firsts.items c.as_slice-different.result.now c.in_ok-firsts.single.items c.as_slice-once.result.now (c.as_slice-all.ensures.value ∙ c.in_ok-occurring.ensures) c.as_slice-different.ensures.value c.as_slice-once.ensures.value c.in_ok-firsts.ensures in
+    omega (arith, few.0, few.1, c.len-names.ensures, c.in_ok-others.ensures.few, listed.few, names-length c.words-words.result.now)
 
 pub overflow_add-start-2 : goal.overflow_add-start-2
 overflow_add-start-2 c =
     let few = words-few c.config-config.result.now c.symbols.result.now c.words-words.result.now c.len-count.result c.words-words.ensures.sound c.len-count.ensures.sound c.words-words.ensures.words c.len-count.ensures.len in
+    let listed = listed-there c.as_slice-all.result.now (flat_map word_names c.words-words.result.now) c.in_ok-firsts.firsts.items c.as_slice-different.result.now c.in_ok-firsts.single.items c.as_slice-once.result.now (c.as_slice-all.ensures.value ∙ c.in_ok-occurring.ensures) c.as_slice-different.ensures.value c.as_slice-once.ensures.value c.in_ok-firsts.ensures in
     let ns = flat_map word_names c.words-words.result.now in
     let counted : c.len-count.result + c.len.result ≡ c.len-count.result + length c.in_ok-given.given.items = omega (arith, c.len.ensures) in
-    let fresh = subst (λ k. AreFresh ns k c.in_ok-others.others.items c.read_given.new.registers c.add_others.new.registers) counted (subst (λ l. AreFresh l (c.len-count.result + c.len.result) c.in_ok-others.others.items c.read_given.new.registers c.add_others.new.registers) (c.as_slice-all.ensures.value ∙ c.in_ok-occurring.ensures) c.in_ok-others.ensures.fresh) in
+    let fresh = subst (λ k. AreFresh ns k c.in_ok-others.others.items c.read_given.new.registers c.add_others.new.registers) counted (fresh-listed (flat_map word_names c.words-words.result.now) c.as_slice-different.result.now c.as_slice-once.result.now listed (c.len-count.result + c.len.result) c.in_ok-others.others.items c.read_given.new.registers c.add_others.new.registers c.in_ok-others.ensures.fresh) in
     let together = registers-few ns ns c.len-count.result c.in_ok-given.given.items c.in_ok-others.others.items c.read_given.new.registers c.add_others.new.registers
-    (subst (λ l. AreGiven l c.len-count.result c.in_ok-given.given.items c.read_given.new.registers) (c.as_slice-all.ensures.value ∙ c.in_ok-occurring.ensures) c.in_ok-given.ensures.given) fresh (λ x. omega arith) in
+    (c.in_ok-given.ensures.given (flat_map word_names c.words-words.result.now) listed) fresh (λ x. omega arith) in
     omega (arith, few.0, few.1, c.len.ensures, c.len-names.ensures, together, names-length c.words-words.result.now)
 
 pub flatten-requires-clause-whole : goal.flatten-requires-clause-whole
@@ -65,11 +79,12 @@ flatten-requires-clause-whole c =
 pub flatten-requires-clause-room : goal.flatten-requires-clause-room
 flatten-requires-clause-room c =
     let few = words-few c.config-config.result.now c.symbols.result.now c.words-words.result.now c.len-count.result c.words-words.ensures.sound c.len-count.ensures.sound c.words-words.ensures.words c.len-count.ensures.len in
+    let listed = listed-there c.as_slice-all.result.now (flat_map word_names c.words-words.result.now) c.in_ok-firsts.firsts.items c.as_slice-different.result.now c.in_ok-firsts.single.items c.as_slice-once.result.now (c.as_slice-all.ensures.value ∙ c.in_ok-occurring.ensures) c.as_slice-different.ensures.value c.as_slice-once.ensures.value c.in_ok-firsts.ensures in
     let ns = flat_map word_names c.words-words.result.now in
     let counted : c.len-count.result + c.len.result ≡ c.len-count.result + length c.in_ok-given.given.items = omega (arith, c.len.ensures) in
-    let fresh = subst (λ k. AreFresh ns k c.in_ok-others.others.items c.read_given.new.registers c.add_others.new.registers) counted (subst (λ l. AreFresh l (c.len-count.result + c.len.result) c.in_ok-others.others.items c.read_given.new.registers c.add_others.new.registers) (c.as_slice-all.ensures.value ∙ c.in_ok-occurring.ensures) c.in_ok-others.ensures.fresh) in
+    let fresh = subst (λ k. AreFresh ns k c.in_ok-others.others.items c.read_given.new.registers c.add_others.new.registers) counted (fresh-listed (flat_map word_names c.words-words.result.now) c.as_slice-different.result.now c.as_slice-once.result.now listed (c.len-count.result + c.len.result) c.in_ok-others.others.items c.read_given.new.registers c.add_others.new.registers c.in_ok-others.ensures.fresh) in
     let together = registers-few ns ns c.len-count.result c.in_ok-given.given.items c.in_ok-others.others.items c.read_given.new.registers c.add_others.new.registers
-    (subst (λ l. AreGiven l c.len-count.result c.in_ok-given.given.items c.read_given.new.registers) (c.as_slice-all.ensures.value ∙ c.in_ok-occurring.ensures) c.in_ok-given.ensures.given) fresh (λ x. omega arith) in
+    (c.in_ok-given.ensures.given (flat_map word_names c.words-words.result.now) listed) fresh (λ x. omega arith) in
     omega (arith, few.0, few.1, c.len.ensures, c.len-names.ensures, together)
 
 pub split_operands-requires : goal.split_operands-requires
@@ -84,6 +99,7 @@ begins : (c : goal.After-drop-registers-3)
     × StandsForNet (map (λ (s : Symbol). s.arity) c.args.system.now.rules.symbols) c.in_ok-given.given.items c.args.system.now.config
     (record { names = c.len-names.result; made = map made_of c.in_ok-makes.makes.items; links = c.in_ok-interface.links.items }) c.in_ok-interface.interface.items
 begins c =
+    let listed = listed-there c.as_slice-all.result.now (flat_map word_names c.words-words.result.now) c.in_ok-firsts.firsts.items c.as_slice-different.result.now c.in_ok-firsts.single.items c.as_slice-once.result.now (c.as_slice-all.ensures.value ∙ c.in_ok-occurring.ensures) c.as_slice-different.ensures.value c.as_slice-once.ensures.value c.in_ok-firsts.ensures in
     let ss = c.args.system.now.rules.symbols in
     let config = c.args.system.now.config in
     let given = c.in_ok-given.given.items in
@@ -108,10 +124,10 @@ begins c =
     let interface = c.in_ok-interface.ensures.interface ∙ (λ i. take (terms i) (value i)) in
     let links = c.in_ok-interface.ensures.links ∙ (λ i. operand_links (drop (terms i) (value i))) in (
       first_starts ss config given others mid all made operands ws n g words symbols givens sound c.config-config.ensures.sound
-          (subst (λ l. AreGiven l c.len-count.result c.in_ok-given.given.items c.read_given.new.registers) (c.as_slice-all.ensures.value ∙ c.in_ok-occurring.ensures) c.in_ok-given.ensures.given) (subst (λ l. AreFresh l (c.len-count.result + c.len.result) c.in_ok-others.others.items c.read_given.new.registers c.add_others.new.registers) (c.as_slice-all.ensures.value ∙ c.in_ok-occurring.ensures) c.in_ok-others.ensures.fresh) would c.in_ok-makes.ensures.count
+          (c.in_ok-given.ensures.given (flat_map word_names c.words-words.result.now) listed) (fresh-listed (flat_map word_names c.words-words.result.now) c.as_slice-different.result.now c.as_slice-once.result.now listed (c.len-count.result + c.len.result) c.in_ok-others.others.items c.read_given.new.registers c.add_others.new.registers c.in_ok-others.ensures.fresh) would c.in_ok-makes.ensures.count
           c.len-names.result c.in_ok-interface.interface.items c.in_ok-interface.links.items names interface links,
       first_stands ss config given others mid all made operands ws n g words symbols givens sound c.config-config.ensures.sound
-          (subst (λ l. AreGiven l c.len-count.result c.in_ok-given.given.items c.read_given.new.registers) (c.as_slice-all.ensures.value ∙ c.in_ok-occurring.ensures) c.in_ok-given.ensures.given) (subst (λ l. AreFresh l (c.len-count.result + c.len.result) c.in_ok-others.others.items c.read_given.new.registers c.add_others.new.registers) (c.as_slice-all.ensures.value ∙ c.in_ok-occurring.ensures) c.in_ok-others.ensures.fresh) would c.in_ok-makes.ensures.count
+          (c.in_ok-given.ensures.given (flat_map word_names c.words-words.result.now) listed) (fresh-listed (flat_map word_names c.words-words.result.now) c.as_slice-different.result.now c.as_slice-once.result.now listed (c.len-count.result + c.len.result) c.in_ok-others.others.items c.read_given.new.registers c.add_others.new.registers c.in_ok-others.ensures.fresh) would c.in_ok-makes.ensures.count
           c.len-names.result c.in_ok-interface.interface.items c.in_ok-interface.links.items names interface links,
     )
 
@@ -123,12 +139,14 @@ returns-clause-stands c = (begins c).1
 
 pub returns-clause-given : goal.returns-clause-given
 returns-clause-given c =
+    let listed = listed-there c.as_slice-all.result.now (flat_map word_names c.words-words.result.now) c.in_ok-firsts.firsts.items c.as_slice-different.result.now c.in_ok-firsts.single.items c.as_slice-once.result.now (c.as_slice-all.ensures.value ∙ c.in_ok-occurring.ensures) c.as_slice-different.ensures.value c.as_slice-once.ensures.value c.in_ok-firsts.ensures in
     let config = c.args.system.now.config in
     let words = c.words-words.ensures.words ∙ ap configuration_words c.config-config.ensures.config in
-    given-exactly config c.words-words.result.now c.len-count.result c.in_ok-given.given.items c.read_given.new.registers words (subst (λ l. AreGiven l c.len-count.result c.in_ok-given.given.items c.read_given.new.registers) (c.as_slice-all.ensures.value ∙ c.in_ok-occurring.ensures) c.in_ok-given.ensures.given)
+    given-exactly config c.words-words.result.now c.len-count.result c.in_ok-given.given.items c.read_given.new.registers words (c.in_ok-given.ensures.given (flat_map word_names c.words-words.result.now) listed)
 
 pub returns-clause-few : goal.returns-clause-few
 returns-clause-few c =
+    let listed = listed-there c.as_slice-all.result.now (flat_map word_names c.words-words.result.now) c.in_ok-firsts.firsts.items c.as_slice-different.result.now c.in_ok-firsts.single.items c.as_slice-once.result.now (c.as_slice-all.ensures.value ∙ c.in_ok-occurring.ensures) c.as_slice-different.ensures.value c.as_slice-once.ensures.value c.in_ok-firsts.ensures in
     let config = c.args.system.now.config in
     let words = c.words-words.ensures.words ∙ ap configuration_words c.config-config.ensures.config in
-    omega (arith, c.in_ok-given.ensures.few, ap length (c.as_slice-all.ensures.value ∙ c.in_ok-occurring.ensures), names-length c.words-words.result.now, ap length words, nodes-words config)
+    omega (arith, c.in_ok-given.ensures.few, listed.few, names-length c.words-words.result.now, ap length words, nodes-words config)
