@@ -19,27 +19,42 @@ use ic_flat::Word;
 use ic_term::{MAX_ARITY, MAX_SYMBOL_TEXT, SymbolFault, Symbols};
 use std::alloc::Global;
 
-/// The number of the symbol that a word is of, if a node is that symbol too.
-fn number_again(symbols: &Symbols, last: Option<&Word>, node: &Node) -> Option<u32>
+/// How many symbols are remembered at most.
+const REMEMBERED: usize = 1_024;
+
+/// Where the number of a symbol is remembered. Several symbols may share a place.
+fn place_of(text: &[u8]) -> usize {
+    let mut hash = 0u32;
+    for byte in text {
+        hash = hash.wrapping_mul(31).wrapping_add(u32::from(*byte));
+    }
+    hash as usize % REMEMBERED
+}
+
+/// Remembers a number at a place, if there is such a place.
+fn remember(numbers: &mut Vec<u32>, place: usize, number: u32) {
+    if place < numbers.len() {
+        numbers[place] = number;
+    }
+}
+
+/// A number, if a node is the symbol that has it.
+fn number_again(symbols: &Symbols, number: u32, node: &Node) -> Option<u32>
     ensures number { IfSome result
         (λ number. slice_get symbols.now number ≡ Some (node_of node.now)) }
     ensures sound { AreSymbols symbols.now }
 {
-    let known = symbols.len();
-    let Some(Word::Agent(number, arity)) = last else {
-        return None;
-    };
-    if (*number as usize) >= known || *arity != node.arity {
+    if number as usize >= symbols.len() {
         return None;
     }
-    (symbols.text(*number) == node.text && symbols.arity(*number) == node.arity).then_some(*number)
+    (symbols.text(number) == node.text && symbols.arity(number) == node.arity).then_some(number)
 }
 
-/// A word with its number, which a symbol gets from the table; or from the word before, where that is the same symbol.
+/// A word with its number, which a symbol gets from the table, or from the numbers that are remembered.
 fn number_word(
     limits: Limits,
     symbols: &mut Symbols,
-    last: Option<&Word>,
+    numbers: &mut Vec<u32>,
     node: &Node,
 ) -> Result<Word, SymbolFault>
     requires word { IsWord (node_of node.now) }
@@ -54,13 +69,16 @@ fn number_word(
             None => Err(SymbolFault::Limit),
         };
     }
-    if let Some(number) = number_again(symbols, last, node) {
+    let place = place_of(node.text);
+    let known = numbers.get(place).copied().unwrap_or(0);
+    if let Some(number) = number_again(symbols, known, node) {
         return Ok(Word::Agent(number, node.arity));
     }
     let number = symbols.number(node.text, node.arity)?;
     if number as usize >= limits.symbols() {
         return Err(SymbolFault::Limit);
     }
+    remember(numbers, place, number);
     Ok(Word::Agent(number, node.arity))
 }
 
@@ -87,11 +105,13 @@ fn limit_of(node: &Node) -> Limit
     }
 }
 
-/// Words on their way to numbers: the symbols and the words so far, and the first symbol that has two arities.
+/// Words on their way to numbers: the symbols and the words so far, numbers of symbols by the places at which they are
+/// remembered, and the first symbol that has two arities.
 #[derive(Drop)]
 pub(crate) struct Numbering {
     symbols: Symbols,
     words: Vec<Word>,
+    numbers: Vec<u32>,
     clash: Option<Clash>,
 }
 
@@ -106,7 +126,7 @@ impl Numbering {
         ensures stopped { IfErr result (Stops word (node_of node.now)
             (word_found limits self.old.symbols (node_of node.now))) }
     {
-        match number_word(limits, &mut self.symbols, self.words.last(), node) {
+        match number_word(limits, &mut self.symbols, &mut self.numbers, node) {
             Ok(numbered) => {
                 self.words.push(numbered)?;
                 Ok(())
@@ -140,10 +160,12 @@ pub(crate) fn number_words(
     ensures word { IfErr result (IsStoppedIn limits (nodes_of nodes.now) excess) }
 {
     let words = Vec::with_capacity(alloc, nodes.len())?;
+    let numbers = vec![in alloc; 0; REMEMBERED]?;
     let symbols = Symbols::new(alloc);
     let mut numbering = Numbering {
         symbols,
         words,
+        numbers,
         clash: None,
     };
     for (word, node) in nodes.iter().enumerate() {
@@ -156,6 +178,7 @@ pub(crate) fn number_words(
         symbols,
         words,
         clash,
+        ..
     } = numbering;
     match clash {
         Some(clash) => Err(Refusal::two_arities(clash.word, clash.first, clash.second)),

@@ -73,9 +73,9 @@ returns-in-Some-clash-clause-word c =
     let none = none_here (goal.at.returns-in-Some-clash-clause-word c).After-loop-word in
     rw (c.two_arities.ensures, none) (inl (ends_second c.args.limits _ _ _ c.loop-word.invariant.so_far (all_numbered c.args.nodes.now c.loop-word.word c.loop-word-test.false) c.in-Some-clash.clash c.in-Some-clash.is, tt))
 
-pub returns-in-None-clause-numbers : goal.returns-in-None-clause-numbers
-returns-in-None-clause-numbers c =
-    let none = none_here (goal.at.returns-in-None-clause-numbers c).After-loop-word in
+pub returns-clause-numbers : goal.returns-clause-numbers
+returns-clause-numbers c =
+    let none = none_here (goal.at.returns-clause-numbers c).After-loop-word in
     rw none (ends_numbers c.args.limits _ _ _ c.loop-word.invariant.so_far (all_numbered c.args.nodes.now c.loop-word.word c.loop-word-test.false) c.in-None.is)
 
 pub returns-in_err-words-clause-numbers : goal.returns-in_err-words-clause-numbers
@@ -86,4 +86,14 @@ returns-in_err-words-clause-numbers c =
 pub returns-in_err-words-clause-word : goal.returns-in_err-words-clause-word
 returns-in_err-words-clause-word c =
     let e = err_from_is_err_and c.from_residual.result c.from_residual.ensures.1 in
+    rw (e.1, e.2) (inl (tt, none_before_memory c.args.excess))
+
+pub returns-in_err-numbers-clause-numbers : goal.returns-in_err-numbers-clause-numbers
+returns-in_err-numbers-clause-numbers c =
+    let e = err_from_is_err_and c.from_residual-in_err-numbers.result c.from_residual-in_err-numbers.ensures.1 in
+    rw (e.1, e.2) tt
+
+pub returns-in_err-numbers-clause-word : goal.returns-in_err-numbers-clause-word
+returns-in_err-numbers-clause-word c =
+    let e = err_from_is_err_and c.from_residual-in_err-numbers.result c.from_residual-in_err-numbers.ensures.1 in
     rw (e.1, e.2) (inl (tt, none_before_memory c.args.excess))
