@@ -18,7 +18,7 @@ BEHIND = {"submit": ["name", "budget", "system"], "copy": ["name", "name"], "lis
 WORDS = {"command": COMMAND, "name": NAME, "budget": NUMBER, "number": NUMBER}
 SOUGHT = {
     "command": "a command is looked for here: submit, copy, pause, resume, cancel, fetch, list or run",
-    "name": "a job's name is looked for here",
+    "name": "a job's name is looked for here: a small letter, then small letters, digits and -",
     "budget": "a budget or { is looked for here",
     "system": "{ is looked for here",
     "number": "a number is looked for here",
@@ -34,7 +34,7 @@ READERS = {"system": model.read_system, "configuration": model.read_configuratio
 
 def form_of(text):
     """What a file holds, by its first byte that is no blank."""
-    return {b"{": "system", b"<": "configuration"}.get(text.lstrip(b" \t\r\n")[:1], "lines")
+    return {b"{": "system", b"<": "configuration", b"#": "comment"}.get(text.lstrip(b" \t\r\n")[:1], "lines")
 
 
 def lines_of(text):
@@ -172,6 +172,8 @@ def of_line(file, number, line, in_script=False):
 def checked(file, text, in_script=False):
     """The lines that tell of a file, and whether it has a fault."""
     form = form_of(text)
+    if form == "comment" and not in_script:
+        return [fault_line(file, text, "bad syntax", ("syntax", text.index(b"#"), places.NO_COMMENTS))], True
     if form != "lines" and not in_script:
         return of_whole(file, text, form)
     told = [of_line(file, number, line, in_script) for number, line in enumerate(lines_of(text), 1)]

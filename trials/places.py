@@ -15,7 +15,8 @@ TOKEN = re.compile(rb"[A-Za-z0-9-]+|[^ \t\r\n]")
 NAME = re.compile(rb"[a-z]([1-9][0-9]*)?")
 SYMBOL = re.compile(rb"[A-Z0-9][A-Za-z0-9]*")
 COMMANDS = (b"submit", b"pause", b"resume", b"cancel", b"fetch", b"list", b"run", b"copy")
-NAMES = "a name is a letter a to z, maybe with a number from 1 on, and a symbol begins with A to Z or 0 to 9"
+NAMES = "a name is a letter a to z, maybe with a number from 1 on, and a symbol begins with A to Z or 0 to 9; `icserve expand` takes long names"
+NO_ARGUMENTS = "a name has no arguments: names begin with a to z, and symbols, which may have them, with A to Z or 0 to 9"
 
 TERM = "a term is looked for here"
 BEHIND = {"(": TERM, ",": TERM, "=": TERM, "|": "a term or > is looked for here"}
@@ -24,7 +25,7 @@ BEHIND_OF = {
     "system": {"{": "a symbol or } is looked for here", ";": "a symbol is looked for here", "}": "< is looked for here"},
 }
 BEHIND_OF["system"] |= BEHIND_OF["configuration"]
-COMMENTS, NO_COMMENTS = (b"#", b"//", b"--"), "there are no comments"
+COMMENTS, NO_COMMENTS = (b"#", b"//", b"--"), "there are no comments; `icserve expand` takes out those that begin with #"
 MADE_SYSTEM = ": {} before it makes it a system"
 
 
@@ -213,8 +214,8 @@ def sought_behind(front):
 
 def sentence_of_syntax(text, at, kind):
     """What is said at the place of a fault of syntax. A text that begins otherwise may be of another kind, there are no comments,
-    and a word with a small letter where a term may stand was to be a name, as is one that goes on with a byte of no text. Behind a
-    mark and behind a term the sentence tells what is looked for."""
+    and a word with a small letter where a term may stand was to be a name, as is one that goes on with a byte of no text. A name has
+    no arguments. Behind a mark and behind a term the sentence tells what is looked for."""
     if at == len(text):
         return f"the text ends before its {kind} does"
     mark, other, of = ("<", b"{", "a system") if kind == "configuration" else ("{", b"<", "a configuration")
@@ -230,6 +231,8 @@ def sentence_of_syntax(text, at, kind):
     is_joined = re.match(rb"[A-Za-z0-9-][^{}<>|=,;() \t\r\n]", text[at - 1 :])
     if is_joined or front[-1] in "{<|=,;(" and word[:1].islower() and not NAME.fullmatch(word):
         return NAMES
+    if text[at : at + 1] == b"(" and re.search(r"(?<![A-Za-z0-9-])[a-z][A-Za-z0-9-]*$", front):
+        return NO_ARGUMENTS
     if front[-1] == "(" and text[at : at + 1] == b")":
         return "a symbol without arguments has no parentheses"
     if front[-1].isalnum() or front[-1] in "-)":

@@ -7,7 +7,7 @@ import re
 
 import draws
 import model
-from checked import MOST_BYTES, checked
+from checked import MOST_BYTES, SOUGHT, checked
 from places import MOST_BYTES as MOST_TEXT
 from program import IN_MEMORY, TOP, Trial, as_bytes, run
 from test_drawn_serving import job_names, session, small_systems
@@ -151,7 +151,7 @@ class Check(Trial):
             self.tells(self.put(drawn.choice([b"\n", b"\r\n"]).join(lines) + drawn.choice([b"", b"\n", b"\r\n", b"\n\n"])))
 
     def test_each_mistake_in_a_line_is_told_its_place_and_what_is_wrong(self):
-        name, budget, long = "a job's name is looked for here", "a budget or { is looked for here", "a job's name has at most 16 bytes"
+        name, budget, long = SOUGHT["name"], "a budget or { is looked for here", "a job's name has at most 16 bytes"
         told = {
             "submit two Add(x)": (12, "syntax", budget),
             " submit\ttwo  5 Add": (16, "syntax", "{ is looked for here"),

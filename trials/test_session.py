@@ -18,6 +18,7 @@ LINES = (
     "the lines are submit NAME [BUDGET] {RULES} <CONFIG>, copy OLD NEW, pause NAME, resume NAME, cancel NAME, fetch NAME, "
     "list and run K"
 )
+END = "the end of the input ends a session: at a terminal, Ctrl-D"
 REFUSED = ["lists", f"submit two {TWO.text}", "fetch one two", "", "run 1001", "list", "submit a {A(x,x)><A} <|>", " run 007"]
 TOLD = [
     "line 1, column 1: bad syntax: a command is looked for here: submit, copy, pause, resume, cancel, fetch, list or run",
@@ -35,8 +36,9 @@ def told_of(text):
         fault, found, _ = seen_of_line(line)
         if fault:
             _, at, sentence = found
-            is_help = sentence.startswith("a command ") and re.match(rb"help(?![A-Za-z0-9-])", line[at:])
-            yield f"line {number}, column {spot(line, told_at(line, at))[1]}: {fault}: {LINES if is_help else sentence}"
+            word = re.match(rb"[A-Za-z0-9-]*", line[at:])[0] if sentence.startswith("a command ") else b""
+            sentence = {b"help": LINES, b"quit": END, b"exit": END}.get(word, sentence)
+            yield f"line {number}, column {spot(line, told_at(line, at))[1]}: {fault}: {sentence}"
 
 
 class Session(Trial):
@@ -64,6 +66,13 @@ class Session(Trial):
         words = re.findall(r"\w+", LINES.partition("are ")[2])
         missing = [it for it in words if it not in helped and it != "and"]
         self.equals("icserve help serve", "words of the lines that it hasn't", [], missing)
+
+    def test_who_wants_to_quit_is_told_how_a_session_ends(self):
+        told = [f"line {number}, column {column}: bad syntax: {END}" for number, column in ((1, 1), (2, 3), (3, 1))]
+        told += [TOLD[0].replace("line 1", "line 5")]
+        answers = ["bad syntax"] * 3 + ["jobs", "bad syntax", "refused nojob"]
+        self.serves(self.jobs, ["quit", "\t exit", "quit now", "list", "quits", "fetch quit"], answers, "--explain", err=told)
+        self.serves(self.jobs, "quit", ["bad syntax"], "--explain", err=told[:1])
 
     def test_rows_and_drawn_lines_are_told_as_the_models_say(self):
         given = [b"submit job " + expanded(text).replace(b"\n", b" ") for _, _, text, _ in rows("texts", "system", "once", "system_place")]

@@ -16,8 +16,11 @@ of_system blanks rest are = ap form_of (append_assoc blanks (codes "{") rest) �
 pub of_config : (blanks rest : List ℕ) → list_all is_blank blanks ≡ true → form_of (blanks ++ codes "<" ++ rest) ≡ form.Config
 of_config blanks rest are = ap form_of (append_assoc blanks (codes "<") rest) ∙ ap form_by (behind blanks (codes "<" ++ rest) are)
 
-pub of_lines : (blanks rest : List ℕ) (b : ℕ) → list_all is_blank blanks ≡ true → is_blank b ≡ false → (b == 123) ≡ false → (b == 60) ≡ false → form_of (blanks ++ b ∷ rest) ≡ form.Lines
-of_lines blanks rest b are no_blank no_system no_config = ap form_by (behind blanks (b ∷ rest) are) ∙ rw no_blank (rw no_system (rw no_config refl))
+pub of_comment : (blanks rest : List ℕ) → list_all is_blank blanks ≡ true → form_of (blanks ++ codes "#" ++ rest) ≡ form.Commented
+of_comment blanks rest are = ap form_of (append_assoc blanks (codes "#") rest) ∙ ap form_by (behind blanks (codes "#" ++ rest) are)
+
+pub of_lines : (blanks rest : List ℕ) (b : ℕ) → list_all is_blank blanks ≡ true → is_blank b ≡ false → (b == 123) ≡ false → (b == 60) ≡ false → (b == 35) ≡ false → form_of (blanks ++ b ∷ rest) ≡ form.Lines
+of_lines blanks rest b are no_blank no_system no_config no_comment = ap form_by (behind blanks (b ∷ rest) are) ∙ rw no_blank (rw no_system (rw no_config (rw no_comment refl)))
 
 pub of_blanks : (blanks : List ℕ) → list_all is_blank blanks ≡ true → form_of blanks ≡ form.Lines
 of_blanks [] are = refl

@@ -27,14 +27,14 @@ use Rattle.ic_diagnostics.specs.Lines.{column, last_line, line_number, told_at}
 use Rattle.ic_diagnostics.specs.Sights.{first_word, is_again, opens_comment, sight_at}
 use Rattle.ic_diagnostics.specs.Telling.{argument_sentence, behind_in_config, behind_in_system, behind_mark, comment_sentence, config_sentence, count_words, limit_sentence, opened, plain_sentence, sentence, sight_sentence, stand_sentence, syntax_sentence, system_sentence, wants_term}
 use Rattle.ic_diagnostics.specs.declared.sights.Sight.{Sight}
-use Rattle.ic_diagnostics.specs.declared.sights.Sight.TheVariants.{End, SystemMark, ConfigMark, CommandWord, Comment, NoName, Empty, Argument, After, Crossed, Front, Behind}
+use Rattle.ic_diagnostics.specs.declared.sights.Sight.TheVariants.{End, SystemMark, ConfigMark, CommandWord, Comment, NoName, Applied, Empty, Argument, After, Crossed, Front, Behind}
 use Rattle.ic_diagnostics.specs.declared.stands.Stand.{Stand}
 use Rattle.ic_diagnostics.specs.declared.stands.Stand.TheVariants as standing
 use Rattle.ic_diagnostics.specs.declared.telling.Kind.{Kind}
 use Rattle.ic_diagnostics.specs.declared.telling.Kind.TheVariants.{Config, System}
 use Rattle.ic_check.specs.Checking.{before, told_fault, told_line_fault}
 use Rattle.ic_check.specs.Meanings.{IsOneLine}
-use Rattle.ic_check.specs.Sessions.{asks_help, column_text, lines_sentence, refusal_line, session_sentence}
+use Rattle.ic_check.specs.Sessions.{asks_end, asks_help, column_text, end_sentence, lines_sentence, refusal_line, session_sentence}
 use Rattle.ic_check.specs.Telling.{colon, line_limit_sentence, line_sentence, place_text, placed_line, sought_sentence, spot_text}
 use Rattle.ic_check.specs.declared.due.Due.{Due}
 use Rattle.ic_check.specs.declared.due.Due.TheVariants as due
@@ -154,6 +154,7 @@ config_free ConfigMark = refl
 config_free CommandWord = refl
 config_free Comment = refl
 config_free NoName = refl
+config_free Applied = refl
 config_free Empty = refl
 config_free (Argument opens) = argument_free opens
 config_free (After s opens) = stand_free (codes "no configuration goes on with this") s opens refl
@@ -168,6 +169,7 @@ system_free ConfigMark = refl
 system_free CommandWord = refl
 system_free Comment = refl
 system_free NoName = refl
+system_free Applied = refl
 system_free Empty = refl
 system_free (Argument opens) = argument_free opens
 system_free (After s opens) = stand_free (codes "no system goes on with this") s opens refl
@@ -298,7 +300,10 @@ one_line_fault file number line at fault detail free =
 
 -- the line that a session is told of a refused line
 help_free : (line : List ℕ) (fault : TextFault) (at : ℕ) (detail : LineDetail) → has_feed (session_sentence line fault at detail) ≡ false
-help_free line fault at detail = either_free (asks_help line at detail) lines_sentence (line_sentence line fault at detail) refl (line_words_free line fault at detail)
+help_free line fault at detail =
+    let last = if asks_end line at detail then end_sentence else line_sentence line fault at detail in
+    either_free (asks_help line at detail) lines_sentence last refl
+    (either_free (asks_end line at detail) end_sentence (line_sentence line fault at detail) refl (line_words_free line fault at detail))
 
 pub one_refusal : (number : ℕ) (line : List ℕ) (fault : TextFault) (at : ℕ) (detail : LineDetail) → IsOneLine (refusal_line number line fault at detail)
 one_refusal number line fault at detail =

@@ -20,7 +20,8 @@ use Rattle.ic_text.specs.declared.fault.TextFault.TheVariants.{Syntax, Limit}
 use Rattle.ic_text.specs.declared.limits.TheConstants.{MAX_TEXT}
 use Rattle.ic_diagnostics.specs.Sights.{first_word}
 use Rattle.ic_check.specs.Checking.{TellsAnswer}
-use Rattle.ic_check.specs.Scripts.{TellsByRun, TellsScriptLine, blanks_before}
+use Rattle.ic_check.specs.Scripts.{TellsByRun, TellsScriptLine}
+use Rattle.ic_check.specs.Telling.{blanks_before}
 use Rattle.ic_check.specs.inner.Fronts.{IsFilled, behind_blanks, behind_word}
 use Rattle.ic_check.proofs.Apart.{tokens-apart, tokens-blanks, tokens-word}
 use Rattle.ic_check.proofs.Stops.{no_more, one_more, parted}

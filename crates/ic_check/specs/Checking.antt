@@ -16,12 +16,13 @@ use Rattle.ic_text.specs.Text.{Reads}
 use Rattle.ic_text.specs.Token.{is_blank}
 use Rattle.ic_text.specs.Words.{written_phrase, written_system}
 use Rattle.ic_text.specs.declared.fault.TextFault.{TextFault}
+use Rattle.ic_text.specs.declared.fault.TextFault.TheVariants.{Syntax}
 use Rattle.ic_text.specs.declared.misread.Detail.{Detail}
 use Rattle.ic_diagnostics.specs.declared.telling.Kind.{Kind}
 use Rattle.ic_diagnostics.specs.declared.telling.Kind.TheVariants.{Config, System}
-use Rattle.ic_diagnostics.specs.Telling.{sentence}
+use Rattle.ic_diagnostics.specs.Telling.{comment_sentence, sentence}
 use Rattle.ic_check.specs.LinePlaces.{IsLinePlace}
-use Rattle.ic_check.specs.Telling.{fault_line, line_sentence, place_text, placed_line}
+use Rattle.ic_check.specs.Telling.{blanks_before, fault_line, line_sentence, place_text, placed_line}
 use Rattle.ic_check.specs.Warnings.{Warns}
 use Rattle.ic_check.specs.declared.line_places.LineDetail.{LineDetail}
 use Rattle.ic_check.specs.declared.checking.Form.{Form}
@@ -92,7 +93,14 @@ abbrev pub TellsLines : (file : List ℕ) → (number : ℕ) → List (List ℕ)
     → Type 0
 TellsLines file number ls told faulty = TellsEach (TellsLine file) number ls told faulty
 
--- the form of a file by its first byte that is no blank: `{` begins a system, `<` a configuration
+-- a file that begins with a comment: this alone
+abbrev pub TellsComment : (file text told : List ℕ) → Bool → Type 0
+TellsComment file text told faulty =
+    (told ≡ placed_line file 0 text (blanks_before text) Syntax comment_sentence)
+    × (faulty ≡ true)
+
+-- the form of a file by its first byte that is no blank: `{` begins a system, `<` a configuration,
+-- and `#` a comment
 abbrev pub first_of : List ℕ → Option ℕ
 first_of [] = None
 first_of (b ∷ bs) = if is_blank b then first_of bs else Some b
@@ -100,7 +108,8 @@ first_of (b ∷ bs) = if is_blank b then first_of bs else Some b
 abbrev pub form_by : Option ℕ → Form
 form_by None = form.Lines
 form_by (Some b) =
-    if b == 123 then form.System else (if b == 60 then form.Config else form.Lines)
+    if b == 123 then form.System else (if b == 60 then form.Config
+    else (if b == 35 then form.Commented else form.Lines))
 
 abbrev pub form_of : List ℕ → Form
 form_of text = form_by (first_of text)
@@ -109,6 +118,7 @@ form_of text = form_by (first_of text)
 abbrev pub TellsForm : Form → (file text told : List ℕ) → Bool → Type 0
 TellsForm form.System file text told faulty = TellsSystem file text told faulty
 TellsForm form.Config file text told faulty = TellsConfig file text told faulty
+TellsForm form.Commented file text told faulty = TellsComment file text told faulty
 TellsForm form.Lines file text told faulty = TellsLines file 1 (lines text) told faulty
 
 abbrev pub Tells : (file text told : List ℕ) → Bool → Type 0

@@ -1,18 +1,12 @@
 -- To be believed: what is told of the lines of a script (this project's choice).
-use Rattle.std.specs.Prelude.{◌≡◌, ℕ, ◌+◌, List, [], ◌∷◌, Bool, true, false, ◌&&◌, Option, None, Some, codes, drop, length, nat_le, if◌then◌else◌}
+use Rattle.std.specs.Prelude.{◌≡◌, ℕ, List, Bool, true, false, ◌&&◌, Option, None, Some, codes, drop, length, nat_le, if◌then◌else◌}
 use Rattle.std.specs.Str.{bytes_eq}
 use Rattle.ic_lines.specs.Lines.{lines}
-use Rattle.ic_text.specs.Token.{is_blank}
 use Rattle.ic_text.specs.declared.fault.TextFault.TheVariants.{Syntax}
 use Rattle.ic_text.specs.declared.limits.TheConstants.{MAX_TEXT}
 use Rattle.ic_diagnostics.specs.Sights.{first_word}
 use Rattle.ic_check.specs.Checking.{TellsEach, TellsLine, before}
-use Rattle.ic_check.specs.Telling.{placed_line}
-
--- how many blanks a line begins with
-abbrev pub blanks_before : List ℕ → ℕ
-blanks_before [] = 0
-blanks_before (b ∷ bs) = if is_blank b then blanks_before bs + 1 else 0
+use Rattle.ic_check.specs.Telling.{blanks_before, placed_line}
 
 -- the place of the first word of a line, if it is `run` and the line isn't too long
 abbrev pub run_place : List ℕ → Option ℕ

@@ -1,5 +1,5 @@
 -- To be believed: what a session is told of its lines that are refused (this project's choice).
-use Rattle.std.specs.Prelude.{◌≡◌, ℕ, ◌+◌, List, [], ◌∷◌, ◌++◌, Bool, false, Result, Ok, Err, codes, take, drop, if◌then◌else◌}
+use Rattle.std.specs.Prelude.{◌≡◌, ℕ, ◌+◌, List, [], ◌∷◌, ◌++◌, Bool, false, ◌||◌, Result, Ok, Err, codes, take, drop, if◌then◌else◌}
 use Rattle.std.specs.Fmt.{decimal}
 use Rattle.std.specs.List.{concat}
 use Rattle.std.specs.Str.{bytes_eq}
@@ -20,15 +20,26 @@ abbrev pub asks_help : List ℕ → ℕ → LineDetail → Bool
 asks_help line at (Sought Command) = bytes_eq (first_word (drop at line)) (codes "help")
 asks_help line at detail = false
 
+-- a line asks for an end: `quit` or `exit` stands there
+abbrev pub asks_end : List ℕ → ℕ → LineDetail → Bool
+asks_end line at (Sought Command) = bytes_eq (first_word (drop at line)) (codes "quit")
+    || bytes_eq (first_word (drop at line)) (codes "exit")
+asks_end line at detail = false
+
+-- how a session ends
+abbrev pub end_sentence : List ℕ
+end_sentence = codes "the end of the input ends a session: at a terminal, Ctrl-D"
+
 -- the lines that there are
 abbrev pub lines_sentence : List ℕ
 lines_sentence = codes "the lines are submit NAME [BUDGET] {RULES} <CONFIG>, copy OLD NEW, "
     ++ codes "pause NAME, resume NAME, cancel NAME, fetch NAME, list and run K"
 
--- what is amiss at the place of a line's fault, or what lines there are
+-- what is amiss at the place of a line's fault, or what lines there are, or how a session ends
 abbrev pub session_sentence : List ℕ → TextFault → ℕ → LineDetail → List ℕ
 session_sentence line fault at detail =
-    if asks_help line at detail then lines_sentence else line_sentence line fault at detail
+    if asks_help line at detail then lines_sentence
+    else (if asks_end line at detail then end_sentence else line_sentence line fault at detail)
 
 -- `line LINE, column COLUMN`, where these bytes of the line stand before a place
 abbrev pub column_text : ℕ → List ℕ → List ℕ

@@ -4,6 +4,7 @@ use Rattle.std.specs.Fmt.{decimal}
 use Rattle.std.specs.List.{concat}
 use Rattle.ic_text.specs.declared.fault.TextFault.{TextFault}
 use Rattle.ic_text.specs.Text.{fault_text}
+use Rattle.ic_text.specs.Token.{is_blank}
 use Rattle.ic_diagnostics.specs.declared.telling.Kind.TheVariants.{System}
 use Rattle.ic_diagnostics.specs.Lines.{column, last_line, line_number, told_at}
 use Rattle.ic_diagnostics.specs.Sights.{opens_comment}
@@ -14,6 +15,11 @@ use Rattle.ic_check.specs.declared.due.LineLimit.{LineLimit}
 use Rattle.ic_check.specs.declared.due.LineLimit.TheVariants.{LineBytes, NameBytes, BudgetRounds, RunRounds}
 use Rattle.ic_check.specs.declared.line_places.LineDetail.{LineDetail}
 use Rattle.ic_check.specs.declared.line_places.LineDetail.TheVariants.{Sought, Passed, Within}
+
+-- how many blanks a text begins with
+abbrev pub blanks_before : List ℕ → ℕ
+blanks_before [] = 0
+blanks_before (b ∷ bs) = if is_blank b then blanks_before bs + 1 else 0
 
 abbrev pub colon : List ℕ
 colon = codes ": "
@@ -39,7 +45,8 @@ abbrev pub fault_line : List ℕ → TextFault → List ℕ
 fault_line file fault = concat (file ∷ colon ∷ fault_text fault ∷ (10 ∷ []) ∷ [])
 
 abbrev pub name_sought : List ℕ
-name_sought = codes "a job's name is looked for here"
+name_sought = codes "a job's name is looked for here: a small letter, "
+    ++ codes "then small letters, digits and -"
 
 -- what is looked for where a line doesn't go on
 abbrev pub sought_sentence : Due → List ℕ

@@ -1,11 +1,12 @@
 //! Looking over a file by its form.
 
 ghost use Rattle.std.specs.Prelude.{◌≡◌, ◌++◌, ℕ, List, IfOk};
-ghost use Rattle.ic_check.specs.Checking.{Tells, TellsForm, first_of, form_of};
+ghost use Rattle.ic_check.specs.Checking.{Tells, TellsComment, TellsForm, first_of, form_of};
 
-use crate::lines::check_lines;
+use crate::lines::{blanks_before, check_lines};
+use crate::remarks::{NO_COMMENTS, put_placed};
 use crate::texts::{check_config, check_system};
-use ic_text::is_blank;
+use ic_text::{TextFault, is_blank};
 use std::alloc::{AllocError, Global};
 
 /// What a file holds.
@@ -13,6 +14,8 @@ use std::alloc::{AllocError, Global};
 pub enum Form {
     System,
     Config,
+    /// What begins with a comment.
+    Commented,
     /// Lines for a server.
     Lines,
 }
@@ -36,8 +39,33 @@ fn form_of(text: &[u8]) -> Form
     match first_byte(text) {
         Some(b'{') => Form::System,
         Some(b'<') => Form::Config,
+        Some(b'#') => Form::Commented,
         _ => Form::Lines,
     }
+}
+
+/// Appends the line of the comment with which a file begins. What follows it isn't looked at.
+fn put_comment(
+    alloc: Global,
+    file: &[u8],
+    text: &[u8],
+    out: &mut Vec<u8>,
+) -> Result<bool, AllocError>
+    ensures { IfOk result (λ faulty. (told : List ℕ) × TellsComment file.now text.now told faulty
+        × (out.new.items ≡ out.old.items ++ told)) }
+{
+    let at = blanks_before(text);
+    put_placed(
+        alloc,
+        file,
+        0,
+        text,
+        at,
+        TextFault::Syntax,
+        NO_COMMENTS,
+        out,
+    )?;
+    Ok(true)
 }
 
 /// Appends what is told of a text of this form, and tells whether it has a fault.
@@ -55,6 +83,7 @@ fn check_form(
     match form {
         Form::System => check_system(alloc, file, text, out),
         Form::Config => check_config(alloc, file, text, out),
+        Form::Commented => put_comment(alloc, file, text, out),
         Form::Lines => check_lines(alloc, false, file, text, out),
     }
 }

@@ -1,7 +1,7 @@
 //! What is proved of the definitions alone: each law is the contract of a function that does nothing, or calls the laws
 //! that it comes of.
 
-ghost use Rattle.std.specs.Prelude.{◌≡◌, ◌≢◌, ◌<◌, ◌≤◌, ◌↔◌, ◌⊎◌, ◌+◌, ◌==◌, ◌&&◌, ◌∷◌, ◌++◌, ℕ, List, [], Bool, Option, None, Some, Ok, Err, IsTrue, codes, length, option_map, slice_get, get_or, take, drop, false, true};
+ghost use Rattle.std.specs.Prelude.{◌≡◌, ◌≢◌, ◌<◌, ◌≤◌, ◌↔◌, ◌⊎◌, ◌+◌, ◌==◌, ◌&&◌, ◌∷◌, ◌++◌, ℕ, List, [], Bool, Option, None, Some, Ok, Err, IsTrue, codes, length, map, option_map, slice_get, get_or, take, drop, false, true};
 ghost use Rattle.std.specs.Fmt.{decimal};
 ghost use Rattle.std.specs.List.{AllByRecursion, concat, flat_map, list_all, list_any};
 ghost use Rattle.std.specs.Str.{bytes_eq};
@@ -130,15 +130,17 @@ pub fn each_symbol_of_a_text_is_gone_through()
         → is_among s (text_symbols rs c) ≡ true }
 {}
 
-/// A file is a system where `{` follows the blanks with which it begins, a configuration where `<` does, and lines for
-/// a server in all other cases, also where it has nothing but blanks.
+/// A file is a system where `{` follows the blanks with which it begins, a configuration where `<` does, one that begins
+/// with a comment where `#` does, and lines for a server in all other cases, also where it has nothing but blanks.
 pub fn forms_are_told_by_their_first_byte()
     ensures system { (blanks rest : List ℕ) → list_all is_blank blanks ≡ true
         → form_of (blanks ++ codes "{" ++ rest) ≡ form.System }
     ensures config { (blanks rest : List ℕ) → list_all is_blank blanks ≡ true
         → form_of (blanks ++ codes "<" ++ rest) ≡ form.Config }
+    ensures comment { (blanks rest : List ℕ) → list_all is_blank blanks ≡ true
+        → form_of (blanks ++ codes "#" ++ rest) ≡ form.Commented }
     ensures lines { (blanks rest : List ℕ) (b : ℕ) → list_all is_blank blanks ≡ true
-        → is_blank b ≡ false → (b == 123) ≡ false → (b == 60) ≡ false
+        → is_blank b ≡ false → (b == 123) ≡ false → (b == 60) ≡ false → (b == 35) ≡ false
         → form_of (blanks ++ b ∷ rest) ≡ form.Lines }
     ensures empty { (blanks : List ℕ) → list_all is_blank blanks ≡ true
         → form_of blanks ≡ form.Lines }
@@ -276,7 +278,8 @@ pub fn sentences_tell_what_is_looked_for()
     ensures commands { (w : List ℕ)
         → BeginsLine w ↔ IsTrue (list_any (λ v. bytes_eq w v) told_commands) }
     ensures names { AllByRecursion
-        (λ d. sought_sentence d ≡ codes "a job's name is looked for here")
+        (λ d. sought_sentence d ≡ codes "a job's name is looked for here: a small letter, "
+        ++ codes "then small letters, digits and -")
         (due.SubmitName ∷ due.OldName ∷ due.NewName ∷ due.VerbName ∷ []) }
     ensures budget { sought_sentence due.Budget ≡ codes "a budget or { is looked for here" }
     ensures system { sought_sentence due.System ≡ codes "{ is looked for here" }
@@ -370,7 +373,8 @@ pub fn places_of_lines_are_places_of_the_file()
 }
 
 /// What a session is told of a refused line is one line, with its number and its column; of a line that isn't refused
-/// nothing is told. Where `help` stands in place of a command, the lines that there are are told.
+/// nothing is told. Where `help` stands in place of a command, the lines that there are are told; where `quit` or `exit`
+/// does, how a session ends.
 pub fn refusals_are_told_so()
     ensures one { (number : ℕ) (line : List ℕ) (fault : TextFault) (at : ℕ) (detail : LineDetail)
         → IsOneLine (refusal_line number line fault at detail) }
@@ -384,6 +388,11 @@ pub fn refusals_are_told_so()
         ≡ codes "line 7, column 9: bad syntax: nothing is looked for here" ++ 10 ∷ [] }
     ensures help { refusal_line 1 (codes "help run") Syntax 0 (Sought due.Command)
         ≡ codes "line 1, column 1: bad syntax: " ++ lines_sentence ++ 10 ∷ [] }
+    ensures quit { map (λ line. refusal_line 1 line Syntax 0 (Sought due.Command))
+        (codes "quit" ∷ codes "exit" ∷ []) ≡ (codes "line 1, column 1: bad syntax: "
+        ++ codes "the end of the input ends a session: at a terminal, Ctrl-D" ++ 10 ∷ [])
+        ∷ (codes "line 1, column 1: bad syntax: "
+        ++ codes "the end of the input ends a session: at a terminal, Ctrl-D" ++ 10 ∷ []) ∷ [] }
 {
     ic_commands::laws::one_line_reading();
 }

@@ -3,7 +3,8 @@
 ghost use Rattle.std.specs.Prelude.{◌≡◌, ◌<◌, ◌≤◌, ◌∷◌, ◌++◌, ℕ, List, IfOk, IfSome, OnOk, length};
 ghost use Rattle.ic_lines.specs.Lines.{lines};
 ghost use Rattle.ic_check.specs.Checking.{TellsEach, TellsLine, WarnsOf};
-ghost use Rattle.ic_check.specs.Scripts.{TellsOne, TellsScript, TellsScriptLine, blanks_before, run_place};
+ghost use Rattle.ic_check.specs.Scripts.{TellsOne, TellsScript, TellsScriptLine, run_place};
+ghost use Rattle.ic_check.specs.Telling.{blanks_before};
 
 use crate::line_places::line_place;
 use crate::remarks::{known_fault, place_text, put_line_fault, put_placed};
@@ -74,7 +75,7 @@ fn check_line(
 }
 
 /// How many blanks a line begins with.
-fn blanks_before(line: &[u8]) -> usize
+pub(crate) fn blanks_before(line: &[u8]) -> usize
     ensures count { result ≡ blanks_before line.now }
     ensures within { result ≤ length line.now }
 {

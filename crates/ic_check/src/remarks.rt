@@ -10,6 +10,10 @@ use ic_diagnostics::{Kind, column, last_line, line_number, opens_comment, senten
 use ic_text::{Misread, TextFault, print_fault, put_decimal};
 use std::alloc::{AllocError, Global};
 
+/// What is told of a comment.
+pub(crate) const NO_COMMENTS: &[u8] =
+    b"there are no comments; `icserve expand` takes out those that begin with #";
+
 /// Where a text stands, in words: in a whole file of this name, or in this line of it.
 pub(crate) fn place_text(
     alloc: Global,
@@ -140,7 +144,7 @@ fn sought_sentence(due: Due) -> &'static [u8]
         Due::Number => b"a number is looked for here",
         Due::Nothing => b"nothing is looked for here",
         Due::SubmitName | Due::OldName | Due::NewName | Due::VerbName => {
-            b"a job's name is looked for here"
+            b"a job's name is looked for here: a small letter, then small letters, digits and -"
         }
     }
 }
@@ -171,7 +175,7 @@ pub(crate) fn line_sentence(
     match place.detail {
         LineDetail::Sought(due) => {
             if opens_comment(&line[place.at..]) {
-                Vec::from_slice(alloc, b"there are no comments")
+                Vec::from_slice(alloc, NO_COMMENTS)
             } else {
                 Vec::from_slice(alloc, sought_sentence(due))
             }

@@ -2,7 +2,7 @@
 
 ghost use Rattle.std.specs.Prelude.{◌≡◌, ◌+◌, ◌++◌, ◌<◌, ◌≤◌, ◌^◌, ℕ, List, IfOk, OnOk, length};
 ghost use Rattle.ic_lines.specs.Lines.{lines};
-ghost use Rattle.ic_check.specs.Sessions.{TellsRefusal, TellsRefusals, asks_help, column_text, refusal_line, session_sentence};
+ghost use Rattle.ic_check.specs.Sessions.{TellsRefusal, TellsRefusals, asks_end, asks_help, column_text, refusal_line, session_sentence};
 
 use crate::due::Due;
 use crate::line_places::{LineDetail, LinePlace, line_place};
@@ -17,6 +17,9 @@ use std::alloc::{AllocError, Global};
 const LINES: &[u8] = b"the lines are submit NAME [BUDGET] {RULES} <CONFIG>, copy OLD NEW, \
 pause NAME, resume NAME, cancel NAME, fetch NAME, list and run K";
 
+/// What is told of a line that asks for an end.
+const END: &[u8] = b"the end of the input ends a session: at a terminal, Ctrl-D";
+
 /// Whether a line asks for help.
 fn asks_help(line: &[u8], place: LinePlace) -> bool
     requires { place.at ≤ length line.now }
@@ -28,7 +31,21 @@ fn asks_help(line: &[u8], place: LinePlace) -> bool
     }
 }
 
-/// What is amiss at the place of a line's fault, or what lines there are.
+/// Whether a line asks for an end.
+fn asks_end(line: &[u8], place: LinePlace) -> bool
+    requires { place.at ≤ length line.now }
+    ensures { result ≡ asks_end line.now place.at place.detail }
+{
+    match place.detail {
+        LineDetail::Sought(Due::Command) => {
+            let word = first_word(&line[place.at..]);
+            word == b"quit".as_slice() || word == b"exit".as_slice()
+        }
+        LineDetail::Sought(_) | LineDetail::Passed(_) | LineDetail::Within(_) => false,
+    }
+}
+
+/// What is amiss at the place of a line's fault, or what lines there are, or how a session ends.
 fn session_sentence(
     alloc: Global,
     line: &[u8],
@@ -41,6 +58,8 @@ fn session_sentence(
 {
     if asks_help(line, place) {
         Vec::from_slice(alloc, LINES)
+    } else if asks_end(line, place) {
+        Vec::from_slice(alloc, END)
     } else {
         line_sentence(alloc, line, fault, place)
     }
@@ -93,8 +112,8 @@ fn tell_line(alloc: Global, number: u64, line: &[u8], out: &mut Vec<u8>) -> Resu
 }
 
 /// Appends for each line of a text that a server refuses, the first of which has this number, where it is refused and
-/// what is amiss there. Where `help` stands in place of a command, the lines that there are are told. Answers the number
-/// of the line after them.
+/// what is amiss there. Where `help` stands in place of a command, the lines that there are are told, and where `quit` or
+/// `exit` does, how a session ends. Answers the number of the line after them.
 pub fn tell_refusals(
     alloc: Global,
     number: u64,

@@ -8,7 +8,7 @@ use Rattle.ic_text.specs.Name.{is_numeral}
 use Rattle.ic_text.specs.Token.{is_blank, is_word_byte}
 use Rattle.ic_diagnostics.specs.Lines.{trimmed}
 use Rattle.ic_diagnostics.specs.declared.sights.Sight.{Sight}
-use Rattle.ic_diagnostics.specs.declared.sights.Sight.TheVariants.{End, SystemMark, ConfigMark, CommandWord, Comment, NoName, Empty, Argument, After, Crossed, Front, Behind}
+use Rattle.ic_diagnostics.specs.declared.sights.Sight.TheVariants.{End, SystemMark, ConfigMark, CommandWord, Comment, NoName, Applied, Empty, Argument, After, Crossed, Front, Behind}
 use Rattle.ic_diagnostics.specs.declared.stands.Stand.{Stand}
 use Rattle.ic_diagnostics.specs.declared.stands.Stand.TheVariants as standing
 use Rattle.ic_diagnostics.specs.Stands.{spot_of}
@@ -122,14 +122,29 @@ abbrev pub is_no_name : (front rest : List ℕ) → Bool
 is_no_name front rest =
     (is_term_due front && is_misnamed (first_word rest)) || is_joined front rest
 
+-- a word that begins as names do
+abbrev pub begins_as_name : List ℕ → Bool
+begins_as_name [] = false
+begins_as_name (b ∷ bs) = is_ascii_lowercase b
+
+-- a parenthesis opens
+abbrev pub opens : Option ℕ → Bool
+opens None = false
+opens (Some b) = b == 40
+
+-- a name at the end of a text is given arguments, as in `s(x)`
+abbrev pub is_applied : (front rest : List ℕ) → Bool
+is_applied front rest = opens (slice_get rest 0) && begins_as_name (last_word (trimmed front))
+
 -- further on: what is amiss by itself, or anything else, by what stands before it
 abbrev pub inner_sight : (front rest : List ℕ) → Sight
 inner_sight front rest =
     if opens_comment rest then Comment
     else (if is_no_name front rest then NoName
+    else (if is_applied front rest then Applied
     else (if empties (last_byte front) (slice_get rest 0) then Empty
     else (if ends_term (last_byte front) then term_sight front
-    else mark_sight (last_byte front) (spot_of front).stand)))
+    else mark_sight (last_byte front) (spot_of front).stand))))
 
 -- what stands at a place of a text; the place is at the front where only blanks stand before it
 abbrev pub sight_at : List ℕ → ℕ → Sight

@@ -23,7 +23,7 @@ use Rattle.ic_streams.specs.declared.fault.StreamFault.TheVariants.{Text}
 use Rattle.ic_diagnostics.specs.declared.telling.Kind.{Kind}
 use Rattle.ic_diagnostics.specs.declared.telling.Kind.TheVariants.{Config, System}
 use Rattle.ic_diagnostics.specs.declared.sights.Sight.{Sight}
-use Rattle.ic_diagnostics.specs.declared.sights.Sight.TheVariants.{End, SystemMark, ConfigMark, CommandWord, Comment, NoName, Empty, Argument, After, Crossed, Behind}
+use Rattle.ic_diagnostics.specs.declared.sights.Sight.TheVariants.{End, SystemMark, ConfigMark, CommandWord, Comment, NoName, Applied, Empty, Argument, After, Crossed, Behind}
 use Rattle.ic_diagnostics.specs.declared.stands.Stand.{Stand}
 use Rattle.ic_diagnostics.specs.declared.stands.Stand.TheVariants as standing
 use Rattle.ic_diagnostics.specs.Lines.{place_lines}
@@ -32,7 +32,7 @@ use Rattle.ic_diagnostics.specs.Sights.{first_word, is_again, sight_at}
 -- what names and symbols are, where a word is neither
 abbrev pub name_sentence : List ℕ
 name_sentence = codes "a name is a letter a to z, maybe with a number from 1 on, "
-    ++ codes "and a symbol begins with A to Z or 0 to 9"
+    ++ codes "and a symbol begins with A to Z or 0 to 9; `icserve expand` takes long names"
 
 -- a mark that only a term can follow: `(`, `,` or `=`
 abbrev pub wants_term : ℕ → Bool
@@ -79,7 +79,12 @@ abbrev pub argument_sentence : Bool → List ℕ
 argument_sentence opens = opened opens (codes ", or ) is looked for here")
 
 abbrev pub comment_sentence : List ℕ
-comment_sentence = codes "there are no comments"
+comment_sentence = codes "there are no comments; `icserve expand` takes out those that begin with #"
+
+-- what names and symbols are, where a name is given arguments
+abbrev pub applied_sentence : List ℕ
+applied_sentence = codes "a name has no arguments: names begin with a to z, and symbols, "
+    ++ codes "which may have them, with A to Z or 0 to 9"
 
 abbrev pub empty_sentence : List ℕ
 empty_sentence = codes "a symbol without arguments has no parentheses"
@@ -92,6 +97,7 @@ config_sentence SystemMark = codes "a configuration begins with <, and this is a
 config_sentence CommandWord = codes "a configuration begins with <, and commands are served"
 config_sentence Comment = comment_sentence
 config_sentence NoName = name_sentence
+config_sentence Applied = applied_sentence
 config_sentence Empty = empty_sentence
 config_sentence (Argument opens) = argument_sentence opens
 config_sentence (After stand opens) =
@@ -107,6 +113,7 @@ system_sentence ConfigMark = codes "a system begins with {, and this is a config
 system_sentence CommandWord = codes "a system begins with {, and commands are served"
 system_sentence Comment = comment_sentence
 system_sentence NoName = name_sentence
+system_sentence Applied = applied_sentence
 system_sentence Empty = empty_sentence
 system_sentence (Argument opens) = argument_sentence opens
 system_sentence (After stand opens) =

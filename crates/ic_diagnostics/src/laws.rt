@@ -23,7 +23,7 @@ ghost use Rattle.ic_streams.specs.declared.fault.StreamFault.TheVariants.{Text};
 ghost use Rattle.ic_diagnostics.specs.declared.telling.Kind.{Kind};
 ghost use Rattle.ic_diagnostics.specs.declared.telling.Kind.TheVariants.{Config, System};
 ghost use Rattle.ic_diagnostics.specs.Sights.{command_words, first_word, is_again};
-ghost use Rattle.ic_diagnostics.specs.Telling.{Appended, IsOfArities, IsToldOf, arity_sentence, comment_sentence, limit_sentence};
+ghost use Rattle.ic_diagnostics.specs.Telling.{Appended, IsOfArities, IsToldOf, applied_sentence, arity_sentence, comment_sentence, limit_sentence};
 ghost use Rattle.ic_diagnostics.specs.Telling.{limit_sentence_within, name_sentence, namecount_sentence, sentence};
 ghost use Rattle.ic_diagnostics.specs.Lines.{IsMarked, begins_with_feed, column, feed, first_line, head_of, is_ascii, is_feed, is_printable, last_line, line_number, margin, picture_of, place_lines, shown, shown_before, shown_behind, told_at};
 
@@ -185,13 +185,16 @@ pub fn what_is_looked_for_is_told()
         ≡ codes "a symbol without arguments has no parentheses" }
     ensures joined { map (λ text. sentence Config text Syntax 4 Nothing)
         (codes "<r|x_1=Z>" ∷ codes "<r|X'=Z>" ∷ []) ≡ name_sentence ∷ name_sentence ∷ [] }
+    ensures applied { map (λ text. sentence Config text Syntax 6 Nothing)
+        (codes "<r|r=s(Z)>" ∷ codes "<r|A(x(y))=Z>" ∷ []) ≡ applied_sentence ∷ applied_sentence ∷ [] }
 {}
 
 /// What begins a comment in other languages is told not to be one, at the front of a text and further on.
 pub fn comments_are_told()
     ensures front { (kind : Kind) (blanks rest : List ℕ) → list_all is_blank blanks ≡ true →
         AllByRecursion (λ mark. sentence kind (blanks ++ (mark ++ rest)) Syntax (length blanks) Nothing
-        ≡ codes "there are no comments") (codes "#" ∷ codes "//" ∷ codes "--" ∷ []) }
+        ≡ codes "there are no comments; `icserve expand` takes out those that begin with #")
+        (codes "#" ∷ codes "//" ∷ codes "--" ∷ []) }
     ensures inner { map (λ mark. sentence System (codes "{A><B} " ++ mark) Syntax 7 Nothing)
         (codes "# <|>" ∷ codes "// <|>" ∷ codes "-- <|>" ∷ [])
         ≡ comment_sentence ∷ comment_sentence ∷ comment_sentence ∷ [] }

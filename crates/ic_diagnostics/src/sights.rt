@@ -4,6 +4,7 @@ ghost use Rattle.std.specs.Prelude.{◌≡◌, ◌≤◌, false, length};
 ghost use Rattle.std.specs.List.{list_all};
 ghost use Rattle.ic_text.specs.Token.{is_blank};
 ghost use Rattle.ic_diagnostics.specs.Sights.{begins_rule, empties, ends_term, first_word, front_sight, inner_sight, is_command, is_joined, is_mark, is_misnamed, is_no_name};
+ghost use Rattle.ic_diagnostics.specs.Sights.{begins_as_name, is_applied, opens};
 ghost use Rattle.ic_diagnostics.specs.Sights.{is_again, is_second, is_symbol, is_term_due, joins, last_byte, last_word, mark_sight, opens_comment, opens_term, rule_front, sight_at, stands_in, term_sight};
 
 use crate::lines::trimmed;
@@ -26,6 +27,8 @@ pub enum Sight {
     /// Where a term may stand, a word that begins as a name does and isn't one; or a word that goes on with a byte of no
     /// text.
     NoName,
+    /// `(` after a name.
+    Applied,
     /// `)` right after `(`.
     Empty,
     /// Anything else, after a term in an agent's parentheses, and whether the term may have arguments.
@@ -265,6 +268,8 @@ fn inner_sight(front: &[u8], rest: &[u8]) -> Sight
         Sight::Comment
     } else if is_no_name(front, rest) {
         Sight::NoName
+    } else if is_applied(front, rest) {
+        Sight::Applied
     } else if empties(last, rest.first().copied()) {
         Sight::Empty
     } else if ends_term(last) {
@@ -279,6 +284,33 @@ fn is_no_name(front: &[u8], rest: &[u8]) -> bool
     ensures { result ≡ is_no_name front.now rest.now }
 {
     (is_term_due(front) && is_misnamed(first_word(rest))) || is_joined(front, rest)
+}
+
+/// Whether a word begins as names do.
+fn begins_as_name(word: &[u8]) -> bool
+    ensures { result ≡ begins_as_name word.now }
+{
+    match word.first() {
+        Some(byte) => byte.is_ascii_lowercase(),
+        None => false,
+    }
+}
+
+/// Whether a byte opens a parenthesis.
+fn opens(byte: Option<u8>) -> bool
+    ensures { result ≡ opens byte }
+{
+    match byte {
+        Some(byte) => byte == b'(',
+        None => false,
+    }
+}
+
+/// Whether a name at the end of a text is given arguments.
+fn is_applied(front: &[u8], rest: &[u8]) -> bool
+    ensures { result ≡ is_applied front.now rest.now }
+{
+    opens(rest.first().copied()) && begins_as_name(last_word(trimmed(front)))
 }
 
 /// Whether these bytes are blanks.

@@ -21,14 +21,19 @@ pub enum Kind {
 }
 
 /// What is told of a comment.
-const NO_COMMENTS: &[u8] = b"there are no comments";
+const NO_COMMENTS: &[u8] =
+    b"there are no comments; `icserve expand` takes out those that begin with #";
 
 /// What is told of parentheses with nothing in them.
 const NO_PARENTHESES: &[u8] = b"a symbol without arguments has no parentheses";
 
 /// What names and symbols are, where a word is neither.
-const NAMES: &[u8] =
-    b"a name is a letter a to z, maybe with a number from 1 on, and a symbol begins with A to Z or 0 to 9";
+const NAMES: &[u8] = b"a name is a letter a to z, maybe with a number from 1 on, \
+and a symbol begins with A to Z or 0 to 9; `icserve expand` takes long names";
+
+/// What names and symbols are, where a name is given arguments.
+const NO_ARGUMENTS: &[u8] = b"a name has no arguments: names begin with a to z, and symbols, \
+which may have them, with A to Z or 0 to 9";
 
 /// What is looked for after a mark in a text of either kind; after another byte it is the other
 /// sentence.
@@ -136,6 +141,7 @@ fn config_sentence(sight: Sight) -> &'static [u8]
         Sight::CommandWord => b"a configuration begins with <, and commands are served",
         Sight::Comment => NO_COMMENTS,
         Sight::NoName => NAMES,
+        Sight::Applied => NO_ARGUMENTS,
         Sight::Empty => NO_PARENTHESES,
         Sight::Argument(opens) => argument_sentence(opens),
         Sight::After(stand, opens) => {
@@ -158,6 +164,7 @@ fn system_sentence(sight: Sight) -> &'static [u8]
         Sight::CommandWord => b"a system begins with {, and commands are served",
         Sight::Comment => NO_COMMENTS,
         Sight::NoName => NAMES,
+        Sight::Applied => NO_ARGUMENTS,
         Sight::Empty => NO_PARENTHESES,
         Sight::Argument(opens) => argument_sentence(opens),
         Sight::After(stand, opens) => stand_sentence(b"no system goes on with this", stand, opens),

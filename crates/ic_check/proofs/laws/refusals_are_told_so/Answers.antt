@@ -24,3 +24,7 @@ returns-clause-example c = refl
 pub returns-clause-help : goal.returns-clause-help
 unfolding digits
 returns-clause-help c = refl
+
+pub returns-clause-quit : goal.returns-clause-quit
+unfolding digits
+returns-clause-quit c = refl

@@ -1,5 +1,5 @@
 use Rattle.std.proofs.Common.{◌≡◌, ◌+◌, drop}
-use Rattle.ic_check.specs.Scripts.{blanks_before}
+use Rattle.ic_check.specs.Telling.{blanks_before}
 use Rattle.ic_check.proofs.lines.blanks_before.Given as goal
 
 -- the blanks so far, and those of what is left

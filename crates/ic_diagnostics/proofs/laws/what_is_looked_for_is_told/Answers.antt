@@ -21,4 +21,5 @@ returns c = record {
   sides = refl;
   empty = refl;
   joined = refl;
+  applied = refl;
 }
