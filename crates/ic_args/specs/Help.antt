@@ -121,7 +121,7 @@ serve_help = text_of (codes "Serves the lines of standard input over the disk in
     ∷ codes "A line with a fault is answered by bad, one that can't be done by refused."
     ∷ (codes "Where standard error is a terminal, faults are told without --explain; if"
     ++ codes " standard input is one")
-    ∷ codes "too, a prompt stands there."
+    ∷ codes "too, a prompt stands there. The end of the input ends it: at a terminal, Ctrl-D."
     ∷ []
     ∷ codes "Example:"
     ∷ codes "  $ icserve create --disk jobs.disk"
@@ -170,8 +170,8 @@ reduce_help = text_of (codes "Reduces a system until no step is possible, and pr
     ∷ codes "Options:"
     ∷ (codes "      --steps <N>        How many interactions are made at most, from 0 to"
     ++ codes " 4611686018427387903 [default: 4611686018427387903]")
-    ∷ (codes "      --nodes <N>        How many names, and agents with arguments, the net has"
-    ++ codes " at most, from 0 to 4611686018427387903 [default: 134217728]")
+    ∷ (codes "      --nodes <N>        End it where the net has more names, and agents with"
+    ++ codes " arguments, from 0 to 4611686018427387903 [default: 134217728]")
     ∷ (codes "      --limits <L>       The text's limits: those of a job (served) or wide"
     ++ codes " ones (wide) [default: wide]")
     ∷ (codes "      --partial          Print the configuration too where the net, a round or"
@@ -188,6 +188,8 @@ reduce_help = text_of (codes "Reduces a system until no step is possible, and pr
     ∷ []
     ∷ codes "The exit status is 5 where a step is still possible after the last interaction or round."
     ∷ codes "Without --stats, --format changes nothing."
+    ∷ (codes "What --nodes bounds is looked at every 4096 interactions, so there may be more"
+    ++ codes " by then.")
     ∷ []
     ∷ codes "The language:"
     ∷ codes "  {Add(x,x)><Z; Add(S(x),y)><S(Add(x,y))}  rules, separated by ;"
@@ -204,7 +206,8 @@ reduce_help = text_of (codes "Reduces a system until no step is possible, and pr
     ∷ (codes "  x=t                       t takes the place of the other x; a name that"
     ++ codes " stands once is free")
     ∷ (codes "A text has at most 65536 symbols, 2147483648 rules and nodes, 8589934592"
-    ++ codes " bytes, and no comments.")
+    ++ codes " bytes, and no")
+    ∷ codes "comments, which icserve expand takes out."
     ∷ (codes "That of a job or of another command has at most 64 symbols, 256 rules, 8192"
     ++ codes " nodes, 262144 bytes,")
     ∷ codes "and 64 terms before |."
@@ -232,7 +235,7 @@ trace_help = text_of (codes "Tells what the rounds of a system do, until no step
     ∷ []
     ∷ codes "Example:"
     ∷ (codes "  $ echo '{Add(x,x)><Z; Add(S(x),y)><S(Add(x,y))} <r|Add(r,S(Z))=S(Z)>' |"
-    ++ codes " icserve trace | expand")
+    ++ codes " icserve trace | /usr/bin/expand")
     ∷ codes "  round   pairs   nodes   equations       names"
     ∷ codes "  1       1       7       1       2"
     ∷ codes "  2       1       3       0       0"

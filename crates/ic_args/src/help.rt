@@ -115,7 +115,7 @@ Lines, and what is answered where they aren't refused:
   cancel NAME                          ok: the job is removed
 A line with a fault is answered by bad, one that can't be done by refused.
 Where standard error is a terminal, faults are told without --explain; if standard input is one
-too, a prompt stands there.
+too, a prompt stands there. The end of the input ends it: at a terminal, Ctrl-D.
 
 Example:
   $ icserve create --disk jobs.disk
@@ -163,7 +163,7 @@ Arguments:
 
 Options:
       --steps <N>        How many interactions are made at most, from 0 to 4611686018427387903 [default: 4611686018427387903]
-      --nodes <N>        How many names, and agents with arguments, the net has at most, from 0 to 4611686018427387903 [default: 134217728]
+      --nodes <N>        End it where the net has more names, and agents with arguments, from 0 to 4611686018427387903 [default: 134217728]
       --limits <L>       The text's limits: those of a job (served) or wide ones (wide) [default: wide]
       --partial          Print the configuration too where the net, a round or memory ends it
       --quiet-answer     Print no configuration, where only figures or the exit status are wanted
@@ -175,6 +175,7 @@ Options:
 
 The exit status is 5 where a step is still possible after the last interaction or round.
 Without --stats, --format changes nothing.
+What --nodes bounds is looked at every 4096 interactions, so there may be more by then.
 
 The language:
   {Add(x,x)><Z; Add(S(x),y)><S(Add(x,y))}  rules, separated by ;
@@ -185,7 +186,8 @@ The language:
   Add(S(x),y)><S(Add(x,y))  what stands at the argument of S is Add(x,y)
   Add(r,n)=m                two agents fire where a rule has their symbols; r is the result
   x=t                       t takes the place of the other x; a name that stands once is free
-A text has at most 65536 symbols, 2147483648 rules and nodes, 8589934592 bytes, and no comments.
+A text has at most 65536 symbols, 2147483648 rules and nodes, 8589934592 bytes, and no
+comments, which icserve expand takes out.
 That of a job or of another command has at most 64 symbols, 256 rules, 8192 nodes, 262144 bytes,
 and 64 terms before |.
 
@@ -210,7 +212,7 @@ Options:
   -h, --help             Print help
 
 Example:
-  $ echo '{Add(x,x)><Z; Add(S(x),y)><S(Add(x,y))} <r|Add(r,S(Z))=S(Z)>' | icserve trace | expand
+  $ echo '{Add(x,x)><Z; Add(S(x),y)><S(Add(x,y))} <r|Add(r,S(Z))=S(Z)>' | icserve trace | /usr/bin/expand
   round   pairs   nodes   equations       names
   1       1       7       1       2
   2       1       3       0       0
