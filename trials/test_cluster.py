@@ -139,13 +139,13 @@ class Scripts(Shards):
 
     def test_progress_tells_stuck_jobs_of_answers_and_disks(self):
         """Of answers and of disks alike, those jobs are stuck that are done with an equation of two agents."""
-        stuck = ["<|A=B>", "<A,r|r=Z,B(x)=A>", "<|x=A,A=B(x)>", "<|A=B(C,x)>"]
-        whole = ["<|>", "<A,Z(B)|>", "<x,y|x=A(z),y=B(x2)>", "<A(x)|x=B>", "<a|b=A(c),d=B(e)>"]
+        stuck = ["<|A=B>", "<A,r|s=Z,B(x)=A>", "<|x=A,A=B(y)>", "<|A=B(C,x)>"]
+        whole = ["<|>", "<A,Z(B)|>", "<|x=A(z),y=B(x2)>", "<A(x)|y=B>", "<a|b=A(c),d=B(e)>"]
         lines = [f"submit j{at} {{}} {it}" for at, it in enumerate(stuck + whole)]
-        folder = self.cut([*lines, "submit run {A(x)><B(A(B(x)))} <|A(x)=B(x)>"])
+        folder = self.cut([*lines, "submit run {A(B(x))><B(A(x))} <|A(x)=B(x)>"])
         shard = folder / "00001"
         self.runs("create", "--disk", shard / "disk")
-        self.serves(shard / "disk", [*lines, "submit run {A(x)><B(A(B(x)))} <|A(x)=B(x)>", "run 2"], ["accepted"] * 10 + ["ran 2"])
+        self.serves(shard / "disk", [*lines, "submit run {A(B(x))><B(A(x))} <|A(x)=B(x)>", "run 2"], ["accepted"] * 10 + ["ran 2"])
         told = "running 1, paused 0, done 9 (stuck 4), spent 0, halted 0"
         of_shards = ["1 shards: answered 0, begun 1, waiting 0", "1 shards: answered 1, begun 0, waiting 0"]
         of_jobs = f"10 jobs: {told}, waiting 0, rounds 2"

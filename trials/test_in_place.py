@@ -314,10 +314,10 @@ class HardNets(InPlace):
         self.reduces(given=text, out=["<Delta(a,b),Delta(c,d),Gamma(a,c),Gamma(b,d)|>"], interactions=1)
 
     def test_name_steps_and_each_rule_are_told_at_a_quiet_end(self):
-        pace = rb", places %d, seconds [.\d]+, interactions a second \d+\n"
+        pace = rb", places %d, seconds (?:0\.000|[.\d]+, interactions a second \d+)\n"
         two = f"{ADD} <r|Add(r,S(Z))=S(Z)>"
         for words, told in (
-            ([], b"icserve: interactions 2, name steps 4" + pace % 5 + b"icserve: rule 1: 1 interaction, rule 2: 1 interaction\n"),
+            ([], b"icserve: interactions 2, name steps 4" + pace % 5 + b"icserve: rule 1 Add><Z: 1 interaction, rule 2 Add><S: 1 interaction\n"),
             (["--steps", 0], b"icserve: interactions 0" + pace % 4 + b"icserve: no interactions\nicserve: not done\n"),
         ):
             ran = run("reduce", "--stats", *words, given=two)
@@ -346,8 +346,9 @@ class HardNets(InPlace):
                 self.equals(ran.command, "figures", told, {name: came[name] for name in told})
                 self.equals(ran.command, "fields", [it for it in fields if it in came], list(came)[:-1])
                 self.equals(ran.command, "whether name steps are told", end == "quiet", "name_steps" in came)
-                pairs = re.findall(r"(\w+)(?:\([^<>]*\))?><(\w+)", text.partition("}")[0])
-                self.equals(ran.command, "rules", ["><".join(it) for it in pairs], [it["rule"] for it in came["by_rule"]])
+                rules = [it.split("><") for it in text[1:].partition("}")[0].split(";") if it]
+                pairs = ["><".join(re.match(r"\s*(\w+)", side)[1] for side in sides) for sides in rules]
+                self.equals(ran.command, "rules", pairs, [it["rule"] for it in came["by_rule"]])
                 stuck = f"icserve: stuck {came['stuck']}\n".encode() if came["stuck"] else b""
                 self.equals(ran.command, "the stuck pair", rest if end == "quiet" else b"", stuck)
                 pace = came["milliseconds"] and came["interactions"] * 1000 // came["milliseconds"] or None

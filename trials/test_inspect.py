@@ -140,12 +140,12 @@ class Inspect(ModelTrial):
         """Jobs that are done with a pair without a rule: one from the start, and one after rounds, behind a free name. Of one that
         is done without such a pair, and of those that aren't done, no pair is told."""
         self.runs("create", "--disk", self.path)
-        lines = ["submit a {} <r|r=Z,B(x)=C(D),A=B>", "submit b {A><B(E)} <|x=A,A=B(F)>", "submit c {} <A,r|r=B(C)>"]
-        lines += ["submit d {A(x)><B(C(x))} <|A(x)=B(x),C=D>", "submit e 1 {A(x)><B(C(x))} <|A(x)=B(A(x)),C=D>", "pause d"]
+        lines = ["submit a {} <r|s=Z,B(x)=C(D),A=E>", "submit b {A><B(E)} <|x=A,A=B(F)>", "submit c {} <A,r|r=B(C)>"]
+        lines += [f"submit {name} {LOOP.text[:-1]},C=D>" for name in ("d", "e 1")] + ["pause d"]
         self.serves(self.path, [*lines, "run 3"], ["accepted"] * 5 + ["ok", "ran 3"])
         data = self.path.read_bytes()
         told = report(data)
-        self.equals("trials/test_inspect.py", "pairs by hand", ["B><C", "E><F", "", "", ""], [it.partition(", stuck ")[2] for it in told[3:]])
+        self.equals("trials/test_inspect.py", "pairs by hand", ["B><C", "F><E", "", "", ""], [it.partition(", stuck ")[2] for it in told[3:]])
         self.tells(told)
 
     def test_halted_jobs_are_told_with_their_cause(self):
