@@ -5,8 +5,7 @@ use Rattle.std.proofs.lemmas.Option.{none-some}
 use Rattle.std.proofs.lemmas.List.{drop_more, take-append-drop}
 use Rattle.std.specs.Cmp.{unsigned_Decides}
 use Rattle.ic_term.specs.Configuration.{occurrences}
-use Rattle.ic_plans.specs.inner.Registers.{Registers, found}
-use Rattle.ic_plans.specs.inner.Given.{AreFresh}
+use Rattle.ic_plans.specs.inner.Given.{AreFresh, Numbers, number_in}
 use Rattle.ic_plans.proofs.FlatLemmas.{count-append, count-cons, count-other, count-same}
 use Rattle.ic_plans.proofs.RegisterLemmas.{some_same, there_front, there_last}
 use Rattle.ic_plans.proofs.RuleLemmas.{not_same}
@@ -30,121 +29,31 @@ occurrences-more x ns n =
     let one = count-cons x n [] in
     omega arith
 
--- a name that stands once in a list stands nowhere before
-pub once-before : (ns : List ℕ) (i n : ℕ) → i < length ns → get_or ns i 0 ≡ n → occurrences n ns ≡ 1 → occurrences n (take i ns) ≡ 0
-once-before ns i n within is once =
-    let front = take i ns in
-    let back = drop (i + 1) ns in
-    let split : ns ≡ front ++ n ∷ back = sym (take-append-drop i ns) ∙ ap (λ l. front ++ l) (drop_more ns i 0 within ∙ ap (λ m. m ∷ back) is) in
-    let whole = ap (occurrences n) split in
-    let parts = count-append n front (n ∷ back) in
-    let one = count-cons n n back in
-    let same = count-same n n refl in
-    omega arith
-
 -- ---- a register more
 
-pub none-is : (o : Option ℕ) → is_some o ≡ false → o ≡ None
-none-is None e = refl
-none-is (Some s) e = absurd (true≢false e)
-
-pub there-is : (o : Option ℕ) → is_some o ≡ true → (s : ℕ) × (o ≡ Some s)
-there-is None e = absurd (true≢false (sym e))
-there-is (Some s) e = (s, refl)
-
-module _ (n r : ℕ) (old new : Registers) (updated : (q : ℕ) → found new q ≡ cond (n == q) (Some r) (found old q)) where
+module _ (n r : ℕ) (old new : Numbers) (updated : (q : ℕ) → number_in new q ≡ cond (n == q) (Some r) (number_in old q)) where
   -- it is the new one, or was there before
-  pub found-which : (x s : ℕ) → found new x ≡ Some s → ((n ≡ x) × (r ≡ s)) ⊎ (found old x ≡ Some s)
+  pub found-which : (x s : ℕ) → number_in new x ≡ Some s → ((n ≡ x) × (r ≡ s)) ⊎ (number_in old x ≡ Some s)
   found-which x s there = at (n == x) refl
     where
-      at : (b : Bool) → (n == x) ≡ b → ((n ≡ x) × (r ≡ s)) ⊎ (found old x ≡ Some s)
-      at true e = inl ((unsigned_Decides n x).0 e, some_same r s (sym (updated x ∙ ap (λ b. cond b (Some r) (found old x)) e) ∙ there))
-      at false e = inr (sym (updated x ∙ ap (λ b. cond b (Some r) (found old x)) e) ∙ there)
+      at : (b : Bool) → (n == x) ≡ b → ((n ≡ x) × (r ≡ s)) ⊎ (number_in old x ≡ Some s)
+      at true e = inl ((unsigned_Decides n x).0 e, some_same r s (sym (updated x ∙ ap (λ b. cond b (Some r) (number_in old x)) e) ∙ there))
+      at false e = inr (sym (updated x ∙ ap (λ b. cond b (Some r) (number_in old x)) e) ∙ there)
 
-  pub found-new : (x : ℕ) → n ≡ x → found new x ≡ Some r
-  found-new x same = updated x ∙ ap (λ b. cond b (Some r) (found old x)) ((unsigned_Decides n x).1 same)
+  pub found-new : (x : ℕ) → n ≡ x → number_in new x ≡ Some r
+  found-new x same = updated x ∙ ap (λ b. cond b (Some r) (number_in old x)) ((unsigned_Decides n x).1 same)
 
-  pub found-kept : found old n ≡ None → (x s : ℕ) → found old x ≡ Some s → found new x ≡ Some s
+  pub found-kept : number_in old n ≡ None → (x s : ℕ) → number_in old x ≡ Some s → number_in new x ≡ Some s
   found-kept none x s there = at (n == x) refl
     where
-      at : (b : Bool) → (n == x) ≡ b → found new x ≡ Some s
-      at true e = absurd (none-some s (sym none ∙ ap (found old) ((unsigned_Decides n x).0 e) ∙ there))
-      at false e = updated x ∙ ap (λ b. cond b (Some r) (found old x)) e ∙ there
-
--- ---- names that stand once
-
--- The names so far that stand once in all: these have registers, from one on, and no others have.
-pub record AreGivenSoFar (all before : List ℕ) (start : ℕ) (given : List ℕ) (registers : Registers) : Type 0 where
-  pub once : (x : ℕ) → ((occurrences x all ≡ 1) × (1 ≤ occurrences x before)) ↔ ((j : ℕ) × (slice_get given j ≡ Some x))
-  pub registers_are : (x r : ℕ) → (found registers x ≡ Some r) ↔ ((j : ℕ) × (slice_get given j ≡ Some x) × (r ≡ start + j))
-
--- a name more that stands more often
-pub given-other : (all before : List ℕ) (start : ℕ) (given : List ℕ) (registers : Registers) (n : ℕ) → (occurrences n all ≡ 1 → ⊥)
-    → AreGivenSoFar all before start given registers → AreGivenSoFar all (before ++ n ∷ []) start given registers
-given-other all before start given registers n more so_far = record {
-  once = λ x. (
-    (λ w. at x (n == x) refl w.0 w.1),
-    (λ w. let old = (so_far.once x).1 w in let one = occurrences-more x before n in (old.0, omega (arith, old.1, one))),
-  );
-  registers_are = so_far.registers_are;
-}
-  where
-    at : (x : ℕ) (b : Bool) → (n == x) ≡ b → occurrences x all ≡ 1 → 1 ≤ occurrences x (before ++ n ∷ []) → (j : ℕ) × (slice_get given j ≡ Some x)
-    at x true e once some = absurd (more (ap (λ y. occurrences y all) ((unsigned_Decides n x).0 e) ∙ once))
-    at x false e once some =
-        let one = occurrences-more x before n in
-        let other = count-other n x (not_same n x e) in
-        (so_far.once x).0 (once, omega arith)
-
--- a name more that stands once, and its register
-pub given-added : (all before : List ℕ) (start : ℕ) (given : List ℕ) (old new : Registers) (n m : ℕ) → occurrences n all ≡ 1 → occurrences n before ≡ 0
-    → m ≡ start + length given → ((q : ℕ) → found new q ≡ cond (n == q) (Some m) (found old q))
-    → AreGivenSoFar all before start given old → AreGivenSoFar all (before ++ n ∷ []) start (given ++ n ∷ []) new
-given-added all before start given old new n m once first place_is updated so_far = record {
-  once = λ x. ((λ w. listed x (n == x) refl w.0 w.1), (λ w. at x w.0 (there_more given n w.0 x w.1)));
-  registers_are = λ x r. ((λ there. place x r (found-which n m old new updated x r there)), (λ w. back x r w.0 w.2 (there_more given n w.0 x w.1)));
-}
-  where
-    none : found old n ≡ None
-    none = by (found old n) refl
-      where
-        by : (o : Option ℕ) → found old n ≡ o → o ≡ None
-        by None e = refl
-        by (Some s) e =
-            let place = (so_far.registers_are n s).0 e in
-            let here = (so_far.once n).1 (place.0, place.1) in
-            absurd (omega (arith, here.1))
-
-    listed : (x : ℕ) (b : Bool) → (n == x) ≡ b → occurrences x all ≡ 1 → 1 ≤ occurrences x (before ++ n ∷ []) → (j : ℕ) × (slice_get (given ++ n ∷ []) j ≡ Some x)
-    listed x true e single some = (length given, there_last given n ∙ ap Some ((unsigned_Decides n x).0 e))
-    listed x false e single some =
-        let one = occurrences-more x before n in
-        let other = count-other n x (not_same n x e) in
-        let w = (so_far.once x).0 (single, omega arith) in
-        (w.0, there_front given (n ∷ []) w.0 x w.1)
-
-    at : (x j : ℕ) → (slice_get given j ≡ Some x) ⊎ ((n ≡ x) × (j ≡ length given)) → (occurrences x all ≡ 1) × (1 ≤ occurrences x (before ++ n ∷ []))
-    at x j (inl p) =
-        let w = (so_far.once x).1 (j, p) in
-        let one = occurrences-more x before n in
-        (w.0, omega (arith, w.1, one))
-    at x j (inr q) =
-        let one = occurrences-more x before n in
-        let same = count-same n x q.0 in
-        (ap (λ y. occurrences y all) (sym q.0) ∙ once, omega arith)
-
-    place : (x r : ℕ) → ((n ≡ x) × (m ≡ r)) ⊎ (found old x ≡ Some r) → (j : ℕ) × (slice_get (given ++ n ∷ []) j ≡ Some x) × (r ≡ start + j)
-    place x r (inl p) = (length given, there_last given n ∙ ap Some p.0, sym p.1 ∙ place_is)
-    place x r (inr q) = let w = (so_far.registers_are x r).0 q in (w.0, there_front given (n ∷ []) w.0 x w.1, w.2)
-
-    back : (x r j : ℕ) → r ≡ start + j → (slice_get given j ≡ Some x) ⊎ ((n ≡ x) × (j ≡ length given)) → found new x ≡ Some r
-    back x r j is (inl p) = found-kept n m old new updated none x r ((so_far.registers_are x r).1 (j, p, is))
-    back x r j is (inr q) = found-new n m old new updated x q.0 ∙ ap Some (place_is ∙ sym (is ∙ ap (λ k. start + k) q.1))
+      at : (b : Bool) → (n == x) ≡ b → number_in new x ≡ Some s
+      at true e = absurd (none-some s (sym none ∙ ap (number_in old) ((unsigned_Decides n x).0 e) ∙ there))
+      at false e = updated x ∙ ap (λ b. cond b (Some r) (number_in old x)) e ∙ there
 
 -- ---- names that had no register
 
 -- a name more that has a register
-pub fresh-kept : (before : List ℕ) (start : ℕ) (names : List ℕ) (old new : Registers) (n s : ℕ) → found new n ≡ Some s
+pub fresh-kept : (before : List ℕ) (start : ℕ) (names : List ℕ) (old new : Numbers) (n s : ℕ) → number_in new n ≡ Some s
     → AreFresh before start names old new → AreFresh (before ++ n ∷ []) start names old new
 fresh-kept before start names old new n s here fresh = record {
   others = λ x. (
@@ -154,11 +63,11 @@ fresh-kept before start names old new n s here fresh = record {
   registers_are = fresh.registers_are;
 }
   where
-    listed : (x : ℕ) → n ≡ x → found old x ≡ None → (found old n ≡ Some s) ⊎ ((j : ℕ) × (slice_get names j ≡ Some n) × (s ≡ start + j)) → (j : ℕ) × (slice_get names j ≡ Some x)
-    listed x same none (inl p) = absurd (none-some s (sym none ∙ ap (found old) (sym same) ∙ p))
+    listed : (x : ℕ) → n ≡ x → number_in old x ≡ None → (number_in old n ≡ Some s) ⊎ ((j : ℕ) × (slice_get names j ≡ Some n) × (s ≡ start + j)) → (j : ℕ) × (slice_get names j ≡ Some x)
+    listed x same none (inl p) = absurd (none-some s (sym none ∙ ap (number_in old) (sym same) ∙ p))
     listed x same none (inr q) = (q.0, q.1 ∙ ap Some same)
 
-    at : (x : ℕ) (b : Bool) → (n == x) ≡ b → found old x ≡ None → 1 ≤ occurrences x (before ++ n ∷ []) → (j : ℕ) × (slice_get names j ≡ Some x)
+    at : (x : ℕ) (b : Bool) → (n == x) ≡ b → number_in old x ≡ None → 1 ≤ occurrences x (before ++ n ∷ []) → (j : ℕ) × (slice_get names j ≡ Some x)
     at x true e none some = listed x ((unsigned_Decides n x).0 e) none ((fresh.registers_are n s).0 here)
     at x false e none some =
         let one = occurrences-more x before n in
@@ -166,22 +75,22 @@ fresh-kept before start names old new n s here fresh = record {
         (fresh.others x).0 (none, omega arith)
 
 -- a name more that has none, and its register
-pub fresh-more : (before : List ℕ) (start : ℕ) (names : List ℕ) (old mid new : Registers) (n m : ℕ) → found mid n ≡ None
-    → m ≡ start + length names → ((q : ℕ) → found new q ≡ cond (n == q) (Some m) (found mid q))
+pub fresh-more : (before : List ℕ) (start : ℕ) (names : List ℕ) (old mid new : Numbers) (n m : ℕ) → number_in mid n ≡ None
+    → m ≡ start + length names → ((q : ℕ) → number_in new q ≡ cond (n == q) (Some m) (number_in mid q))
     → AreFresh before start names old mid → AreFresh (before ++ n ∷ []) start (names ++ n ∷ []) old new
 fresh-more before start names old mid new n m none place_is updated fresh = record {
   others = λ x. ((λ w. listed x (n == x) refl w.0 w.1), (λ w. at x w.0 (there_more names n w.0 x w.1)));
   registers_are = λ x r. ((λ there. place x r (found-which n m mid new updated x r there)), (λ w. back x r w));
 }
   where
-    none_old : found old n ≡ None
-    none_old = by (found old n) refl
+    none_old : number_in old n ≡ None
+    none_old = by (number_in old n) refl
       where
-        by : (o : Option ℕ) → found old n ≡ o → o ≡ None
+        by : (o : Option ℕ) → number_in old n ≡ o → o ≡ None
         by None e = refl
         by (Some s) e = absurd (none-some s (sym none ∙ (fresh.registers_are n s).1 (inl e)))
 
-    listed : (x : ℕ) (b : Bool) → (n == x) ≡ b → found old x ≡ None → 1 ≤ occurrences x (before ++ n ∷ []) → (j : ℕ) × (slice_get (names ++ n ∷ []) j ≡ Some x)
+    listed : (x : ℕ) (b : Bool) → (n == x) ≡ b → number_in old x ≡ None → 1 ≤ occurrences x (before ++ n ∷ []) → (j : ℕ) × (slice_get (names ++ n ∷ []) j ≡ Some x)
     listed x true e absent some = (length names, there_last names n ∙ ap Some ((unsigned_Decides n x).0 e))
     listed x false e absent some =
         let one = occurrences-more x before n in
@@ -189,7 +98,7 @@ fresh-more before start names old mid new n m none place_is updated fresh = reco
         let w = (fresh.others x).0 (absent, omega arith) in
         (w.0, there_front names (n ∷ []) w.0 x w.1)
 
-    at : (x j : ℕ) → (slice_get names j ≡ Some x) ⊎ ((n ≡ x) × (j ≡ length names)) → (found old x ≡ None) × (1 ≤ occurrences x (before ++ n ∷ []))
+    at : (x j : ℕ) → (slice_get names j ≡ Some x) ⊎ ((n ≡ x) × (j ≡ length names)) → (number_in old x ≡ None) × (1 ≤ occurrences x (before ++ n ∷ []))
     at x j (inl p) =
         let w = (fresh.others x).1 (j, p) in
         let one = occurrences-more x before n in
@@ -197,25 +106,25 @@ fresh-more before start names old mid new n m none place_is updated fresh = reco
     at x j (inr q) =
         let one = occurrences-more x before n in
         let same = count-same n x q.0 in
-        (ap (found old) (sym q.0) ∙ none_old, omega arith)
+        (ap (number_in old) (sym q.0) ∙ none_old, omega arith)
 
-    place : (x r : ℕ) → ((n ≡ x) × (m ≡ r)) ⊎ (found mid x ≡ Some r)
-        → (found old x ≡ Some r) ⊎ ((j : ℕ) × (slice_get (names ++ n ∷ []) j ≡ Some x) × (r ≡ start + j))
+    place : (x r : ℕ) → ((n ≡ x) × (m ≡ r)) ⊎ (number_in mid x ≡ Some r)
+        → (number_in old x ≡ Some r) ⊎ ((j : ℕ) × (slice_get (names ++ n ∷ []) j ≡ Some x) × (r ≡ start + j))
     place x r (inl p) = inr (length names, there_last names n ∙ ap Some p.0, sym p.1 ∙ place_is)
     place x r (inr q) = by ((fresh.registers_are x r).0 q)
       where
-        by : (found old x ≡ Some r) ⊎ ((j : ℕ) × (slice_get names j ≡ Some x) × (r ≡ start + j))
-            → (found old x ≡ Some r) ⊎ ((j : ℕ) × (slice_get (names ++ n ∷ []) j ≡ Some x) × (r ≡ start + j))
+        by : (number_in old x ≡ Some r) ⊎ ((j : ℕ) × (slice_get names j ≡ Some x) × (r ≡ start + j))
+            → (number_in old x ≡ Some r) ⊎ ((j : ℕ) × (slice_get (names ++ n ∷ []) j ≡ Some x) × (r ≡ start + j))
         by (inl p) = inl p
         by (inr w) = inr (w.0, there_front names (n ∷ []) w.0 x w.1, w.2)
 
-    kept : (x r : ℕ) → found mid x ≡ Some r → found new x ≡ Some r
+    kept : (x r : ℕ) → number_in mid x ≡ Some r → number_in new x ≡ Some r
     kept x r there = found-kept n m mid new updated none x r there
 
-    back : (x r : ℕ) → (found old x ≡ Some r) ⊎ ((j : ℕ) × (slice_get (names ++ n ∷ []) j ≡ Some x) × (r ≡ start + j)) → found new x ≡ Some r
+    back : (x r : ℕ) → (number_in old x ≡ Some r) ⊎ ((j : ℕ) × (slice_get (names ++ n ∷ []) j ≡ Some x) × (r ≡ start + j)) → number_in new x ≡ Some r
     back x r (inl p) = kept x r ((fresh.registers_are x r).1 (inl p))
     back x r (inr w) = by (there_more names n w.0 x w.1)
       where
-        by : (slice_get names w.0 ≡ Some x) ⊎ ((n ≡ x) × (w.0 ≡ length names)) → found new x ≡ Some r
+        by : (slice_get names w.0 ≡ Some x) ⊎ ((n ≡ x) × (w.0 ≡ length names)) → number_in new x ≡ Some r
         by (inl p) = kept x r ((fresh.registers_are x r).1 (inr (w.0, p, w.2)))
         by (inr q) = found-new n m mid new updated x q.0 ∙ ap Some (place_is ∙ sym (w.2 ∙ ap (λ k. start + k) q.1))

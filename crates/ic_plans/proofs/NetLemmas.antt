@@ -21,8 +21,7 @@ use Rattle.ic_machine.specs.declared.plan.Link.{Link}
 use Rattle.ic_machine.specs.Plan.{Made, Planned, IsPlan, allowance, link_operands, operands_of}
 use Rattle.ic_machine.specs.Runs.{IsStart}
 use Rattle.ic_meaning.specs.Plans.{filled, filled_all, held_made, HoldConstants, linked_terms, named_terms, StandsForNet}
-use Rattle.ic_plans.specs.inner.Registers.{Registers, found, register_of}
-use Rattle.ic_plans.specs.inner.Given.{AreGiven, AreFresh, operand_links}
+use Rattle.ic_plans.specs.inner.Given.{AreGiven, AreFresh, operand_links, Numbers, number_in, register_in}
 use Rattle.ic_plans.specs.inner.Flattening.{times_read, times_made, made_operands, AreFlat, WouldBeFlat}
 use Rattle.ic_plans.proofs.FlatLemmas.{count-append, count-cons, count-other, count-same, times-below, times-within, times-above}
 use Rattle.ic_plans.proofs.RegisterLemmas.{some_same, all_there, there_front}
@@ -135,7 +134,7 @@ there-either (z ∷ xs) ys (suc j) x there = at (there-either xs ys j x there)
     at (inl p) = inl p
     at (inr q) = let place = q.1 in inr (q.0, omega arith, q.2)
 
-there-back : (xs ys : List ℕ) (i x : ℕ) → slice_get ys i ≡ Some x → slice_get (xs ++ ys) (length xs + i) ≡ Some x
+pub there-back : (xs ys : List ℕ) (i x : ℕ) → slice_get ys i ≡ Some x → slice_get (xs ++ ys) (length xs + i) ≡ Some x
 there-back [] ys i x there = let same : 0 + i ≡ i = omega arith in ap (slice_get ys) same ∙ there
 there-back (z ∷ xs) ys i x there =
     let next : length (z ∷ xs) + i ≡ suc (length xs + i) = omega arith in
@@ -143,20 +142,20 @@ there-back (z ∷ xs) ys i x there =
 
 -- ---- the registers of all names
 
-module _ (ns : List ℕ) (count : ℕ) (given others : List ℕ) (mid all : Registers)
+module _ (ns : List ℕ) (count : ℕ) (given others : List ℕ) (mid all : Numbers)
     (are_given : AreGiven ns count given mid) (are_fresh : AreFresh ns (count + length given) others mid all) where
   abbrev listed : List ℕ
   listed = given ++ others
 
   -- a name of the list has the register of its place
-  listed-found : (j x : ℕ) → slice_get listed j ≡ Some x → found all x ≡ Some (count + j)
+  listed-found : (j x : ℕ) → slice_get listed j ≡ Some x → number_in all x ≡ Some (count + j)
   listed-found j x there = at (there-either given others j x there)
     where
-      at : (slice_get given j ≡ Some x) ⊎ ((i : ℕ) × (j ≡ length given + i) × (slice_get others i ≡ Some x)) → found all x ≡ Some (count + j)
+      at : (slice_get given j ≡ Some x) ⊎ ((i : ℕ) × (j ≡ length given + i) × (slice_get others i ≡ Some x)) → number_in all x ≡ Some (count + j)
       at (inl p) = (are_fresh.registers_are x (count + j)).1 (inl ((are_given.registers_are x (count + j)).1 (j, p, refl)))
       at (inr q) = let place = q.1 in (are_fresh.registers_are x (count + j)).1 (inr (q.0, q.2, omega arith))
 
-  register-is : (j x : ℕ) → slice_get listed j ≡ Some x → register_of all x ≡ count + j
+  register-is : (j x : ℕ) → slice_get listed j ≡ Some x → register_in all x ≡ count + j
   register-is j x there = ap (λ o. unwrap_or o 0) (listed-found j x there)
 
   apart : (x i j : ℕ) → slice_get listed i ≡ Some x → slice_get listed j ≡ Some x → i ≡ j
@@ -169,9 +168,9 @@ module _ (ns : List ℕ) (count : ℕ) (given others : List ℕ) (mid all : Regi
 
   -- the names are those of the list
   pub occurs-listed : (x : ℕ) → 1 ≤ occurrences x ns → (j : ℕ) × (slice_get listed j ≡ Some x)
-  occurs-listed x some = at (found mid x) refl
+  occurs-listed x some = at (number_in mid x) refl
     where
-      at : (o : Option ℕ) → found mid x ≡ o → (j : ℕ) × (slice_get listed j ≡ Some x)
+      at : (o : Option ℕ) → number_in mid x ≡ o → (j : ℕ) × (slice_get listed j ≡ Some x)
       at (Some r) e = let w = (are_given.registers_are x r).0 e in (w.0, there_front given others w.0 x w.1)
       at None e = let w = (are_fresh.others x).0 (e, some) in (length given + w.0, there-back given others w.0 x w.1)
 
@@ -190,7 +189,7 @@ module _ (ns : List ℕ) (count : ℕ) (given others : List ℕ) (mid all : Regi
 
   -- a register is read as often as its name stands there
   reads : (j x : ℕ) → slice_get listed j ≡ Some x → (ms : List ℕ) → AllByRecursion IsListed ms
-      → count_by (λ y. register_of all y == count + j) ms ≡ occurrences x ms
+      → count_by (λ y. register_in all y == count + j) ms ≡ occurrences x ms
   reads j x there [] each = refl
   reads j x there (y ∷ ms) each =
       let one = count-register (count + j) y ms in
@@ -199,60 +198,60 @@ module _ (ns : List ℕ) (count : ℕ) (given others : List ℕ) (mid all : Regi
       let here = by (y == x) refl in
       omega arith
     where
-      count-register : (k y : ℕ) (ms : List ℕ) → count_by (λ z. register_of all z == k) (y ∷ ms)
-          ≡ cond (register_of all y == k) 1 0 + count_by (λ z. register_of all z == k) ms
-      count-register k y ms = sum_by-cons (λ z. cond (register_of all z == k) 1 0) y ms
+      count-register : (k y : ℕ) (ms : List ℕ) → count_by (λ z. register_in all z == k) (y ∷ ms)
+          ≡ cond (register_in all y == k) 1 0 + count_by (λ z. register_in all z == k) ms
+      count-register k y ms = sum_by-cons (λ z. cond (register_in all z == k) 1 0) y ms
 
-      by : (b : Bool) → (y == x) ≡ b → ◌≡◌ {A = ℕ} (cond (register_of all y == count + j) 1 0) (cond (y == x) 1 0)
+      by : (b : Bool) → (y == x) ≡ b → ◌≡◌ {A = ℕ} (cond (register_in all y == count + j) 1 0) (cond (y == x) 1 0)
       by true e =
           let same = (unsigned_Decides y x).0 e in
-          count-same (register_of all y) (count + j) (ap (register_of all) same ∙ register-is j x there) ∙ sym (ap (λ b. cond b 1 0) e)
+          count-same (register_in all y) (count + j) (ap (register_in all) same ∙ register-is j x there) ∙ sym (ap (λ b. cond b 1 0) e)
       by false e =
-          count-other (register_of all y) (count + j) (λ s. not_same y x e (same s)) ∙ sym (ap (λ b. cond b 1 0) e)
+          count-other (register_in all y) (count + j) (λ s. not_same y x e (same s)) ∙ sym (ap (λ b. cond b 1 0) e)
         where
-          same : register_of all y ≡ count + j → y ≡ x
+          same : register_in all y ≡ count + j → y ≡ x
           same s =
               let place = sym (register-is each.0.0 y each.0.1) ∙ s in
               let equal : each.0.0 ≡ j = omega arith in
               some_same y x (sym each.0.1 ∙ ap (slice_get listed) equal ∙ there)
 
-  reads-none : (k : ℕ) → count + length listed ≤ k → (ms : List ℕ) → AllByRecursion IsListed ms → count_by (λ y. register_of all y == k) ms ≡ 0
+  reads-none : (k : ℕ) → count + length listed ≤ k → (ms : List ℕ) → AllByRecursion IsListed ms → count_by (λ y. register_in all y == k) ms ≡ 0
   reads-none k high [] each = refl
   reads-none k high (y ∷ ms) each =
-      let one = sum_by-cons (λ z. cond (register_of all z == k) 1 0) y ms in
+      let one = sum_by-cons (λ z. cond (register_in all z == k) 1 0) y ms in
       let rest = reads-none k high ms each.1 in
       let place = register-is each.0.0 y each.0.1 in
       let low = slice_get_within listed each.0.0 y each.0.1 in
-      let other = count-other (register_of all y) k (λ s. omega arith) in
+      let other = count-other (register_in all y) k (λ s. omega arith) in
       omega arith
 
   -- that of a given name is read once
-  pub given-read : (k : ℕ) → count ≤ k → k < count + length given → count_by (λ y. register_of all y == k) ns ≡ 1
+  pub given-read : (k : ℕ) → count ≤ k → k < count + length given → count_by (λ y. register_in all y == k) ns ≡ 1
   given-read k high low =
       let place : k - count < length given = omega arith in
       let x = get_or given (k - count) 0 in
       let there = slice_get-get_or given (k - count) 0 place in
       let same : k ≡ count + (k - count) = omega arith in
-      ap (λ j. count_by (λ y. register_of all y == j) ns) same
+      ap (λ j. count_by (λ y. register_in all y == j) ns) same
       ∙ reads (k - count) x (there_front given others (k - count) x there) ns all_listed
       ∙ (are_given.once x).1 (k - count, there)
 
   -- each other one as often as any name may stand there
-  pub other-read : (k bound : ℕ) → ((x : ℕ) → occurrences x ns ≤ bound) → count ≤ k → k < count + length listed → count_by (λ y. register_of all y == k) ns ≤ bound
+  pub other-read : (k bound : ℕ) → ((x : ℕ) → occurrences x ns ≤ bound) → count ≤ k → k < count + length listed → count_by (λ y. register_in all y == k) ns ≤ bound
   other-read k bound few high low =
       let place : k - count < length listed = omega arith in
       let x = get_or listed (k - count) 0 in
       let there = slice_get-get_or listed (k - count) 0 place in
       let same : k ≡ count + (k - count) = omega arith in
-      let is = ap (λ j. count_by (λ y. register_of all y == j) ns) same ∙ reads (k - count) x there ns all_listed in
+      let is = ap (λ j. count_by (λ y. register_in all y == j) ns) same ∙ reads (k - count) x there ns all_listed in
       let most = few x in
       omega arith
 
   -- and one of an agent is not read
-  pub none-read : (k : ℕ) → count + length listed ≤ k → count_by (λ y. register_of all y == k) ns ≡ 0
+  pub none-read : (k : ℕ) → count + length listed ≤ k → count_by (λ y. register_in all y == k) ns ≡ 0
   none-read k high = reads-none k high ns all_listed
 
-  pub listed-bounds : (x : ℕ) → 1 ≤ occurrences x ns → (count ≤ register_of all x) × (register_of all x < count + length given + length others)
+  pub listed-bounds : (x : ℕ) → 1 ≤ occurrences x ns → (count ≤ register_in all x) × (register_in all x < count + length given + length others)
   listed-bounds x some =
       let w = occurs-listed x some in
       let place = register-is w.0 x w.1 in
@@ -261,7 +260,7 @@ module _ (ns : List ℕ) (count : ℕ) (given others : List ℕ) (mid all : Regi
       (omega arith, omega arith)
 
   -- the names are put for themselves
-  pub named : (x : ℕ) → 1 ≤ occurrences x ns → named_terms count listed (register_of all x) ≡ name x
+  pub named : (x : ℕ) → 1 ≤ occurrences x ns → named_terms count listed (register_in all x) ≡ name x
   named x some =
       let w = occurs-listed x some in
       let high : count ≤ count + w.0 = omega arith in
@@ -280,11 +279,11 @@ times-few first count k = at (nat_lt k first) (nat_lt k (first + count)) refl re
 
 -- ---- the plan of a configuration
 
-module _ (ss : List Symbol) (c : Configuration) (given others : List ℕ) (mid all : Registers) (made : List Made) (operands : List ℕ)
+module _ (ss : List Symbol) (c : Configuration) (given others : List ℕ) (mid all : Numbers) (made : List Made) (operands : List ℕ)
     (sound : IsWide c) (over : is_over ss c ≡ true)
     (are_given : AreGiven (flat_map word_names (configuration_words c)) (length (map (λ s. s.arity) ss)) given mid)
     (are_fresh : AreFresh (flat_map word_names (configuration_words c)) (length (map (λ s. s.arity) ss) + length given) others mid all)
-    (would : WouldBeFlat (map (λ s. s.arity) ss) (register_of all) (length (map (λ s. s.arity) ss) + length given + length others) (configuration_words c) made operands)
+    (would : WouldBeFlat (map (λ s. s.arity) ss) (register_in all) (length (map (λ s. s.arity) ss) + length given + length others) (configuration_words c) made operands)
     (counted : length operands ≡ length (forest (configuration_words c))) where
   abbrev arities : List ℕ
   arities = map (λ s. s.arity) ss
@@ -313,19 +312,19 @@ module _ (ss : List Symbol) (c : Configuration) (given others : List ℕ) (mid a
   abbrev held : ℕ → Tree
   held = named_terms (length (map (λ s. s.arity) ss)) (given ++ others)
 
-  flat : AreFlat (map (λ s. s.arity) ss) (register_of all) (length (map (λ s. s.arity) ss) + length given + length others) (configuration_words c) made operands
+  flat : AreFlat (map (λ s. s.arity) ss) (register_in all) (length (map (λ s. s.arity) ss) + length given + length others) (configuration_words c) made operands
   flat =
       let same = length-map ss (λ (s : Symbol). s.arity) in
-      let places = all-occurs (λ x. (length ss ≤ register_of all x) × (register_of all x < first)) ns
+      let places = all-occurs (λ x. (length ss ≤ register_in all x) × (register_in all x < first)) ns
       (λ x some. let b = listed-bounds ns count given others mid all are_given are_fresh x some in (omega (arith, b.0, same), b.1)) in
-      would (omega arith) (read_words ss (register_of all) first ws places (over-words ss c ∙ over))
+      would (omega arith) (read_words ss (register_in all) first ws places (over-words ss c ∙ over))
 
   links-are : flat_map link_operands (operand_links (drop terms operands)) ≡ drop terms operands
   links-are = links-operands (drop terms operands) (length c.equations) (omega (arith, length-drop terms operands, counted, counted-configuration_words c))
 
   total : (k : ℕ) → count ≤ k
       → count_by (λ m. m == k) interface + count_by (λ m. m == k) (operands_of plan)
-      ≡ times_read (register_of all) k ws + times_made first (length made) k
+      ≡ times_read (register_in all) k ws + times_made first (length made) k
   total k high =
       let linked = ap (count_by (λ m. m == k)) links-are in
       let used = count-append k (made_operands made) (flat_map link_operands (operand_links (drop terms operands))) in
@@ -338,7 +337,7 @@ module _ (ss : List Symbol) (c : Configuration) (given others : List ℕ) (mid a
   sum = length-append given others
 
   -- no name is read from a register of an agent
-  none_made : (k : ℕ) → first ≤ k → times_read (register_of all) k ws ≡ 0
+  none_made : (k : ℕ) → first ≤ k → times_read (register_in all) k ws ≡ 0
   none_made k high = none-read ns count given others mid all are_given are_fresh k (omega (arith, sum))
 
   twice : (x : ℕ) → occurrences x ns ≤ 2
@@ -408,7 +407,7 @@ module _ (ss : List Symbol) (c : Configuration) (given others : List ℕ) (mid a
 
   same_terms : map (held_made first made held) operands ≡ all_terms c
   same_terms =
-      let f : ℕ → Tree = λ x. held (register_of all x) in
+      let f : ℕ → Tree = λ x. held (register_in all x) in
       let each = all-occurs (λ x. f x ≡ name x) ns (named ns count given others mid all are_given are_fresh) in
       let here = subst (AllByRecursion (λ x. f x ≡ name x)) (sym (names-forest ws)) each in
       flat.terms held constants ∙ map-itself f (forest ws) here ∙ forest-configuration_words c
@@ -470,7 +469,7 @@ enough-operands c ws operands terms words counted are =
     omega (arith, counted, ap (λ l. length (forest l)) words, counted-configuration_words c, are)
 
 -- the names that were given are those that stand once
-pub given-exactly : (c : Configuration) (ws : List Word) (start : ℕ) (given : List ℕ) (mid : Registers) → ws ≡ configuration_words c
+pub given-exactly : (c : Configuration) (ws : List Word) (start : ℕ) (given : List ℕ) (mid : Numbers) → ws ≡ configuration_words c
     → AreGiven (flat_map word_names ws) start given mid → (x : ℕ) → (occurrences x (configuration_names c) ≡ 1) ↔ Contains given x
 given-exactly c ws start given mid words are_given x = (there, back)
   where
@@ -485,11 +484,11 @@ given-exactly c ws start given mid words are_given x = (there, back)
     back : Contains given x → occurrences x (configuration_names c) ≡ 1
     back w = sym same ∙ (are_given.once x).1 (w.0, slice_get-get_or given w.0 x w.1 ∙ ap Some w.2)
 
-module _ (ss : List Symbol) (c : Configuration) (given others : List ℕ) (mid all : Registers) (made : List Made) (operands : List ℕ)
+module _ (ss : List Symbol) (c : Configuration) (given others : List ℕ) (mid all : Numbers) (made : List Made) (operands : List ℕ)
     (ws : List Word) (n g : ℕ) (words : ws ≡ configuration_words c) (symbols : n ≡ length ss) (givens : g ≡ length given)
     (sound : IsWide c) (over : is_over ss c ≡ true)
     (are_given : AreGiven (flat_map word_names ws) n given mid) (are_fresh : AreFresh (flat_map word_names ws) (n + g) others mid all)
-    (would : WouldBeFlat (map (λ s. s.arity) ss) (register_of all) (n + g + length others) ws made operands)
+    (would : WouldBeFlat (map (λ s. s.arity) ss) (register_in all) (n + g + length others) ws made operands)
     (counted : length operands ≡ length (forest ws)) where
   at_count : n ≡ length (map (λ s. s.arity) ss)
   at_count = symbols ∙ sym (length-map ss (λ (s : Symbol). s.arity))
@@ -505,9 +504,9 @@ module _ (ss : List Symbol) (c : Configuration) (given others : List ℕ) (mid a
   fresh_there = subst (λ m. AreFresh (flat_map word_names (configuration_words c)) m others mid all) at_start
       (subst (λ l. AreFresh (flat_map word_names l) (n + g) others mid all) words are_fresh)
 
-  would_there : WouldBeFlat (map (λ s. s.arity) ss) (register_of all) (length (map (λ s. s.arity) ss) + length given + length others) (configuration_words c) made operands
-  would_there = subst (λ m. WouldBeFlat (map (λ s. s.arity) ss) (register_of all) (m + length others) (configuration_words c) made operands) at_start
-      (subst (λ l. WouldBeFlat (map (λ s. s.arity) ss) (register_of all) (n + g + length others) l made operands) words would)
+  would_there : WouldBeFlat (map (λ s. s.arity) ss) (register_in all) (length (map (λ s. s.arity) ss) + length given + length others) (configuration_words c) made operands
+  would_there = subst (λ m. WouldBeFlat (map (λ s. s.arity) ss) (register_in all) (m + length others) (configuration_words c) made operands) at_start
+      (subst (λ l. WouldBeFlat (map (λ s. s.arity) ss) (register_in all) (n + g + length others) l made operands) words would)
 
   counted_there : length operands ≡ length (forest (configuration_words c))
   counted_there = counted ∙ ap (λ l. length (forest l)) words

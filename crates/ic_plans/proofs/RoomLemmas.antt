@@ -1,15 +1,15 @@
 -- There are enough registers: names of words and agents of words have no more together than there are words.
-use Rattle.std.proofs.Common.{◌≡◌, ◌⊎◌, ℕ, zero, suc, ◌+◌, ◌-◌, ◌^◌, ◌≤◌, ◌<◌, ◌==◌, List, [], ◌∷◌, ◌++◌, Bool, true, false, cond, Some, length, take, drop, get_or, slice_get, refl, sym, ap, subst, ◌∙◌, arith, inl, inr}
-use Rattle.std.proofs.lemmas.List.{drop_more, length-append, take-append-drop, length-take-le}
+use Rattle.std.proofs.Common.{◌≡◌, ◌⊎◌, ℕ, zero, suc, ◌+◌, ◌-◌, ◌^◌, ◌≤◌, ◌<◌, ◌==◌, List, [], ◌∷◌, ◌++◌, Bool, true, false, cond, Some, length, map, take, drop, get_or, slice_get, refl, sym, ap, subst, ◌∙◌, arith, inl, inr}
+use Rattle.std.proofs.lemmas.List.{drop_more, length-append, length-map, map-append, take-append-drop, length-take-le}
+use Rattle.std.proofs.Math.Seq.{get_or-append_seam}
 use Rattle.std.proofs.lemmas.List.Concat.{flat_map-append}
 use Rattle.std.specs.Cmp.{unsigned_Decides}
-use Rattle.std.specs.List.{flat_map}
+use Rattle.std.specs.List.{flat_map, AllByRecursion}
 use Rattle.ic_term.specs.Configuration.{occurrences}
 use Rattle.ic_flat.specs.declared.word.Word.{Word}
 use Rattle.ic_flat.specs.declared.word.Word.TheVariants.{Name, Agent}
 use Rattle.ic_flat.specs.Words.{word_names}
-use Rattle.ic_plans.specs.inner.Registers.{Registers, found}
-use Rattle.ic_plans.specs.inner.Given.{AreGiven, AreFresh, LeavesRoom}
+use Rattle.ic_plans.specs.inner.Given.{AreGiven, AreFresh, Numbers, number_in}
 use Rattle.ic_plans.proofs.FlatLemmas.{count-append, count-cons, count-other, count-same}
 use Rattle.ic_plans.proofs.RegisterLemmas.{some_same}
 use Rattle.ic_plans.proofs.RuleLemmas.{not_same}
@@ -73,12 +73,39 @@ names-here ws i d within =
     ap (λ l. length (flat_map word_names l)) (drop_more ws i d within)
     ∙ length-append (word_names (get_or ws i d)) (flat_map word_names (drop (i + 1) ws))
 
--- no name stands more often in front of a place than in the whole list
-front-few : (ns : List ℕ) (i x : ℕ) → occurrences x (take i ns) ≤ occurrences x ns
-front-few ns i x =
-    let parts = ap (occurrences x) (sym (take-append-drop i ns)) in
-    let both = count-append x (take i ns) (drop i ns) in
+-- those up to a place, and those of the word there
+pub names-until : (ws : List Word) (i : ℕ) (d : Word) → i < length ws
+    → length (flat_map word_names (take (i + 1) ws)) ≡ length (flat_map word_names (take i ws)) + length (word_names (get_or ws i d))
+names-until ws i d within =
+    let all = names-split ws i in
+    let here = names-here ws i d within in
+    let more = names-split ws (i + 1) in
     omega arith
+
+-- what the name at a place is read from, among those of all names
+pub read-here : (registers : ℕ → ℕ) (ws : List Word) (i : ℕ) (reads : List ℕ) (left : ℕ) (d : Word) → i < length ws
+    → reads ≡ map registers (flat_map word_names ws) → left ≡ length (flat_map word_names (take i ws))
+    → AllByRecursion (λ x. registers x ≡ get_or reads left 0) (word_names (get_or ws i d))
+read-here registers ws i reads left d within are is = at (get_or ws i d) refl
+  where
+    front : List ℕ
+    front = map registers (flat_map word_names (take i ws))
+
+    back : List ℕ
+    back = map registers (flat_map word_names (drop (i + 1) ws))
+
+    split : (w : Word) → get_or ws i d ≡ w → reads ≡ front ++ (map registers (word_names w) ++ back)
+    split w e =
+        are ∙ ap (λ l. map registers (flat_map word_names l)) (sym (take-append-drop i ws) ∙ ap (λ l. take i ws ++ l) (drop_more ws i d within ∙ ap (λ v. v ∷ drop (i + 1) ws) e))
+        ∙ ap (map registers) (flat_map-append word_names (take i ws) (w ∷ drop (i + 1) ws))
+        ∙ map-append registers (flat_map word_names (take i ws)) (word_names w ++ flat_map word_names (drop (i + 1) ws))
+        ∙ ap (λ l. front ++ l) (map-append registers (word_names w) (flat_map word_names (drop (i + 1) ws)))
+
+    at : (w : Word) → get_or ws i d ≡ w → AllByRecursion (λ x. registers x ≡ get_or reads left 0) (word_names w)
+    at (Agent s n) e = tt
+    at (Name x) e =
+        let place : left ≡ length front = is ∙ sym (length-map (flat_map word_names (take i ws)) registers) in
+        (sym ((λ j. get_or (split (Name x) e j) (place j) 0) ∙ get_or-append_seam front (registers x) back 0), tt)
 
 -- the agents after a place, and the register of one more
 pub room-here : (ws : List Word) (i made first most : ℕ) (d : Word) → i < length ws
@@ -93,16 +120,16 @@ room-here ws i made first most d within few room =
 
 -- ---- registers of names
 
-module _ (ns ms : List ℕ) (count : ℕ) (given others : List ℕ) (mid all : Registers)
+module _ (ns ms : List ℕ) (count : ℕ) (given others : List ℕ) (mid all : Numbers)
     (are_given : AreGiven ns count given mid) (are_fresh : AreFresh ms (count + length given) others mid all)
     (of_them : (x : ℕ) → occurrences x ms ≤ occurrences x ns) where
   abbrev listed : List ℕ
   listed = given ++ others
 
-  listed-found : (j x : ℕ) → slice_get listed j ≡ Some x → found all x ≡ Some (count + j)
+  listed-found : (j x : ℕ) → slice_get listed j ≡ Some x → number_in all x ≡ Some (count + j)
   listed-found j x there = at (there-either given others j x there)
     where
-      at : (slice_get given j ≡ Some x) ⊎ ((i : ℕ) × (j ≡ length given + i) × (slice_get others i ≡ Some x)) → found all x ≡ Some (count + j)
+      at : (slice_get given j ≡ Some x) ⊎ ((i : ℕ) × (j ≡ length given + i) × (slice_get others i ≡ Some x)) → number_in all x ≡ Some (count + j)
       at (inl p) = (are_fresh.registers_are x (count + j)).1 (inl ((are_given.registers_are x (count + j)).1 (j, p, refl)))
       at (inr q) = let place = q.1 in (are_fresh.registers_are x (count + j)).1 (inr (q.0, q.2, omega arith))
 
@@ -128,11 +155,3 @@ module _ (ns ms : List ℕ) (count : ℕ) (given others : List ℕ) (mid all : R
   -- they have no more registers than there are names
   pub registers-few : length given + length others ≤ length ns
   registers-few = let few = no_longer listed ns below in omega (arith, few, length-append given others)
-
--- there is a register for one more, where those so far are of names before a place
-pub room-for : (ns : List ℕ) (i next : ℕ) (names : List ℕ) (old new : Registers) → LeavesRoom ns next old
-    → AreFresh (take i ns) next names old new → next + length names < 2 ^ 32 - 1
-room-for ns i next names old new leaves fresh =
-    let behind = subst (λ k. AreFresh (take i ns) k names old new) leaves.next_is fresh in
-    let few = registers-few leaves.all (take i ns) leaves.start leaves.given names old new leaves.are_given behind (λ x. omega (arith, front-few ns i x, leaves.of_them x)) in
-    omega (arith, few, leaves.next_is, leaves.room)

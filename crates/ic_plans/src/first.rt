@@ -1,14 +1,13 @@
 //! The plan of a configuration, which a machine begins with.
 
-ghost use Rattle.std.specs.Prelude.{◌≡◌, ◌==◌, ◌↔◌, ℕ, ◌+◌, ◌<◌, ◌≤◌, List, None, false, map, length, take, drop, slice_index_or, if◌then◌else◌, IfOk};
-ghost use Rattle.std.specs.List.{flat_map, Contains};
+ghost use Rattle.std.specs.Prelude.{◌≡◌, ◌==◌, ◌↔◌, ℕ, ◌+◌, ◌<◌, ◌≤◌, false, not, map, length, take, drop, slice_index_or, if◌then◌else◌, IfOk};
+ghost use Rattle.std.specs.List.{count_by, flat_map, Contains};
 ghost use Rattle.ic_term.specs.Configuration.{configuration_nodes, configuration_names, occurrences};
 ghost use Rattle.ic_flat.specs.Words.{word_names};
 ghost use Rattle.ic_machine.specs.Plan.{planned};
 ghost use Rattle.ic_machine.specs.Runs.{IsStart};
 ghost use Rattle.ic_meaning.specs.Plans.{StandsForNet};
-ghost use Rattle.ic_plans.specs.inner.Registers.{found};
-ghost use Rattle.ic_plans.specs.inner.Given.{AreGiven, AreFresh, AreListed, LeavesRoom, operand_links};
+ghost use Rattle.ic_plans.specs.inner.Given.{AreListed, HaveRegisters, numbers_from, operand_links, singles};
 
 use crate::flattening::flatten;
 use ic_flat::{WideSystem, Word};
@@ -44,18 +43,11 @@ pub fn first_plan(alloc: Global, system: &WideSystem) -> Result<First, AllocErro
     let count = system.rules().symbols().len() as u32;
     let occurring = names_of(alloc, words)?;
     let all = occurring.as_slice();
-    let (firsts, single) = list_names(alloc, all)?;
-    let mut registers = NameTable::new(alloc, all)?;
-    let different = firsts.as_slice();
-    let once = single.as_slice();
-    let given = read_given(alloc, different, once, count, &mut registers)?;
-    let start = count + given.len() as u32;
-    let others = add_others(alloc, different, start, &mut registers)?;
-    drop(firsts);
-    drop(single);
+    let (given, names, registers) = give_registers(alloc, all, count)?;
     drop(occurring);
-    let names = others.len() as u32;
-    let (makes, operands) = flatten(alloc, words, &registers, start + names)?;
+    let start = count + given.len() as u32;
+    let reads = registers.as_slice();
+    let (makes, operands) = flatten(alloc, words, reads, start + names)?;
     let (interface, links) = split_operands(alloc, &operands, config.interface_len())?;
     let plan = Plan {
         names,
@@ -82,24 +74,70 @@ fn names_of(alloc: Global, words: &[Word]) -> Result<Vec<u64>, AllocError>
     Ok(names)
 }
 
-/// The different names of a list in the order of their first occurrences, and of each whether it occurs once.
-fn list_names(alloc: Global, names: &[u64]) -> Result<(Vec<u64>, Vec<bool>), AllocError>
-    requires { length names.now < u32.MAX }
-    ensures { IfOk result (λ listed. AreListed names.now listed.0.items listed.1.items) }
+/// The names of a list that occur once, how many others there are, and the register of each name of the list: those of names
+/// that occur once from `start` on, and then those of the others.
+fn give_registers(
+    alloc: Global,
+    names: &[u64],
+    start: u32,
+) -> Result<(Vec<u64>, u32, Vec<u32>), AllocError>
+    requires { start + length names.now < u32.MAX }
+    ensures { IfOk result
+        (λ made. HaveRegisters names.now start made.0.items made.1 made.2.items) }
 {
-    let mut places = NameTable::new(alloc, names)?;
+    let Listed {
+        firsts,
+        single,
+        places,
+    } = list_names(alloc, names)?;
+    let different = firsts.as_slice();
+    let marks = single.as_slice();
+    let given = singles_of(alloc, different, marks)?;
+    let others = firsts.len() - given.len();
+    let middle = start + given.len() as u32;
+    let numbers = number_marks(alloc, marks, start, middle)?;
+    let table = numbers.as_slice();
+    let stands = places.as_slice();
+    let registers = read_registers(alloc, stands, table)?;
+    Ok((given, others as u32, registers))
+}
+
+/// Different names in the order of their first occurrences in a list, of each whether it occurs there once, and for each name
+/// of the list its place among them.
+#[derive(Drop)]
+struct Listed {
+    firsts: Vec<u64>,
+    single: Vec<bool>,
+    places: Vec<u32>,
+}
+
+/// The different names of a list.
+fn list_names(alloc: Global, names: &[u64]) -> Result<Listed, AllocError>
+    requires { length names.now < u32.MAX }
+    ensures { IfOk result (λ listed. AreListed names.now listed.firsts.items listed.single.items
+        listed.places.items) }
+{
+    let mut table = NameTable::new(alloc, names)?;
     let mut firsts = Vec::new(alloc);
     let mut single = Vec::new(alloc);
+    let mut places = Vec::with_capacity(alloc, names.len())?;
     for name in names {
-        if let Some(place) = places.get(*name) {
+        if let Some(place) = table.get(*name) {
             note_again(&mut single, place);
+            places.push(place)?;
         } else {
-            places.set(*name, firsts.len() as u32)?;
+            let place = firsts.len() as u32;
+            table.set(*name, place)?;
             firsts.push(*name)?;
             single.push(true)?;
+            places.push(place)?;
         }
     }
-    Ok((firsts, single))
+    Ok(Listed {
+        firsts,
+        single,
+        places,
+    })
 }
 
 /// Notes that the name at a place occurs again.
@@ -113,61 +151,76 @@ fn note_again(single: &mut Vec<bool>, place: u32)
     }
 }
 
-/// Whether the name at a place occurs once.
-fn is_single(single: &[bool], place: usize) -> bool
-    ensures { result ≡ slice_index_or single.now place false }
+/// Whether there is a mark at a place.
+fn is_marked(marks: &[bool], place: usize) -> bool
+    ensures { result ≡ slice_index_or marks.now place false }
 {
-    match single.get(place) {
-        Some(once) => *once,
+    match marks.get(place) {
+        Some(mark) => *mark,
         None => false,
     }
 }
 
-/// The names that occur once in a list, of which these are the different ones, each with a register, the first of which is
-/// `start`.
-fn read_given(
-    alloc: Global,
-    firsts: &[u64],
-    single: &[bool],
-    start: u32,
-    registers: &mut NameTable,
-) -> Result<Vec<u64>, AllocError>
-    requires room { start + length firsts.now < u32.MAX }
-    requires none { (x : ℕ) → found registers.old x ≡ None }
-    ensures few { IfOk result (λ given. length given.items ≤ length firsts.now) }
-    ensures given { IfOk result (λ given. (ns : List ℕ) → AreListed ns firsts.now single.now
-        → AreGiven ns start given.items registers.new) }
+/// The names that are marked.
+fn singles_of(alloc: Global, names: &[u64], marks: &[bool]) -> Result<Vec<u64>, AllocError>
+    requires { length marks.now ≡ length names.now }
+    ensures { IfOk result (λ found. found.items ≡ singles names.now marks.now) }
 {
-    let mut given = Vec::new(alloc);
-    for (place, name) in firsts.iter().enumerate() {
-        if is_single(single, place) {
-            registers.set(*name, start + given.len() as u32)?;
-            given.push(*name)?;
+    let mut found = Vec::new(alloc);
+    for (place, name) in names.iter().enumerate() {
+        if is_marked(marks, place) {
+            found.push(*name)?;
         }
     }
-    Ok(given)
+    Ok(found)
 }
 
-/// The names of a list that have no register yet, each with one, the first of which is `start`.
-fn add_others(
+/// A number for each mark: from `first` on for those that are set, and from `other` on for the others.
+fn number_marks(
     alloc: Global,
-    names: &[u64],
-    start: u32,
-    registers: &mut NameTable,
-) -> Result<Vec<u64>, AllocError>
-    requires { LeavesRoom names.now start registers.old }
-    ensures few { IfOk result (λ others. length others.items ≤ length names.now) }
-    ensures fresh { IfOk result (λ others. AreFresh names.now start others.items registers.old
-        registers.new) }
+    marks: &[bool],
+    first: u32,
+    other: u32,
+) -> Result<Vec<u32>, AllocError>
+    requires first { first + length marks.now < u32.MAX }
+    requires other { other + count_by (λ mark. not mark) marks.now < u32.MAX }
+    ensures { IfOk result (λ numbers. numbers.items ≡ numbers_from first other marks.now) }
 {
-    let mut others = Vec::new(alloc);
-    for name in names {
-        if registers.get(*name).is_none() {
-            registers.set(*name, start + others.len() as u32)?;
-            others.push(*name)?;
+    let mut numbers = Vec::with_capacity(alloc, marks.len())?;
+    let mut set = first;
+    let mut unset = other;
+    for mark in marks {
+        if *mark {
+            numbers.push(set)?;
+            set += 1;
+        } else {
+            numbers.push(unset)?;
+            unset += 1;
         }
     }
-    Ok(others)
+    Ok(numbers)
+}
+
+/// The number at a place, or zero.
+fn number_at(numbers: &[u32], place: u32) -> u32
+    ensures { result ≡ slice_index_or numbers.now place 0 }
+{
+    match numbers.get(place as usize) {
+        Some(number) => *number,
+        None => 0,
+    }
+}
+
+/// The numbers at some places.
+fn read_registers(alloc: Global, places: &[u32], numbers: &[u32]) -> Result<Vec<u32>, AllocError>
+    ensures { IfOk result (λ registers. registers.items
+        ≡ map (λ place. slice_index_or numbers.now place 0) places.now) }
+{
+    let mut registers = Vec::with_capacity(alloc, places.len())?;
+    for place in places {
+        registers.push(number_at(numbers, *place))?;
+    }
+    Ok(registers)
 }
 
 /// The registers of so many terms, and those of the others two by two, as the sides of equations.

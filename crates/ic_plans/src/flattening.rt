@@ -1,15 +1,13 @@
 //! Terms as agents that are made one after another, from the last word to the first.
 
-ghost use Rattle.std.specs.Prelude.{◌≡◌, ℕ, ◌+◌, ◌<◌, ◌≤◌, ◌∷◌, ◌++◌, [], List, map, length, reverse, take, drop, IfOk, OnOk};
-ghost use Rattle.std.specs.List.{flat_map};
+ghost use Rattle.std.specs.Prelude.{◌≡◌, ℕ, ◌+◌, ◌<◌, ◌≤◌, ◌∷◌, ◌++◌, [], List, map, length, reverse, slice_index_or, take, drop, IfOk, OnOk};
+ghost use Rattle.std.specs.List.{flat_map, AllByRecursion};
 ghost use Rattle.ic_flat.specs.Words.{arguments, forest, word_names, IsWhole};
 ghost use Rattle.ic_machine.specs.Plan.{made_of};
-ghost use Rattle.ic_plans.specs.inner.Registers.{register_of};
 ghost use Rattle.ic_plans.specs.inner.Flattening.{WouldBeFlat};
 
 use ic_flat::Word;
 use ic_machine::Make;
-use ic_names::NameTable;
 use std::alloc::{AllocError, Global};
 
 /// Has an agent made of as many registers from the top of the stack.
@@ -35,10 +33,10 @@ fn make_agent(
     Ok(())
 }
 
-/// Puts the register of a word's term on the stack, and has its agent made of those on top.
+/// Puts the register of a word's term on the stack, which is told of a name, and has its agent made of those on top.
 fn put_word(
     word: Word,
-    registers: &NameTable,
+    read: u32,
     first: u32,
     makes: &mut Vec<Make>,
     operands: &mut Vec<u32>,
@@ -50,14 +48,15 @@ fn put_word(
     ensures few { OnOk result
         (length makes.new.items + length (word_names word) ≤ length makes.old.items + 1) }
     ensures flat { OnOk result
-        ((arities : List ℕ) (ws : List Word)
-        → WouldBeFlat arities (register_of registers.now) first ws
+        ((arities : List ℕ) (registers : ℕ → ℕ) (ws : List Word)
+        → AllByRecursion (λ x. registers x ≡ read) (word_names word)
+        → WouldBeFlat arities registers first ws
         (map made_of makes.old.items) (reverse operands.old.items)
-        → WouldBeFlat arities (register_of registers.now) first (word ∷ ws)
+        → WouldBeFlat arities registers first (word ∷ ws)
         (map made_of makes.new.items) (reverse operands.new.items)) }
 {
     let register = match word {
-        Word::Name(name) => registers.get(name).unwrap_or(0),
+        Word::Name(_) => read,
         Word::Agent(symbol, 0) => symbol,
         Word::Agent(symbol, arity) => {
             let register = first + makes.len() as u32;
@@ -69,27 +68,53 @@ fn put_word(
     Ok(())
 }
 
-/// The agents that terms are made of, the first of which goes to this register, and the registers of the terms.
+/// How many names a word is.
+fn names_in(word: Word) -> usize
+    ensures { result ≡ length (word_names word) }
+{
+    match word {
+        Word::Name(_) => 1,
+        Word::Agent(_, _) => 0,
+    }
+}
+
+/// The register at a place, or zero.
+fn register_at(registers: &[u32], place: usize) -> u32
+    ensures { result ≡ slice_index_or registers.now place 0 }
+{
+    match registers.get(place) {
+        Some(register) => *register,
+        None => 0,
+    }
+}
+
+/// The agents that terms are made of, the first of which goes to this register, and the registers of the terms. Those of the
+/// names are told in their order.
 pub(crate) fn flatten(
     alloc: Global,
     words: &[Word],
-    registers: &NameTable,
+    reads: &[u32],
     first: u32,
 ) -> Result<(Vec<Make>, Vec<u32>), AllocError>
     requires whole { IsWhole words.now }
+    requires told { length reads.now ≡ length (flat_map word_names words.now) }
     requires room { first + length words.now
         ≤ u32.MAX + length (flat_map word_names words.now) }
     ensures count { IfOk result (λ flat. length flat.1.items ≡ length (forest words.now)) }
     ensures few { IfOk result (λ flat. length flat.0.items ≤ length words.now) }
     ensures flat { IfOk result
-        (λ flat. (arities : List ℕ)
-        → WouldBeFlat arities (register_of registers.now) first words.now
+        (λ flat. (arities : List ℕ) (registers : ℕ → ℕ)
+        → reads.now ≡ map registers (flat_map word_names words.now)
+        → WouldBeFlat arities registers first words.now
         (map made_of flat.0.items) flat.1.items) }
 {
     let mut makes = Vec::new(alloc);
     let mut operands = Vec::new(alloc);
+    let mut left = reads.len();
     for i in (0..words.len()).rev() {
-        put_word(words[i], registers, first, &mut makes, &mut operands)?;
+        left -= names_in(words[i]);
+        let read = register_at(reads, left);
+        put_word(words[i], read, first, &mut makes, &mut operands)?;
     }
     operands.reverse();
     Ok((makes, operands))

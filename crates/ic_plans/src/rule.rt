@@ -7,7 +7,7 @@ ghost use Rattle.ic_term.specs.Term.{tree};
 ghost use Rattle.ic_term.specs.Symbol.{Symbol, is_tree_over};
 ghost use Rattle.ic_rules.specs.Rule.{Rule, rule_names};
 ghost use Rattle.ic_rules.specs.Renaming.{are_paired};
-ghost use Rattle.ic_flat.specs.Words.{tree_words};
+ghost use Rattle.ic_flat.specs.Words.{tree_words, word_names};
 ghost use Rattle.ic_machine.specs.Plan.{planned};
 ghost use Rattle.ic_meaning.specs.Plans.{Argument, arguments_from, is_read};
 ghost use Rattle.ic_plans.specs.inner.Registers.{AreFreshNames, AreRegisters, IsPlanFor, found, links_of, register_of};
@@ -130,7 +130,10 @@ pub(crate) fn plan_of_arguments(
     let (registers, fresh) = registers_of(alloc, constants, names, left, right)?;
     let words = words_of_sides(alloc, left, right)?;
     let first = constants + left.len() as u32 + right.len() as u32 + fresh;
-    let (makes, operands) = flatten(alloc, &words, &registers, first)?;
+    let sides = words.as_slice();
+    let reads = read_names(alloc, sides, &registers)?;
+    let told = reads.as_slice();
+    let (makes, operands) = flatten(alloc, sides, told, first)?;
     let links = links_of_sides(alloc, constants, left, right, &registers, &operands)?;
     Ok(Plan {
         names: fresh,
@@ -174,6 +177,27 @@ fn words_of_sides(alloc: Global, left: &[Term], right: &[Term]) -> Result<Vec<Wo
     write_terms(alloc, left, &mut words)?;
     write_terms(alloc, right, &mut words)?;
     Ok(words)
+}
+
+/// The register of a name, or zero.
+fn register_for(registers: &NameTable, name: u64) -> u32
+    ensures { result ≡ register_of registers.now name }
+{
+    registers.get(name).unwrap_or(0)
+}
+
+/// The registers of the names among words, in their order.
+fn read_names(alloc: Global, words: &[Word], registers: &NameTable) -> Result<Vec<u32>, AllocError>
+    ensures { IfOk result (λ reads. reads.items
+        ≡ map (register_of registers.now) (flat_map word_names words.now)) }
+{
+    let mut reads = Vec::new(alloc);
+    for word in words {
+        if let Word::Name(name) = *word {
+            reads.push(register_for(registers, name))?;
+        }
+    }
+    Ok(reads)
 }
 
 /// The arguments of both sides, linked with the registers of their terms.

@@ -1,4 +1,5 @@
 use Rattle.std.proofs.Common.{◌≤◌, length, take}
+use Rattle.ic_names.specs.Table.{found}
 use Rattle.ic_plans.proofs.ListedLemmas.{AreListedSoFar}
 use Rattle.ic_plans.proofs.first.list_names.Given as goal
 
@@ -6,5 +7,5 @@ use Rattle.ic_plans.proofs.first.list_names.Given as goal
 abbrev pub invariant-loop-name : goal.invariant-loop-name
 invariant-loop-name l = record {
   few : length l.firsts.items ≤ l.name-index;
-  listed : AreListedSoFar (take l.name-index l.names) l.firsts.items l.single.items l.initial.places l.places;
+  listed : AreListedSoFar (take l.name-index l.names) l.firsts.items l.single.items l.places.items (found l.initial.table) (found l.table);
 }

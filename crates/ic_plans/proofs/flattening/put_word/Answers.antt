@@ -1,9 +1,9 @@
-use Rattle.std.proofs.Common.{◌≡◌, ℕ, ◌+◌, ◌≤◌, ◌∷◌, [], map, length, reverse, unwrap_or, zero, suc, refl, sym, ap, ◌∙◌, arith}
+use Rattle.std.proofs.Common.{◌≡◌, ℕ, ◌+◌, ◌≤◌, ◌∷◌, [], map, length, reverse, zero, suc, refl, subst, sym, ap, ◌∙◌, arith}
+use Rattle.std.specs.List.{AllByRecursion}
 use Rattle.std.proofs.lemmas.List.{reverse-append, length-reverse, length-map}
 use Rattle.ic_flat.specs.declared.word.Word.TheVariants.{Agent}
-use Rattle.ic_flat.specs.Words.{arguments}
+use Rattle.ic_flat.specs.Words.{arguments, word_names}
 use Rattle.ic_machine.specs.Plan.{made_of}
-use Rattle.ic_plans.specs.inner.Registers.{register_of}
 use Rattle.ic_plans.proofs.FlatLemmas.{put-name, put-constant, put-agent}
 use Rattle.ic_plans.proofs.flattening.put_word.Goals as goal
 use Rattle.ic_plans.proofs.flattening.put_word.Goals.{in-Name, in-Agent-default-eq0, in-Agent+in_ok-make_agent-in-Agent}
@@ -14,22 +14,22 @@ positive (suc n) some = omega arith
 
 pub returns-clause-flat : goal.returns-clause-flat
 returns-clause-flat c =
-    let registers = register_of c.args.registers.now in
     let made = map made_of c.args.makes.now.items in
     let operands = reverse c.args.operands.now.items in
     let after = reverse c.push.new.self.items in
     let put = ap reverse c.in_ok-push.ensures.items ∙ reverse-append c.match-word.operands.items (c.match-word.register ∷ []) in
     elim c.match-word.branch [
-      | in-Name w ↦ λ arities ws would.
-          let register = w.register-is ∙ w.unwrap_or-register.ensures ∙ ap (λ o. unwrap_or o 0) w.get.ensures in
-          rw w.makes-is (put-name arities registers c.args.first ws made operands after c.args.word w.in-Name.name w.in-Name.is
+      | in-Name w ↦ λ arities registers ws reads would.
+          let read : registers w.in-Name.field-0 ≡ c.args.read = (subst (λ v. AllByRecursion (λ x. registers x ≡ c.args.read) (word_names v)) w.in-Name.is reads).0 in
+          let register = w.register-is ∙ sym read in
+          rw w.makes-is (put-name arities registers c.args.first ws made operands after c.args.word w.in-Name.field-0 w.in-Name.is
           (put ∙ (λ i. register i ∷ reverse (w.operands-is i).items)) would)
-      | in-Agent-default-eq0 w ↦ λ arities ws would.
+      | in-Agent-default-eq0 w ↦ λ arities registers ws reads would.
           let s = w.in-Agent-default-eq0.symbol in
           let none = sym w.in-Agent-default-eq0.field-1-is ∙ w.in-Agent-default-eq0.field-1-test in
           rw w.makes-is (put-constant arities registers c.args.first ws made operands after c.args.word s (w.in-Agent-default-eq0.is ∙ ap (Agent s) none)
           (put ∙ (λ i. w.register-is i ∷ reverse (w.operands-is i).items)) would)
-      | in-Agent+in_ok-make_agent-in-Agent w ↦ λ arities ws would.
+      | in-Agent+in_ok-make_agent-in-Agent w ↦ λ arities registers ws reads would.
           let s = w.in-Agent.symbol in
           let n = w.in-Agent.arity in
           let some : 1 ≤ n = positive n (rw w.in-Agent.is at w.in-Agent.arity-test.1) in
