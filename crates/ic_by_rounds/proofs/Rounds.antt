@@ -1,5 +1,5 @@
 -- Rounds that are made one after the other, and what the answer of a round says of them.
-use Rattle.std.proofs.Common.{◌≡◌, ◌≢◌, ◌&&◌, ℕ, ◌+◌, ◌<◌, List, Bool, true, false, Result, Ok, Err, cond, refl, sym, ap, ◌∙◌, add-one, arith, subst}
+use Rattle.std.proofs.Common.{◌≡◌, ◌≢◌, ◌&&◌, ℕ, ◌+◌, ◌<◌, List, Bool, true, false, Result, Ok, Err, cond, refl, sym, ap, ◌∙◌, add-one, arith, subst, inl}
 use Rattle.std.specs.Prelude.{◌↔◌, IsTrue}
 use Rattle.std.proofs.lemmas.Bool.{true≢false}
 use borrow.Author.Count.{below_more}
@@ -10,7 +10,7 @@ use Rattle.ic_round.specs.Rounds.{IsQuiet, fits, is_small, has_names, iterate, r
 use Rattle.ic_round.specs.RoundAnswers.{Answers}
 use Rattle.ic_round.specs.declared.round_fault.RoundFault.{RoundFault}
 use Rattle.ic_round.specs.declared.round_fault.RoundFault.TheVariants.{Overgrown, NamesOut, Memory}
-use Rattle.ic_by_rounds.specs.Reducing.{AreMade, IsRefusal, IsRefusedAfter}
+use Rattle.ic_by_rounds.specs.Reducing.{AreMade, IsReducedBy, IsRefusal, IsRefusedAfter}
 use Rattle.ic_by_rounds.specs.declared.refusal.Refusal.{Refusal}
 
 pub none_made : (rs : List Rule) (c : Configuration) → AreMade rs c 0
@@ -21,6 +21,10 @@ one_more_made rs c n made going fit =
     let Going : ℕ → Type 0 = λ k. ¬ IsQuiet rs (iterate rs k c) in
     let Fitting : ℕ → Type 0 = λ k. fits rs (iterate rs k c) ≡ true in
     record { going = below_more Going n made.going going; fitting = below_more Fitting n made.fitting fit }
+
+-- all rounds that may be made are made
+pub all_made : (rs : List Rule) (c : Configuration) (most n : ℕ) → n ≡ most → AreMade rs c n → IsReducedBy rs c most most
+all_made rs c most n same made = record { within = omega arith; made = subst (AreMade rs c) same made; ended = inl refl }
 
 -- a step is possible where the test for none fails
 pub goes_on : (q rs : Rules) (c : Configuration) (test : Bool) → q ≡ rs → (IsTrue test ↔ IsQuiet q.rules c) → test ≡ false → ¬ IsQuiet rs.rules c

@@ -1,10 +1,11 @@
 //! Reducing and tracing what a reader gives.
 
-ghost use Rattle.std.specs.Prelude.{◌≡◌, ◌≢◌, ◌↔◌, [], if◌then◌else◌, ℕ, IfOk, IfErr, IsTrue, OnOk};
+ghost use Rattle.std.specs.Prelude.{◌≡◌, ◌≢◌, ◌↔◌, List, [], if◌then◌else◌, ℕ, IfOk, IfErr, IsTrue, OnOk};
 ghost use Rattle.std.specs.Io.KnownBytes.{Keeps};
 ghost use Rattle.ic_term.specs.Configuration.{Configuration};
 ghost use Rattle.ic_term.specs.Symbol.{is_over};
 ghost use Rattle.ic_round.specs.Rounds.{IsQuiet, iterate};
+ghost use Rattle.ic_text.specs.SystemText.{ReadsSystem};
 ghost use Rattle.ic_streams.specs.Streams.{OfText, IsAnswered, FaultOf, TakesAt, TakesText, line_of};
 ghost use Rattle.ic_by_rounds.specs.Reductions.{EndsAs, Reduces, ReducesTo, Tells};
 ghost use Rattle.ic_by_rounds.specs.Reducing.{RoundsEnd};
@@ -128,7 +129,9 @@ fn shown_trace(
     let (rules, config) = system.into_parts();
     let rules = FlatRules::new(alloc, rules)?;
     let before = config.nodes();
-    let (rows, ended) = trace(alloc, &rules, config, rounds)?;
+    let traced = trace(alloc, &rules, config, rounds);
+    drop(rules);
+    let (rows, ended) = traced?;
     let shown = shown_as(alloc, format, before, &rows)?;
     Ok((shown, ended))
 }
@@ -169,7 +172,26 @@ fn reduced_line<M: Maker>(
     };
     let (rules, config) = system.into_parts();
     let rules = FlatRules::new(alloc, rules)?;
-    let reduced = reduce(alloc, maker, &rules, config, rounds)?;
+    let reduced = reduced_by(alloc, maker, &rules, config, rounds, partial);
+    drop(rules);
+    Ok(reduced?)
+}
+
+/// What is printed of a configuration that is reduced by at most so many rounds, and how they ended.
+fn reduced_by<M: Maker>(
+    alloc: Global,
+    maker: &M,
+    rules: &FlatRules,
+    config: Flat,
+    rounds: u64,
+    partial: bool,
+) -> Result<(Vec<u8>, Reduction), AllocError>
+    requires { IsTrue (is_over rules.now.symbols config) }
+    ensures { IfOk result (λ answer. (text : List ℕ)
+        → ReadsSystem text (Ok (record { rules = rules.now; config = config }))
+        → ReducesTo rounds partial text answer.0.items answer.1) }
+{
+    let reduced = reduce(alloc, maker, rules, config, rounds)?;
     let reduction = ending(alloc, rules.rules(), &reduced)?;
     let is_printed = reduction.is_printed(partial);
     let line = line_or_nothing(alloc, rules.rules(), &reduced.config, is_printed)?;
@@ -202,15 +224,12 @@ fn ending(alloc: Global, rules: &RuleSet, reduced: &Reduced) -> Result<Reduction
         → RoundsEnd rules.now.rules c most reduced.now.rounds reduced.now.ended
         → Tells rules.now c most reduced.now.rounds reduction) }
 {
-    if let Ended::Refused(refusal) = reduced.ended {
-        return Ok(Reduction::Refused(refusal));
+    match reduced.ended {
+        Ended::Refused(refusal) => Ok(Reduction::Refused(refusal)),
+        Ended::Whole if reduced.is_quiet => Ok(Reduction::Done {
+            rounds: reduced.rounds,
+            stuck: stuck_text(alloc, rules.symbols(), &reduced.config)?,
+        }),
+        Ended::Whole => Ok(Reduction::NotDone),
     }
-    if !reduced.is_quiet {
-        return Ok(Reduction::NotDone);
-    }
-    let stuck = stuck_text(alloc, rules.symbols(), &reduced.config)?;
-    Ok(Reduction::Done {
-        rounds: reduced.rounds,
-        stuck,
-    })
 }

@@ -29,18 +29,37 @@ pub fn trace(
 {
     let mut workspace = Workspace::new(alloc);
     let mut rows = Vec::new(alloc);
+    let ended = add_rows(alloc, rules, most, &mut workspace, &mut config, &mut rows);
+    drop(workspace);
+    Ok((rows, ended?))
+}
+
+/// Makes rounds of a configuration, in its place, and adds the row of each. Tells how they ended.
+fn add_rows(
+    alloc: Global,
+    rules: &FlatRules,
+    most: u64,
+    workspace: &mut Workspace,
+    config: &mut Flat,
+    rows: &mut Vec<Row>,
+) -> Result<Ended, AllocError>
+    requires over { IsTrue (is_over rules.now.symbols config.old) }
+    requires empty { rows.old.items ≡ [] }
+    ensures { IfOk result
+        (λ ended. AreRows rules.now.rules config.old most rows.new.items ended) }
+{
     for rounds in 0..most {
-        if quiet(rules.rules(), &config) {
-            return Ok((rows, Ended::Whole));
+        if quiet(rules.rules(), config) {
+            return Ok(Ended::Whole);
         }
-        let pairs = active_equations(rules.rules(), &config);
-        if let Err(fault) = workspace.round(alloc, rules, &mut config) {
+        let pairs = active_equations(rules.rules(), config);
+        if let Err(fault) = workspace.round(alloc, rules, config) {
             let refused = Refusal::new(fault, rounds + 1, config.nodes())?;
-            return Ok((rows, Ended::Refused(refused)));
+            return Ok(Ended::Refused(refused));
         }
-        add_row(rounds + 1, pairs, &config, &mut rows)?;
+        add_row(rounds + 1, pairs, config, rows)?;
     }
-    Ok((rows, Ended::Whole))
+    Ok(Ended::Whole)
 }
 
 /// Adds the row of the round with this number, which fired so many equations and led to this configuration.

@@ -2,7 +2,7 @@ use Rattle.std.proofs.Common.{◌≡◌, IsTrue}
 use Rattle.ic_term.specs.Symbol.{is_over}
 use Rattle.ic_round.specs.Rounds.{iterate}
 use Rattle.ic_by_rounds.specs.Reducing.{AreMade}
-use Rattle.ic_by_rounds.proofs.reducing.reduce.Given as goal
+use Rattle.ic_by_rounds.proofs.reducing.make_rounds.Given as goal
 
 -- the configuration is the one behind the rounds so far
 abbrev pub invariant-loop-rounds : goal.invariant-loop-rounds

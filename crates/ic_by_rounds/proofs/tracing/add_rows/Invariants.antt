@@ -3,7 +3,7 @@ use Rattle.ic_term.specs.Symbol.{is_over}
 use Rattle.ic_round.specs.Rounds.{iterate}
 use Rattle.ic_by_rounds.specs.Reducing.{AreMade}
 use Rattle.ic_by_rounds.specs.Tracing.{rows_of}
-use Rattle.ic_by_rounds.proofs.tracing.trace.Given as goal
+use Rattle.ic_by_rounds.proofs.tracing.add_rows.Given as goal
 
 -- the configuration is the one behind the rounds so far, of which each has its row
 abbrev pub invariant-loop-rounds : goal.invariant-loop-rounds
