@@ -477,32 +477,43 @@ def instance(terms, base):
     return [tuple(node + base if node >= 0 else node for node in term) for term in terms]
 
 
+def products(rules, equation, base):
+    """The place of the rule by which an equation is active, and what it leaves, with fresh names from a base on; or nothing."""
+    found = rules.find(*equation)
+    if found is None:
+        return None
+    place, turned = found
+    rule = rules.rules[place]
+    left, right = reversed(equation) if turned else equation
+    left_pairs = zip(rules.arguments(left), instance(rule.left_args, base))
+    return place, [*left_pairs, *zip(rules.arguments(right), instance(rule.right_args, base))]
+
+
 def fired(rules, config):
     """A configuration with the products of each active equation in its place, not settled."""
     equations, base = [], config.next
-    for left, right in config.equations:
-        found = rules.find(left, right)
-        if found is None:
-            equations.append((left, right))
-            continue
-        place, turned = found
-        rule = rules.rules[place]
-        if turned:
-            left, right = right, left
-        equations += zip(rules.arguments(left), instance(rule.left_args, base))
-        equations += zip(rules.arguments(right), instance(rule.right_args, base))
-        base += rule.names
+    for equation in config.equations:
+        if made := products(rules, equation, base):
+            place, left = made
+            equations += left
+            base += rules.rules[place].names
+        else:
+            equations.append(equation)
     return Config(config.interface, equations, base)
+
+
+def within_limits(config):
+    """A configuration that has been made, if it isn't too great."""
+    if nodes_of(config) > MAX_NODES:
+        raise Refusal("overgrown")
+    if config.next > MAX_NEXT:
+        raise Refusal("names out")
+    return config
 
 
 def round_of(rules, config):
     """The configuration after one round, or why there is none."""
-    after = fired(rules, config)
-    if nodes_of(after) > MAX_NODES:
-        raise Refusal("overgrown")
-    if after.next > MAX_NEXT:
-        raise Refusal("names out")
-    return settled(after)
+    return settled(within_limits(fired(rules, config)))
 
 
 def name_steps(rules, config, rounds):

@@ -116,12 +116,25 @@ def form_of(rules, line):
     """The form of the net of a configuration that was printed, over the symbols of these rules."""
     interface, equations = phrases_of(line)
     places = {text: place for place, (text, _) in enumerate(rules.symbols)}
-    arities = [arity for _, arity in rules.symbols]
 
     def term(nodes):
-        return tree(arities, [it if isinstance(it, int) else ~places[it[0]] for it in nodes])
+        return [it if isinstance(it, int) else ~places[it[0]] for it in nodes]
 
-    return form([term(it) for it in interface], [(term(a), term(b)) for a, b in equations], [text for text, _ in rules.symbols])
+    return form_in(rules, [term(it) for it in interface], [(term(left), term(right)) for left, right in equations])
+
+
+def trees(rules, interface, equations):
+    """The terms of an interface and of equations, each as a name or as a pair."""
+
+    def term(nodes):
+        return tree(rules.arities, nodes)
+
+    return [term(it) for it in interface], [(term(left), term(right)) for left, right in equations]
+
+
+def form_in(rules, interface, equations):
+    """The form of the net of these terms and equations over the symbols of rules."""
+    return form(*trees(rules, interface, equations), [text for text, _ in rules.symbols])
 
 
 class Wires:
@@ -209,14 +222,14 @@ def apart(wires, texts, seen):
     for first in range(len(wires.symbols)):
         if first in seen:
             continue
-        met = around(wires, texts, first)[1]
+        told, met = around(wires, texts, first)
         # Those of the rarest symbol begin, so that few are tried.
         among = defaultdict(list)
         for agent in met:
             among[texts[wires.symbols[agent]], wires.arities[agent]].append(agent)
         begin = min(among, key=lambda it: (len(among[it]), it))
         seen.update(met)
-        yield repr(min(around(wires, texts, it)[0] for it in among[begin]))
+        yield min(told if it == first else around(wires, texts, it)[0] for it in among[begin])
 
 
 def around(wires, texts, agent):
