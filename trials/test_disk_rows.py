@@ -3,7 +3,8 @@ which bytes are a table, what servings find and leave on a disk, and what client
 
 - `line LINE`: what a line says, in one spelling, or its refusal. `script SCRIPT`: what a script's commands are told over a new
   disk, or the refusal of its first line with a fault; `/` stands for a line feed.
-- `bytes BYTES`, `is_table BYTES`: the jobs of the table that has these bytes, or whether it is one.
+- `bytes BYTES`, `is_table BYTES`: the jobs of the table that has these bytes, or whether it is one. `symbols SYSTEM`: the symbols
+  of the table that has a job of this system, each with its arity, and `next`.
 - `disk WORD ; WORD ..`: what is told over a disk, a new one to begin with. Lines are served, up to a word of these:
   `has TABLE TABLE ..` for a disk that has kept these one after the other (e is empty, t has the job `two`, p has it paused, s has
   it spent after one round of one, l has the job `loop`), `slots BYTES BYTES` for one with these two, `top NEXT ROUNDS SYSTEM` for
@@ -179,6 +180,14 @@ class Forms(Rows):
             return {"damaged": "not a table"}.get(first, "table" if kind == "is_table" else first)
 
         self.answers_each("forms", ["bytes", "is_table"], told)
+
+    def test_the_symbols_of_each_system(self):
+        def told(_, text):
+            self.served(b"submit a " + expanded(text))
+            job = model_disk.decode(newest(self.path.read_bytes())[2]).jobs[0]
+            return " ".join([*(f"{text}/{arity}" for text, arity in job.rules.symbols), str(job.config.next)])
+
+        self.answers_each("forms", ["symbols"], told)
 
     def is_written_again(self, form):
         """Fails unless a line more is kept with the same jobs in front, in the form that is written."""

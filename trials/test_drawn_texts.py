@@ -6,10 +6,7 @@ from against_model import ModelTrial
 from worked_rows import short_texts
 
 SYSTEMS = short_texts("texts", "system", "once")
-CONFIGS = [
-    *short_texts("texts", "config", "settle"),
-    *short_texts("ic_round_rows", "both_bodies"),
-]
+CONFIGS = short_texts("texts", "config", "settle")
 LINES = short_texts("commands", "line")
 
 

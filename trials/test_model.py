@@ -7,6 +7,7 @@ import unittest
 import draws
 import model
 import model_disk
+import steps
 from model import Fault, Refusal
 from program import SEED, Trial
 from worked_rows import expanded, rows
@@ -93,7 +94,37 @@ class TheModelAnswersTheRows(Trial):
             return (ran.out or b"%d " % ran.status + ran.err).decode()[:-1].replace("1 icserve: ", "")
 
         self.answers(answer, "texts", "settle")
-        self.answers(answer, "ic_round_rows", "both_bodies")
+
+    def test_of_settling_step_after_step(self):
+        for name, _, text, wanted in rows("texts", "settle"):
+            if wanted.startswith(b"<") and len(text) < 300:
+                with self.subTest(name, text=text):
+                    rules, config = model.read_configuration(expanded(text))
+                    self.agrees(f"row {name}: {text}", "the text", wanted, model.printed(rules, model.settled_by_steps(config)))
+
+    def test_of_single_steps(self):
+        def answer(kind, text):
+            place, _, system = text.partition(" ")
+            rules, config = model.read_system(expanded(system))
+            return self.step_told(rules, config, int(place), kind)
+
+        self.answers(answer, "ic_rows", "interact", "indirect", "collect")
+
+    def step_told(self, rules, config, place, kind):
+        if place >= len(config.equations):
+            return "NotThere"
+        try:
+            made = steps.step(rules, config, steps.STEPS_AT * place + steps.KINDS.index(kind))
+        except Refusal:
+            return "Limit"
+        return model.printed(rules, made[0]) if made else "NotThere"
+
+    def test_of_drawn_rounds(self):
+        def answer(_, text):
+            most, _, system = text.partition(" ")
+            return rounds(expanded(system), int(most), "ends").partition("quiet ")[2]
+
+        self.answers(answer, "ic_rows", "alike")
 
     def test_of_one_round(self):
         def answer(_, text):

@@ -6,6 +6,7 @@ those of `draw` in test_draw.py.
   at which it stands. `byte TEXT`: in the place of `?`, the bytes that are dropped, as blanks are, and those that stand in the text
   that is printed; with all others the text is refused as none. `system_byte`: those with which a text means a system of nothing.
 - `checked TEXT`: what `check` tells of a file F with this text, and whether it has a fault. `sizes TEXT`: bytes and lines of a graph.
+- `in_a_small_stack TEXT`: the line of a round where the program has no more stack than a thread has.
 - `alike N TEXT`: how a system ends after at most N rounds, by 1, 2, 7 and 64 workers.
 - `rounds N TEXT`: `next` and the text after each of N rounds, and whether the last is quiet. `ends N TEXT`: after how many, at
   most N, it is quiet, and its text. `lasts N TEXT`: how many are made, at most N, and why there is no next one.
@@ -19,6 +20,7 @@ those of `draw` in test_draw.py.
 - `newest WORKERS EVERY LINES`: the number of the newest slot after the lines."""
 
 import os
+import resource
 
 from disks import EMPTY, SECOND, newest, put, slot
 from model_disk import decode
@@ -45,6 +47,11 @@ def on_one_line(ran):
     return b" ; ".join(it for it in (ran.out + ran.err).split(b"\n") if it)
 
 
+def with_a_small_stack():
+    """Gives the program that is started the stack of a thread, of 2 MiB."""
+    resource.setrlimit(resource.RLIMIT_STACK, (2 << 20, 2 << 20))
+
+
 class Texts(Trial):
     rooms = IN_MEMORY
     seconds = 3
@@ -56,6 +63,11 @@ class Texts(Trial):
                     self.runs(kind, given=expanded(text), out=answer + b"\n")
                 else:
                     self.runs(kind, given=expanded(text), err=b"icserve: " + answer + b"\n", status=1)
+
+    def test_each_row_in_a_small_stack(self):
+        for name, _, text, answer in rows("texts", "in_a_small_stack"):
+            with self.subTest(name=name):
+                self.runs("once", given=expanded(text), out=answer + b"\n", preexec_fn=with_a_small_stack)
 
     def test_each_row_that_tells_a_place(self):
         for name, kind, text, answer in rows("texts", "settle_told", "once_told"):

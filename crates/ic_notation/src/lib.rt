@@ -8,7 +8,6 @@
 #![tactic(auto)]
 
 mod checking;
-mod draws;
 mod expansion;
 mod hexadecimal;
 mod row;
@@ -16,7 +15,6 @@ mod systems;
 mod trouble;
 
 pub use checking::{Answers, Tally, check_rows};
-pub use draws::Draws;
 pub use expansion::{decimal, expanded};
 pub use hexadecimal::{bytes_of, digits_of};
 pub use row::Row;

@@ -1,9 +1,28 @@
-//! What is answered to a row, by its kind.
+//! What is answered to a row, by its kind. A fault of a call is told by its name in the code.
+//!
+//! - `task WORDS`: the task that words after the program's name ask for, as its fields are named in the code.
+//! - `find PAIR SYSTEM`: the place of the rule of two symbols, whose numbers are digits, and whether it is turned.
+//!   `restored NEXT SYSTEM`: `next` of the system's configuration, made with this one. `paired A + B`: whether there is
+//!   a system of the rules of A and the configuration of B. `symbol ARITY SYMBOL CONFIGURATION`: the number of a symbol
+//!   after those of a configuration. `text_fault NUMBER WORD`: the line of a fault that no text has.
+//! - `words CONFIGURATION`: its words in flat form, and after `;` how many terms its interface has, how many equations
+//!   and nodes there are, and `next`. A name is its number, and an agent its symbol's number, `/` and how many
+//!   arguments it has. `same A + B`: whether two configurations are the same in flat form. `over A + B`: whether the
+//!   second is over the first's symbols.
+//! - `restore TERMS NEXT WORDS`, `new TERMS WORDS`: the configuration of words with so many terms in its interface.
+//!   `term_ends WORDS`: the places after the terms.
+//! - `interact PLACE SYSTEM`, `indirect PLACE SYSTEM`, `collect PLACE SYSTEM`: the text after a single step.
+//!   `bind CONFIGURATION`: what is bound where it settles, as equations. `gathered RESULTS`: what gathering refuses.
+//! - `alike ROUNDS SYSTEM`: the text after at most so many rounds, by terms and by words the same. Before each round
+//!   all bodies of settling, and the tests of what is quiet, agree.
 
-use crate::faults::text_line;
-use crate::systems::{found, named_symbols};
-use crate::values::{built, joined, numbered, paired, restored};
-use crate::words::words;
+use crate::engines::alike;
+use crate::flat::{are_over, are_same, words};
+use crate::gathering::gathered;
+use crate::steps::{bindings, step};
+use crate::task::task;
+use crate::values::{fault_line, found, numbered, paired, restored};
+use crate::words::{ends, made, number_first};
 use ic_notation::{Answers, Row, Trouble, expanded};
 use std::alloc::Global;
 
@@ -14,47 +33,52 @@ pub struct Kinds;
 impl Answers for Kinds {
     fn answer(&self, alloc: Global, row: &Row<'_>) -> Result<Vec<u8>, Trouble> {
         match row.kind {
+            "task" => task(alloc, row.text),
             "words" => words(alloc, row.text),
-            "joined" | "paired" | "built" => of_parts(alloc, row),
-            "restored" => of_restored(alloc, row.text),
-            "find" | "symbol" | "text_fault" => after_number(alloc, row),
-            "symbols" => named_symbols(alloc, &expanded(alloc, row.text)?),
-            _ => Err(Trouble("no such kind")),
+            "bind" => bindings(alloc, row.text),
+            "term_ends" => ends(alloc, row.text),
+            "gathered" => gathered(alloc, row.text),
+            "paired" | "same" | "over" => of_two(alloc, row),
+            _ => after_number(alloc, row),
         }
     }
 }
 
-/// What is answered to two or three texts, with `+` between them.
-fn of_parts(alloc: Global, row: &Row<'_>) -> Result<Vec<u8>, Trouble> {
-    let (first, rest) = row.text.split_once(" + ").unwrap_or((row.text, ""));
-    let (second, third) = rest.split_once(" + ").unwrap_or((rest, ""));
-    let first = expanded(alloc, first)?;
-    let second = expanded(alloc, second)?;
-    let third = expanded(alloc, third)?;
+/// What is answered to two texts, with ` + ` between them.
+fn of_two(alloc: Global, row: &Row<'_>) -> Result<Vec<u8>, Trouble> {
+    let (one, other) = row.text.split_once(" + ").unwrap_or((row.text, ""));
     match row.kind {
-        "joined" => joined(alloc, &first, &second),
-        "paired" => paired(alloc, &first, &second),
-        _ => built(alloc, &first, &second, &third),
+        "same" => are_same(alloc, one, other),
+        "over" => are_over(alloc, one, other),
+        _ => paired(alloc, one, other),
     }
-}
-
-/// What is answered to a text after the `next` that it is to have.
-fn of_restored(alloc: Global, text: &str) -> Result<Vec<u8>, Trouble> {
-    let (next, text) = text.split_once(' ').unwrap_or(("", ""));
-    let next = u64::from_str_radix(next, 10).unwrap_or(0);
-    restored(alloc, next, &expanded(alloc, text)?)
 }
 
 /// What is answered to a text after a number.
 fn after_number(alloc: Global, row: &Row<'_>) -> Result<Vec<u8>, Trouble> {
-    let (number, text) = row.text.split_once(' ').unwrap_or(("", ""));
-    let Ok(number) = u32::from_str_radix(number, 10) else {
-        return Err(Trouble("no number"));
-    };
-    let text = expanded(alloc, text)?;
+    let (number, rest) = number_first(row.text)?;
     match row.kind {
-        "find" => found(alloc, number, &text),
-        "symbol" => numbered(alloc, number as usize, &text),
-        _ => text_line(alloc, &text, number),
+        "new" => made(alloc, number as usize, None, rest),
+        "restore" => {
+            let (next, words) = number_first(rest)?;
+            made(alloc, number as usize, Some(next), words)
+        }
+        "symbol" => numbered(alloc, number as usize, rest),
+        _ => of_text(alloc, row.kind, number, &expanded(alloc, rest)?),
     }
+}
+
+fn of_text(alloc: Global, kind: &str, number: u64, text: &[u8]) -> Result<Vec<u8>, Trouble> {
+    match kind {
+        "alike" => alike(alloc, number, text),
+        "find" => found(alloc, small(number), text),
+        "restored" => restored(alloc, number, text),
+        "text_fault" => fault_line(alloc, small(number), text),
+        "interact" | "indirect" | "collect" => step(alloc, kind, number as usize, text),
+        _ => Err(Trouble("no such kind")),
+    }
+}
+
+fn small(number: u64) -> u32 {
+    u32::try_from(number).unwrap_or(u32::MAX)
 }

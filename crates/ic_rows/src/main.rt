@@ -1,10 +1,14 @@
-//! The worked rows of values that are made by calls, and of words: `answers` says what a row may ask. Rows of texts are
-//! trials of the built program, in `trials/rows`.
+//! The worked rows of values that are made by calls, of their words in flat form, of single steps, and of the task that
+//! words after the program's name ask for. `answers` says what a row may ask. What the built program shows of texts,
+//! settling, rounds and refused words is in `trials/rows`.
 #![tactic(auto)]
 
 mod answers;
-mod faults;
-mod systems;
+mod engines;
+mod flat;
+mod gathering;
+mod steps;
+mod task;
 mod values;
 mod words;
 

@@ -1,174 +1,123 @@
-//! The words after the program's name.
+//! Words of rows.
 
-use ic_args::{FiguresFormat, ReportFormat, Task, TextLimits, TraceFormat, read_words};
-use ic_notation::Trouble;
+use ic_flat::{Flat, Word, end_of_term, terms_in};
+use ic_notation::{Trouble, decimal, expanded};
 use std::alloc::{AllocError, Global};
 
-/// What words ask for, with all that comes with it.
-pub fn words(alloc: Global, line: &str) -> Result<Vec<u8>, Trouble> {
-    let words = words_of(alloc, line)?;
-    match read_words(alloc, &words) {
-        Ok(task) => Ok(asked(alloc, &task)?.into_bytes()),
-        Err(_fault) => Err(Trouble("the words are refused")),
+/// A number in decimal.
+fn number(text: &str) -> Result<u64, Trouble> {
+    match u64::from_str_radix(text, 10) {
+        Ok(number) => Ok(number),
+        Err(_) => Err(Trouble("no number")),
     }
 }
 
-/// The words of a line.
-fn words_of(alloc: Global, line: &str) -> Result<Vec<String>, AllocError> {
+/// The first word as a number, and what follows it.
+pub fn number_first(text: &str) -> Result<(u64, &str), Trouble> {
+    let (first, rest) = text.split_once(' ').unwrap_or((text, ""));
+    Ok((number(first)?, rest))
+}
+
+fn word_of(text: &str) -> Result<Word, Trouble> {
+    match text.split_once('/') {
+        None => Ok(Word::Name(number(text)?)),
+        Some((sym, arity)) => match u32::from_str_radix(sym, 10) {
+            Ok(sym) => Ok(Word::Agent(sym, number(arity)? as usize)),
+            Err(_) => Err(Trouble("no symbol")),
+        },
+    }
+}
+
+/// The words of a text, with blanks between them.
+fn words_of(alloc: Global, text: &str) -> Result<Vec<Word>, Trouble> {
+    match str::from_utf8(&expanded(alloc, text)?) {
+        Ok(text) => words_in(alloc, text),
+        Err(_) => Err(Trouble("no text")),
+    }
+}
+
+fn words_in(alloc: Global, text: &str) -> Result<Vec<Word>, Trouble> {
     let mut words = Vec::new(alloc);
-    for word in line.split_whitespace() {
-        words.push(String::from_str(alloc, word)?)?;
+    for part in text.split_whitespace() {
+        words.push(word_of(part)?)?;
     }
     Ok(words)
 }
 
-/// What a task asks for.
-fn asked(alloc: Global, task: &Task) -> Result<String, AllocError> {
-    match task {
-        Task::Settle { file } => with_file(String::from_str(alloc, "settle")?, file),
-        Task::Once { file } => with_file(String::from_str(alloc, "once")?, file),
-        Task::Create { disk, overwrite } => {
-            let word = if *overwrite { "overwrite" } else { "create" };
-            format!(in alloc; "{word} {disk}")
+fn put_word(line: &mut Vec<u8>, word: Word) -> Result<(), AllocError> {
+    match word {
+        Word::Name(name) => decimal(line, name),
+        Word::Agent(sym, arity) => {
+            decimal(line, u64::from(sym))?;
+            line.push(b'/')?;
+            decimal(line, arity as u64)
         }
-        Task::Serve {
-            disk,
-            workers,
-            every,
-            explain,
-        } => {
-            let word = if *explain { " explain" } else { "" };
-            format!(in alloc; "serve {disk} {workers} {every}{word}")
-        }
-        Task::Attend {
-            disk,
-            runners,
-            turns,
-            workers,
-            scripts,
-        } => {
-            let asked = format!(in alloc; "attend {disk} {runners} {turns} {workers}")?;
-            with_texts(asked, scripts)
-        }
-        Task::Reduce {
-            steps,
-            nodes,
-            partial,
-            stats,
-            limits,
-            format,
-            quiet,
-            file,
-        } => {
-            let mut asked = format!(in alloc; "in place {steps} {nodes}")?;
-            if matches!(limits, TextLimits::Served) {
-                asked.push_str(" served")?;
-            }
-            let asked = with_flags(asked, *partial, *stats)?;
-            with_file(with_figures(asked, *format, *quiet)?, file)
-        }
-        Task::ReduceByRounds {
-            rounds,
-            workers,
-            partial,
-            file,
-        } => {
-            let asked = format!(in alloc; "reduce {rounds} {workers}")?;
-            with_file(with_flags(asked, *partial, false)?, file)
-        }
-        Task::Trace {
-            rounds,
-            format,
-            file,
-        } => with_file(traced(alloc, *rounds, *format)?, file),
-        Task::Draw { file } => with_file(String::from_str(alloc, "draw")?, file),
-        Task::Dump { disk, names } => {
-            let asked = format!(in alloc; "dump {disk}")?;
-            with_texts(asked, names)
-        }
-        Task::Inspect { disk, format } => {
-            format!(in alloc; "inspect {} {disk}", report_format(*format))
-        }
-        Task::Check {
-            files,
-            format,
-            script,
-        } => {
-            let word = if *script { "check scripts" } else { "check" };
-            let asked = format!(in alloc; "{word} {}", report_format(*format))?;
-            with_texts(asked, files)
-        }
-        Task::Batch {
-            disk,
-            rounds,
-            every,
-            workers,
-            lines,
-        } => format!(in alloc; "batch {disk} {rounds} {every} {workers} {lines}"),
-        Task::Expand { file } => with_file(String::from_str(alloc, "expand")?, file),
-        Task::Help(_) => String::from_str(alloc, "help"),
-        Task::Version(text) => format!(in alloc; "version {text}"),
     }
 }
 
-/// What is asked for, and texts after it.
-fn with_texts(mut asked: String, texts: &[String]) -> Result<String, AllocError> {
-    for text in texts {
-        asked.push(' ')?;
-        asked.push_str(text.as_str())?;
+/// The words of a configuration and its numbers.
+pub fn described(alloc: Global, flat: &Flat) -> Result<Vec<u8>, Trouble> {
+    let mut line = Vec::new(alloc);
+    for word in flat.words() {
+        put_word(&mut line, *word)?;
+        line.push(b' ')?;
     }
-    Ok(asked)
+    line.push(b';')?;
+    let counts = [
+        flat.interface_len() as u64,
+        flat.equations_len() as u64,
+        flat.nodes(),
+        flat.next(),
+    ];
+    for count in counts {
+        line.push(b' ')?;
+        decimal(&mut line, count)?;
+    }
+    Ok(line)
 }
 
-/// What is asked for, and the file to read after it.
-fn with_file(mut asked: String, file: &Option<String>) -> Result<String, AllocError> {
-    if let Some(path) = file {
-        asked.push_str(" of ")?;
-        asked.push_str(path.as_str())?;
-    }
-    Ok(asked)
-}
-
-/// What is asked for of a reduction, and its flags after it.
-fn with_flags(mut asked: String, partial: bool, stats: bool) -> Result<String, AllocError> {
-    if partial {
-        asked.push_str(" partial")?;
-    }
-    if stats {
-        asked.push_str(" stats")?;
-    }
-    Ok(asked)
-}
-
-/// What is asked for of a reduction in place, and after it how figures are told and whether they are all.
-fn with_figures(
-    mut asked: String,
-    format: FiguresFormat,
-    quiet: bool,
-) -> Result<String, AllocError> {
-    if matches!(format, FiguresFormat::Objects) {
-        asked.push_str(" json")?;
-    }
-    if quiet {
-        asked.push_str(" quiet")?;
-    }
-    Ok(asked)
-}
-
-/// How it is told what is found.
-fn report_format(format: ReportFormat) -> &'static str {
-    match format {
-        ReportFormat::Text => "text",
-        ReportFormat::Json => "json",
-    }
-}
-
-/// What a trace asks for.
-fn traced(alloc: Global, rounds: u64, format: TraceFormat) -> Result<String, AllocError> {
-    let format = match format {
-        TraceFormat::Tsv => "tsv",
-        TraceFormat::Svg => "svg",
-        TraceFormat::Json => "json",
+/// The configuration of words with so many terms in its interface, or why there is none.
+pub fn made(
+    alloc: Global,
+    terms: usize,
+    next: Option<u64>,
+    text: &str,
+) -> Result<Vec<u8>, Trouble> {
+    let words = words_of(alloc, text)?;
+    let Some(count) = terms_in(&words) else {
+        return Ok(Vec::from_slice(alloc, b"not whole")?);
     };
-    format!(in alloc; "trace {rounds} {format}")
+    if count < terms || (count - terms) % 2 != 0 {
+        return Ok(Vec::from_slice(alloc, b"another count")?);
+    }
+    let equations = (count - terms) / 2;
+    let answer = match next {
+        Some(next) => Flat::restore(alloc, words, terms, equations, next),
+        None => Flat::new(alloc, words, terms, equations),
+    };
+    match answer {
+        Ok(flat) => described(alloc, &flat),
+        Err(fault) => Ok(format!(in alloc; "{fault:?}")?.into_bytes()),
+    }
+}
+
+/// The places after the terms that words write.
+pub fn ends(alloc: Global, text: &str) -> Result<Vec<u8>, Trouble> {
+    ends_in(alloc, &words_of(alloc, text)?)
+}
+
+fn ends_in(alloc: Global, words: &[Word]) -> Result<Vec<u8>, Trouble> {
+    let Some(count) = terms_in(words) else {
+        return Err(Trouble("not whole"));
+    };
+    let mut line = Vec::new(alloc);
+    let mut place = 0;
+    for _ in 0..count {
+        if place < words.len() {
+            place = end_of_term(words, place);
+            decimal(&mut line, place as u64)?;
+            line.push(b' ')?;
+        }
+    }
+    Ok(line)
 }

@@ -3,8 +3,8 @@
 use crate::words::described;
 use ic_flat::Flat;
 use ic_notation::{Trouble, expanded};
-use ic_term::{Config, Symbols, over};
-use ic_text::{print_config, read_config};
+use ic_term::{Config, Symbols};
+use ic_text::read_config;
 use std::alloc::Global;
 
 /// The configuration of a text, with its symbols.
@@ -25,40 +25,6 @@ fn flat_of(alloc: Global, text: &str) -> Result<Flat, Trouble> {
 pub fn words(alloc: Global, text: &str) -> Result<Vec<u8>, Trouble> {
     let flat = flat_of(alloc, text)?;
     described(alloc, &flat)
-}
-
-/// The text of a configuration, if it is over the symbols.
-pub fn text_over(alloc: Global, symbols: &Symbols, config: &Config) -> Result<Vec<u8>, Trouble> {
-    if !over(symbols, config) {
-        return Err(Trouble("not over the symbols"));
-    }
-    Ok(print_config(alloc, symbols, config)?)
-}
-
-/// A configuration that is copied and taken apart in flat form.
-fn copied(alloc: Global, config: &Config) -> Result<Config, Trouble> {
-    let copy = Flat::from_config(alloc, config)?.copy(alloc)?;
-    if copy.nodes() != config.nodes() {
-        return Err(Trouble("another number of nodes"));
-    }
-    let (words, terms, equations, next) = copy.into_parts();
-    let back = Flat::from_parts(words, terms, equations, next);
-    Ok(back.to_config(alloc)?)
-}
-
-/// The text of what is read back of a configuration, if it is the same.
-fn text_read_back(alloc: Global, symbols: &Symbols, config: &Config) -> Result<Vec<u8>, Trouble> {
-    let back = copied(alloc, config)?;
-    if back != *config {
-        return Err(Trouble("another configuration"));
-    }
-    text_over(alloc, symbols, &back)
-}
-
-/// The text of a configuration that was copied and taken apart in flat form.
-pub fn read_back(alloc: Global, text: &str) -> Result<Vec<u8>, Trouble> {
-    let (symbols, config) = config_of(alloc, text)?;
-    text_read_back(alloc, &symbols, &config)
 }
 
 /// Whether two configurations are the same.
