@@ -1,4 +1,4 @@
-//! What is answered to a row, by its kind.
+//! What is answered to a row, by its kind. A fault of a call is told by its name in the code.
 //!
 //! - `round SYSTEM`: the places that pass the gate in a round, each once, and the text and `next` after it: by each
 //!   number of workers the same, at a gate that yields at every second place.
@@ -9,12 +9,17 @@
 //!   those of the first round beside them, those alone, and those in place of one.
 //! - `made WORKERS`: how many workers a crew and how many posts it has. `dropped WORKERS SYSTEM`: what a crew answers
 //!   twice whose posts were dropped, and whether it is spent then.
-//! - `undumped LINE`: the numbers of the faults of a dump of this line's job, where the output can't be written and
-//!   where it can't be flushed. `unshown BYTES`: the same of a look at a disk with these bytes.
+//! - `undumped`, `unshown`: the number of the fault of a dump, and of a look at a disk, whose output can't be flushed.
 //! - `book LIVES`: what a book on a disk answers (`books` has the words).
+//! - `meeting`, `pair`, `during`, `attended`, with RUNNERS TURNS WORKERS COUNT SCRIPTS: what clients are told at a gate,
+//!   and the jobs that are left (`attended` has the ways).
+//! - `reached LINE`: how many jobs a book has that the witness of the law over several lives hands out, where this
+//!   command was answered.
 
+use crate::attended::attended;
 use crate::books::book;
 use crate::crews::{dropped, made};
+use crate::lives::reached;
 use crate::rounds::{at_once, round};
 use crate::streams::{undumped, unshown};
 use crate::works::{dealt, matched};
@@ -37,21 +42,22 @@ pub fn answer<R: Threads + Wait + Clock + Sync>(
     match row.kind {
         "round" => round(rt, alloc, text),
         "at_once" => at_once(rt, alloc, text),
-        "matched" => matched(alloc, text),
-        "book" => book(alloc, text),
-        "undumped" => undumped(alloc, text),
-        "unshown" => unshown(alloc, text.as_bytes()),
-        _ => of_number(rt, alloc, row.kind, text),
+        "dropped" => dropped(rt, alloc, text),
+        "meeting" | "pair" | "during" | "attended" => attended(rt, alloc, row.kind, text),
+        kind => alone(alloc, kind, text),
     }
 }
 
-/// What is answered to a text after a number.
-fn of_number<R: Wait>(rt: &R, alloc: Global, kind: &str, text: &str) -> Result<Vec<u8>, Trouble> {
-    let (count, rest) = number_first(text);
+/// What is answered where no thread is started and none is waited for.
+fn alone(alloc: Global, kind: &str, text: &str) -> Result<Vec<u8>, Trouble> {
     match kind {
-        "deal" => dealt(alloc, count as usize, rest),
-        "made" => made(alloc, count as usize),
-        "dropped" => dropped(rt, alloc, count as usize, rest),
+        "book" => book(alloc, text),
+        "deal" => dealt(alloc, text),
+        "matched" => matched(alloc, text),
+        "made" => made(alloc, text),
+        "undumped" => undumped(alloc),
+        "unshown" => unshown(alloc),
+        "reached" => reached(alloc, text),
         _ => Err(Trouble("no such kind")),
     }
 }

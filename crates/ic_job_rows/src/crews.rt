@@ -1,6 +1,7 @@
 //! Crews whose workers don't stand.
 
-use crate::rounds::{fault_word, first_flight};
+use crate::answers::number_first;
+use crate::rounds::first_flight;
 use ic_crew::Crew;
 use ic_notation::Trouble;
 use ic_pool::Flight;
@@ -8,27 +9,20 @@ use std::alloc::{AllocError, Global};
 use std::sync::Wait;
 
 /// How many workers a crew that is made for so many has, and how many posts.
-pub fn made(alloc: Global, workers: usize) -> Result<Vec<u8>, Trouble> {
-    let line = match Crew::new(alloc, workers) {
-        Ok((crew, posts)) => counted(alloc, crew.workers(), posts.len())?,
-        Err(fault) => Vec::from_slice(alloc, fault_word(fault).as_bytes())?,
+pub fn made(alloc: Global, text: &str) -> Result<Vec<u8>, Trouble> {
+    let (workers, _) = number_first(text);
+    let line = match Crew::new(alloc, workers as usize) {
+        Ok((crew, posts)) => format!(in alloc; "{} {}", crew.workers(), posts.len())?,
+        Err(fault) => format!(in alloc; "{fault:?}")?,
     };
-    Ok(line)
-}
-
-fn counted(alloc: Global, workers: usize, posts: usize) -> Result<Vec<u8>, AllocError> {
-    Ok(format!(in alloc; "{workers} {posts}")?.into_bytes())
+    Ok(line.into_bytes())
 }
 
 /// What a crew without workers answers to a system's round, twice, and whether it is spent then.
-pub fn dropped<R: Wait>(
-    rt: &R,
-    alloc: Global,
-    workers: usize,
-    text: &str,
-) -> Result<Vec<u8>, Trouble> {
-    let flight = first_flight(alloc, text)?;
-    match Crew::new(alloc, workers) {
+pub fn dropped<R: Wait>(rt: &R, alloc: Global, text: &str) -> Result<Vec<u8>, Trouble> {
+    let (workers, system) = number_first(text);
+    let flight = first_flight(alloc, system)?;
+    match Crew::new(alloc, workers as usize) {
         Ok((mut crew, posts)) => {
             drop(posts);
             Ok(played_twice(rt, alloc, &mut crew, &flight)?)
@@ -43,15 +37,8 @@ fn played_twice<R: Wait>(
     crew: &mut Crew,
     flight: &Flight,
 ) -> Result<Vec<u8>, AllocError> {
-    let first = answer_of(rt, alloc, crew, flight);
-    let second = answer_of(rt, alloc, crew, flight);
-    let end = if crew.is_spent() { "spent" } else { "ready" };
-    Ok(format!(in alloc; "{first} {second} {end}")?.into_bytes())
-}
-
-fn answer_of<R: Wait>(rt: &R, alloc: Global, crew: &mut Crew, flight: &Flight) -> &'static str {
-    match crew.play(rt, alloc, flight) {
-        Ok(_) => "played",
-        Err(fault) => fault_word(fault),
-    }
+    let first = crew.play(rt, alloc, flight).err();
+    let second = crew.play(rt, alloc, flight).err();
+    let is_spent = crew.is_spent();
+    Ok(format!(in alloc; "{first:?} {second:?} {is_spent}")?.into_bytes())
 }

@@ -1,12 +1,16 @@
-//! The worked rows of what only calls of the libraries reach: rounds by workers at a gate that counts them, works that
-//! are dealt out and matched, a book over a disk that fails, and outputs that fail. `answers` says what a row may ask.
-//! What the built program is asked of lines, byte forms and disks is in `trials/rows`.
+//! The worked rows of what only calls of the libraries reach: rounds, clients and runners behind gates, works that are
+//! dealt out and matched, a book over a disk that fails, and a run that meets the premises of the law over several
+//! lives. `answers` says what a row may ask. What the built program is asked is in `trials/rows`.
 #![tactic(auto)]
 
 mod answers;
+mod attended;
 mod books;
 mod crews;
+mod held;
+mod lives;
 mod rounds;
+mod scripts;
 mod streams;
 mod turnstile;
 mod works;

@@ -5,7 +5,7 @@ use crate::turnstile::{Turnstile, counters};
 use ic_flat::{Flat, over};
 use ic_flat_round::FlatRules;
 use ic_notation::{Trouble, decimal, printed, system_of};
-use ic_pool::{Flight, Played, PoolFault, play, play_alone};
+use ic_pool::{Flight, Played, play, play_alone};
 use ic_rules::JobName;
 use std::alloc::Global;
 use std::sync::{Arc, Wait};
@@ -31,26 +31,6 @@ pub fn first_flight(alloc: Global, text: &str) -> Result<Flight, Trouble> {
     let rules = FlatRules::new(alloc, rules)?;
     let config = Flat::from_config(alloc, &config)?;
     flight_of(Arc::new(alloc, rules)?, Arc::new(alloc, config)?)
-}
-
-/// Why there is no round.
-pub fn fault_word(fault: PoolFault) -> &'static str {
-    match fault {
-        PoolFault::NoWorkers => "no workers",
-        PoolFault::RoundsOut => "rounds out",
-        PoolFault::Overgrown => "overgrown",
-        PoolFault::NamesOut => "names out",
-        PoolFault::Lost => "lost",
-        _ => "another fault",
-    }
-}
-
-/// Whether a round is of this flight: its name, rules, configuration and rounds.
-fn is_of(played: &Played, flight: &Flight) -> bool {
-    played.name().as_bytes() == flight.name().as_bytes()
-        && *played.rules() == *flight.rules()
-        && played.before() == flight.config()
-        && played.rounds() == flight.rounds()
 }
 
 /// Whether a round is the one that is made alone.
@@ -80,7 +60,7 @@ fn told_at<R: Threads + Wait + Clock + Sync>(
 ) -> Result<Vec<u8>, Trouble> {
     match play(rt, alloc, flight, workers, gate) {
         Ok(played) => told_of(alloc, flight, &played, gate),
-        Err(fault) => Ok(Vec::from_slice(alloc, fault_word(fault).as_bytes())?),
+        Err(fault) => Ok(format!(in alloc; "{fault:?}")?.into_bytes()),
     }
 }
 
@@ -90,7 +70,7 @@ fn told_of<R>(
     played: &Played,
     gate: &Turnstile<'_, R>,
 ) -> Result<Vec<u8>, Trouble> {
-    if !is_of(played, flight) || !is_alone(alloc, flight, played) {
+    if !is_alone(alloc, flight, played) {
         return Err(Trouble("a round by workers is another"));
     }
     let mut line = gate.told(alloc)?;

@@ -1,5 +1,6 @@
 //! Works dealt out, and answers matched with works.
 
+use crate::answers::number_first;
 use ic_crew::{Answer, deal, match_answers};
 use ic_notation::{Trouble, decimal, system_of};
 use ic_pool::{OpenGate, PoolFault};
@@ -33,13 +34,14 @@ fn works_after(alloc: Global, rules: &RuleSet, config: Config) -> Result<Vec<Wor
 }
 
 /// The places of the works of a system's round, dealt to so many parts.
-pub fn dealt(alloc: Global, count: usize, text: &str) -> Result<Vec<u8>, Trouble> {
+pub fn dealt(alloc: Global, text: &str) -> Result<Vec<u8>, Trouble> {
+    let (count, system) = number_first(text);
     if count == 0 {
         return Err(Trouble("no parts"));
     }
-    let (rules, config) = system_of(alloc, text.as_bytes())?.into_parts();
+    let (rules, config) = system_of(alloc, system.as_bytes())?.into_parts();
     let works = works_of(alloc, &rules, config)?;
-    let parts = deal(alloc, &rules, works, count)?;
+    let parts = deal(alloc, &rules, works, count as usize)?;
     Ok(line_of_parts(alloc, &parts)?)
 }
 
@@ -78,17 +80,21 @@ fn answer_to(alloc: Global, rules: &Arc<RuleSet>, work: &Work) -> Result<Answer,
     Ok(Answer::to(alloc, rules, &OpenGate, copy)?)
 }
 
-/// Adds the answers to works, the last of them first.
-fn answer_all(
+/// The answers to works and to others, the last of each first.
+fn answers_to(
     alloc: Global,
     rules: &Arc<RuleSet>,
     works: &[Work],
-    answers: &mut Vec<Answer>,
-) -> Result<(), Trouble> {
+    others: &[Work],
+) -> Result<Vec<Answer>, Trouble> {
+    let mut answers = Vec::new(alloc);
     for work in works.iter().rev() {
         answers.push(answer_to(alloc, rules, work)?)?;
     }
-    Ok(())
+    for work in others.iter().rev() {
+        answers.push(answer_to(alloc, rules, work)?)?;
+    }
+    Ok(answers)
 }
 
 fn copies_of(alloc: Global, works: &[Work]) -> Result<Vec<Work>, AllocError> {
@@ -107,13 +113,10 @@ fn told(
     own: &[Work],
     others: &[Work],
 ) -> Result<&'static str, Trouble> {
-    let mut answers = Vec::new(alloc);
-    answer_all(alloc, rules, own, &mut answers)?;
-    answer_all(alloc, rules, others, &mut answers)?;
     let copies = copies_of(alloc, works)?;
+    let answers = answers_to(alloc, rules, own, others)?;
     match match_answers(alloc, rules, copies, answers) {
-        Ok(fired) if fired.len() == works.len() => Ok("matched "),
-        Ok(_) => Err(Trouble("too many results")),
+        Ok(_) => Ok("matched "),
         Err(PoolFault::Lost) => Ok("lost "),
         Err(PoolFault::Stranger) => Ok("stranger "),
         Err(_) => Err(Trouble("another fault")),
