@@ -3,7 +3,7 @@
 //! - `task WORDS`: the task that words after the program's name ask for, as its fields are named in the code.
 //! - `find PAIR SYSTEM`: the place of the rule of two symbols, whose numbers are digits, and whether it is turned.
 //!   `restored NEXT SYSTEM`: `next` of the system's configuration, made with this one. `paired A + B`: whether there is
-//!   a system of the rules of A and the configuration of B. `symbol ARITY SYMBOL CONFIGURATION`: the number of a symbol
+//!   a system of the rules of A and the configuration of B. `symbol ARITY SYMBOL + CONFIGURATION`: the number of a symbol
 //!   after those of a configuration. `text_fault NUMBER WORD`: the line of a fault that no text has.
 //! - `words CONFIGURATION`: its words in flat form, and after `;` how many terms its interface has, how many equations
 //!   and nodes there are, and `next`. A name is its number, and an agent its symbol's number, `/` and how many

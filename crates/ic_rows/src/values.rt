@@ -47,7 +47,7 @@ pub fn paired(alloc: Global, text: &str, other: &str) -> Result<Vec<u8>, Trouble
 
 /// The number of a symbol after those of a configuration's text.
 pub fn numbered(alloc: Global, arity: usize, texts: &str) -> Result<Vec<u8>, Trouble> {
-    let (symbol, text) = texts.split_once(' ').unwrap_or((texts, ""));
+    let (symbol, text) = texts.split_once(" + ").unwrap_or((texts, ""));
     let symbol = expanded(alloc, symbol)?;
     if !is_symbol(&symbol) {
         return Ok(Vec::from_slice(alloc, b"no symbol")?);
