@@ -1,5 +1,5 @@
 -- There are enough registers: names of words and agents of words have no more together than there are words.
-use Rattle.std.proofs.Common.{◌≡◌, ◌⊎◌, ℕ, zero, suc, ◌+◌, ◌-◌, ◌^◌, ◌≤◌, ◌<◌, ◌==◌, List, [], ◌∷◌, ◌++◌, Bool, true, false, cond, Some, length, map, take, drop, get_or, slice_get, refl, sym, ap, subst, ◌∙◌, arith, inl, inr}
+use Rattle.std.proofs.Common.{◌≡◌, ◌⊎◌, ℕ, zero, suc, ◌+◌, ◌≤◌, ◌<◌, ◌==◌, List, [], ◌∷◌, ◌++◌, Bool, true, false, cond, Some, length, map, take, drop, get_or, slice_get, refl, sym, ap, ◌∙◌, arith, inl, inr}
 use Rattle.std.proofs.lemmas.List.{drop_more, length-append, length-map, map-append, take-append-drop, length-take-le}
 use Rattle.std.proofs.Math.Seq.{get_or-append_seam}
 use Rattle.std.proofs.lemmas.List.Concat.{flat_map-append}
@@ -10,7 +10,7 @@ use Rattle.ic_flat.specs.declared.word.Word.{Word}
 use Rattle.ic_flat.specs.declared.word.Word.TheVariants.{Name, Agent}
 use Rattle.ic_flat.specs.Words.{word_names}
 use Rattle.ic_plans.specs.inner.Given.{AreGiven, AreFresh, Numbers, number_in}
-use Rattle.ic_plans.proofs.FlatLemmas.{count-append, count-cons, count-other, count-same}
+use Rattle.ic_plans.proofs.FlatLemmas.{count-cons, count-other, count-same}
 use Rattle.ic_plans.proofs.RegisterLemmas.{some_same}
 use Rattle.ic_plans.proofs.RuleLemmas.{not_same}
 use Rattle.ic_plans.proofs.NetLemmas.{at-one-place, there-either, occurs-there}

@@ -1,5 +1,5 @@
 -- For private functions: the registers of the names of a configuration.
-use Rattle.std.specs.Prelude.{◌≡◌, ◌==◌, ◌↔◌, ◌⊎◌, ℕ, ◌+◌, ◌<◌, ◌≤◌, Bool, true, false, Option, List, [], ◌∷◌, None, Some, length, map, slice_get, unwrap_or}
+use Rattle.std.specs.Prelude.{◌≡◌, ◌==◌, ◌↔◌, ◌⊎◌, ℕ, ◌+◌, ◌≤◌, Bool, true, false, Option, List, [], ◌∷◌, None, Some, length, map, slice_get, unwrap_or}
 use Rattle.ic_term.specs.Configuration.{occurrences}
 use Rattle.ic_machine.specs.declared.plan.Link.{Link}
 

@@ -1,5 +1,5 @@
-use Rattle.std.proofs.Common.{◌≡◌, ◌+◌, ◌-◌, ◌<◌, ◌≤◌, count_by, length, map, get_or, not, subst, sym, ap, ◌∙◌, arith}
-use Rattle.ic_plans.specs.inner.Given.{numbers_from, repeated, singles}
+use Rattle.std.proofs.Common.{◌≡◌, ◌+◌, ◌-◌, count_by, length, map, get_or, not, ap, ◌∙◌, arith}
+use Rattle.ic_plans.specs.inner.Given.{numbers_from, singles}
 use Rattle.ic_plans.proofs.ListedLemmas.{parts-length, registers-are, unset-length}
 use Rattle.ic_plans.proofs.first.give_registers.Goals as goal
 
