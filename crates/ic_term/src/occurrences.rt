@@ -3,7 +3,7 @@
 ghost use Rattle.std.specs.Prelude.{◌≡◌, IfOk};
 ghost use Rattle.ic_term.specs.Configuration.{third_occurrence};
 
-use indexmap::IndexMap;
+use ic_names::NameTable;
 use std::alloc::{AllocError, Global};
 
 /// The first name of a list that occurs there for the third time. Takes time in proportion to the
@@ -11,15 +11,13 @@ use std::alloc::{AllocError, Global};
 pub fn third_occurrence(alloc: Global, names: &[u64]) -> Result<Option<u64>, AllocError>
     ensures { IfOk result (λ name. name ≡ third_occurrence names.now) }
 {
-    let mut counts: IndexMap<u64, u8> = IndexMap::with_capacity(alloc, names.len() / 2)?;
+    let mut counts = NameTable::new(alloc, names)?;
     for name in names {
-        let before = counts.insert(*name, 1)?.unwrap_or(0);
+        let before = counts.get(*name).unwrap_or(0);
         if before >= 2 {
             return Ok(Some(*name));
         }
-        if before == 1 {
-            counts.insert(*name, 2)?;
-        }
+        counts.set(*name, before + 1)?;
     }
     Ok(None)
 }
