@@ -20,14 +20,14 @@ impl NameTable {
     ghost use Rattle.ic_names.specs.Table.{found, slot_of};
 
     /// A table in which no name has a number yet, laid out for these names. It takes four slots of 4 bytes for each of
-    /// them at most, as often as it stands there, and time in proportion.
+    /// them at most, as often as it stands there, and time in proportion. For those that have no slots there is room in a
+    /// map, if each of them stands there twice.
     pub fn new(alloc: Global, names: &[u64]) -> Result<NameTable, AllocError>
         ensures { IfOk result (λ table. (x : ℕ) → found table x ≡ None) }
     {
-        Ok(NameTable {
-            rows: rows_for(alloc, names)?,
-            others: HashMap::new(alloc),
-        })
+        let (rows, apart) = rows_for(alloc, names)?;
+        let others = HashMap::with_capacity(alloc, apart / 2)?;
+        Ok(NameTable { rows, others })
     }
 
     /// The number that a name has.

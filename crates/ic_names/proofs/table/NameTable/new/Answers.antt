@@ -7,5 +7,5 @@ use Rattle.ic_names.proofs.table.NameTable.new.Goals as goal
 pub returns : goal.returns
 unfolding found
 returns c = λ x.
-    let none : get (λ a b. a == b) c.new.result x ≡ None = search rules in
-    none_told c.in_ok-rows_for.field-0.items c.in_ok-rows_for.ensures x (get (λ a b. a == b) c.new.result x) none
+    let none : get (λ a b. a == b) c.in_ok-others.others x ≡ None = search rules in
+    none_told c.in_ok-rows.rows.items c.in_ok-rows.ensures x (get (λ a b. a == b) c.in_ok-others.others x) none
