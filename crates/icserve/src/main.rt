@@ -457,11 +457,11 @@ fn refuse(rt: &HostRuntime, failure: &Failure, path: &str, notes: &Notes, told: 
     }
     match failure.line(rt.alloc()) {
         Ok(line) => {
-            let _ = rt.stderr().write_all(&line);
+            tell(rt, &line);
             if let Ok(lines) = failure.lines_behind(rt.alloc(), path.as_bytes(), notes.last()) {
-                let _ = rt.stderr().write_all(&lines);
+                tell(rt, &lines);
             }
-            let _ = rt.stderr().write_all(told);
+            tell(rt, told);
             ExitCode::from(failure.status())
         }
         Err(_) => {
@@ -469,4 +469,9 @@ fn refuse(rt: &HostRuntime, failure: &Failure, path: &str, notes: &Notes, told: 
             ExitCode::from(4)
         }
     }
+}
+
+/// Writes lines to standard error, as far as that can be done.
+fn tell(rt: &HostRuntime, lines: &[u8]) {
+    let _ = rt.stderr().write_all(lines);
 }

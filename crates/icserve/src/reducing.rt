@@ -31,7 +31,7 @@ pub(crate) fn reduce<R: Read>(
     notes: &Notes,
     told: &mut Vec<u8>,
 ) -> Result<(), Failure> {
-    let begun = Instant::now(rt);
+    let begun = Instant::now(rt).ok();
     let watching = Watching::new(rt);
     let mut output = WipedFirst::watching(&watching, NotedOutput::new(io::writer(rt), notes));
     let reduced = reduce_in_place_stream(
@@ -60,9 +60,9 @@ pub(crate) fn reduce<R: Read>(
 }
 
 /// How much time has passed, or none where the clock can't be read.
-fn time_since(rt: &HostRuntime, begun: io::Result<Instant>) -> Duration {
-    match (begun, Instant::now(rt)) {
-        (Ok(begun), Ok(now)) => now.duration_since(begun),
+fn time_since(rt: &HostRuntime, begun: Option<Instant>) -> Duration {
+    match (begun, Instant::now(rt).ok()) {
+        (Some(begun), Some(now)) => now.duration_since(begun),
         _ => Duration::ZERO,
     }
 }
