@@ -189,7 +189,8 @@ class Scripts(Shards):
             self.ended(self.script("progress", "jobs/"), out=[begun, waits, jobs])
         (self.room / "fails").write_text("#!/bin/sh\nexit 3\n")
         (self.room / "fails").chmod(0o755)
-        lines = ["00001: running 0, paused 0, done 0 (stuck 0), spent 0, halted 0, rounds 0", waits]
-        lines += ["5 jobs: running 0, paused 0, done 0 (stuck 0), spent 1, halted 0, waiting 4, rounds 4611686018427387904"]
+        lines = ["00001: unread", waits]
+        counts = "running 0, paused 0, done 0 (stuck 0), spent 1, halted 0, waiting 2, unread 2, rounds 4611686018427387904"
+        lines += [f"5 jobs: {counts}"]
         fault = "progress: jobs/00001/disk can't be looked at"
         self.ended(self.script("progress", "jobs", program_of_scripts=self.room / "fails"), out=lines, err=[fault], status=1)

@@ -210,6 +210,13 @@ class Refusals(Trial):
             self.equals(text, "how the trace ends", (1, b""), (wanted.status, wanted.out))
             self.equals(text, "how the film ends", wanted[1:], self.film(given=text)[1:])
 
+    def test_a_refused_file_is_named_as_the_program_names_it(self):
+        path = self.room / "text.ic"
+        path.write_text("{A(x)><B} <|>")
+        wanted = run("trace", path)
+        self.equals(path, "how the trace ends", (1, b""), (wanted.status, wanted.out))
+        self.equals(path, "how the film ends", wanted[1:], self.film(path)[1:])
+
     def test_what_is_too_large_is_refused_with_the_rounds_that_fit(self):
         def refused(line, *words, given):
             self.ended(self.film(*words, given=given), err=[f"film: {line}"], status=1)
