@@ -90,7 +90,7 @@ pub fn a_stuck_pair_is_of_a_quiet_end()
 {}
 
 /// Where there were too many places, or a table would be full, one more interaction is possible. Where memory ran out, a pair
-/// was left.
+/// or an equation was still pending.
 pub fn a_stop_comes_before_an_interaction()
     ensures nodes { (s : SystemParts) (bounds : Bounds) (answer : Configuration)
         (interactions places : ℕ)
