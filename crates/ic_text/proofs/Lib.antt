@@ -12,6 +12,7 @@ pub mod SplitText
 pub mod TableLemmas
 pub mod Numbering
 pub mod BuildLemmas
+pub mod JoinedLemmas
 pub mod PrefixWords
 pub mod BuiltTrees
 pub mod JoinedPhrase
