@@ -1,6 +1,7 @@
 """Runs the trials of the built program, as many side by side as there are processors: python3 trials [WORD..], where only
 those are run in whose name each word stands. Those of files `test_.._long` take many minutes, and are run only where a word
-has `long`: python3 trials cluster_long. The last line is `N passed, M failed`."""
+has `long`: python3 trials cluster_long. The word --without-program takes those that need no built program, and --with-program
+the others. The last line is `N passed, M failed`."""
 
 import multiprocessing
 import os
@@ -27,13 +28,18 @@ def trials_in(suite):
             yield it
 
 
+# Which trials are taken, by whether they need the built program.
+KINDS = {"--with-program": True, "--without-program": False}
+
+
 def found(words):
     """The names of the trials, those that take longest first."""
     all_of_them = list(trials_in(unittest.defaultTestLoader.discover(str(HERE), top_level_dir=str(HERE))))
     all_of_them.sort(key=lambda it: -getattr(it, "seconds", 1))
     are_long = any("long" in word for word in words)
-    names = [it.id() for it in all_of_them if are_long or "_long." not in it.id()]
-    return [it for it in names if all(word in it for word in words)]
+    kinds, parts = [KINDS[it] for it in words if it in KINDS], [it for it in words if it not in KINDS]
+    names = [it.id() for it in all_of_them if all(getattr(it, "needs_program", True) == kind for kind in kinds)]
+    return [it for it in names if (are_long or "_long." not in it) and all(part in it for part in parts)]
 
 
 def tried(name):
@@ -73,7 +79,7 @@ def give_up(counts):
 
 def main(words):
     print(f"trials: {PROGRAM}, SEED={SEED} (set it to draw the same again)", flush=True)
-    if not os.access(PROGRAM, os.X_OK):
+    if "--without-program" not in words and not os.access(PROGRAM, os.X_OK):
         print("trials: it isn't there: make prove makes it, and so does ./gate. make trials tries the one that ./icserve runs")
         print("0 passed, 1 failed")
         return 1

@@ -213,6 +213,9 @@ class Trial(unittest.TestCase):
     # About how many seconds a trial takes: those that take longest are begun first.
     seconds = 1
 
+    # Whether it tries the built program: others can run before that is there.
+    needs_program = True
+
     # The folder in which its folder is made: None is the system's for temporary files.
     rooms = None
 

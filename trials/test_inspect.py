@@ -349,7 +349,7 @@ def held_now(disk):
 
 
 class Meanwhile(ModelTrial):
-    seconds = 20
+    seconds = 40
 
     def test_a_disk_that_is_served_can_be_inspected(self):
         disk = self.new_disk()

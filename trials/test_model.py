@@ -79,6 +79,8 @@ class TheModelSettlesAsDefined(Trial):
 
 
 class TheModelAnswersTheRows(Trial):
+    seconds, needs_program = 60, False
+
     def answers(self, answer, crate, *kinds):
         found = rows(crate, *kinds)
         self.equals(f"rows of {crate}", f"rows of {kinds}", True, bool(found))
