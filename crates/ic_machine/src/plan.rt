@@ -8,6 +8,7 @@ ghost use Rattle.ic_machine.specs.inner.Pairs.{HasNumber};
 
 use crate::equation::Equation;
 use crate::pairs::PairIndex;
+use smallvec::SmallVec;
 use std::alloc::{AllocError, Global};
 use std::marker::Model;
 
@@ -18,11 +19,11 @@ pub struct Link {
     pub right: u32,
 }
 
-/// An agent that is to be made: its symbol, and the register of each argument.
+/// An agent that is to be made: its symbol, and the register of each argument. Up to four stand in the value itself.
 #[derive(Debug, Drop)]
 pub struct Make {
     pub symbol: u32,
-    pub operands: Vec<u32>,
+    pub operands: SmallVec<u32, 4>,
 }
 
 /// What a rule makes of two agents: so many fresh names, agents in this order, and equations.

@@ -8,6 +8,7 @@ ghost use Rattle.ic_plans.specs.inner.Flattening.{WouldBeFlat};
 
 use ic_flat::Word;
 use ic_machine::Make;
+use smallvec::SmallVec;
 use std::alloc::{AllocError, Global};
 
 /// Has an agent made of as many registers from the top of the stack.
@@ -24,8 +25,10 @@ fn make_agent(
     ensures left { OnOk result
         (reverse operands.new.items ≡ drop arity (reverse operands.old.items)) }
 {
-    let mut taken = operands.split_off(operands.len() - arity)?;
+    let rest = operands.len() - arity;
+    let mut taken = SmallVec::from_slice(*operands.allocator(), &operands[rest..])?;
     taken.reverse();
+    operands.truncate(rest);
     makes.push(Make {
         symbol,
         operands: taken,

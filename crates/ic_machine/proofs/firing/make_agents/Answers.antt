@@ -67,7 +67,7 @@ put-block-requires-clause-arity c =
     known h0 hs (filled + c.loop-make.make-index) (made_of item) c.loop-make.invariant.arities planned in
     let same : c.index_mut-heap.result.now ≡ table hs item.symbol =
     table_read hs item.symbol c.index_mut-heap.result.now there.0 c.index_mut-heap.ensures.value in
-    ap length c.deref.ensures.value ∙ sym (ap (λ (x : Blocks). x.arity) same ∙ there.1)
+    ap length c.deref.ensures ∙ sym (ap (λ (x : Blocks). x.arity) same ∙ there.1)
 
 pub put-block-requires-clause-some : goal.put-block-requires-clause-some
 put-block-requires-clause-some c =
@@ -99,7 +99,7 @@ put-block-requires-clause-filled c =
     let read : length c.deref-in-loop-make.result.now ≡ length c.loop-make.registers.items =
     ap length c.deref-in-loop-make.ensures.value in
     subst (λ (l : List ℕ). AllByRecursion (λ k. k < length c.deref-in-loop-make.result.now) l)
-    (sym c.deref.ensures.value)
+    (sym c.deref.ensures)
     (all_of (λ k. k < filled + c.loop-make.make-index) (λ k. k < length c.deref-in-loop-make.result.now)
     item.operands.items (λ k lt. omega arith) planned.within)
 
@@ -185,7 +185,7 @@ loop-make-preserved c =
     let block : Replaced [] (agent_of w (map (register rs) item.operands.items) ∷ [])
     (blocks_pieces s (table hs s)) (blocks_pieces s b') =
     subst (λ (l : List ℕ). Replaced [] (agent_of w (map (register rs) l) ∷ [])
-    (blocks_pieces s (table hs s)) (blocks_pieces s b')) c.deref.ensures.value
+    (blocks_pieces s (table hs s)) (blocks_pieces s b')) c.deref.ensures
     (subst (λ (l : List Word). Replaced [] (agent_of w (map (register l) c.deref.result.now) ∷ [])
     (blocks_pieces s (table hs s)) (blocks_pieces s b')) c.deref-in-loop-make.ensures.value
     (subst (λ (x : Blocks). Replaced [] (agent_of w (map (register c.deref-in-loop-make.result.now) c.deref.result.now) ∷ [])
