@@ -188,8 +188,7 @@ reduce_help = text_of (codes "Reduces a system until no step is possible, and pr
     ∷ []
     ∷ codes "The exit status is 5 where a step is still possible after the last interaction or round."
     ∷ codes "Without --stats, --format changes nothing."
-    ∷ (codes "What --nodes bounds is looked at every 4096 interactions, so there may be more"
-    ++ codes " by then.")
+    ∷ codes "What --nodes bounds is looked at every 4096 interactions, so there may be more by then."
     ∷ []
     ∷ codes "The language:"
     ∷ codes "  {Add(x,x)><Z; Add(S(x),y)><S(Add(x,y))}  rules, separated by ;"
@@ -205,8 +204,7 @@ reduce_help = text_of (codes "Reduces a system until no step is possible, and pr
     ++ codes " is the result")
     ∷ (codes "  x=t                       t takes the place of the other x; a name that"
     ++ codes " stands once is free")
-    ∷ (codes "A text has at most 65536 symbols, 2147483648 rules and nodes, 8589934592"
-    ++ codes " bytes, and no")
+    ∷ codes "A text has at most 65536 symbols, 2147483648 rules and nodes, 8589934592 bytes, and no"
     ∷ codes "comments, which icserve expand takes out."
     ∷ (codes "That of a job or of another command has at most 64 symbols, 256 rules, 8192"
     ++ codes " nodes, 262144 bytes,")
