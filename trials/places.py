@@ -14,8 +14,13 @@ MOST_RULES, MOST_RULE_NODES, MOST_TERMS, MOST_NODES = 256, 2048, 64, 8192
 TOKEN = re.compile(rb"[A-Za-z0-9-]+|[^ \t\r\n]")
 NAME = re.compile(rb"[a-z]([1-9][0-9]*)?")
 SYMBOL = re.compile(rb"[A-Z0-9][A-Za-z0-9]*")
+SYMBOL_LAST = r"(?<![A-Za-z0-9-])[A-Z0-9][A-Za-z0-9-]*$"
 COMMANDS = (b"submit", b"pause", b"resume", b"cancel", b"fetch", b"list", b"run", b"copy")
 NAMES = "a name is a letter a to z, maybe with a number from 1 on, and a symbol begins with A to Z or 0 to 9; `icserve expand` takes long names"
+SYMBOLS = "a symbol has letters and digits only"
+RULE_SYMBOLS = "both symbols of a rule begin with A to Z or 0 to 9"
+EXPANDED = "`icserve expand` writes the rules for which copy and erase stand"
+FORMS = {"configuration": "<INTERFACE|EQUATIONS>", "system": "{RULES} <INTERFACE|EQUATIONS>"}
 NO_ARGUMENTS = "a name has no arguments: names begin with a to z, and symbols, which may have them, with A to Z or 0 to 9"
 
 TERM = "a term is looked for here"
@@ -25,7 +30,7 @@ BEHIND_OF = {
     "system": {"{": "a symbol or } is looked for here", ";": "a symbol is looked for here", "}": "< is looked for here"},
 }
 BEHIND_OF["system"] |= BEHIND_OF["configuration"]
-COMMENTS, NO_COMMENTS = (b"#", b"//", b"--"), "there are no comments; `icserve expand` takes out those that begin with #"
+COMMENTS, NO_COMMENTS = (b"#", b"//", b"/*", b"--"), "there are no comments; `icserve expand` takes out those that begin with #"
 MADE_SYSTEM = ": {} before it makes it a system"
 
 
@@ -198,14 +203,36 @@ def fault_of_words(reader):
     return clash or fault_of_names_and_rules(reader)
 
 
-def sought_behind(front):
-    """What is looked for behind a term that ends a text, or None where no term stands there."""
-    opens = "( or " if re.search(r"(?<![A-Za-z0-9-])[A-Z0-9][A-Za-z0-9-]*$", front) else ""
+def stand_of(front):
+    """The last mark of a text outside of parentheses and what follows it, or None where the text ends in parentheses."""
     while (flat := re.sub(r"\([^()]*\)", "", front)) != front:
         front = flat
-    if "(" in front:
+    return None if "(" in front else re.search(r"(><|[{};<>|=])([^{};<>|=]*)$", front).groups()
+
+
+def slip_of(text, at, front, word):
+    """What is said of a word that is amiss, or None: of a symbol with another byte, of a small letter in a rule, of what is for
+    `expand`, of a name with arguments, or of a word that is no name."""
+    due, small = front[-1] in "{<|=,;(", word[:1].islower()
+    is_joined = re.match(rb"[A-Za-z0-9-][_'\x80-\xff]", text[at - 1 :])
+    if is_joined and re.search(SYMBOL_LAST, front) or due and re.match(rb"[A-Z0-9][A-Za-z0-9]*-", word):
+        return SYMBOLS
+    if due and small and (stand_of(front) or " ")[0] in ("{", ";", "><"):
+        return EXPANDED if re.match(rb"(copy|erase)[ \t\r\n]+[A-Za-z0-9-]", text[at:]) else RULE_SYMBOLS
+    behind = text[at + len(word) :].lstrip(b" \t\r\n")
+    named = re.search(r"(?<![A-Za-z0-9-])[a-z][A-Za-z0-9-]*$", front)
+    if due and small and behind.startswith(b"(") or text.startswith(b"(", at) and named:
+        return NO_ARGUMENTS
+    return NAMES if is_joined or due and small and not NAME.fullmatch(word) else None
+
+
+def sought_behind(front):
+    """What is looked for behind a term that ends a text, or None where no term stands there."""
+    opens = "( or " if re.search(SYMBOL_LAST, front) else ""
+    stand = stand_of(front)
+    if not stand:
         return opens + ", or )"
-    mark, behind = re.search(r"(><|[{};<>|=])([^{};<>|=]*)$", front).groups()
+    mark, behind = stand
     if mark == "=" and "," not in behind:
         return opens + ", or >"
     sought = {"{": "><", ";": "><", "><": "; or }", "<": ", or |", "|": "=", "=": "="}.get(mark)
@@ -214,12 +241,13 @@ def sought_behind(front):
 
 def sentence_of_syntax(text, at, kind):
     """What is said at the place of a fault of syntax. A text that begins otherwise may be of another kind, there are no comments,
-    and a word with a small letter where a term may stand was to be a name, as is one that goes on with a byte of no text. A name has
-    no arguments. Behind a mark and behind a term the sentence tells what is looked for."""
+    and a word may be amiss. Rules are separated by semicolons, of which none ends them. Behind a mark and behind a term the sentence
+    tells what is looked for."""
     if at == len(text):
-        return f"the text ends before its {kind} does"
+        return f"the text ends before its {kind} does: {FORMS[kind]}"
     mark, other, of = ("<", b"{", "a system") if kind == "configuration" else ("{", b"<", "a configuration")
     front, word = text[:at].strip(b" \t\r\n").decode("latin-1"), re.match(rb"[A-Za-z0-9-]*", text[at:]).group()
+    front = re.sub(r">[ \t\r\n]+<", "><", front)
     if not front:
         if text[at : at + 1] == other:
             return f"a {kind} begins with {mark}, and this is {of}" + (MADE_SYSTEM if kind == "system" else "")
@@ -228,18 +256,20 @@ def sentence_of_syntax(text, at, kind):
         return NO_COMMENTS if text.startswith(COMMENTS, at) else f"a {kind} begins with {mark}"
     if text.startswith(COMMENTS, at):
         return NO_COMMENTS
-    is_joined = re.match(rb"[A-Za-z0-9-][^{}<>|=,;() \t\r\n]", text[at - 1 :])
-    if is_joined or front[-1] in "{<|=,;(" and word[:1].islower() and not NAME.fullmatch(word):
-        return NAMES
-    if text[at : at + 1] == b"(" and re.search(r"(?<![A-Za-z0-9-])[a-z][A-Za-z0-9-]*$", front):
-        return NO_ARGUMENTS
-    if front[-1] == "(" and text[at : at + 1] == b")":
-        return "a symbol without arguments has no parentheses"
+    if slip := slip_of(text, at, front, word):
+        return slip
+    here = text[at : at + 1].decode("latin-1")
+    if front[-1] + here in ("()", ";}"):
+        return {"(": "a symbol without arguments has no parentheses", ";": "there is no ; before }"}[front[-1]]
     if front[-1].isalnum() or front[-1] in "-)":
+        if here == "," and (stand_of(front) or " ")[0] == "><":
+            return "rules are separated by ;"
         sought = sought_behind(front)
         return f"{sought} is looked for here" if sought else f"no {kind} goes on with this"
     if kind == "system" and front.endswith("><"):
         return "a symbol is looked for here"
+    if re.search(r"[{;][^{}<>|=;]*>$", front):
+        return "< is looked for here"
     return (BEHIND | BEHIND_OF[kind]).get(front[-1], f"no {kind} goes on with this")
 
 

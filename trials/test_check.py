@@ -240,14 +240,14 @@ class Check(Trial):
     def test_a_path_with_bytes_that_are_not_shown(self):
         path = self.room / "a\nb\x7f\u00e9\x9b.ic"
         path.write_text("<|")
-        told = f"{self.room}/a?b?????.ic:1:3: bad syntax: the text ends before its configuration does"
+        told = f"{self.room}/a?b?????.ic:1:3: bad syntax: the text ends before its configuration does: <INTERFACE|EQUATIONS>"
         self.refuses("check", path, out=[told], line="faults", status=1)
 
     def test_objects_have_paths_with_quotation_marks_backslashes_and_other_bytes_as_they_are(self):
         for name in ('a"b\\c.ic', "a\nb\t\x01\x1f\x7f\u00e9\U0001f600.ic", "a: b: 1:2.ic", "warning"):
             path = self.room / name
             path.write_text("<|")
-            sentence = "the text ends before its configuration does"
+            sentence = "the text ends before its configuration does: <INTERFACE|EQUATIONS>"
             wanted = [("file", str(path)), ("line", 1), ("column", 3), ("fault", "bad syntax"), ("sentence", sentence)]
             self.objects([wanted], (1, b"icserve: faults\n"), path)
 

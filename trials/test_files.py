@@ -117,7 +117,7 @@ class Files(Trial):
 
     def test_check_reads_standard_input_for_a_hyphen(self):
         path = self.text("<|", "bad.ic")
-        told = "1:3: bad syntax: the text ends before its configuration does"
+        told = "1:3: bad syntax: the text ends before its configuration does: <INTERFACE|EQUATIONS>"
         self.runs("check", "-", given="<|>")
         self.refuses("check", "-", given="<|", out=[f"-:{told}"], line="faults", status=1)
         self.refuses("check", path, "-", path, given="<|", out=[f"{path}:{told}", f"-:{told}", f"{path}:{told}"], line="faults", status=1)

@@ -1,6 +1,6 @@
 -- To be believed: what stands where a text doesn't go on, as far as it tells what is amiss (this
 -- project's choice).
-use Rattle.std.specs.Prelude.{ℕ, ◌-◌, ◌==◌, List, [], ◌∷◌, Bool, true, false, ◌&&◌, ◌||◌, not, Option, None, Some, codes, length, nat_eq, slice_get, take, drop, if◌then◌else◌}
+use Rattle.std.specs.Prelude.{ℕ, ◌-◌, ◌==◌, List, [], ◌∷◌, Bool, true, false, ◌&&◌, ◌||◌, not, Option, None, Some, codes, length, nat_eq, nat_le, slice_get, take, drop, if◌then◌else◌}
 use Rattle.std.specs.Char.{is_ascii_digit, is_ascii_lowercase, is_ascii_uppercase}
 use Rattle.std.specs.List.{list_all, list_any, starts_with}
 use Rattle.std.specs.Str.{bytes_eq}
@@ -8,7 +8,8 @@ use Rattle.ic_text.specs.Name.{is_numeral}
 use Rattle.ic_text.specs.Token.{is_blank, is_word_byte}
 use Rattle.ic_diagnostics.specs.Lines.{trimmed}
 use Rattle.ic_diagnostics.specs.declared.sights.Sight.{Sight}
-use Rattle.ic_diagnostics.specs.declared.sights.Sight.TheVariants.{End, SystemMark, ConfigMark, CommandWord, Comment, NoName, Applied, Empty, Argument, After, Crossed, Front, Behind}
+use Rattle.ic_diagnostics.specs.declared.sights.Sight.TheVariants.{End, SystemMark, ConfigMark, CommandWord, Comment, NoName, NoSymbol, Small, Expanded, Applied, Empty, Ended, Listed, Argument, After, Crossing, Crossed, Front, Behind}
+use Rattle.ic_diagnostics.specs.declared.stands.Spot.{Spot}
 use Rattle.ic_diagnostics.specs.declared.stands.Stand.{Stand}
 use Rattle.ic_diagnostics.specs.declared.stands.Stand.TheVariants as standing
 use Rattle.ic_diagnostics.specs.Stands.{spot_of}
@@ -29,7 +30,8 @@ is_command word = list_any (λ w. bytes_eq word w) command_words
 -- a comment begins so in other languages
 abbrev pub opens_comment : List ℕ → Bool
 opens_comment text = starts_with nat_eq text (codes "#")
-    || (starts_with nat_eq text (codes "//") || starts_with nat_eq text (codes "--"))
+    || (starts_with nat_eq text (codes "//")
+    || (starts_with nat_eq text (codes "/*") || starts_with nat_eq text (codes "--")))
 
 -- at the front of a text: a mark or a word with which a text of some kind begins
 abbrev pub front_sight : List ℕ → Sight
@@ -53,15 +55,16 @@ last_byte front = slice_get (trimmed front) (length (trimmed front) - 1)
 abbrev pub is_term_due : List ℕ → Bool
 is_term_due front = opens_term (last_byte front)
 
-abbrev pub is_mark : ℕ → Bool
-is_mark b = list_any (λ m. b == m) (codes "{}<>|=,;()")
+-- a byte of no text with which a word is mostly meant to go on: `_`, `'`, or one past ASCII
+abbrev pub is_stray : ℕ → Bool
+is_stray b = b == 95 || (b == 39 || nat_le 128 b)
 
--- on the two sides of a place stand a byte of a word, and one of no word and no mark
+-- on the two sides of a place stand a byte of a word, and one with which it was to go on
 abbrev pub joins : (before here : Option ℕ) → Bool
-joins (Some b) (Some d) = is_word_byte b && not (is_mark d)
+joins (Some b) (Some d) = is_word_byte b && is_stray d
 joins before here = false
 
--- a word at the end of a text goes on with a byte that is in no text, as in `x_1`
+-- a word at the end of a text goes on with such a byte, as in `x_1`
 abbrev pub is_joined : (front rest : List ℕ) → Bool
 is_joined front rest = joins (slice_get front (length front - 1)) (slice_get rest 0)
 
@@ -107,44 +110,124 @@ is_second standing.Left = false
 is_second standing.Right = false
 is_second standing.Over = false
 
--- after a mark: the `<` of `><`, or any other
+-- after a mark: the `>` of `><`, its `<`, or any other
 abbrev pub mark_sight : Option ℕ → Stand → Sight
 mark_sight None stand = Front
-mark_sight (Some b) stand = if b == 60 && is_second stand then Crossed else Behind b
+mark_sight (Some b) stand = if b == 62 && is_second stand then Crossing
+    else (if b == 60 && is_second stand then Crossed else Behind b)
 
 -- a word that begins with a small letter, as names do, and isn't one
 abbrev pub is_misnamed : List ℕ → Bool
 is_misnamed [] = false
 is_misnamed (b ∷ bs) = is_ascii_lowercase b && not (is_numeral bs)
 
--- no name: such a word where a term may stand, or a word that goes on with a byte of no text
+-- no name: such a word where a term may stand, or a word that goes on with a stray byte
 abbrev pub is_no_name : (front rest : List ℕ) → Bool
 is_no_name front rest =
     (is_term_due front && is_misnamed (first_word rest)) || is_joined front rest
+
+abbrev pub has_dash : List ℕ → Bool
+has_dash word = list_any (λ b. b == 45) word
+
+-- a word that begins as symbols do, and has a `-`
+abbrev pub is_dashed : List ℕ → Bool
+is_dashed word = is_symbol word && has_dash word
+
+-- no symbol: such a word where a term may stand, or a symbol that goes on with a stray byte, as in
+-- `X_1`
+abbrev pub is_no_symbol : (front rest : List ℕ) → Bool
+is_no_symbol front rest = (is_term_due front && is_dashed (first_word rest))
+    || (is_joined front rest && is_symbol (last_word front))
 
 -- a word that begins as names do
 abbrev pub begins_as_name : List ℕ → Bool
 begins_as_name [] = false
 begins_as_name (b ∷ bs) = is_ascii_lowercase b
 
+-- in a rule, before `><` or after it
+abbrev pub is_in_rule : Stand → Bool
+is_in_rule standing.First = true
+is_in_rule standing.Second = true
+is_in_rule standing.Front = false
+is_in_rule standing.Rules = false
+is_in_rule standing.Interface = false
+is_in_rule standing.Left = false
+is_in_rule standing.Right = false
+is_in_rule standing.Over = false
+
+-- in a rule, in no agent's parentheses
+abbrev pub is_on_side : Spot → Bool
+is_on_side spot = spot.depth == 0 && is_in_rule spot.stand
+
+-- where one of the two symbols of a rule may stand, a word begins as names do
+abbrev pub is_small : (front rest : List ℕ) → Bool
+is_small front rest =
+    is_term_due front && (is_on_side (spot_of front) && begins_as_name (first_word rest))
+
 -- a parenthesis opens
 abbrev pub opens : Option ℕ → Bool
 opens None = false
 opens (Some b) = b == 40
 
--- a name at the end of a text is given arguments, as in `s(x)`
-abbrev pub is_applied : (front rest : List ℕ) → Bool
-is_applied front rest = opens (slice_get rest 0) && begins_as_name (last_word (trimmed front))
+-- the first byte of a text that is no blank
+abbrev pub first_byte : List ℕ → Option ℕ
+first_byte [] = None
+first_byte (b ∷ bs) = if is_blank b then first_byte bs else Some b
 
--- further on: what is amiss by itself, or anything else, by what stands before it
+-- what follows the word with which a text begins
+abbrev pub behind_word : List ℕ → List ℕ
+behind_word [] = []
+behind_word (b ∷ bs) = if is_word_byte b then behind_word bs else b ∷ bs
+
+abbrev pub begins_word : Option ℕ → Bool
+begins_word None = false
+begins_word (Some b) = is_word_byte b
+
+-- the words for which `expand` writes rules
+abbrev pub is_spread : List ℕ → Bool
+is_spread word = bytes_eq word (codes "copy") || bytes_eq word (codes "erase")
+
+-- a text begins with such a word, and another word follows it, as in `copy S`
+abbrev pub opens_spread : List ℕ → Bool
+opens_spread text = is_spread (first_word text) && begins_word (first_byte (behind_word text))
+
+-- a text begins with a word that begins as names do and is given arguments, as in `succ(x)`
+abbrev pub opens_applied : List ℕ → Bool
+opens_applied text = begins_as_name (first_word text) && opens (first_byte (behind_word text))
+
+-- such a word stands where a term may stand, or one at the end of a text is given arguments
+abbrev pub is_applied : (front rest : List ℕ) → Bool
+is_applied front rest = (is_term_due front && opens_applied rest)
+    || (opens (slice_get rest 0) && begins_as_name (last_word (trimmed front)))
+
+-- `}` after `;`
+abbrev pub ends_rules : (before here : Option ℕ) → Bool
+ends_rules (Some b) (Some d) = b == 59 && d == 125
+ends_rules before here = false
+
+-- a comma after a rule
+abbrev pub is_listed : Spot → (here : Option ℕ) → Bool
+is_listed spot None = false
+is_listed spot (Some d) = d == 44 && (spot.depth == 0 && is_second spot.stand)
+
+-- further on, where no word is amiss: a mark that is amiss by itself, or anything else, by what stands
+-- before it
+abbrev pub marked_sight : (front rest : List ℕ) → Sight
+marked_sight front rest =
+    if empties (last_byte front) (slice_get rest 0) then Empty
+    else (if ends_rules (last_byte front) (slice_get rest 0) then Ended
+    else (if ends_term (last_byte front)
+    then (if is_listed (spot_of front) (slice_get rest 0) then Listed else term_sight front)
+    else mark_sight (last_byte front) (spot_of front).stand))
+
+-- further on: a comment, a word that is amiss, or anything else
 abbrev pub inner_sight : (front rest : List ℕ) → Sight
 inner_sight front rest =
     if opens_comment rest then Comment
-    else (if is_no_name front rest then NoName
+    else (if is_no_symbol front rest then NoSymbol
+    else (if is_small front rest then (if opens_spread rest then Expanded else Small)
     else (if is_applied front rest then Applied
-    else (if empties (last_byte front) (slice_get rest 0) then Empty
-    else (if ends_term (last_byte front) then term_sight front
-    else mark_sight (last_byte front) (spot_of front).stand))))
+    else (if is_no_name front rest then NoName else marked_sight front rest))))
 
 -- what stands at a place of a text; the place is at the front where only blanks stand before it
 abbrev pub sight_at : List ℕ → ℕ → Sight

@@ -23,7 +23,7 @@ use Rattle.ic_streams.specs.declared.fault.StreamFault.TheVariants.{Text}
 use Rattle.ic_diagnostics.specs.declared.telling.Kind.{Kind}
 use Rattle.ic_diagnostics.specs.declared.telling.Kind.TheVariants.{Config, System}
 use Rattle.ic_diagnostics.specs.declared.sights.Sight.{Sight}
-use Rattle.ic_diagnostics.specs.declared.sights.Sight.TheVariants.{End, SystemMark, ConfigMark, CommandWord, Comment, NoName, Applied, Empty, Argument, After, Crossed, Behind}
+use Rattle.ic_diagnostics.specs.declared.sights.Sight.TheVariants.{End, SystemMark, ConfigMark, CommandWord, Comment, NoName, NoSymbol, Small, Expanded, Applied, Empty, Ended, Listed, Argument, After, Crossing, Crossed, Behind}
 use Rattle.ic_diagnostics.specs.declared.stands.Stand.{Stand}
 use Rattle.ic_diagnostics.specs.declared.stands.Stand.TheVariants as standing
 use Rattle.ic_diagnostics.specs.Lines.{place_lines}
@@ -89,14 +89,26 @@ applied_sentence = codes "a name has no arguments: names begin with a to z, and 
 abbrev pub empty_sentence : List ℕ
 empty_sentence = codes "a symbol without arguments has no parentheses"
 
+-- what a symbol has, where a word that begins as one has another byte
+abbrev pub symbol_sentence : List ℕ
+symbol_sentence = codes "a symbol has letters and digits only"
+
+-- what the symbols of a rule are, where a word begins with a small letter
+abbrev pub small_sentence : List ℕ
+small_sentence = codes "both symbols of a rule begin with A to Z or 0 to 9"
+
+abbrev pub expanded_sentence : List ℕ
+expanded_sentence = codes "`icserve expand` writes the rules for which copy and erase stand"
+
 -- what is amiss where a configuration doesn't go on, by what stands there: the text may be of another
 -- kind, a system or lines of commands
 abbrev pub config_sentence : Sight → List ℕ
-config_sentence End = codes "the text ends before its configuration does"
+config_sentence End = codes "the text ends before its configuration does: <INTERFACE|EQUATIONS>"
 config_sentence SystemMark = codes "a configuration begins with <, and this is a system"
 config_sentence CommandWord = codes "a configuration begins with <, and commands are served"
 config_sentence Comment = comment_sentence
 config_sentence NoName = name_sentence
+config_sentence NoSymbol = symbol_sentence
 config_sentence Applied = applied_sentence
 config_sentence Empty = empty_sentence
 config_sentence (Argument opens) = argument_sentence opens
@@ -107,17 +119,23 @@ config_sentence sight = codes "a configuration begins with <"
 
 -- the same of a system, where the text may be a configuration or lines of commands
 abbrev pub system_sentence : Sight → List ℕ
-system_sentence End = codes "the text ends before its system does"
+system_sentence End = codes "the text ends before its system does: {RULES} <INTERFACE|EQUATIONS>"
 system_sentence ConfigMark = codes "a system begins with {, and this is a configuration: "
     ++ codes "{} before it makes it a system"
 system_sentence CommandWord = codes "a system begins with {, and commands are served"
 system_sentence Comment = comment_sentence
 system_sentence NoName = name_sentence
+system_sentence NoSymbol = symbol_sentence
+system_sentence Small = small_sentence
+system_sentence Expanded = expanded_sentence
 system_sentence Applied = applied_sentence
 system_sentence Empty = empty_sentence
+system_sentence Ended = codes "there is no ; before }"
+system_sentence Listed = codes "rules are separated by ;"
 system_sentence (Argument opens) = argument_sentence opens
 system_sentence (After stand opens) =
     stand_sentence (codes "no system goes on with this") stand opens
+system_sentence Crossing = codes "< is looked for here"
 system_sentence Crossed = codes "a symbol is looked for here"
 system_sentence (Behind b) = behind_in_system b
 system_sentence sight = codes "a system begins with {"

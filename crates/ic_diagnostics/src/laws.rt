@@ -23,8 +23,8 @@ ghost use Rattle.ic_streams.specs.declared.fault.StreamFault.TheVariants.{Text};
 ghost use Rattle.ic_diagnostics.specs.declared.telling.Kind.{Kind};
 ghost use Rattle.ic_diagnostics.specs.declared.telling.Kind.TheVariants.{Config, System};
 ghost use Rattle.ic_diagnostics.specs.Sights.{command_words, first_word, is_again};
-ghost use Rattle.ic_diagnostics.specs.Telling.{Appended, IsOfArities, IsToldOf, applied_sentence, arity_sentence, comment_sentence, limit_sentence};
-ghost use Rattle.ic_diagnostics.specs.Telling.{limit_sentence_within, name_sentence, namecount_sentence, sentence};
+ghost use Rattle.ic_diagnostics.specs.Telling.{Appended, IsOfArities, IsToldOf, applied_sentence, arity_sentence, comment_sentence, expanded_sentence, limit_sentence};
+ghost use Rattle.ic_diagnostics.specs.Telling.{limit_sentence_within, name_sentence, namecount_sentence, sentence, small_sentence, symbol_sentence};
 ghost use Rattle.ic_diagnostics.specs.Lines.{IsMarked, begins_with_feed, column, feed, first_line, head_of, is_ascii, is_feed, is_printable, last_line, line_number, margin, picture_of, place_lines, shown, shown_before, shown_behind, told_at};
 
 /// A line feed ends a line and begins one. The last line is what follows the last line feed.
@@ -137,9 +137,9 @@ pub fn other_texts_are_told_so()
         ≡ codes "a system begins with {, and commands are served")) command_words }
     ensures end { (text : List ℕ) →
         (sentence Config text Syntax (length text) Nothing
-        ≡ codes "the text ends before its configuration does")
+        ≡ codes "the text ends before its configuration does: <INTERFACE|EQUATIONS>")
         × (sentence System text Syntax (length text) Nothing
-        ≡ codes "the text ends before its system does") }
+        ≡ codes "the text ends before its system does: {RULES} <INTERFACE|EQUATIONS>") }
 {}
 
 /// After a mark, and after a term, the sentence tells what is looked for there.
@@ -155,15 +155,17 @@ pub fn what_is_looked_for_is_told()
         ≡ codes "nothing is looked for behind a configuration" }
     ensures rules { sentence System (codes "{,") Syntax 1 Nothing
         ≡ codes "a symbol or } is looked for here" }
-    ensures rule { sentence System (codes "{A><B;}") Syntax 6 Nothing
+    ensures rule { sentence System (codes "{A><B;<") Syntax 6 Nothing
         ≡ codes "a symbol is looked for here" }
     ensures behind_rules { sentence System (codes "{} |") Syntax 3 Nothing
+        ≡ codes "< is looked for here" }
+    ensures crossing { sentence System (codes "{A>B}") Syntax 3 Nothing
         ≡ codes "< is looked for here" }
     ensures crossed { sentence System (codes "{A><}") Syntax 4 Nothing
         ≡ codes "a symbol is looked for here" }
     ensures first { sentence System (codes "{Add(x,x)=Z}") Syntax 9 Nothing
         ≡ codes ">< is looked for here" }
-    ensures second { sentence System (codes "{A><B(x),C><D}") Syntax 8 Nothing
+    ensures second { sentence System (codes "{A><B(x) C><D}") Syntax 9 Nothing
         ≡ codes "; or } is looked for here" }
     ensures interface { sentence System (codes "{} <a b|>") Syntax 6 Nothing
         ≡ codes ", or | is looked for here" }
@@ -175,18 +177,49 @@ pub fn what_is_looked_for_is_told()
     ensures argument { sentence Config (codes "<r|r=S(x>") Syntax 8 Nothing
         ≡ codes ", or ) is looked for here" }
     ensures symbols { map (λ text. sentence System text Syntax 6 Nothing)
-        (codes "{A><B , C><D}" ∷ codes "{Add  x><B}" ∷ codes "{}  <A;>" ∷ codes "{A(B  C)><D}" ∷ [])
+        (codes "{A><B C><D}" ∷ codes "{Add  x><B}" ∷ codes "{}  <A;>" ∷ codes "{A(B  C)><D}" ∷ [])
         ≡ codes "( or ; or } is looked for here" ∷ codes "( or >< is looked for here"
         ∷ codes "( or , or | is looked for here" ∷ codes "( or , or ) is looked for here" ∷ [] }
+    ensures others { map (λ text. sentence System text Syntax 5 Nothing)
+        (codes "{A><B: C><D}" ∷ codes "{A><B. C><D}" ∷ codes "{}<|r~Z>" ∷ [])
+        ≡ codes "( or ; or } is looked for here" ∷ codes "( or ; or } is looked for here"
+        ∷ codes "= is looked for here" ∷ [] }
     ensures sides { map (λ text. sentence Config text Syntax 6 Nothing)
         (codes "<r|Z  ><B>" ∷ codes "<r|r=Z;>" ∷ [])
         ≡ codes "( or = is looked for here" ∷ codes "( or , or > is looked for here" ∷ [] }
     ensures empty { sentence Config (codes "<r|r=Nil()>") Syntax 9 Nothing
         ≡ codes "a symbol without arguments has no parentheses" }
     ensures joined { map (λ text. sentence Config text Syntax 4 Nothing)
-        (codes "<r|x_1=Z>" ∷ codes "<r|X'=Z>" ∷ []) ≡ name_sentence ∷ name_sentence ∷ [] }
+        (codes "<r|x_1=Z>" ∷ codes "<r|x'=Z>" ∷ []) ≡ name_sentence ∷ name_sentence ∷ [] }
     ensures applied { map (λ text. sentence Config text Syntax 6 Nothing)
         (codes "<r|r=s(Z)>" ∷ codes "<r|A(x(y))=Z>" ∷ []) ≡ applied_sentence ∷ applied_sentence ∷ [] }
+    ensures long_applied { map (λ text. sentence Config text Syntax 5 Nothing)
+        (codes "<r|r=succ(Z)>" ∷ codes "<r|r=succ (Z)>" ∷ codes "<r|A(all(x))=Z>" ∷ [])
+        ≡ applied_sentence ∷ applied_sentence ∷ applied_sentence ∷ [] }
+{}
+
+/// Of a rule it is told that both symbols begin with a capital or a digit, where a word there begins with a small letter,
+/// with arguments or without. `copy` and `erase` before a word are told to be for `expand`. A symbol with `_`, `'` or `-`
+/// is told to have letters and digits only. Rules are told to be separated by `;`, and not to end with one.
+pub fn rules_that_slip_are_told()
+    ensures first { map (λ text. sentence System text Syntax 1 Nothing)
+        (codes "{all(T)><Nil}" ∷ codes "{all><Nil}" ∷ codes "{a><B}" ∷ [])
+        ≡ small_sentence ∷ small_sentence ∷ small_sentence ∷ [] }
+    ensures second { map (λ text. sentence System text Syntax 4 Nothing)
+        (codes "{A><nil}" ∷ codes "{A><b(T)}" ∷ []) ≡ small_sentence ∷ small_sentence ∷ [] }
+    ensures further { sentence System (codes "{A><B; all(T)><Nil}") Syntax 7 Nothing ≡ small_sentence }
+    ensures expanded { map (λ text. sentence System text Syntax 1 Nothing)
+        (codes "{copy Dup;A><B}" ∷ codes "{erase Era}" ∷ codes "{copy(x,x)><Z}" ∷ [])
+        ≡ expanded_sentence ∷ expanded_sentence ∷ small_sentence ∷ [] }
+    ensures argument { sentence System (codes "{A(all)><B}") Syntax 3 Nothing ≡ name_sentence }
+    ensures joined { map (λ text. sentence System text Syntax 5 Nothing)
+        (codes "{Cons_1><B}" ∷ codes "{Cons'><B}" ∷ []) ≡ symbol_sentence ∷ symbol_sentence ∷ [] }
+    ensures dashed { sentence System (codes "{Cons-1><B}") Syntax 1 Nothing ≡ symbol_sentence }
+    ensures listed { sentence System (codes "{A><B, C><D}") Syntax 5 Nothing
+        ≡ codes "rules are separated by ;" }
+    ensures ended { map (λ text. sentence System text Syntax 7 Nothing)
+        (codes "{A><B; }" ∷ codes "{A><B ;}" ∷ [])
+        ≡ codes "there is no ; before }" ∷ codes "there is no ; before }" ∷ [] }
 {}
 
 /// What begins a comment in other languages is told not to be one, at the front of a text and further on.
@@ -194,10 +227,10 @@ pub fn comments_are_told()
     ensures front { (kind : Kind) (blanks rest : List ℕ) → list_all is_blank blanks ≡ true →
         AllByRecursion (λ mark. sentence kind (blanks ++ (mark ++ rest)) Syntax (length blanks) Nothing
         ≡ codes "there are no comments; `icserve expand` takes out those that begin with #")
-        (codes "#" ∷ codes "//" ∷ codes "--" ∷ []) }
+        (codes "#" ∷ codes "//" ∷ codes "/*" ∷ codes "--" ∷ []) }
     ensures inner { map (λ mark. sentence System (codes "{A><B} " ++ mark) Syntax 7 Nothing)
-        (codes "# <|>" ∷ codes "// <|>" ∷ codes "-- <|>" ∷ [])
-        ≡ comment_sentence ∷ comment_sentence ∷ comment_sentence ∷ [] }
+        (codes "# <|>" ∷ codes "// <|>" ∷ codes "/* <|>" ∷ codes "-- <|>" ∷ [])
+        ≡ comment_sentence ∷ comment_sentence ∷ comment_sentence ∷ comment_sentence ∷ [] }
 {}
 
 /// A name that stands in a rule for the only time, or for the third time, is told with that. What stands in another rule

@@ -3,8 +3,8 @@
 ghost use Rattle.std.specs.Prelude.{◌≡◌, ◌≤◌, false, length};
 ghost use Rattle.std.specs.List.{list_all};
 ghost use Rattle.ic_text.specs.Token.{is_blank};
-ghost use Rattle.ic_diagnostics.specs.Sights.{begins_rule, empties, ends_term, first_word, front_sight, inner_sight, is_command, is_joined, is_mark, is_misnamed, is_no_name};
-ghost use Rattle.ic_diagnostics.specs.Sights.{begins_as_name, is_applied, opens};
+ghost use Rattle.ic_diagnostics.specs.Sights.{begins_rule, begins_word, behind_word, empties, ends_rules, ends_term, first_byte, first_word, front_sight, has_dash, inner_sight, is_command, is_dashed, is_in_rule, is_joined};
+ghost use Rattle.ic_diagnostics.specs.Sights.{begins_as_name, is_applied, is_listed, is_misnamed, is_no_name, is_no_symbol, is_on_side, is_small, is_spread, is_stray, marked_sight, opens, opens_applied, opens_spread};
 ghost use Rattle.ic_diagnostics.specs.Sights.{is_again, is_second, is_symbol, is_term_due, joins, last_byte, last_word, mark_sight, opens_comment, opens_term, rule_front, sight_at, stands_in, term_sight};
 
 use crate::lines::trimmed;
@@ -24,17 +24,30 @@ pub enum Sight {
     CommandWord,
     /// What begins a comment in other languages.
     Comment,
-    /// Where a term may stand, a word that begins as a name does and isn't one; or a word that goes on with a byte of no
-    /// text.
+    /// Where a term may stand, a word that begins as a name does and isn't one; or a word that goes on with `_`, `'` or a
+    /// byte past ASCII.
     NoName,
-    /// `(` after a name.
+    /// Where a term may stand, a word that begins as a symbol does and has a `-`; or a symbol that goes on with `_`, `'` or
+    /// a byte past ASCII.
+    NoSymbol,
+    /// Where one of the two symbols of a rule may stand, a word that begins with a small letter.
+    Small,
+    /// There, `copy` or `erase` before another word, as in texts for `expand`.
+    Expanded,
+    /// A word that begins with a small letter before `(`, or `(` after a name.
     Applied,
     /// `)` right after `(`.
     Empty,
+    /// `}` after `;`.
+    Ended,
+    /// A comma after a rule.
+    Listed,
     /// Anything else, after a term in an agent's parentheses, and whether the term may have arguments.
     Argument(bool),
     /// Anything else, after a term that stands there, and whether the term may have arguments.
     After(Stand, bool),
+    /// In a rule anything else, after `>`.
+    Crossing,
     /// Anything else, after `><`.
     Crossed,
     /// At the front, anything else.
@@ -53,6 +66,18 @@ pub fn first_word(text: &[u8]) -> &[u8]
         }
     }
     text
+}
+
+/// What follows the word with which a text begins.
+fn behind_word(text: &[u8]) -> &[u8]
+    ensures { result.now ≡ behind_word text.now }
+{
+    for (place, byte) in text.iter().enumerate() {
+        if !is_word_byte(*byte) {
+            return &text[place..];
+        }
+    }
+    &[]
 }
 
 /// Whether a command begins with a word.
@@ -117,36 +142,28 @@ pub fn opens_comment(text: &[u8]) -> bool
 {
     text.starts_with(b"#".as_slice())
         || text.starts_with(b"//".as_slice())
+        || text.starts_with(b"/*".as_slice())
         || text.starts_with(b"--".as_slice())
 }
 
-/// Whether a byte is a mark.
-fn is_mark(byte: u8) -> bool
-    ensures { result ≡ is_mark byte }
+/// Whether a word is mostly meant to go on with a byte of no text.
+fn is_stray(byte: u8) -> bool
+    ensures { result ≡ is_stray byte }
 {
-    byte == b'{'
-        || byte == b'}'
-        || byte == b'<'
-        || byte == b'>'
-        || byte == b'|'
-        || byte == b'='
-        || byte == b','
-        || byte == b';'
-        || byte == b'('
-        || byte == b')'
+    byte == b'_' || byte == b'\'' || byte >= 128
 }
 
-/// Whether a word would go on with a byte that is no mark, where these bytes stand on the two sides of a place.
+/// Whether a word was to go on with such a byte, where these bytes stand on the two sides of a place.
 fn joins(before: Option<u8>, here: Option<u8>) -> bool
     ensures { result ≡ joins before here }
 {
     match (before, here) {
-        (Some(before), Some(here)) => is_word_byte(before) && !is_mark(here),
+        (Some(before), Some(here)) => is_word_byte(before) && is_stray(here),
         (None, _) | (Some(_), None) => false,
     }
 }
 
-/// Whether a word at the end of a text goes on with a byte of no text.
+/// Whether a word at the end of a text goes on with such a byte.
 fn is_joined(front: &[u8], rest: &[u8]) -> bool
     ensures { result ≡ is_joined front.now rest.now }
 {
@@ -229,7 +246,9 @@ fn mark_sight(byte: Option<u8>, stand: Stand) -> Sight
 {
     match byte {
         Some(byte) => {
-            if byte == b'<' && is_second(stand) {
+            if byte == b'>' && is_second(stand) {
+                Sight::Crossing
+            } else if byte == b'<' && is_second(stand) {
                 Sight::Crossed
             } else {
                 Sight::Behind(byte)
@@ -263,19 +282,63 @@ fn front_sight(text: &[u8]) -> Sight
 fn inner_sight(front: &[u8], rest: &[u8]) -> Sight
     ensures { result ≡ inner_sight front.now rest.now }
 {
-    let last = last_byte(front);
     if opens_comment(rest) {
         Sight::Comment
-    } else if is_no_name(front, rest) {
-        Sight::NoName
+    } else if is_no_symbol(front, rest) {
+        Sight::NoSymbol
+    } else if is_small(front, rest) {
+        if opens_spread(rest) {
+            Sight::Expanded
+        } else {
+            Sight::Small
+        }
     } else if is_applied(front, rest) {
         Sight::Applied
-    } else if empties(last, rest.first().copied()) {
+    } else if is_no_name(front, rest) {
+        Sight::NoName
+    } else {
+        marked_sight(front, rest)
+    }
+}
+
+/// What stands there, where no word is amiss.
+fn marked_sight(front: &[u8], rest: &[u8]) -> Sight
+    ensures { result ≡ marked_sight front.now rest.now }
+{
+    let last = last_byte(front);
+    let here = rest.first().copied();
+    if empties(last, here) {
         Sight::Empty
+    } else if ends_rules(last, here) {
+        Sight::Ended
     } else if ends_term(last) {
-        term_sight(front)
+        if is_listed(spot_of(front), here) {
+            Sight::Listed
+        } else {
+            term_sight(front)
+        }
     } else {
         mark_sight(last, spot_of(front).stand)
+    }
+}
+
+/// Whether these bytes are a semicolon and the end of the rules.
+fn ends_rules(before: Option<u8>, here: Option<u8>) -> bool
+    ensures { result ≡ ends_rules before here }
+{
+    match (before, here) {
+        (Some(before), Some(here)) => before == b';' && here == b'}',
+        (None, _) | (Some(_), None) => false,
+    }
+}
+
+/// Whether a byte is a comma after a rule.
+fn is_listed(spot: Spot, here: Option<u8>) -> bool
+    ensures { result ≡ is_listed spot here }
+{
+    match here {
+        Some(byte) => byte == b',' && spot.depth == 0 && is_second(spot.stand),
+        None => false,
     }
 }
 
@@ -284,6 +347,53 @@ fn is_no_name(front: &[u8], rest: &[u8]) -> bool
     ensures { result ≡ is_no_name front.now rest.now }
 {
     (is_term_due(front) && is_misnamed(first_word(rest))) || is_joined(front, rest)
+}
+
+/// Whether a word has a `-`.
+fn has_dash(word: &[u8]) -> bool
+    ensures { result ≡ has_dash word.now }
+{
+    word.iter().any(|byte| *byte == b'-')
+}
+
+/// Whether a word begins as symbols do, and has a `-`.
+fn is_dashed(word: &[u8]) -> bool
+    ensures { result ≡ is_dashed word.now }
+{
+    is_symbol(word) && has_dash(word)
+}
+
+/// Whether a word is to stand between these bytes that is no symbol, or a symbol goes on there.
+fn is_no_symbol(front: &[u8], rest: &[u8]) -> bool
+    ensures { result ≡ is_no_symbol front.now rest.now }
+{
+    (is_term_due(front) && is_dashed(first_word(rest)))
+        || (is_joined(front, rest) && is_symbol(last_word(front)))
+}
+
+/// Whether a place is in a rule.
+fn is_in_rule(stand: Stand) -> bool
+    ensures { result ≡ is_in_rule stand }
+{
+    match stand {
+        Stand::First | Stand::Second => true,
+        Stand::Front | Stand::Rules | Stand::Interface | Stand::Left | Stand::Right | Stand::Over =>
+            false,
+    }
+}
+
+/// Whether a place is in a rule, and in no agent's parentheses.
+fn is_on_side(spot: Spot) -> bool
+    ensures { result ≡ is_on_side spot }
+{
+    spot.depth == 0 && is_in_rule(spot.stand)
+}
+
+/// Whether a word begins with a small letter, where one of the two symbols of a rule may stand.
+fn is_small(front: &[u8], rest: &[u8]) -> bool
+    ensures { result ≡ is_small front.now rest.now }
+{
+    is_term_due(front) && is_on_side(spot_of(front)) && begins_as_name(first_word(rest))
 }
 
 /// Whether a word begins as names do.
@@ -306,11 +416,55 @@ fn opens(byte: Option<u8>) -> bool
     }
 }
 
-/// Whether a name at the end of a text is given arguments.
+/// The first byte of a text that is no blank.
+fn first_byte(text: &[u8]) -> Option<u8>
+    ensures { result ≡ first_byte text.now }
+{
+    for byte in text {
+        if !is_blank(*byte) {
+            return Some(*byte);
+        }
+    }
+    None
+}
+
+/// Whether a byte is of a word.
+fn begins_word(byte: Option<u8>) -> bool
+    ensures { result ≡ begins_word byte }
+{
+    match byte {
+        Some(byte) => is_word_byte(byte),
+        None => false,
+    }
+}
+
+/// Whether `expand` writes rules for a word.
+fn is_spread(word: &[u8]) -> bool
+    ensures { result ≡ is_spread word.now }
+{
+    word == b"copy".as_slice() || word == b"erase".as_slice()
+}
+
+/// Whether a text begins with such a word and goes on with another word.
+fn opens_spread(text: &[u8]) -> bool
+    ensures { result ≡ opens_spread text.now }
+{
+    is_spread(first_word(text)) && begins_word(first_byte(behind_word(text)))
+}
+
+/// Whether a text begins with a word that begins as names do and is given arguments.
+fn opens_applied(text: &[u8]) -> bool
+    ensures { result ≡ opens_applied text.now }
+{
+    begins_as_name(first_word(text)) && opens(first_byte(behind_word(text)))
+}
+
+/// Whether a word that begins as names do is given arguments, where a term may stand or at the end of a text.
 fn is_applied(front: &[u8], rest: &[u8]) -> bool
     ensures { result ≡ is_applied front.now rest.now }
 {
-    opens(rest.first().copied()) && begins_as_name(last_word(trimmed(front)))
+    (is_term_due(front) && opens_applied(rest))
+        || (opens(rest.first().copied()) && begins_as_name(last_word(trimmed(front))))
 }
 
 /// Whether these bytes are blanks.

@@ -35,6 +35,9 @@ and a symbol begins with A to Z or 0 to 9; `icserve expand` takes long names";
 const NO_ARGUMENTS: &[u8] = b"a name has no arguments: names begin with a to z, and symbols, \
 which may have them, with A to Z or 0 to 9";
 
+/// What a symbol has, where a word that begins as one has another byte.
+const SYMBOLS: &[u8] = b"a symbol has letters and digits only";
+
 /// What is looked for after a mark in a text of either kind; after another byte it is the other
 /// sentence.
 fn behind_mark(other: &'static [u8], byte: u8) -> &'static [u8]
@@ -136,11 +139,12 @@ fn config_sentence(sight: Sight) -> &'static [u8]
     ensures { result.now ≡ config_sentence sight }
 {
     match sight {
-        Sight::End => b"the text ends before its configuration does",
+        Sight::End => b"the text ends before its configuration does: <INTERFACE|EQUATIONS>",
         Sight::SystemMark => b"a configuration begins with <, and this is a system",
         Sight::CommandWord => b"a configuration begins with <, and commands are served",
         Sight::Comment => NO_COMMENTS,
         Sight::NoName => NAMES,
+        Sight::NoSymbol => SYMBOLS,
         Sight::Applied => NO_ARGUMENTS,
         Sight::Empty => NO_PARENTHESES,
         Sight::Argument(opens) => argument_sentence(opens),
@@ -148,7 +152,14 @@ fn config_sentence(sight: Sight) -> &'static [u8]
             stand_sentence(b"no configuration goes on with this", stand, opens)
         }
         Sight::Behind(byte) => behind_in_config(byte),
-        Sight::ConfigMark | Sight::Crossed | Sight::Front => b"a configuration begins with <",
+        Sight::ConfigMark
+        | Sight::Small
+        | Sight::Expanded
+        | Sight::Ended
+        | Sight::Listed
+        | Sight::Crossing
+        | Sight::Crossed
+        | Sight::Front => b"a configuration begins with <",
     }
 }
 
@@ -157,17 +168,23 @@ fn system_sentence(sight: Sight) -> &'static [u8]
     ensures { result.now ≡ system_sentence sight }
 {
     match sight {
-        Sight::End => b"the text ends before its system does",
+        Sight::End => b"the text ends before its system does: {RULES} <INTERFACE|EQUATIONS>",
         Sight::ConfigMark => {
             b"a system begins with {, and this is a configuration: {} before it makes it a system"
         }
         Sight::CommandWord => b"a system begins with {, and commands are served",
         Sight::Comment => NO_COMMENTS,
         Sight::NoName => NAMES,
+        Sight::NoSymbol => SYMBOLS,
+        Sight::Small => b"both symbols of a rule begin with A to Z or 0 to 9",
+        Sight::Expanded => b"`icserve expand` writes the rules for which copy and erase stand",
         Sight::Applied => NO_ARGUMENTS,
         Sight::Empty => NO_PARENTHESES,
+        Sight::Ended => b"there is no ; before }",
+        Sight::Listed => b"rules are separated by ;",
         Sight::Argument(opens) => argument_sentence(opens),
         Sight::After(stand, opens) => stand_sentence(b"no system goes on with this", stand, opens),
+        Sight::Crossing => b"< is looked for here",
         Sight::Crossed => b"a symbol is looked for here",
         Sight::Behind(byte) => behind_in_system(byte),
         Sight::SystemMark | Sight::Front => b"a system begins with {",

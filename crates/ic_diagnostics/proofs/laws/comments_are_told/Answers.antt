@@ -5,5 +5,8 @@ use Rattle.ic_diagnostics.proofs.laws.comments_are_told.Goals as goal
 pub returns-clause-front : goal.returns-clause-front
 returns-clause-front c = λ kind blanks rest all. (
   comment_told kind blanks (codes "#") rest all (λ more. refl),
-  (comment_told kind blanks (codes "//") rest all (λ more. refl), (comment_told kind blanks (codes "--") rest all (λ more. refl), tt)),
+  (
+    comment_told kind blanks (codes "//") rest all (λ more. refl),
+    (comment_told kind blanks (codes "/*") rest all (λ more. refl), (comment_told kind blanks (codes "--") rest all (λ more. refl), tt)),
+  ),
 )
