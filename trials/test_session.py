@@ -16,7 +16,7 @@ from worked_rows import expanded, rows
 
 LINES = (
     "the lines are submit NAME [BUDGET] {RULES} <CONFIG>, copy OLD NEW, pause NAME, resume NAME, cancel NAME, fetch NAME, "
-    "list and run K"
+    "list and run K; Ctrl-D ends the session"
 )
 END = "the end of the input ends a session: at a terminal, Ctrl-D"
 REFUSED = ["lists", f"submit two {TWO.text}", "fetch one two", "", "run 1001", "list", "submit a {A(x,x)><A} <|>", " run 007"]
@@ -63,7 +63,7 @@ class Session(Trial):
         answers = ["bad syntax", "bad syntax", "jobs", "bad syntax", "bad syntax", "refused nojob"]
         self.serves(self.jobs, given, answers, "--explain", err=told)
         helped = run("help", "serve").out.decode()
-        words = re.findall(r"\w+", LINES.partition("are ")[2])
+        words = re.findall(r"\w+", LINES.partition("are ")[2].partition(";")[0])
         missing = [it for it in words if it not in helped and it != "and"]
         self.equals("icserve help serve", "words of the lines that it hasn't", [], missing)
 

@@ -30,10 +30,11 @@ asks_end line at detail = false
 abbrev pub end_sentence : List ℕ
 end_sentence = codes "the end of the input ends a session: at a terminal, Ctrl-D"
 
--- the lines that there are
+-- the lines that there are, and how a session ends at a terminal
 abbrev pub lines_sentence : List ℕ
 lines_sentence = codes "the lines are submit NAME [BUDGET] {RULES} <CONFIG>, copy OLD NEW, "
-    ++ codes "pause NAME, resume NAME, cancel NAME, fetch NAME, list and run K"
+    ++ codes "pause NAME, resume NAME, cancel NAME, fetch NAME, list and run K; "
+    ++ codes "Ctrl-D ends the session"
 
 -- what is amiss at the place of a line's fault, or what lines there are, or how a session ends
 abbrev pub session_sentence : List ℕ → TextFault → ℕ → LineDetail → List ℕ

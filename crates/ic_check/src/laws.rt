@@ -373,8 +373,8 @@ pub fn places_of_lines_are_places_of_the_file()
 }
 
 /// What a session is told of a refused line is one line, with its number and its column; of a line that isn't refused
-/// nothing is told. Where `help` stands in place of a command, the lines that there are are told; where `quit` or `exit`
-/// does, how a session ends.
+/// nothing is told. Where `help` stands in place of a command, the lines that there are and how a session ends are told;
+/// where `quit` or `exit` does, how it ends.
 pub fn refusals_are_told_so()
     ensures one { (number : ℕ) (line : List ℕ) (fault : TextFault) (at : ℕ) (detail : LineDetail)
         → IsOneLine (refusal_line number line fault at detail) }
