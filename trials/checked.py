@@ -7,6 +7,7 @@ from collections import Counter
 
 import model
 import places
+from known import name_text
 
 MOST_BYTES = 16_777_216
 WORD = re.compile(rb"([A-Za-z0-9-]*)[ \t\r\n]*")
@@ -137,6 +138,10 @@ def warnings(rules, config):
     for place, it in enumerate(rules.rules, 1):
         if not {it.left, it.right} <= symbols:
             yield f"rule {place}, {texts[it.left]}><{texts[it.right]}, is never used"
+    names = Counter(node for term in model.terms_of(config) for node in term if node >= 0)
+    for name, count in names.items():
+        if count == 1:
+            yield f"the name {name_text(name)} stands only once"
 
 
 def of_whole(file, text, kind):

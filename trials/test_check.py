@@ -110,7 +110,12 @@ class Check(Trial):
             f"{add} <Z|>": ["rule 1, Add><Z, is never used", "rule 2, Add><S, is never used"],
             "{A><B} <|A=B>": [],
             "{A><B} <|A=A,B=A,B=B>": ["no rule for A><A", "no rule for B><B"],
-            "{A><B;D><D} <|A=x>": ["B stands only once", "rule 1, A><B, is never used", "rule 2, D><D, is never used"],
+            "{A><B;D><D} <|A=x>": [
+                "B stands only once",
+                "rule 1, A><B, is never used",
+                "rule 2, D><D, is never used",
+                "the name x stands only once",
+            ],
             "{} <x,A|x=A>": [],
             "{} <A|>": ["A stands only once"],
         }

@@ -341,6 +341,7 @@ check_help = text_of (codes "Prints the faults of texts with their places, and w
     ∷ codes "  net.ic: warning: B stands only once"
     ∷ codes "  net.ic: warning: C stands only once"
     ∷ codes "  net.ic: warning: rule 1, A><B, is never used"
+    ∷ codes "  net.ic: warning: the name x stands only once"
     ∷ [])
 
 abbrev pub batch_help : Text

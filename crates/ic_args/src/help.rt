@@ -320,6 +320,7 @@ Example:
   net.ic: warning: B stands only once
   net.ic: warning: C stands only once
   net.ic: warning: rule 1, A><B, is never used
+  net.ic: warning: the name x stands only once
 ";
 
 /// The help of `batch`.

@@ -1,17 +1,18 @@
 -- Each warning has its line in what is told.
 use Rattle.std.proofs.Common.{◌≡◌, ℕ, zero, suc, ◌+◌, ◌&&◌, ◌==◌, Bool, true, false, List, [], ◌∷◌, ◌++◌, Some, codes, slice_get, refl, sym, ap, ◌∙◌, append_assoc, append-nil, subst, arith}
 use Rattle.std.specs.List.{AllByRecursion, flat_map}
-use Rattle.ic_term.specs.Configuration.{Configuration}
+use Rattle.ic_term.specs.Configuration.{Configuration, configuration_names}
 use Rattle.ic_term.specs.Symbol.{Symbol}
 use Rattle.ic_term.specs.Tree.{Pair}
 use Rattle.ic_rules.specs.Rule.{Rule}
 use Rattle.ic_rules.specs.RuleSet.{Rules}
+use Rattle.ic_text.specs.Name.{name_text}
 use Rattle.ic_check.specs.Meanings.{HasNoRule, IsWarned, StandsOnce, faces}
 use Rattle.ic_check.specs.Reach.{IsReach}
 use Rattle.ic_check.specs.Symbols.{text_symbols}
-use Rattle.ic_check.specs.Warnings.{Warns, count_of, once_line, once_lines, pair_text, ruleless_line, ruleless_lines, unused_line, unused_lines, unused_words, warning_line}
+use Rattle.ic_check.specs.Warnings.{Warns, count_of, free_line, free_lines, once_line, once_lines, pair_text, ruleless_line, ruleless_lines, unused_line, unused_lines, unused_words, warning_line}
 use Rattle.ic_check.proofs.Once.{once_told}
-use Rattle.ic_check.proofs.Placed.{AreOf, all_once_of, all_ruleless_of, all_unused_of, any_words, both_of, either_of, lines_append, ruleless_of, told_of}
+use Rattle.ic_check.proofs.Placed.{AreOf, all_free_of, all_once_of, all_ruleless_of, all_unused_of, any_words, both_of, either_of, lines_append, ruleless_of, told_of}
 use Rattle.ic_check.proofs.Reached.{one_reach}
 use Rattle.ic_check.proofs.Stuck.{stuck_told}
 
@@ -93,6 +94,19 @@ each_unused place among rs (x ∷ xs) k (suc i) n r is at not =
     behind place (unused_words rs.symbols n r) (unused_line place among rs.symbols k x) (unused_lines place among rs.symbols (k + 1) xs)
     (either_of Any place (unused_words rs.symbols k x) tt (among x.left && among x.right)) (each_unused place among rs xs (k + 1) i n r (omega (arith, is)) at not)
 
+each_free : (place all : List ℕ) (ns : List ℕ) (i n : ℕ) → slice_get ns i ≡ Some n → StandsOnce n all
+    → IsWarned place (codes "the name " ++ name_text n ++ codes " stands only once") (free_lines place all ns)
+each_free place all [] zero n at once = cc
+each_free place all [] (suc i) n at once = cc
+each_free place all (x ∷ xs) zero n at once =
+    let words = codes "the name " ++ name_text n ++ codes " stands only once" in
+    let same : x ≡ n = one x n at in
+    let told : free_line place all x ≡ warning_line place words = ap (free_line place all) same ∙ once_told place all n (codes "the name " ++ name_text n) once in
+    ahead place words (free_line place all x) (free_lines place all xs) (alone place words (free_line place all x) told) (all_free_of Any place all (λ m. tt) xs)
+each_free place all (x ∷ xs) (suc i) n at once =
+    behind place (codes "the name " ++ name_text n ++ codes " stands only once") (free_line place all x) (free_lines place all xs)
+    (told_of Any place (codes "the name " ++ name_text x ++ codes " stands only once") tt (count_of all x == 1)) (each_free place all xs i n at once)
+
 -- ---- among all warnings of a system
 
 module _ (place : List ℕ) (rs : Rules) (c : Configuration) (told : List ℕ) (among : ℕ → Bool) where
@@ -105,6 +119,12 @@ module _ (place : List ℕ) (rs : Rules) (c : Configuration) (told : List ℕ) (
   abbrev third : List ℕ
   third = unused_lines place among rs.symbols 0 rs.rules
 
+  abbrev fourth : List ℕ
+  fourth = free_lines place (configuration_names c) (configuration_names c)
+
+  fourth_any : AreOf Any place fourth
+  fourth_any = all_free_of Any place (configuration_names c) (λ n. tt) (configuration_names c)
+
   second_any : AreOf Any place second
   second_any = any_once place (text_symbols rs.rules c) 0 rs.symbols
 
@@ -114,15 +134,24 @@ module _ (place : List ℕ) (rs : Rules) (c : Configuration) (told : List ℕ) (
   first_any : AreOf Any place first
   first_any = all_ruleless_of Any place rs (any_words rs) c.equations
 
-  in_first : (words : List ℕ) → told ≡ first ++ second ++ third → IsWarned place words first → IsWarned place words told
-  in_first words is there = subst (IsWarned place words) (sym is) (ahead place words (first ++ second) third (ahead place words first second there second_any) third_any)
+  abbrev AreAll : Type 0
+  AreAll = told ≡ first ++ second ++ third ++ fourth
 
-  in_second : (words : List ℕ) → told ≡ first ++ second ++ third → IsWarned place words second → IsWarned place words told
-  in_second words is there = subst (IsWarned place words) (sym is) (ahead place words (first ++ second) third (behind place words first second first_any there) third_any)
+  in_three : (words : List ℕ) → AreAll → IsWarned place words (first ++ second ++ third) → IsWarned place words told
+  in_three words is there = subst (IsWarned place words) (sym is) (ahead place words (first ++ second ++ third) fourth there fourth_any)
 
-  in_third : (words : List ℕ) → told ≡ first ++ second ++ third → IsWarned place words third → IsWarned place words told
-  in_third words is there = subst (IsWarned place words) (sym is)
-      (behind place words (first ++ second) third (both_of Any place first second first_any second_any) there)
+  in_first : (words : List ℕ) → AreAll → IsWarned place words first → IsWarned place words told
+  in_first words is there = in_three words is (ahead place words (first ++ second) third (ahead place words first second there second_any) third_any)
+
+  in_second : (words : List ℕ) → AreAll → IsWarned place words second → IsWarned place words told
+  in_second words is there = in_three words is (ahead place words (first ++ second) third (behind place words first second first_any there) third_any)
+
+  in_third : (words : List ℕ) → AreAll → IsWarned place words third → IsWarned place words told
+  in_third words is there = in_three words is (behind place words (first ++ second) third (both_of Any place first second first_any second_any) there)
+
+  in_fourth : (words : List ℕ) → AreAll → IsWarned place words fourth → IsWarned place words told
+  in_fourth words is there = subst (IsWarned place words) (sym is)
+      (behind place words (first ++ second ++ third) fourth (both_of Any place (first ++ second) third (both_of Any place first second first_any second_any) third_any) there)
 
 pub begins : (place words : List ℕ) → warning_line place words ≡ place ++ codes ": warning: " ++ words ++ 10 ∷ []
 begins place words =
@@ -145,3 +174,9 @@ unused_told place told rs c among i r is reach at not =
     let same = one_reach rs.rules c is.0 among is.1 reach in
     let here : (is.0 r.left && is.0 r.right) ≡ false = (λ j. same r.left j && same r.right j) ∙ not in
     in_third place rs c told is.0 (unused_words rs.symbols i r) is.2 (each_unused place is.0 rs rs.rules 0 i i r (omega arith) at here)
+
+pub free_told : (place told : List ℕ) (rs : Rules) (c : Configuration) (n : ℕ) → Warns place rs c told → StandsOnce n (configuration_names c)
+    → IsWarned place (codes "the name " ++ name_text n ++ codes " stands only once") told
+free_told place told rs c n is once =
+    in_fourth place rs c told is.0 (codes "the name " ++ name_text n ++ codes " stands only once") is.2
+    (each_free place (configuration_names c) (configuration_names c) once.0 n once.1 once)

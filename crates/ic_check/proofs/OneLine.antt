@@ -377,6 +377,8 @@ one_each file told line rs c are free warns =
       ruleless = λ a b. one_warning place (codes "no rule for " ++ pair_text rs.symbols a b) open_place (both_free (codes "no rule for ") (pair_text rs.symbols a b) refl (pair_free rs.symbols texts a b));
       once = each_once place open_place rs.symbols texts;
       unused = λ i r. one_warning place (unused_words rs.symbols i r) open_place (unused_free rs.symbols texts i r);
+      free = λ n. one_warning place (codes "the name " ++ name_text n ++ codes " stands only once") open_place
+          (both_free (codes "the name " ++ name_text n) (codes " stands only once") (both_free (codes "the name ") (name_text n) refl (name_free n)) refl);
     } in
     lines_of_warnings (λ w. IsOneLine (warning_line place w)) place rs c told words warns
 

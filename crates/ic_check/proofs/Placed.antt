@@ -1,7 +1,7 @@
 -- Warnings are lines, each of which begins with its place.
 use Rattle.std.proofs.Common.{◌≡◌, ℕ, ◌+◌, ◌==◌, ◌&&◌, Bool, true, false, if◌then◌else◌, List, [], ◌∷◌, ◌++◌, Some, Result, Ok, Err, codes, is_some, length, refl, sym, ap, ◌∙◌, append_assoc, append-nil, subst, arith}
 use Rattle.std.specs.List.{AllByRecursion, flat_map}
-use Rattle.ic_term.specs.Configuration.{Configuration}
+use Rattle.ic_term.specs.Configuration.{Configuration, configuration_names}
 use Rattle.ic_term.specs.Symbol.{Symbol}
 use Rattle.ic_term.specs.Tree.{Tree, name, agent, Pair}
 use Rattle.ic_rules.specs.Rule.{Rule}
@@ -9,12 +9,13 @@ use Rattle.ic_rules.specs.RuleSet.{Rules, rule_for}
 use Rattle.ic_jobs.specs.declared.command.Command.TheVariants as command
 use Rattle.ic_commands.specs.declared.line.Line.{Line}
 use Rattle.ic_commands.specs.declared.line.Line.TheVariants.{Blank, Command as Asks, Run}
+use Rattle.ic_text.specs.Name.{name_text}
 use Rattle.ic_text.specs.declared.fault.TextFault.{TextFault}
 use Rattle.ic_check.specs.Checking.{TellsAnswer, TellsLine, TellsLines, WarnsOf}
 use Rattle.ic_check.specs.Meanings.{IsToldAt}
 use Rattle.ic_check.specs.Telling.{place_text}
 use Rattle.ic_check.specs.Symbols.{text_symbols}
-use Rattle.ic_check.specs.Warnings.{Warns, count_of, once_line, once_lines, pair_text, ruleless_line, ruleless_lines, unused_line, unused_lines, unused_words, warning_line}
+use Rattle.ic_check.specs.Warnings.{Warns, count_of, free_line, free_lines, once_line, once_lines, pair_text, ruleless_line, ruleless_lines, unused_line, unused_lines, unused_words, warning_line}
 
 -- these are lines of warnings of this place, of words of which this holds
 abbrev pub AreOf : (List ℕ → Type 0) → List ℕ → List ℕ → Type 0
@@ -35,6 +36,7 @@ pub record OfAllWords (Holds : List ℕ → Type 0) (rs : Rules) : Type 0 where
   pub ruleless : (a b : ℕ) → Holds (codes "no rule for " ++ pair_text rs.symbols a b)
   pub once : AllByRecursion (λ s. Holds (s.text ++ codes " stands only once")) rs.symbols
   pub unused : (i : ℕ) (r : Rule) → Holds (unused_words rs.symbols i r)
+  pub free : (n : ℕ) → Holds (codes "the name " ++ name_text n ++ codes " stands only once")
 
 module _ (Holds : List ℕ → Type 0) (place : List ℕ) where
   none_of : AreOf Holds place []
@@ -76,15 +78,24 @@ module _ (Holds : List ℕ → Type 0) (place : List ℕ) where
   all_once_of all i (s ∷ ss) of =
       both_of (once_line place all i s.text) (once_lines place all (i + 1) ss) (told_of (s.text ++ codes " stands only once") of.0 (count_of all i == 1)) (all_once_of all (i + 1) ss of.1)
 
+  pub all_free_of : (all : List ℕ) → ((n : ℕ) → Holds (codes "the name " ++ name_text n ++ codes " stands only once")) → (ns : List ℕ) → AreOf Holds place (free_lines place all ns)
+  all_free_of all of [] = none_of
+  all_free_of all of (n ∷ ns) =
+      both_of (free_line place all n) (free_lines place all ns)
+      (told_of (codes "the name " ++ name_text n ++ codes " stands only once") (of n) (count_of all n == 1)) (all_free_of all of ns)
+
   pub lines_of_warnings : (rs : Rules) (c : Configuration) (told : List ℕ) → OfAllWords Holds rs → Warns place rs c told → AreOf Holds place told
   lines_of_warnings rs c told of is =
       let among = is.0 in
       let one = ruleless_lines place rs c.equations in
       let two = once_lines place (text_symbols rs.rules c) 0 rs.symbols in
       let three = unused_lines place among rs.symbols 0 rs.rules in
+      let four = free_lines place (configuration_names c) (configuration_names c) in
       subst (AreOf Holds place) (sym is.2)
+      (both_of ((one ++ two) ++ three) four
       (both_of (one ++ two) three (both_of one two (all_ruleless_of rs of c.equations) (all_once_of (text_symbols rs.rules c) 0 rs.symbols of.once))
       (all_unused_of rs of among 0 rs.rules))
+      (all_free_of (configuration_names c) of.free (configuration_names c)))
 
 -- ---- whatever their words are
 
@@ -92,7 +103,7 @@ abbrev pub AreLinesOf : List ℕ → List ℕ → Type 0
 AreLinesOf place told = (words : List (List ℕ)) × (told ≡ flat_map (warning_line place) words)
 
 pub any_words : (rs : Rules) → OfAllWords (λ w. Unit {0}) rs
-any_words rs = record { ruleless = λ a b. tt; once = each rs.symbols; unused = λ i r. tt }
+any_words rs = record { ruleless = λ a b. tt; once = each rs.symbols; unused = λ i r. tt; free = λ n. tt }
   where
     each : (ss : List Symbol) → AllByRecursion (λ s. Unit {0}) ss
     each [] = tt

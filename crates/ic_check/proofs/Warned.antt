@@ -1,5 +1,5 @@
 -- Warnings that are written one after the other.
-use Rattle.std.proofs.Common.{◌≡◌, inl, inr, ℕ, ◌+◌, ◌<◌, ◌≤◌, List, [], ◌++◌, Bool, false, Option, Some, Result, Ok, Err, OnOk, codes, is_some, length, drop, get_or, refl, sym, ap, ◌∙◌, arith, append-nil, append_assoc}
+use Rattle.std.proofs.Common.{◌≡◌, inl, inr, ℕ, ◌+◌, ◌<◌, ◌≤◌, List, [], ◌∷◌, ◌++◌, Bool, false, Option, Some, Result, Ok, Err, OnOk, codes, is_some, length, drop, drop-cons, add-one, get_or, refl, sym, ap, ◌∙◌, arith, append-nil, append_assoc}
 use Rattle.std.specs.Option.{option_map}
 use Rattle.std.proofs.lemmas.List.{drop_all}
 use Rattle.std.proofs.lemmas.Option.{slice_get_cases}
@@ -9,7 +9,7 @@ use Rattle.ic_term.specs.Symbol.{Symbol, symbol_text}
 use Rattle.ic_term.specs.Term.{cell_tree}
 use Rattle.ic_term.specs.lemmas.TermLaws.{cell_tree-out}
 use Rattle.ic_term.specs.declared.term.Cell.{Cell, out-Cell}
-use Rattle.ic_check.specs.Warnings.{once_line, once_lines, pair_text, ruleless_line, unused_line, unused_lines, warning_line}
+use Rattle.ic_check.specs.Warnings.{free_line, free_lines, once_line, once_lines, pair_text, ruleless_line, unused_line, unused_lines, warning_line}
 use Rattle.ic_check.proofs.Listing.{from_place}
 
 -- nothing is left
@@ -45,6 +45,16 @@ unused_next place among ss rs i r out new whole below at put so_far =
 pub unused_end : (place : List ℕ) (among : ℕ → Bool) (ss : List Symbol) (rs : List Rule) (i : ℕ) (out whole : List ℕ) → length rs ≤ i
     → out ++ unused_lines place among ss i (drop i rs) ≡ whole → out ≡ whole
 unused_end place among ss rs i out whole past so_far = all_written (unused_lines place among ss i) refl rs i out whole past so_far
+
+from_number : (ns : List ℕ) (i : ℕ) → i < length ns → drop i ns ≡ get_or ns i 0 ∷ drop (i + 1) ns
+from_number ns i below = rw add-one (drop-cons ns i 0 below)
+
+pub free_next : (place all : List ℕ) (i : ℕ) (ns line out new whole : List ℕ) → i < length ns → line ≡ free_line place all (get_or ns i 0) → new ≡ out ++ line
+    → out ++ free_lines place all (drop i ns) ≡ whole → new ++ free_lines place all (drop (i + 1) ns) ≡ whole
+free_next place all i ns line out new whole below is put so_far =
+    let rest : List ℕ = free_lines place all (drop (i + 1) ns) in
+    ap (λ l. l ++ rest) (put ∙ ap (λ l. out ++ l) is) ∙ append_assoc out (free_line place all (get_or ns i 0)) rest
+    ∙ ap (λ l. out ++ free_lines place all l) (sym (from_number ns i below)) ∙ so_far
 
 -- two agents that face each other without a rule
 pub facing : {T E : Type 0} (r : Result T E) (place : List ℕ) (rs : Rules) (left right : Cell) (words old new : List ℕ)

@@ -4,11 +4,12 @@ use Rattle.std.specs.Prelude.{◌≡◌, ℕ, ◌+◌, ◌==◌, List, [], ◌�
 use Rattle.std.specs.Fmt.{decimal}
 use Rattle.std.specs.List.{concat, count_by, flat_map}
 use Rattle.ic_term.specs.Tree.{Tree, agent, Pair}
-use Rattle.ic_term.specs.Configuration.{Configuration}
+use Rattle.ic_term.specs.Configuration.{Configuration, configuration_names}
 use Rattle.ic_term.specs.Symbol.{Symbol}
 use Rattle.ic_rules.specs.Rule.{Rule}
 use Rattle.ic_rules.specs.RuleSet.{Rules}
 use Rattle.ic_round.specs.Firing.{rule_of_sides}
+use Rattle.ic_text.specs.Name.{name_text}
 use Rattle.ic_text.specs.Text.{text_or_none}
 use Rattle.ic_check.specs.Symbols.{text_symbols}
 use Rattle.ic_check.specs.Reach.{IsReach}
@@ -66,11 +67,19 @@ unused_lines place among ss i [] = []
 unused_lines place among ss i (r ∷ rs) =
     unused_line place among ss i r ++ unused_lines place among ss (i + 1) rs
 
+-- a name that stands just once among all those of a configuration: a free end
+abbrev pub free_line : (place all : List ℕ) → ℕ → List ℕ
+free_line place all n = once_line place all n (codes "the name " ++ name_text n)
+
+abbrev pub free_lines : (place all : List ℕ) → List ℕ → List ℕ
+free_lines place all ns = flat_map (free_line place all) ns
+
 -- all warnings of a system, where these symbols may come to stand
 abbrev pub warning_lines : List ℕ → (ℕ → Bool) → Rules → Configuration → List ℕ
 warning_lines place among rs c = ruleless_lines place rs c.equations
     ++ once_lines place (text_symbols rs.rules c) 0 rs.symbols
     ++ unused_lines place among rs.symbols 0 rs.rules
+    ++ free_lines place (configuration_names c) (configuration_names c)
 
 -- these lines tell the warnings of a system
 abbrev pub Warns : List ℕ → Rules → Configuration → List ℕ → Type 0

@@ -2,4 +2,5 @@
 pub mod Growing
 pub mod Fronts
 pub mod Inner
+pub mod Tallies
 pub mod Verdicts

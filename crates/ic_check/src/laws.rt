@@ -5,7 +5,7 @@ ghost use Rattle.std.specs.Prelude.{◌≡◌, ◌≢◌, ◌<◌, ◌≤◌, �
 ghost use Rattle.std.specs.Fmt.{decimal};
 ghost use Rattle.std.specs.List.{AllByRecursion, concat, flat_map, list_all, list_any};
 ghost use Rattle.std.specs.Str.{bytes_eq};
-ghost use Rattle.ic_term.specs.Configuration.{Configuration};
+ghost use Rattle.ic_term.specs.Configuration.{Configuration, configuration_names};
 ghost use Rattle.ic_term.specs.Symbol.{Symbol, is_over, is_symbol_text};
 ghost use Rattle.ic_term.specs.Tree.{Pair, Tree, Trees, agent, list_of};
 ghost use Rattle.ic_rules.specs.Rule.{Rule};
@@ -38,7 +38,7 @@ ghost use Rattle.ic_jobs.specs.declared.command.Command.{Command};
 ghost use Rattle.ic_jobs.specs.declared.limits.TheConstants.{MAX_BUDGET};
 ghost use Rattle.ic_rules.specs.JobName.{is_job_name};
 ghost use Rattle.ic_rules.specs.declared.job_name.TheConstants.{MAX_JOB_NAME};
-ghost use Rattle.ic_text.specs.Name.{number_in};
+ghost use Rattle.ic_text.specs.Name.{name_text, number_in};
 ghost use Rattle.ic_text.specs.Text.{fault_text};
 ghost use Rattle.ic_text.specs.Places.{IsPlaced, IsSyntaxPlace};
 ghost use Rattle.ic_text.specs.SystemSense.{system_sense};
@@ -92,8 +92,8 @@ pub fn symbols_told_once_stand_at_one_place()
 {}
 
 /// Each warning has its line in what is told of a system: an equation of two agents that no rule is of, a symbol at
-/// just one place, a rule whose symbols can't both come to stand in the configuration. All that is told are lines that
-/// begin with the place: the file's name, and of a line its number.
+/// just one place, a rule whose symbols can't both come to stand in the configuration, a name at just one place of it.
+/// All that is told are lines that begin with the place: the file's name, and of a line its number.
 pub fn each_warning_is_told()
     ensures begins { (place words : List ℕ)
         → warning_line place words ≡ place ++ codes ": warning: " ++ words ++ 10 ∷ [] }
@@ -110,6 +110,9 @@ pub fn each_warning_is_told()
         → slice_get rs.rules i ≡ Some r → (among r.left && among r.right) ≡ false
         → IsWarned place (codes "rule " ++ decimal (i + 1) ++ codes ", "
         ++ pair_text rs.symbols r.left r.right ++ codes ", is never used") told }
+    ensures free { (place told : List ℕ) (rs : Rules) (c : Configuration) (n : ℕ)
+        → Warns place rs c told → StandsOnce n (configuration_names c)
+        → IsWarned place (codes "the name " ++ name_text n ++ codes " stands only once") told }
 {}
 
 /// The symbols that are gone through, of which one may stand only once, are those of the whole text: of both sides of

@@ -4,10 +4,10 @@
 //! does so of a script. Faults are
 //! told as compilers do, and lines after a faulty one are looked at, too.
 //!
-//! For a system without a fault it warns of pairs that no rule takes apart, of symbols that stand only once, and of
-//! rules that are never used. `check_files` does so of files, one after the other, whatever gives them, in lines or as
-//! objects of JSON. `tell_refusals` tells a session of its lines that a server refuses. `laws` says in other words what
-//! the warnings are.
+//! For a system without a fault it warns of pairs that no rule takes apart, of symbols that stand only once, of rules that
+//! are never used, and of names that stand only once. `check_files` does so of files, one after the other, whatever gives
+//! them, in lines or as objects of JSON. `tell_refusals` tells a session of its lines that a server refuses. `laws` says
+//! in other words what the warnings are.
 #![tactic(auto)]
 
 mod checking;
@@ -17,6 +17,7 @@ mod front;
 pub mod laws;
 mod line_places;
 mod lines;
+mod names;
 mod objects;
 mod reach;
 mod remarks;

@@ -2,13 +2,17 @@
 
 ghost use Rattle.std.specs.Prelude.{◌≡◌, ◌&&◌, ◌++◌, ℕ, List, IfOk, OnOk, codes, map};
 ghost use Rattle.ic_term.specs.Term.{cell_tree, pair, tree};
-ghost use Rattle.ic_check.specs.Warnings.{Warns, count_of, once_line, once_lines, pair_text, ruleless_line, ruleless_lines, symbol_text, unused_line, unused_lines, unused_words, warning_line};
+ghost use Rattle.ic_check.specs.Warnings.{Warns, count_of, free_lines, once_line, once_lines, pair_text, ruleless_line, ruleless_lines, symbol_text, unused_line, unused_lines, unused_words, warning_line};
 ghost use Rattle.ic_check.specs.inner.Growing.{holds};
+ghost use Rattle.ic_check.specs.inner.Tallies.{tallied_line};
 
+use crate::names::{config_names, stands_once, tally};
 use crate::reach::{holds, reach};
 use crate::symbols::text_symbols;
+use ic_names::NameTable;
 use ic_rules::{Rule, RuleSet};
 use ic_term::{Cell, Config, Equation, Symbols, Term};
+use ic_text::put_name;
 use std::alloc::{AllocError, Global};
 
 /// Appends the line of a warning.
@@ -229,6 +233,43 @@ fn put_unused_lines(
     Ok(())
 }
 
+/// Appends the line of a name, where it stands just once as names are counted.
+fn put_free(
+    alloc: Global,
+    place: &[u8],
+    counts: &NameTable,
+    name: u64,
+    out: &mut Vec<u8>,
+) -> Result<(), AllocError>
+    ensures { OnOk result
+        (out.new.items ≡ out.old.items ++ tallied_line place.now counts.now name) }
+{
+    if !stands_once(counts, name) {
+        return Ok(());
+    }
+    let mut words = b"the name ".to_vec(alloc)?;
+    put_name(name, &mut words)?;
+    words.extend_from_slice(b" stands only once")?;
+    put_warning(place, &words, out)
+}
+
+/// Appends the lines of the names that stand just once among these.
+fn put_free_lines(
+    alloc: Global,
+    place: &[u8],
+    all: &[u64],
+    out: &mut Vec<u8>,
+) -> Result<(), AllocError>
+    ensures { OnOk result
+        (out.new.items ≡ out.old.items ++ free_lines place.now all.now all.now) }
+{
+    let counts = tally(alloc, all)?;
+    for name in all {
+        put_free(alloc, place, &counts, *name, out)?;
+    }
+    Ok(())
+}
+
 /// Appends all warnings of a system that stands at this place.
 pub(crate) fn put_warnings(
     alloc: Global,
@@ -244,7 +285,9 @@ pub(crate) fn put_warnings(
     let symbols = rules.symbols();
     let all = text_symbols(alloc, listed, config)?;
     let seen = reach(alloc, listed, config)?;
+    let names = config_names(alloc, config)?;
     put_ruleless_lines(alloc, place, rules, config.equations(), out)?;
     put_once_lines(alloc, place, &all, symbols, out)?;
-    put_unused_lines(alloc, place, &seen, symbols, listed, out)
+    put_unused_lines(alloc, place, &seen, symbols, listed, out)?;
+    put_free_lines(alloc, place, &names, out)
 }

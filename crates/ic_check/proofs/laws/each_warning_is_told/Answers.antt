@@ -1,4 +1,4 @@
-use Rattle.ic_check.proofs.EachTold.{begins, once_is_told, ruleless_told, unused_told}
+use Rattle.ic_check.proofs.EachTold.{begins, free_told, once_is_told, ruleless_told, unused_told}
 use Rattle.ic_check.proofs.laws.each_warning_is_told.Goals as goal
 
 pub returns-clause-begins : goal.returns-clause-begins
@@ -12,3 +12,6 @@ returns-clause-once c = once_is_told
 
 pub returns-clause-unused : goal.returns-clause-unused
 returns-clause-unused c = unused_told
+
+pub returns-clause-free : goal.returns-clause-free
+returns-clause-free c = free_told

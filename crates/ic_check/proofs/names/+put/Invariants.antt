@@ -1,0 +1,11 @@
+use Rattle.std.proofs.Common.{◌≡◌, ◌++◌, drop, map}
+use Rattle.ic_term.specs.Tree.{trees_of}
+use Rattle.ic_term.specs.Term.{tree, cell_tree}
+use Rattle.ic_term.specs.Tree.{names, names_of}
+use Rattle.ic_check.proofs.names.+put.Given as goal
+
+-- what is appended so far and the names of what is left are those of the whole
+abbrev pub invariant-put_cell-loop-term : goal.invariant-put_cell-loop-term
+invariant-put_cell-loop-term l = record {
+  whole : l.out.items ++ names_of (trees_of (map tree (drop l.term-index l.term-items))) ≡ l.fn.out.items ++ names (cell_tree l.cell);
+}

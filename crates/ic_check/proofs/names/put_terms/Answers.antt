@@ -1,0 +1,12 @@
+use Rattle.std.proofs.Common.{refl, map}
+use Rattle.std.specs.List.{flat_map}
+use Rattle.ic_term.specs.Term.{tree}
+use Rattle.ic_term.specs.Tree.{names}
+use Rattle.ic_check.proofs.Listing.{next}
+use Rattle.ic_check.proofs.names.put_terms.Goals as goal
+
+pub loop-term-preserved : goal.loop-term-preserved
+loop-term-preserved c = record {
+  whole = next (λ xs. flat_map names (map tree xs)) (λ x. names (tree x)) (λ x xs. refl) c.loop-term.term-index c.args.terms.now c.term-item.result
+      c.loop-term.out.items c.put_term.new.out.items _ c.loop-term-test.true c.term-item.is c.in_ok-put_term.ensures c.loop-term.invariant.whole;
+}
