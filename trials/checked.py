@@ -18,7 +18,7 @@ NUMBER = "0|[1-9][0-9]*"
 BEHIND = {"submit": ["name", "budget", "system"], "copy": ["name", "name"], "list": [], "run": ["number"]}
 WORDS = {"command": COMMAND, "name": NAME, "budget": NUMBER, "number": NUMBER}
 SOUGHT = {
-    "command": "a command is looked for here: submit, copy, pause, resume, cancel, fetch, list or run",
+    "command": "a command is looked for here: submit, copy, pause, resume, cancel, fetch, list or run; a file with one text begins with { or <",
     "name": "a job's name is looked for here: a small letter, then small letters, digits and -",
     "budget": "a budget or { is looked for here",
     "system": "{ is looked for here",

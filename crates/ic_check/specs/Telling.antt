@@ -51,7 +51,7 @@ name_sought = codes "a job's name is looked for here: a small letter, "
 -- what is looked for where a line doesn't go on
 abbrev pub sought_sentence : Due → List ℕ
 sought_sentence Command = codes "a command is looked for here: submit, copy, pause, resume, "
-    ++ codes "cancel, fetch, list or run"
+    ++ codes "cancel, fetch, list or run; a file with one text begins with { or <"
 sought_sentence Budget = codes "a budget or { is looked for here"
 sought_sentence Opened = codes "{ is looked for here"
 sought_sentence Number = codes "a number is looked for here"

@@ -274,10 +274,12 @@ pub fn limits_of_lines_are_passed()
     ic_text::laws::words_stand_at_their_places();
 }
 
-/// The sentences of what is looked for. That of a command tells each word with which a line begins, and no others.
+/// The sentences of what is looked for. That of a command tells each word with which a line begins, and no others, and
+/// how a file begins that has no lines.
 pub fn sentences_tell_what_is_looked_for()
     ensures command { sought_sentence due.Command
-        ≡ codes "a command is looked for here: " ++ listed told_commands }
+        ≡ codes "a command is looked for here: " ++ listed told_commands
+        ++ codes "; a file with one text begins with { or <" }
     ensures commands { (w : List ℕ)
         → BeginsLine w ↔ IsTrue (list_any (λ v. bytes_eq w v) told_commands) }
     ensures names { AllByRecursion

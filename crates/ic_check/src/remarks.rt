@@ -131,14 +131,16 @@ pub(crate) fn put_fault(
     }
 }
 
+/// What is told where a line begins with no command: which there are, and how a file begins that has no lines.
+const COMMAND: &[u8] = b"a command is looked for here: submit, copy, pause, resume, cancel, fetch, \
+list or run; a file with one text begins with { or <";
+
 /// What is looked for where a line doesn't go on.
 fn sought_sentence(due: Due) -> &'static [u8]
     ensures { result.now ≡ sought_sentence due }
 {
     match due {
-        Due::Command => {
-            b"a command is looked for here: submit, copy, pause, resume, cancel, fetch, list or run"
-        }
+        Due::Command => COMMAND,
         Due::Budget => b"a budget or { is looked for here",
         Due::System => b"{ is looked for here",
         Due::Number => b"a number is looked for here",
