@@ -59,7 +59,7 @@ fn behind_in_config(byte: u8) -> &'static [u8]
     if byte == b'<' {
         b"a term or | is looked for here"
     } else if byte == b'>' {
-        b"nothing is looked for behind a configuration"
+        b"nothing is looked for after a configuration"
     } else {
         behind_mark(b"no configuration goes on with this", byte)
     }
@@ -78,7 +78,7 @@ fn behind_in_system(byte: u8) -> &'static [u8]
     } else if byte == b'<' {
         b"a term or | is looked for here"
     } else if byte == b'>' {
-        b"nothing is looked for behind a configuration"
+        b"nothing is looked for after a configuration"
     } else {
         behind_mark(b"no system goes on with this", byte)
     }
