@@ -198,10 +198,10 @@ class Bounds(InPlace):
     def test_rounds_and_reducing_in_place_exclude_each_other(self):
         two = f"{ADD} <r|Add(r,S(Z))=S(Z)>"
         wanted = "error: the arguments '--rounds <N>' and '--workers <N>' cannot be used with '--steps <N>', '--nodes <N>', "
-        wanted += "'--limits <L>', '--stats', '--format <FORMAT>' or '--quiet-answer'\n\n"
+        wanted += "'--limits <L>', '--stats', '--format <FORMAT>', '--quiet-answer', '--keep <F>', '--resume <F>' or '--seconds <N>'\n\n"
         wanted += "Usage: icserve reduce [OPTIONS] [FILE]\n\nFor more information, try '--help'.\n"
         options = [["--steps", 1], ["--nodes=1"], ["--stats"], ["--partial", "--stats"], ["--limits", "wide"]]
-        for option in (*options, ["--format", "lines"], ["--format=json"], ["--quiet-answer"], ["--quiet-answer", "--partial"]):
+        for option in (*options, ["--format", "lines"], ["--format=json"], ["--quiet-answer"], ["--keep", "f"], ["--resume=f"], ["--seconds", 1]):
             for rounds in (["--rounds", 1], ["--workers", 1], ["--rounds", 1, "--workers", 2]):
                 self.runs("reduce", *rounds, *option, given=two, err=wanted, status=2)
                 self.runs("reduce", *option, *rounds, given=two, err=wanted, status=2)

@@ -145,6 +145,15 @@ class Progress(Trial):
             is_told = all(made % 4_096 == 0 and pace > 0 and places < 10 for made, pace, places in lines)
             self.equals(self.command, f"pieces of a run, and few places: {lines}", True, is_told)
 
+    def test_a_net_that_is_kept_shows_the_interactions_of_all_pieces(self):
+        kept = self.room / "net.keep"
+        words = ["reduce", "--keep", kept, "--steps", 60_000_000, "--seconds", 1]
+        status, _, _, shown, took = self.shows(words, LOOP.text, out=False)
+        told = shown.rpartition(WIPED)[2]
+        self.equals(self.command, "status and what is told", (5, b"icserve: not done\n"), (status, told))
+        lines = self.lines_of(shown.removesuffix(told), took, OF_A_NET)
+        self.equals(self.command, f"a line of a later piece: {lines}", True, lines[-1][0] > 4_194_304)
+
     def test_short_work_shows_no_line(self):
         _, out, _, shown, took = self.shows(["reduce", "--steps", 10], LOOP.text, out=False)
         if took < 0.1:

@@ -9,10 +9,10 @@ use Rattle.clap.proofs.OnLiterals.{clap_on_literals}
 use Rattle.clap.specs.declared.error.ErrorKind.{ErrorKind}
 use Rattle.clap.specs.declared.error.ErrorKind.TheVariants.{DisplayHelp, DisplayVersion, InvalidSubcommand, InvalidValue, OutOfMemory}
 use Rattle.ic_args.specs.Help.{help_by, help_of}
-use Rattle.ic_args.specs.Words.{AnswersWords, GivesHelp, GivesTask, GivesVersion, Names, command_line, file_met, format_word, help_mistakes, figures_word, is_figures, is_format, is_limits, limits_word, mistakes_of, most_rounds, most_steps, reduce_mistakes, value_if_met, is_report_format, report_mistakes, report_word}
+use Rattle.ic_args.specs.Words.{AnswersWords, GivesHelp, GivesTask, GivesVersion, Names, command_line, file_met, format_word, help_mistakes, figures_word, is_figures, is_format, is_limits, limits_word, mistakes_of, most_rounds, most_seconds, most_steps, reduce_mistakes, value_if_met, is_report_format, report_mistakes, report_word}
 use Rattle.ic_args.specs.inner.Asking.{AnswersRefused, Asks, IsMet, TellsReport}
 use Rattle.ic_args.specs.declared.words.Task.{Task}
-use Rattle.ic_args.specs.declared.words.Task.TheVariants.{Settle, Once, Create, Serve, Attend, Reduce, ReduceByRounds, Trace, Draw, Dump, Inspect, Check, Batch, Help, Version, Expand}
+use Rattle.ic_args.specs.declared.words.Task.TheVariants.{Settle, Once, Create, Serve, Attend, Reduce, ReduceKept, ReduceByRounds, Trace, Draw, Dump, Inspect, Check, Batch, Help, Version, Expand}
 use Rattle.ic_args.specs.declared.words.ReportFormat.{ReportFormat}
 use Rattle.ic_args.specs.declared.words.ReportFormat.TheVariants as check
 use Rattle.ic_args.specs.declared.words.TraceFormat.{TraceFormat}
@@ -26,7 +26,7 @@ use Rattle.ic_args.specs.declared.words.WordsFault.TheVariants.{Words, Memory}
 use Rattle.ic_args.proofs.OptionNumbers.{attend_numbers, batch_numbers, reduce_numbers, serve_numbers, trace_numbers}
 use Rattle.ic_args.proofs.Spelt.{number_named}
 use Rattle.ic_args.proofs.WordsExact.{IsCalled}
-use Rattle.ic_args.proofs.WordsLaws.{among_all, another_format, asked_alone, called_as, check_free, help_asked, in_place_free, inspect_free, is_help, no_other_alone, no_own, of_reduce, once_met, once_taken, reduce_wrong, report_wrong, rounds_free, settle_met, settle_taken, taken_alone, trace_free, version_asked}
+use Rattle.ic_args.proofs.WordsLaws.{among_all, another_format, asked_alone, called_as, check_free, help_asked, in_place_free, inspect_free, is_help, kept_free, no_other_alone, no_own, of_reduce, once_met, once_taken, reduce_wrong, report_wrong, rounds_free, settle_met, settle_taken, taken_alone, trace_free, version_asked}
 
 pub record IsAnswer (words : List Text) (r : Result Task WordsFault) : Type 0 where
   pub answers : AnswersWords (mistakes_of words) r
@@ -135,11 +135,12 @@ asked words none called (Ok (Reduce steps nodes partial stats limits format quie
     let begins = called_as called.0 (codes "reduce") words called.1 asks.0.0 in
     let spelt = reduce_numbers words none begins in
     record {
-      answers = ap₂ or_else none (of_reduce (subcommand_of command_line words) asks.0.0 ∙ in_place_free (subcommand_of command_line words) asks.1
+      answers = ap₂ or_else none (of_reduce (subcommand_of command_line words) asks.0.0 ∙ in_place_free (subcommand_of command_line words) asks.1 asks.10 asks.9 asks.11
           (ap₂ (λ (a b : Bool). a && b) (ap is_limits asks.6 ∙ limits_is limits) (ap is_figures asks.7 ∙ figures_is format)));
       named = record {
         begins = begins;
         alone = asks.1;
+        unkept = asks.9;
         steps = ((λ given. number_named (codes "steps") 0 most_steps steps words _ (spelt.2 given) refl (asks.2.0 given)), asks.2.1);
         nodes = ((λ given. number_named (codes "nodes") 0 most_steps nodes words _ (spelt.3 given) refl (asks.3.0 given)), asks.3.1);
         partial = asks.4;
@@ -147,6 +148,31 @@ asked words none called (Ok (Reduce steps nodes partial stats limits format quie
         limits = sym asks.6;
         format = sym asks.7;
         quiet = asks.8;
+        file = asks.0.1;
+      };
+      settle = λ is. absurd (not_settle words (codes "reduce") asks.0.0 refl is);
+      once = λ is. absurd (not_once words (codes "reduce") asks.0.0 refl is);
+    }
+asked words none called (Ok (ReduceKept disk begins seconds steps nodes partial stats format quiet file)) asks =
+    let first = called_as called.0 (codes "reduce") words called.1 asks.0.0 in
+    let spelt = reduce_numbers words none first in
+    record {
+      answers = ap₂ or_else none (of_reduce (subcommand_of command_line words) asks.0.0
+          ∙ kept_free (subcommand_of command_line words) asks.1 asks.2 asks.3 (ap is_figures asks.11 ∙ figures_is format));
+      named = record {
+        begins = first;
+        alone = asks.1;
+        apart = asks.2;
+        kept = asks.3;
+        disk = asks.4;
+        anew = asks.5;
+        seconds = ((λ given. number_named (codes "seconds") 1 most_seconds seconds words _ (spelt.4 given) refl (asks.6.0 given)), asks.6.1);
+        steps = ((λ given. number_named (codes "steps") 0 most_steps steps words _ (spelt.2 given) refl (asks.7.0 given)), asks.7.1);
+        nodes = ((λ given. number_named (codes "nodes") 0 most_steps nodes words _ (spelt.3 given) refl (asks.8.0 given)), asks.8.1);
+        partial = asks.9;
+        stats = asks.10;
+        format = sym asks.11;
+        quiet = asks.12;
         file = asks.0.1;
       };
       settle = λ is. absurd (not_settle words (codes "reduce") asks.0.0 refl is);
@@ -315,6 +341,7 @@ not_taken words kind (Ok (Create disk overwrite)) made is = absurd is
 not_taken words kind (Ok (Serve disk workers every explain)) made is = absurd is
 not_taken words kind (Ok (Attend disk runners turns workers scripts)) made is = absurd is
 not_taken words kind (Ok (Reduce steps nodes partial stats limits format quiet file)) made is = absurd is
+not_taken words kind (Ok (ReduceKept disk begins seconds steps nodes partial stats format quiet file)) made is = absurd is
 not_taken words kind (Ok (ReduceByRounds rounds workers partial file)) made is = absurd is
 not_taken words kind (Ok (Trace rounds format file)) made is = absurd is
 not_taken words kind (Ok (Draw file)) made is = absurd is

@@ -3,7 +3,7 @@ use Rattle.std.proofs.Common.{List, [], ◌∷◌, codes, None, Some, false, tru
 use Rattle.clap.specs.Words.{Rule, Text}
 use Rattle.clap.specs.declared.builder.value_parser.ValueParser.{ValueParser}
 use Rattle.clap.specs.declared.builder.value_parser.ValueParser.TheVariants as vp
-use Rattle.ic_args.specs.Words.{most_rounds, most_steps}
+use Rattle.ic_args.specs.Words.{most_rounds, most_seconds, most_steps}
 use Rattle.ic_args.proofs.Arguments.{one_argument, several_argument}
 use Rattle.ic_args.proofs.Flags.{built_flag}
 use Rattle.ic_args.proofs.OneValue.{one_value}
@@ -22,7 +22,7 @@ chosen name read = one_value name name None read false
 abbrev pub disk : Rule
 disk = one_value (codes "disk") (codes "disk") None vp.String true
 
--- how numbers are read: of threads, of rounds between two keeps, of rounds, of interactions and places
+-- how numbers are read: of threads, of rounds between two keeps, of rounds, of interactions and places, of seconds
 abbrev pub threads : ValueParser
 threads = vp.Unsigned 1 64
 
@@ -34,6 +34,9 @@ counted = vp.Unsigned 0 most_rounds
 
 abbrev pub bounded : ValueParser
 bounded = vp.Unsigned 0 most_steps
+
+abbrev pub waited : ValueParser
+waited = vp.Unsigned 1 most_seconds
 
 abbrev pub workers : Rule
 workers = number (codes "workers") (codes "2") threads
@@ -84,7 +87,8 @@ is_attend = record { is = inr (inr (inr (inr (inl refl)))); enters = λ rest. re
 
 abbrev pub reduce_options : List Rule
 reduce_options = chosen (codes "rounds") counted ∷ chosen (codes "workers") threads ∷ chosen (codes "steps") bounded ∷ chosen (codes "nodes") bounded
-    ∷ chosen (codes "limits") vp.String ∷ chosen (codes "format") vp.String ∷ built_flag (codes "partial") ∷ built_flag (codes "stats")
+    ∷ chosen (codes "limits") vp.String ∷ chosen (codes "format") vp.String ∷ chosen (codes "keep") vp.String ∷ chosen (codes "resume") vp.String
+    ∷ chosen (codes "seconds") waited ∷ built_flag (codes "partial") ∷ built_flag (codes "stats")
     ∷ built_flag (codes "quiet-answer") ∷ file ∷ help ∷ []
 
 pub is_reduce : IsCommand (codes "reduce") (below 5) reduce_options

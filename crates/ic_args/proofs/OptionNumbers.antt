@@ -8,9 +8,9 @@ use Rattle.clap.specs.Faults.{level_fault}
 use Rattle.clap.specs.Walk.{nothing_held}
 use Rattle.clap.specs.declared.builder.value_parser.ValueParser.{ValueParser}
 use Rattle.clap.specs.declared.builder.value_parser.ValueParser.TheVariants as vp
-use Rattle.ic_args.specs.Words.{BeginsWith, command_line, is_given, most_rounds, most_steps}
+use Rattle.ic_args.specs.Words.{BeginsWith, command_line, is_given, most_rounds, most_seconds, most_steps}
 use Rattle.ic_args.proofs.Arguments.{none_first, one_fits, several_fits}
-use Rattle.ic_args.proofs.Commands.{attend_options, batch_options, bounded, counted, is_attend, is_batch, is_reduce, is_serve, is_trace, keeps, reduce_options, serve_options, threads, trace_options}
+use Rattle.ic_args.proofs.Commands.{attend_options, batch_options, bounded, counted, is_attend, is_batch, is_reduce, is_serve, is_trace, keeps, reduce_options, serve_options, threads, trace_options, waited}
 use Rattle.ic_args.proofs.Flags.{flag_fits}
 use Rattle.ic_args.proofs.OneValue.{Typed, default_there, one_value}
 use Rattle.ic_args.proofs.Options.{AllFit, help_fits, option_fits, option_found, option_if, row_stays_there}
@@ -113,9 +113,9 @@ module _ (target : Text) (q : ValueParser) where
   )
 
   reduce_fits : Is (codes "rounds") counted → Is (codes "workers") threads → Is (codes "steps") bounded → Is (codes "nodes") bounded → Is (codes "limits") vp.String
-      → Is (codes "format") vp.String → bytes_eq (codes "partial") target ≡ false → bytes_eq (codes "stats") target ≡ false
+      → Is (codes "format") vp.String → Is (codes "keep") vp.String → Is (codes "resume") vp.String → Is (codes "seconds") waited → bytes_eq (codes "partial") target ≡ false → bytes_eq (codes "stats") target ≡ false
       → bytes_eq (codes "quiet-answer") target ≡ false → bytes_eq (codes "file") target ≡ false → AllFit target q reduce_options
-  reduce_fits r w s n m f p t a l = (
+  reduce_fits r w s n m f k g d p t a l = (
     option_fits target q (codes "rounds") None counted false r,
     (
       option_fits target q (codes "workers") None threads false w,
@@ -128,8 +128,17 @@ module _ (target : Text) (q : ValueParser) where
             (
               option_fits target q (codes "format") None vp.String false f,
               (
-                flag_fits target q (codes "partial") p,
-                (flag_fits target q (codes "stats") t, (flag_fits target q (codes "quiet-answer") a, (one_fits target q (codes "file") l false, (help_fits target q, tt)))),
+                option_fits target q (codes "keep") None vp.String false k,
+                (
+                  option_fits target q (codes "resume") None vp.String false g,
+                  (
+                    option_fits target q (codes "seconds") None waited false d,
+                    (
+                      flag_fits target q (codes "partial") p,
+                      (flag_fits target q (codes "stats") t, (flag_fits target q (codes "quiet-answer") a, (one_fits target q (codes "file") l false, (help_fits target q, tt)))),
+                    ),
+                  ),
+                ),
               ),
             ),
           ),
@@ -180,11 +189,12 @@ IsSpeltIf option least most words = is_given option (subcommand_of command_line 
 
 pub reduce_numbers : (words : List Text) → fault_of command_line words ≡ [] → BeginsWith (codes "reduce") words
     → IsSpeltIf (codes "rounds") 0 most_rounds words × IsSpeltIf (codes "workers") 1 64 words
-    × IsSpeltIf (codes "steps") 0 most_steps words × IsSpeltIf (codes "nodes") 0 most_steps words
+    × IsSpeltIf (codes "steps") 0 most_steps words × IsSpeltIf (codes "nodes") 0 most_steps words × IsSpeltIf (codes "seconds") 1 most_seconds words
 reduce_numbers words none begins =
     let of = spelt_if (codes "reduce") (below 5) reduce_options is_reduce words none begins in (
-      of (codes "rounds") counted 0 most_rounds (in_range 0 most_rounds) (reduce_fits (codes "rounds") counted (λ e. refl) other other other other other refl refl refl refl),
-      of (codes "workers") threads 1 64 (in_range 1 64) (reduce_fits (codes "workers") threads other (λ e. refl) other other other other refl refl refl refl),
-      of (codes "steps") bounded 0 most_steps (in_range 0 most_steps) (reduce_fits (codes "steps") bounded other other (λ e. refl) other other other refl refl refl refl),
-      of (codes "nodes") bounded 0 most_steps (in_range 0 most_steps) (reduce_fits (codes "nodes") bounded other other other (λ e. refl) other other refl refl refl refl),
+      of (codes "rounds") counted 0 most_rounds (in_range 0 most_rounds) (reduce_fits (codes "rounds") counted (λ e. refl) other other other other other other other other refl refl refl refl),
+      of (codes "workers") threads 1 64 (in_range 1 64) (reduce_fits (codes "workers") threads other (λ e. refl) other other other other other other other refl refl refl refl),
+      of (codes "steps") bounded 0 most_steps (in_range 0 most_steps) (reduce_fits (codes "steps") bounded other other (λ e. refl) other other other other other other refl refl refl refl),
+      of (codes "nodes") bounded 0 most_steps (in_range 0 most_steps) (reduce_fits (codes "nodes") bounded other other other (λ e. refl) other other other other other refl refl refl refl),
+      of (codes "seconds") waited 1 most_seconds (in_range 1 most_seconds) (reduce_fits (codes "seconds") waited other other other other other other other other (λ e. refl) refl refl refl refl),
     )

@@ -9,12 +9,12 @@ use Rattle.clap.specs.Faults.{check_fault, settle_fault, turn_fault}
 use Rattle.clap.proofs.OnLiterals.{clap_on_literals}
 use Rattle.clap.specs.declared.builder.value_parser.ValueParser.TheVariants as vp
 use Rattle.std.specs.Prelude.{is_some}
-use Rattle.ic_args.specs.Words.{IsDecimal, IsNumberOf, IsNumberOr, NamesReduce, asks_in_place, asks_rounds, command_line, file_met, is_flag_met, figures_met, is_figures, is_given, is_limits, limits_met, mistakes_of, most_rounds, most_steps, value_if_met, value_met}
+use Rattle.ic_args.specs.Words.{IsDecimal, IsNumberOf, IsNumberOr, NamesReduce, asks_in_place, asks_kept, asks_rounds, clashes, command_line, file_met, is_flag_met, figures_met, is_figures, is_given, is_limits, limits_met, mistakes_of, most_rounds, most_steps, value_if_met, value_met}
 use Rattle.ic_args.specs.Lines.{AreInPlace, AreOfRounds, AreOnce, Given, Gives, HasFlag, HasNone, HasNumber, HasValue, IsFiguresOption, IsFiguresText, IsLimitsOption, IsLimitsText, IsReduceLine, IsReduceNumber, IsReduceOption, IsReduceValue, AreWrittenBy, IsWritten}
 use Rattle.ic_args.specs.inner.Asking.{IsMet}
 use Rattle.ic_args.proofs.Accepted.{accepted}
 use Rattle.ic_args.proofs.Arguments.{HaveNoDefault, ReadsFile, file_read, found_after, none_after, none_first, none_kept}
-use Rattle.ic_args.proofs.Commands.{bounded, chosen, counted, file, is_reduce, reduce_options, threads}
+use Rattle.ic_args.proofs.Commands.{bounded, chosen, counted, file, is_reduce, reduce_options, threads, waited}
 use Rattle.ic_args.proofs.Flags.{built_flag, flag_free, flag_grown, flag_row, flag_unset, unset_row}
 use Rattle.ic_args.proofs.LineEnds.{IsEntered, IsHarmless, either_none, entered_after, or_none, text}
 use Rattle.ic_args.proofs.LineRows.{first_value, fresh_first, given_found, not_given, named_apart}
@@ -126,31 +126,39 @@ reduce_read g is words (inr flag) h settles none = elim flag.0.0 [
 
 -- its FILE has no default
 plain : HaveNoDefault (codes "file") reduce_options
-plain = (inl refl, (inl refl, (inl refl, (inl refl, (inl refl, (inl refl, (inl refl, (inl refl, (inl refl, (inr refl, (inl refl, tt)))))))))))
+plain = (inl refl, (inl refl, (inl refl, (inl refl, (inl refl, (inl refl, (inl refl, (inl refl, (inl refl, (inl refl, (inl refl, (inl refl, (inr refl, (inl refl, tt))))))))))))))
 
--- no option is named as the FILE is
-file_apart : (gs : List Given) → (words : List Text) → AreWrittenBy IsReduceOption gs words → AllByRecursion (λ g. g.name ≢ codes "file") gs
-file_apart [] words written = tt
-file_apart (g ∷ gs) words written = (apart written.3, file_apart gs written.1 written.4)
+-- no option of these lines has another name, as the FILE's
+abbrev IsOther : Text → Type 0
+IsOther name = (bytes_eq (codes "rounds") name ≡ false) × (bytes_eq (codes "workers") name ≡ false) × (bytes_eq (codes "steps") name ≡ false)
+    × (bytes_eq (codes "nodes") name ≡ false) × (bytes_eq (codes "limits") name ≡ false) × (bytes_eq (codes "format") name ≡ false)
+    × (bytes_eq (codes "partial") name ≡ false) × (bytes_eq (codes "stats") name ≡ false) × (bytes_eq (codes "quiet-answer") name ≡ false)
+
+all_apart : (name : Text) → IsOther name → (gs : List Given) → (words : List Text) → AreWrittenBy IsReduceOption gs words → HasNone gs name
+all_apart name other [] words written = tt
+all_apart name other (g ∷ gs) words written = (apart written.3, all_apart name other gs written.1 written.4)
   where
-    of_number : IsReduceNumber g → g.name ≢ codes "file"
-    of_number (inl is) = named_apart g (codes "rounds") (codes "file") is.0 refl
-    of_number (inr (inl is)) = named_apart g (codes "workers") (codes "file") is.0 refl
-    of_number (inr (inr (inl is))) = named_apart g (codes "steps") (codes "file") is.0 refl
-    of_number (inr (inr (inr is))) = named_apart g (codes "nodes") (codes "file") is.0 refl
+    of_number : IsReduceNumber g → g.name ≢ name
+    of_number (inl is) = named_apart g (codes "rounds") name is.0 other.0
+    of_number (inr (inl is)) = named_apart g (codes "workers") name is.0 other.1
+    of_number (inr (inr (inl is))) = named_apart g (codes "steps") name is.0 other.2
+    of_number (inr (inr (inr is))) = named_apart g (codes "nodes") name is.0 other.3
 
-    of_valued : IsReduceValue g → g.name ≢ codes "file"
+    of_valued : IsReduceValue g → g.name ≢ name
     of_valued (inl is) = of_number is
-    of_valued (inr (inl is)) = named_apart g (codes "limits") (codes "file") is.0 refl
-    of_valued (inr (inr is)) = named_apart g (codes "format") (codes "file") is.0 refl
+    of_valued (inr (inl is)) = named_apart g (codes "limits") name is.0 other.4
+    of_valued (inr (inr is)) = named_apart g (codes "format") name is.0 other.5
 
-    apart : IsReduceOption g written.0 → g.name ≢ codes "file"
+    apart : IsReduceOption g written.0 → g.name ≢ name
     apart (inl is) = of_valued is.0
     apart (inr is) = elim is.0.0 [
-      | inl named ↦ named_apart g (codes "partial") (codes "file") named refl
-      | inr (inl named) ↦ named_apart g (codes "stats") (codes "file") named refl
-      | inr (inr named) ↦ named_apart g (codes "quiet-answer") (codes "file") named refl
+      | inl named ↦ named_apart g (codes "partial") name named other.6
+      | inr (inl named) ↦ named_apart g (codes "stats") name named other.7
+      | inr (inr named) ↦ named_apart g (codes "quiet-answer") name named other.8
     ]
+
+file_apart : (gs : List Given) → (words : List Text) → AreWrittenBy IsReduceOption gs words → HasNone gs (codes "file")
+file_apart = all_apart (codes "file") (refl, refl, refl, refl, refl, refl, refl, refl, refl)
 
 -- an option with a value of another kind isn't the one of this name
 abbrev IsApart : Text → Type 0
@@ -196,7 +204,7 @@ given_figures = given_known (codes "format") refl (refl, refl, refl, refl, refl,
 
 harmless : AllByRecursion IsHarmless reduce_options
 unfolding clap_on_literals
-harmless = ((λ rows. either_none _ _), ((λ rows. either_none _ _), ((λ rows. either_none _ _), ((λ rows. either_none _ _), ((λ rows. either_none _ _), ((λ rows. either_none _ _), ((λ rows. or_none _ _ refl), ((λ rows. or_none _ _ refl), ((λ rows. or_none _ _ refl), ((λ rows. either_none _ _), ((λ rows. either_none _ _), tt)))))))))))
+harmless = ((λ rows. either_none _ _), ((λ rows. either_none _ _), ((λ rows. either_none _ _), ((λ rows. either_none _ _), ((λ rows. either_none _ _), ((λ rows. either_none _ _), ((λ rows. either_none _ _), ((λ rows. either_none _ _), ((λ rows. either_none _ _), ((λ rows. or_none _ _ refl), ((λ rows. or_none _ _ refl), ((λ rows. or_none _ _ refl), ((λ rows. either_none _ _), ((λ rows. either_none _ _), tt))))))))))))))
 
 reduce_checked : (rows : List Row) → check_fault (below 5) rows false ≡ []
 reduce_checked rows = refl
@@ -208,7 +216,8 @@ flags = built_flag (codes "partial") ∷ built_flag (codes "stats") ∷ built_fl
 
 abbrev numbers : List Rule
 numbers = chosen (codes "rounds") counted ∷ chosen (codes "workers") threads ∷ chosen (codes "steps") bounded ∷ chosen (codes "nodes") bounded
-    ∷ chosen (codes "limits") vp.String ∷ chosen (codes "format") vp.String ∷ []
+    ∷ chosen (codes "limits") vp.String ∷ chosen (codes "format") vp.String ∷ chosen (codes "keep") vp.String ∷ chosen (codes "resume") vp.String
+    ∷ chosen (codes "seconds") waited ∷ []
 
 abbrev last : List Row → List Row
 last rows = fold with_default rows reduce_options
@@ -271,39 +280,66 @@ module _ (words : List Text) (gs : List Given) (path : Option Text) (line : IsRe
 
   no_rounds : HasNone gs (codes "rounds") → value_met (codes "rounds") met ≡ []
   no_rounds none = ap (value_met (codes "rounds")) entered.met ∙ ap text (none_value (codes "rounds") rows
-      (inr refl, (inl refl, (inl refl, (inl refl, (inl refl, (inl refl, (inl refl, (inl refl, (inl refl, (inl refl, (inl refl, tt))))))))))) (missing (codes "rounds") refl none))
+      (inr refl, (inl refl, (inl refl, (inl refl, (inl refl, (inl refl, (inl refl, (inl refl, (inl refl, (inl refl, (inl refl, (inl refl, (inl refl, (inl refl, tt)))))))))))))) (missing (codes "rounds") refl none))
 
   no_workers : HasNone gs (codes "workers") → value_met (codes "workers") met ≡ []
   no_workers none = ap (value_met (codes "workers")) entered.met ∙ ap text (none_value (codes "workers") rows
-      (inl refl, (inr refl, (inl refl, (inl refl, (inl refl, (inl refl, (inl refl, (inl refl, (inl refl, (inl refl, (inl refl, tt))))))))))) (missing (codes "workers") refl none))
+      (inl refl, (inr refl, (inl refl, (inl refl, (inl refl, (inl refl, (inl refl, (inl refl, (inl refl, (inl refl, (inl refl, (inl refl, (inl refl, (inl refl, tt)))))))))))))) (missing (codes "workers") refl none))
 
   no_steps : HasNone gs (codes "steps") → value_met (codes "steps") met ≡ []
   no_steps none = ap (value_met (codes "steps")) entered.met ∙ ap text (none_value (codes "steps") rows
-      (inl refl, (inl refl, (inr refl, (inl refl, (inl refl, (inl refl, (inl refl, (inl refl, (inl refl, (inl refl, (inl refl, tt))))))))))) (missing (codes "steps") refl none))
+      (inl refl, (inl refl, (inr refl, (inl refl, (inl refl, (inl refl, (inl refl, (inl refl, (inl refl, (inl refl, (inl refl, (inl refl, (inl refl, (inl refl, tt)))))))))))))) (missing (codes "steps") refl none))
 
   no_nodes : HasNone gs (codes "nodes") → value_met (codes "nodes") met ≡ []
   no_nodes none = ap (value_met (codes "nodes")) entered.met ∙ ap text (none_value (codes "nodes") rows
-      (inl refl, (inl refl, (inl refl, (inr refl, (inl refl, (inl refl, (inl refl, (inl refl, (inl refl, (inl refl, (inl refl, tt))))))))))) (missing (codes "nodes") refl none))
+      (inl refl, (inl refl, (inl refl, (inr refl, (inl refl, (inl refl, (inl refl, (inl refl, (inl refl, (inl refl, (inl refl, (inl refl, (inl refl, (inl refl, tt)))))))))))))) (missing (codes "nodes") refl none))
 
   no_limits : HasNone gs (codes "limits") → value_if_met (codes "limits") met ≡ None
   no_limits none = ap (value_if_met (codes "limits")) entered.met ∙ none_value (codes "limits") rows
-      (inl refl, (inl refl, (inl refl, (inl refl, (inr refl, (inl refl, (inl refl, (inl refl, (inl refl, (inl refl, (inl refl, tt))))))))))) (missing (codes "limits") refl none)
+      (inl refl, (inl refl, (inl refl, (inl refl, (inr refl, (inl refl, (inl refl, (inl refl, (inl refl, (inl refl, (inl refl, (inl refl, (inl refl, (inl refl, tt)))))))))))))) (missing (codes "limits") refl none)
 
   no_format : HasNone gs (codes "format") → value_if_met (codes "format") met ≡ None
   no_format none = ap (value_if_met (codes "format")) entered.met ∙ none_value (codes "format") rows
-      (inl refl, (inl refl, (inl refl, (inl refl, (inl refl, (inr refl, (inl refl, (inl refl, (inl refl, (inl refl, (inl refl, tt))))))))))) (missing (codes "format") refl none)
+      (inl refl, (inl refl, (inl refl, (inl refl, (inl refl, (inr refl, (inl refl, (inl refl, (inl refl, (inl refl, (inl refl, (inl refl, (inl refl, (inl refl, tt)))))))))))))) (missing (codes "format") refl none)
+
+  -- nothing of a reduction that is kept is given
+  no_keep : value_if_met (codes "keep") met ≡ None
+  no_keep = ap (value_if_met (codes "keep")) entered.met ∙ none_value (codes "keep") rows
+      (inl refl, (inl refl, (inl refl, (inl refl, (inl refl, (inl refl, (inr refl, (inl refl, (inl refl, (inl refl, (inl refl, (inl refl, (inl refl, (inl refl, tt)))))))))))))) (missing (codes "keep") refl
+      (all_apart (codes "keep") (refl, refl, refl, refl, refl, refl, refl, refl, refl) gs line.front line.written))
+
+  no_resume : value_if_met (codes "resume") met ≡ None
+  no_resume = ap (value_if_met (codes "resume")) entered.met ∙ none_value (codes "resume") rows
+      (inl refl, (inl refl, (inl refl, (inl refl, (inl refl, (inl refl, (inl refl, (inr refl, (inl refl, (inl refl, (inl refl, (inl refl, (inl refl, (inl refl, tt)))))))))))))) (missing (codes "resume") refl
+      (all_apart (codes "resume") (refl, refl, refl, refl, refl, refl, refl, refl, refl) gs line.front line.written))
+
+  no_seconds : value_if_met (codes "seconds") met ≡ None
+  no_seconds = ap (value_if_met (codes "seconds")) entered.met ∙ none_value (codes "seconds") rows
+      (inl refl, (inl refl, (inl refl, (inl refl, (inl refl, (inl refl, (inl refl, (inl refl, (inr refl, (inl refl, (inl refl, (inl refl, (inl refl, (inl refl, tt)))))))))))))) (missing (codes "seconds") refl
+      (all_apart (codes "seconds") (refl, refl, refl, refl, refl, refl, refl, refl, refl) gs line.front line.written))
+
+  unkept : asks_kept met ≡ false
+  unkept = ap₂ (λ (k r : Option Text). is_some k || is_some r) no_keep no_resume
+
+  no_clash : clashes met ≡ false
+  no_clash =
+      ap₂ (λ (k r : Option Text). (is_some k && is_some r) || (((is_some k || is_some r) && is_some (value_if_met (codes "limits") met)) || (is_some r && is_some (value_if_met (codes "file") met))))
+      no_keep no_resume
+
+  not_waited : is_given (codes "seconds") met ≡ false
+  not_waited = ap (λ (o : Option Text). not (bytes_eq (unwrap_or o []) [])) no_seconds
 
   no_partial : HasNone gs (codes "partial") → value_met (codes "partial") met ≡ codes "false"
   no_partial none = ap (value_met (codes "partial")) entered.met ∙ ap text (unset_value (codes "partial") numbers (built_flag (codes "stats") ∷ built_flag (codes "quiet-answer") ∷ file ∷ help ∷ [])
-      rows refl (refl, (refl, (refl, (refl, (refl, (refl, tt)))))) (missing (codes "partial") refl none))
+      rows refl (refl, (refl, (refl, (refl, (refl, (refl, (refl, (refl, (refl, tt))))))))) (missing (codes "partial") refl none))
 
   no_stats : HasNone gs (codes "stats") → value_met (codes "stats") met ≡ codes "false"
   no_stats none = ap (value_met (codes "stats")) entered.met ∙ ap text (unset_value (codes "stats") (numbers ++ built_flag (codes "partial") ∷ []) (built_flag (codes "quiet-answer") ∷ file ∷ help ∷ [])
-      rows refl (refl, (refl, (refl, (refl, (refl, (refl, (refl, tt))))))) (missing (codes "stats") refl none))
+      rows refl (refl, (refl, (refl, (refl, (refl, (refl, (refl, (refl, (refl, (refl, tt)))))))))) (missing (codes "stats") refl none))
 
   no_quiet : HasNone gs (codes "quiet-answer") → value_met (codes "quiet-answer") met ≡ codes "false"
   no_quiet none = ap (value_met (codes "quiet-answer")) entered.met ∙ ap text (unset_value (codes "quiet-answer") (numbers ++ built_flag (codes "partial") ∷ built_flag (codes "stats") ∷ []) (file ∷ help ∷ [])
-      rows refl (refl, (refl, (refl, (refl, (refl, (refl, (refl, (refl, tt)))))))) (missing (codes "quiet-answer") refl none))
+      rows refl (refl, (refl, (refl, (refl, (refl, (refl, (refl, (refl, (refl, (refl, (refl, tt))))))))))) (missing (codes "quiet-answer") refl none))
 
   -- ---- what is given
 
@@ -336,7 +372,8 @@ module _ (words : List Text) (gs : List Given) (path : Option Text) (line : IsRe
       (ap₂ (λ (a b : Bool). a || b) (none_is (codes "nodes") (no_nodes of.no_nodes))
       (ap₂ (λ (a b : Bool). a || b) (flag_is (codes "stats") false of.no_stats no_stats)
       (ap₂ (λ (a b : Bool). a || b) (ap is_some (no_limits of.no_limits))
-      (ap₂ (λ (a b : Bool). a || b) (ap is_some (no_format of.no_format)) (flag_is (codes "quiet-answer") false of.no_quiet no_quiet)))))
+      (ap₂ (λ (a b : Bool). a || b) (ap is_some (no_format of.no_format))
+      (ap₂ (λ (a b : Bool). a || b) (flag_is (codes "quiet-answer") false of.no_quiet no_quiet) (ap₂ (λ (a b : Bool). a || b) unkept not_waited))))))
 
   limits_are : (l : Text) → HasValue gs (codes "limits") (codes "wide") l → limits_met met ≡ l
   limits_are l (inl gives) = ap (λ (o : Option Text). unwrap_or o (codes "wide")) (given_some (codes "limits") l gives)
@@ -356,7 +393,7 @@ module _ (words : List Text) (gs : List Given) (path : Option Text) (line : IsRe
 
   pub in_place_taken : (s n : ℕ) (p t q : Bool) (l w : Text) → AreInPlace gs s n p t q l w → mistakes_of words ≡ []
   in_place_taken s n p t q l w of = ap₂ or_else entered.free (of_reduce met entered.named
-      ∙ in_place_free met (alone_in_place of.no_rounds of.no_workers) (ap₂ (λ (a b : Bool). a && b)
+      ∙ in_place_free met (alone_in_place of.no_rounds of.no_workers) no_clash unkept not_waited (ap₂ (λ (a b : Bool). a && b)
       (ap is_limits (limits_are l of.limits) ∙ known l of.limits) (ap is_figures (format_is w of.format) ∙ known_format w of.format)))
 
   pub in_place_named : (s n steps nodes : ℕ) (p t q partial stats quiet : Bool) (l w limits format : Text) → AreInPlace gs s n p t q l w → (f : Option Text)

@@ -15,7 +15,7 @@ use Rattle.clap.proofs.WalkLemmas.{first_value-rows, raw_values-rows}
 use Rattle.std.specs.Str.{bytes_eq}
 use Rattle.std.proofs.lemmas.Slice.Eq.{bytes_eq-Decides}
 use Rattle.clap.specs.Kinds.{or_else}
-use Rattle.ic_args.specs.Words.{BeginsWith, asks_in_place, asks_rounds, command_line, format_mistakes, has_help, help_mistakes, is_format, is_given, figures_met, is_figures, is_limits, is_met, limits_met, own_mistakes, reduce_faults, reduce_mistakes, value_if_met, value_met, values_met, is_report_format, report_mistakes, tells_report}
+use Rattle.ic_args.specs.Words.{BeginsWith, asks_in_place, asks_kept, asks_rounds, clashes, command_line, format_mistakes, has_help, help_mistakes, is_format, is_given, figures_met, is_figures, is_limits, is_met, limits_met, own_mistakes, reduce_faults, reduce_mistakes, value_if_met, value_met, values_met, is_report_format, report_mistakes, tells_report}
 use Rattle.ic_args.specs.inner.Asking.{IsIn, IsMet, commands, TellsReport}
 use Rattle.ic_args.proofs.WordsExact.{IsCalled, first_met}
 
@@ -244,34 +244,61 @@ of_reduce met is =
     alone [] = refl
     alone (k ∷ ks) = refl
 
--- its faults, by what is asked
-abbrev faults_by : Bool → Bool → Bool → Bool → Kinds
-faults_by rounds known in_place counted =
-    cond (not rounds) (cond known [] (InvalidValue ∷ [])) (cond in_place (ArgumentConflict ∷ []) (cond counted [] (MissingRequiredArgument ∷ [])))
-
 -- the limits and the format are some that there are
 abbrev pub are_known : Option (Text × List Row) → Bool
 are_known met = is_limits (limits_met met) && is_figures (figures_met met)
 
-pub in_place_free : (met : Option (Text × List Row)) → asks_rounds met ≡ false → are_known met ≡ true → reduce_faults met ≡ []
-in_place_free met alone known = ap₂ (λ (r k : Bool). faults_by r k (asks_in_place met) (is_given (codes "rounds") met)) alone known
+-- its faults, by what is asked
+abbrev faults_by : (rounds in_place counted : Bool) → Kinds → Kinds
+faults_by rounds in_place counted others =
+    cond (not rounds) others (cond in_place (ArgumentConflict ∷ []) (cond counted [] (MissingRequiredArgument ∷ [])))
+
+abbrev place_by : (clash kept shown waits known : Bool) → Kinds
+place_by clash kept shown waits known = cond clash (ArgumentConflict ∷ [])
+    (cond kept (cond shown [] (InvalidValue ∷ [])) (cond waits (MissingRequiredArgument ∷ []) (cond known [] (InvalidValue ∷ []))))
+
+abbrev place_of : Option (Text × List Row) → Kinds
+place_of met = place_by (clashes met) (asks_kept met) (is_figures (figures_met met)) (is_given (codes "seconds") met) (are_known met)
+
+pub in_place_free : (met : Option (Text × List Row)) → asks_rounds met ≡ false → clashes met ≡ false → asks_kept met ≡ false → is_given (codes "seconds") met ≡ false
+    → are_known met ≡ true → reduce_faults met ≡ []
+in_place_free met alone apart unkept waits known =
+    ap (λ (r : Bool). faults_by r (asks_in_place met) (is_given (codes "rounds") met) (place_of met)) alone
+    ∙ ap (λ (c : Bool). place_by c (asks_kept met) (is_figures (figures_met met)) (is_given (codes "seconds") met) (are_known met)) apart
+    ∙ ap₂ (λ (k w : Bool). place_by false k (is_figures (figures_met met)) w (are_known met)) unkept waits
+    ∙ ap (λ (k : Bool). place_by false false (is_figures (figures_met met)) false k) known
+
+-- one that is kept has a format that there is
+pub kept_free : (met : Option (Text × List Row)) → asks_rounds met ≡ false → clashes met ≡ false → asks_kept met ≡ true → is_figures (figures_met met) ≡ true
+    → reduce_faults met ≡ []
+kept_free met alone apart kept shown =
+    ap (λ (r : Bool). faults_by r (asks_in_place met) (is_given (codes "rounds") met) (place_of met)) alone
+    ∙ ap (λ (c : Bool). place_by c (asks_kept met) (is_figures (figures_met met)) (is_given (codes "seconds") met) (are_known met)) apart
+    ∙ ap₂ (λ (k f : Bool). place_by false k f (is_given (codes "seconds") met) (are_known met)) kept shown
 
 pub rounds_free : (met : Option (Text × List Row)) → is_given (codes "rounds") met ≡ true → asks_in_place met ≡ false → reduce_faults met ≡ []
-rounds_free met given alone = ap₂ (λ (r p : Bool). faults_by (r || is_given (codes "workers") met) (are_known met) p r) given alone
+rounds_free met given alone = ap₂ (λ (r p : Bool). faults_by (r || is_given (codes "workers") met) p r (place_of met)) given alone
 
 -- a kind of mistake that asks for nothing
 abbrev pub IsMistake : ErrorKind → Type 0
 IsMistake kind = (kind ≢ DisplayHelp) × (kind ≢ DisplayVersion)
 
 pub reduce_wrong : (met : Option (Text × List Row)) → reduce_faults met ≢ [] → (kind : ErrorKind) × (reduce_faults met ≡ kind ∷ []) × IsMistake kind
-reduce_wrong met wrong = go (asks_rounds met) (are_known met) (asks_in_place met) (is_given (codes "rounds") met) wrong
+reduce_wrong met wrong = go (asks_rounds met) (asks_in_place met) (is_given (codes "rounds") met) wrong
   where
-    go : (r k p c : Bool) → faults_by r k p c ≢ [] → (kind : ErrorKind) × (faults_by r k p c ≡ kind ∷ []) × IsMistake kind
-    go false true p c other = absurd (other refl)
-    go false false p c other = (InvalidValue, refl, ((λ e. cc), λ e. cc))
-    go true k true c other = (ArgumentConflict, refl, ((λ e. cc), λ e. cc))
-    go true k false true other = absurd (other refl)
-    go true k false false other = (MissingRequiredArgument, refl, ((λ e. cc), λ e. cc))
+    place : (c k f w l : Bool) → place_by c k f w l ≢ [] → (kind : ErrorKind) × (place_by c k f w l ≡ kind ∷ []) × IsMistake kind
+    place true k f w l other = (ArgumentConflict, refl, ((λ e. cc), λ e. cc))
+    place false true true w l other = absurd (other refl)
+    place false true false w l other = (InvalidValue, refl, ((λ e. cc), λ e. cc))
+    place false false f true l other = (MissingRequiredArgument, refl, ((λ e. cc), λ e. cc))
+    place false false f false true other = absurd (other refl)
+    place false false f false false other = (InvalidValue, refl, ((λ e. cc), λ e. cc))
+
+    go : (r p c : Bool) → faults_by r p c (place_of met) ≢ [] → (kind : ErrorKind) × (faults_by r p c (place_of met) ≡ kind ∷ []) × IsMistake kind
+    go false p c other = place (clashes met) (asks_kept met) (is_figures (figures_met met)) (is_given (codes "seconds") met) (are_known met) other
+    go true true c other = (ArgumentConflict, refl, ((λ e. cc), λ e. cc))
+    go true false true other = absurd (other refl)
+    go true false false other = (MissingRequiredArgument, refl, ((λ e. cc), λ e. cc))
 
 -- a mistake that the parser finds is one of all
 pub among_all : (k : ErrorKind) (a b : Kinds) → IsAmong k a → IsAmong k (or_else a b)

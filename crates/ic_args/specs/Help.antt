@@ -181,6 +181,11 @@ reduce_help = text_of (codes "Reduces a system until no step is possible, and pr
     ∷ codes "      --stats            Tell how many interactions were made, and how fast"
     ∷ (codes "      --format <FORMAT>  How --stats tells it: lines (lines) or a JSON object"
     ++ codes " (json) [default: lines]")
+    ∷ (codes "      --keep <F>         Keep what is reached in the new files F and F.2 now"
+    ++ codes " and then, and at the end")
+    ∷ codes "      --resume <F>       Go on with what is kept in F and F.2, and keep it there"
+    ∷ (codes "      --seconds <N>      About how long it goes on between two keeps, from 1 to"
+    ++ codes " 86400 [default: 30]")
     ∷ codes "      --rounds <N>       Make rounds, and at most so many, from 0 to 4611686018427387904"
     ∷ (codes "      --workers <N>      Threads for a round of 4000 equations or more, from 1"
     ++ codes " to 64 [default: 2]")

@@ -17,7 +17,7 @@ use Rattle.clap.specs.declared.error.ErrorKind.TheVariants.{DisplayHelp, Display
 use Rattle.clap.specs.declared.error.ErrorKind.TheVariants.{ArgumentConflict, MissingRequiredArgument}
 use Rattle.ic_args.specs.declared.words.Task.{Task}
 use Rattle.ic_args.specs.declared.words.Task.TheVariants.{Settle, Once, Create, Serve, Attend}
-use Rattle.ic_args.specs.declared.words.Task.TheVariants.{Reduce, ReduceByRounds, Trace, Draw, Dump, Inspect, Check, Batch, Expand}
+use Rattle.ic_args.specs.declared.words.Task.TheVariants.{Reduce, ReduceKept, ReduceByRounds, Trace, Draw, Dump, Inspect, Check, Batch, Expand}
 use Rattle.ic_args.specs.declared.words.Task.TheVariants.{Help, Version}
 use Rattle.ic_args.specs.declared.words.ReportFormat.{ReportFormat}
 use Rattle.ic_args.specs.declared.words.ReportFormat.TheVariants as check
@@ -111,6 +111,10 @@ most_rounds = 4611686018427387904
 abbrev pub most_steps : ℕ
 most_steps = 4611686018427387903
 
+-- the most seconds between two keeps: a day
+abbrev pub most_seconds : ℕ
+most_seconds = 86400
+
 abbrev pub serve_command : App
 serve_command = command_with (codes "serve") (disk_option
     ∷ number_option (codes "workers") 1 64 (codes "2" ∷ [])
@@ -134,7 +138,8 @@ reduce_command = command_with (codes "reduce") (number_option (codes "rounds") 0
     ∷ number_option (codes "workers") 1 64 []
     ∷ number_option (codes "steps") 0 most_steps []
     ∷ number_option (codes "nodes") 0 most_steps [] ∷ text_option (codes "limits")
-    ∷ text_option (codes "format") ∷ flag (codes "partial") ∷ flag (codes "stats")
+    ∷ text_option (codes "format") ∷ text_option (codes "keep") ∷ text_option (codes "resume")
+    ∷ number_option (codes "seconds") 1 most_seconds [] ∷ flag (codes "partial") ∷ flag (codes "stats")
     ∷ flag (codes "quiet-answer") ∷ input_argument ∷ [])
 
 abbrev pub trace_command : App
@@ -300,6 +305,10 @@ is_figures text = bytes_eq text (figures_word Lines) || bytes_eq text (figures_w
 abbrev pub figures_met : Option (Text × List Row) → Text
 figures_met met = unwrap_or (value_if_met (codes "format") met) (figures_word Lines)
 
+-- `reduce` is to keep what it reaches in a file, or to go on from one
+abbrev pub asks_kept : Option (Text × List Row) → Bool
+asks_kept met = is_some (value_if_met (codes "keep") met) || is_some (value_if_met (codes "resume") met)
+
 -- an option of rounds is given to `reduce`, or one of reducing in place alone
 abbrev pub asks_rounds : Option (Text × List Row) → Bool
 asks_rounds met = is_given (codes "rounds") met || is_given (codes "workers") met
@@ -308,13 +317,31 @@ abbrev pub asks_in_place : Option (Text × List Row) → Bool
 asks_in_place met = is_given (codes "steps") met
     || (is_given (codes "nodes") met || (is_flag_met (codes "stats") met
     || (is_some (value_if_met (codes "limits") met) || (is_some (value_if_met (codes "format") met)
-    || is_flag_met (codes "quiet-answer") met))))
+    || (is_flag_met (codes "quiet-answer") met || (asks_kept met || is_given (codes "seconds") met))))))
 
--- `reduce` makes rounds or reduces in place with limits and a format that there are, and workers are
--- those of rounds
+-- the options of a reduction that is kept clash: it begins anew or goes on, and not both; its text has
+-- wide limits; and where it goes on it is given no text
+abbrev pub clashes : Option (Text × List Row) → Bool
+clashes met = (is_some (value_if_met (codes "keep") met) && is_some (value_if_met (codes "resume") met))
+    || ((asks_kept met && is_some (value_if_met (codes "limits") met))
+    || (is_some (value_if_met (codes "resume") met) && is_some (value_if_met (codes "file") met)))
+
+-- the file of a reduction that is kept
+abbrev pub kept_met : Option (Text × List Row) → Text
+kept_met met = unwrap_or (value_if_met (codes "keep") met) (value_met (codes "resume") met)
+
+-- Reducing in place has options that go together, limits and a format that there are, and seconds only where
+-- something is kept.
+abbrev pub in_place_faults : Option (Text × List Row) → Kinds
+in_place_faults met = if clashes met then ArgumentConflict ∷ []
+    else if asks_kept met then (if is_figures (figures_met met) then [] else InvalidValue ∷ [])
+    else if is_given (codes "seconds") met then MissingRequiredArgument ∷ []
+    else if is_limits (limits_met met) && is_figures (figures_met met) then [] else InvalidValue ∷ []
+
+-- `reduce` makes rounds or reduces in place, and workers are those of rounds
 abbrev pub reduce_faults : Option (Text × List Row) → Kinds
 reduce_faults met = if not (asks_rounds met)
-    then (if is_limits (limits_met met) && is_figures (figures_met met) then [] else InvalidValue ∷ [])
+    then in_place_faults met
     else if asks_in_place met then ArgumentConflict ∷ []
     else if is_given (codes "rounds") met then [] else MissingRequiredArgument ∷ []
 
@@ -350,6 +377,8 @@ AnswersWords mistakes (Ok (Create disk overwrite)) = mistakes ≡ []
 AnswersWords mistakes (Ok (Serve disk workers every explain)) = mistakes ≡ []
 AnswersWords mistakes (Ok (Attend disk runners turns workers scripts)) = mistakes ≡ []
 AnswersWords mistakes (Ok (Reduce steps nodes partial stats limits format quiet file)) = mistakes ≡ []
+AnswersWords mistakes (Ok (ReduceKept disk begins seconds steps nodes partial stats format quiet file)) =
+    mistakes ≡ []
 AnswersWords mistakes (Ok (ReduceByRounds rounds workers partial file)) = mistakes ≡ []
 AnswersWords mistakes (Ok (Trace rounds format file)) = mistakes ≡ []
 AnswersWords mistakes (Ok (Draw file)) = mistakes ≡ []
@@ -381,6 +410,7 @@ GivesHelp (Ok (Create disk overwrite)) = ⊥
 GivesHelp (Ok (Serve disk workers every explain)) = ⊥
 GivesHelp (Ok (Attend disk runners turns workers scripts)) = ⊥
 GivesHelp (Ok (Reduce steps nodes partial stats limits format quiet file)) = ⊥
+GivesHelp (Ok (ReduceKept disk begins seconds steps nodes partial stats format quiet file)) = ⊥
 GivesHelp (Ok (ReduceByRounds rounds workers partial file)) = ⊥
 GivesHelp (Ok (Trace rounds format file)) = ⊥
 GivesHelp (Ok (Draw file)) = ⊥
@@ -402,6 +432,7 @@ GivesVersion (Ok (Create disk overwrite)) = ⊥
 GivesVersion (Ok (Serve disk workers every explain)) = ⊥
 GivesVersion (Ok (Attend disk runners turns workers scripts)) = ⊥
 GivesVersion (Ok (Reduce steps nodes partial stats limits format quiet file)) = ⊥
+GivesVersion (Ok (ReduceKept disk begins seconds steps nodes partial stats format quiet file)) = ⊥
 GivesVersion (Ok (ReduceByRounds rounds workers partial file)) = ⊥
 GivesVersion (Ok (Trace rounds format file)) = ⊥
 GivesVersion (Ok (Draw file)) = ⊥
@@ -454,17 +485,37 @@ abbrev pub help_asked : List Text → Text
 help_asked words = if is_empty (fault_of command_line words)
     then help_by (value_if_met (codes "word") (subcommand_of command_line words)) else help_of words
 
--- the words of `reduce` give two bounds, three flags, limits, a format and a file, and no option of
--- rounds
+-- the words of `reduce` give two bounds, three flags, limits, a format and a file, no option of rounds, and
+-- no file in which it is kept
 pub record NamesReduce (words : List Text) (s n : ℕ) (p t q : Bool) (l w : Text) (f : Option Text)
     : Type 0 where
   pub begins : BeginsWith (codes "reduce") words
   pub alone : asks_rounds (subcommand_of command_line words) ≡ false
+  pub unkept : asks_kept (subcommand_of command_line words) ≡ false
   pub steps : IsNumberOr (codes "steps") 0 most_steps most_steps words s
   pub nodes : IsNumberOr (codes "nodes") 0 most_steps 134217728 words n
   pub partial : p ≡ is_flag_met (codes "partial") (subcommand_of command_line words)
   pub stats : t ≡ is_flag_met (codes "stats") (subcommand_of command_line words)
   pub limits : l ≡ limits_met (subcommand_of command_line words)
+  pub format : w ≡ figures_met (subcommand_of command_line words)
+  pub quiet : q ≡ is_flag_met (codes "quiet-answer") (subcommand_of command_line words)
+  pub file : f ≡ file_met (subcommand_of command_line words)
+
+-- the words of `reduce` give a file in which it is kept, whether it begins anew there, seconds, two bounds,
+-- three flags, a format and a file, and no option of rounds
+pub record NamesKept (words : List Text) (d : Text) (b : Bool) (e s n : ℕ) (p t q : Bool) (w : Text)
+    (f : Option Text) : Type 0 where
+  pub begins : BeginsWith (codes "reduce") words
+  pub alone : asks_rounds (subcommand_of command_line words) ≡ false
+  pub apart : clashes (subcommand_of command_line words) ≡ false
+  pub kept : asks_kept (subcommand_of command_line words) ≡ true
+  pub disk : d ≡ kept_met (subcommand_of command_line words)
+  pub anew : b ≡ is_some (value_if_met (codes "keep") (subcommand_of command_line words))
+  pub seconds : IsNumberOr (codes "seconds") 1 most_seconds 30 words e
+  pub steps : IsNumberOr (codes "steps") 0 most_steps most_steps words s
+  pub nodes : IsNumberOr (codes "nodes") 0 most_steps 134217728 words n
+  pub partial : p ≡ is_flag_met (codes "partial") (subcommand_of command_line words)
+  pub stats : t ≡ is_flag_met (codes "stats") (subcommand_of command_line words)
   pub format : w ≡ figures_met (subcommand_of command_line words)
   pub quiet : q ≡ is_flag_met (codes "quiet-answer") (subcommand_of command_line words)
   pub file : f ≡ file_met (subcommand_of command_line words)
@@ -505,6 +556,9 @@ Names words (Attend disk runners turns workers scripts) =
 Names words (Reduce steps nodes partial stats limits format quiet file) =
     NamesReduce words steps nodes partial stats quiet (limits_word limits) (figures_word format)
     (option_map string_bytes file)
+Names words (ReduceKept disk begins seconds steps nodes partial stats format quiet file) =
+    NamesKept words (string_bytes disk) begins seconds steps nodes partial stats quiet
+    (figures_word format) (option_map string_bytes file)
 Names words (ReduceByRounds rounds workers partial file) =
     NamesText (codes "reduce") words (option_map string_bytes file)
     × (asks_in_place (subcommand_of command_line words) ≡ false)

@@ -169,6 +169,9 @@ Options:
       --quiet-answer     Print no configuration, where only figures or the exit status are wanted
       --stats            Tell how many interactions were made, and how fast
       --format <FORMAT>  How --stats tells it: lines (lines) or a JSON object (json) [default: lines]
+      --keep <F>         Keep what is reached in the new files F and F.2 now and then, and at the end
+      --resume <F>       Go on with what is kept in F and F.2, and keep it there
+      --seconds <N>      About how long it goes on between two keeps, from 1 to 86400 [default: 30]
       --rounds <N>       Make rounds, and at most so many, from 0 to 4611686018427387904
       --workers <N>      Threads for a round of 4000 equations or more, from 1 to 64 [default: 2]
   -h, --help             Print help

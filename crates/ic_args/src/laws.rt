@@ -146,7 +146,8 @@ pub fn each_command_has_its_help()
         ∷ codes "--partial" ∷ codes "--stats" ∷ codes "--limits <L>" ∷ codes "(served)"
         ∷ codes "(wide)" ∷ codes "[default: wide]" ∷ codes "--format <FORMAT>"
         ∷ codes "(lines)" ∷ codes "(json)" ∷ codes "Without --stats, --format changes nothing"
-        ∷ codes "[default: lines]" ∷ codes "--quiet-answer" ∷ []) }
+        ∷ codes "[default: lines]" ∷ codes "--quiet-answer" ∷ codes "--keep <F>"
+        ∷ codes "--resume <F>" ∷ codes "--seconds <N>" ∷ codes "from 1 to 86400 [default: 30]" ∷ []) }
     ensures formats { AllByRecursion (Says trace_help) (codes "icserve trace" ∷ codes "--rounds <N>"
         ∷ codes "from 0 to 4611686018427387904 [default: 1000000]" ∷ codes "--format <FORMAT>"
         ∷ codes "(tsv)" ∷ codes "(svg)" ∷ codes "(json)" ∷ codes "[default: tsv]" ∷ []) }
@@ -264,6 +265,28 @@ pub fn reduce_lines_are_taken(path: &Option<String>)
         ≡ (InvalidValue ∷ []) ∷ (InvalidValue ∷ []) ∷ (InvalidValue ∷ []) ∷ (InvalidValue ∷ []) ∷ [] }
     ensures no_rounds { mistakes_of (codes "reduce" ∷ codes "--workers=1" ∷ [])
         ≡ MissingRequiredArgument ∷ [] }
+{}
+
+/// What a line of `reduce` that keeps what it reaches may have, by examples. To keep and to go on in one line are a mistake,
+/// and so are limits, a FILE where it goes on, options of rounds, and seconds without a file.
+pub fn kept_lines_are_taken()
+    ensures taken { map (λ more. mistakes_of (codes "reduce" ∷ codes "--keep=f" ∷ more))
+        ([] ∷ (codes "text" ∷ []) ∷ (codes "--seconds=86400" ∷ codes "--steps=9" ∷ codes "--stats" ∷ [])
+        ∷ (codes "--nodes=9" ∷ codes "--partial" ∷ codes "--quiet-answer" ∷ codes "--format=json" ∷ []) ∷ [])
+        ≡ [] ∷ [] ∷ [] ∷ [] ∷ [] }
+    ensures resumed { map (λ more. mistakes_of (codes "reduce" ∷ codes "--resume" ∷ codes "f" ∷ more))
+        ([] ∷ (codes "--seconds=1" ∷ codes "--steps=9" ∷ []) ∷ []) ≡ [] ∷ [] ∷ [] }
+    ensures clash { map (λ more. mistakes_of (codes "reduce" ∷ codes "--resume=f" ∷ more))
+        ((codes "--keep=f" ∷ []) ∷ (codes "--limits=wide" ∷ []) ∷ (codes "text" ∷ [])
+        ∷ (codes "--rounds=1" ∷ []) ∷ [])
+        ≡ (ArgumentConflict ∷ []) ∷ (ArgumentConflict ∷ []) ∷ (ArgumentConflict ∷ [])
+        ∷ (ArgumentConflict ∷ []) ∷ [] }
+    ensures limits { mistakes_of (codes "reduce" ∷ codes "--keep=f" ∷ codes "--limits=served" ∷ [])
+        ≡ ArgumentConflict ∷ [] }
+    ensures no_file { mistakes_of (codes "reduce" ∷ codes "--seconds=1" ∷ [])
+        ≡ MissingRequiredArgument ∷ [] }
+    ensures other { mistakes_of (codes "reduce" ∷ codes "--keep=f" ∷ codes "--format=tsv" ∷ [])
+        ≡ InvalidValue ∷ [] }
 {}
 
 /// A well-formed line of `trace` is taken, in whatever order its options stand, and names the number

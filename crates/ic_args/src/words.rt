@@ -9,6 +9,7 @@ ghost use Rattle.ic_args.specs.Words.{disk_option, file_argument, flag, name_arg
 ghost use Rattle.ic_args.specs.Words.{is_report_format, lines_argument, most_rounds, most_steps, report_word};
 ghost use Rattle.ic_args.specs.Words.{script_argument};
 ghost use Rattle.ic_args.specs.Words.{input_argument, optional_argument, text_command};
+ghost use Rattle.ic_args.specs.Words.{asks_kept, clashes, kept_met, most_seconds};
 ghost use Rattle.ic_args.specs.Words.{asks_in_place, asks_rounds, is_limits, limits_met, limits_word, text_option, is_flag_met, is_given, mistakes_of, reduce_faults, value_met, values_met};
 ghost use Rattle.ic_args.specs.Words.{figures_met, figures_word, is_figures};
 ghost use Rattle.clap.specs.declared.builder.value_parser.ValueParser.TheVariants.{Unsigned};
@@ -45,6 +46,12 @@ const MAX_STEPS: u64 = 4_611_686_018_427_387_903;
 /// How many places the net of `reduce` has at most, where nothing else is said: 2^27.
 const NODES: u64 = 134_217_728;
 
+/// The most seconds between two keeps of `reduce`: a day.
+const MAX_SECONDS: u64 = 86_400;
+
+/// How many seconds are between two keeps of `reduce`, where nothing else is said.
+const SECONDS: u64 = 30;
+
 /// How many threads make a round of `reduce`, where nothing else is said.
 const WORKERS: u64 = 2;
 
@@ -59,9 +66,29 @@ const LINES: &str = "lines";
 
 /// What is said where `reduce` is asked for rounds and for reducing in place.
 const BOTH_WAYS: &str = "\
-error: the arguments '--rounds <N>' and '--workers <N>' cannot be used with '--steps <N>', '--nodes <N>', '--limits <L>', '--stats', '--format <FORMAT>' or '--quiet-answer'
+error: the arguments '--rounds <N>' and '--workers <N>' cannot be used with '--steps <N>', '--nodes <N>', '--limits <L>', '--stats', '--format <FORMAT>', '--quiet-answer', '--keep <F>', '--resume <F>' or '--seconds <N>'
 
 Usage: icserve reduce [OPTIONS] [FILE]
+
+For more information, try '--help'.
+";
+
+/// What is said where the options of a reduction that is kept clash.
+const CLASH: &str = "\
+error: the argument '--keep <F>' cannot be used with '--resume <F>', nor either with '--limits <L>', nor '--resume <F>' with '[FILE]'
+
+Usage: icserve reduce --keep <F> [OPTIONS] [FILE]
+       icserve reduce --resume <F> [OPTIONS]
+
+For more information, try '--help'.
+";
+
+/// What is said where `reduce` is told how often to keep what it reaches, and not where.
+const NO_KEEP: &str = "\
+error: the following required arguments were not provided:
+  --keep <F> or --resume <F>
+
+Usage: icserve reduce --keep <F> --seconds <N> [OPTIONS] [FILE]
 
 For more information, try '--help'.
 ";
@@ -133,6 +160,29 @@ pub enum Task {
         stats: bool,
         /// The limits of the text.
         limits: TextLimits,
+        /// How that is told.
+        format: FiguresFormat,
+        /// Whether nothing is printed on standard output.
+        quiet: bool,
+        /// The path of the text.
+        file: Option<String>,
+    },
+    /// Reduce a system in place until no step is possible, and keep in a file what is reached.
+    ReduceKept {
+        /// The path of the file.
+        disk: String,
+        /// Whether a reduction begins. Else the one that the file has goes on.
+        begins: bool,
+        /// How many seconds are between two keeps, from 1 to 86,400.
+        seconds: u64,
+        /// How many interactions are made at most, in all runs, from 0 to 2^62 - 1.
+        steps: u64,
+        /// How many places the net has at most, from 0 to 2^62 - 1.
+        nodes: u64,
+        /// Whether the configuration is printed where the net is too large or memory ran out.
+        partial: bool,
+        /// Whether it is told how many interactions were made, and how fast.
+        stats: bool,
         /// How that is told.
         format: FiguresFormat,
         /// Whether nothing is printed on standard output.
@@ -465,10 +515,87 @@ fn reduce_task(alloc: Global, matches: &ArgMatches) -> Result<Task, WordsFault>
     rounds_task(alloc, matches)
 }
 
-/// The task of `reduce` in place. Limits that there aren't, or a format, are refused as the parser refuses such a value.
+/// The task of `reduce` in place. Options that clash are refused as the parser refuses such words, and so are seconds where
+/// nothing is kept.
 fn in_place_task(alloc: Global, matches: &ArgMatches) -> Result<Task, WordsFault>
     requires met { IsMet (codes "reduce") (subcommand_rows_of matches.now) }
     requires alone { asks_rounds (subcommand_rows_of matches.now) ≡ false }
+    ensures { Asks (subcommand_rows_of matches.now) result }
+{
+    if clashes(matches) {
+        return Err(WordsFault::Words(String::from_str(alloc, CLASH)?));
+    }
+    if asks_kept(matches) {
+        return kept_task(alloc, matches);
+    }
+    if is_given(matches, "seconds") {
+        return Err(WordsFault::Words(String::from_str(alloc, NO_KEEP)?));
+    }
+    unkept_task(alloc, matches)
+}
+
+/// The task of `reduce` in place, which keeps in a file what is reached. A format that there isn't is refused as the parser
+/// refuses such a value.
+fn kept_task(alloc: Global, matches: &ArgMatches) -> Result<Task, WordsFault>
+    requires met { IsMet (codes "reduce") (subcommand_rows_of matches.now) }
+    requires alone { asks_rounds (subcommand_rows_of matches.now) ≡ false }
+    requires apart { clashes (subcommand_rows_of matches.now) ≡ false }
+    requires kept { asks_kept (subcommand_rows_of matches.now) ≡ true }
+    ensures { Asks (subcommand_rows_of matches.now) result }
+{
+    let Some(format) = figures_named(figures_met(matches)) else {
+        return Err(WordsFault::Words(no_figures(alloc, matches)?));
+    };
+    Ok(Task::ReduceKept {
+        disk: String::from_str(alloc, kept_met(matches))?,
+        begins: value_if_met(matches, "keep").is_some(),
+        seconds: number_or(matches, "seconds", 1, MAX_SECONDS, SECONDS),
+        steps: number_or(matches, "steps", 0, MAX_STEPS, MAX_STEPS),
+        nodes: number_or(matches, "nodes", 0, MAX_STEPS, NODES),
+        partial: is_flag_met(matches, "partial"),
+        stats: is_flag_met(matches, "stats"),
+        format,
+        quiet: is_flag_met(matches, "quiet-answer"),
+        file: file_of(alloc, matches)?,
+    })
+}
+
+/// The path of the file in which a reduction is kept.
+fn kept_met<'a>(matches: &ArgMatches<'a>) -> &'a str
+    ensures { result.now ≡ kept_met (subcommand_rows_of matches.now) }
+{
+    let resumed = value_of(matches, "resume");
+    value_if_met(matches, "keep").unwrap_or(resumed)
+}
+
+/// Whether what is reached is to be kept in a file.
+fn asks_kept(matches: &ArgMatches) -> bool
+    ensures { result ≡ asks_kept (subcommand_rows_of matches.now) }
+{
+    value_if_met(matches, "keep").is_some() || value_if_met(matches, "resume").is_some()
+}
+
+/// Whether options of a reduction that is kept clash: it begins or goes on, its text has wide limits, and where it goes on
+/// it is given no text.
+fn clashes(matches: &ArgMatches) -> bool
+    ensures { result ≡ clashes (subcommand_rows_of matches.now) }
+{
+    let keeps = value_if_met(matches, "keep").is_some();
+    let resumes = value_if_met(matches, "resume").is_some();
+    let kept = asks_kept(matches);
+    (keeps && resumes)
+        || (kept && value_if_met(matches, "limits").is_some())
+        || (resumes && value_if_met(matches, "file").is_some())
+}
+
+/// The task of `reduce` in place, which keeps nothing. Limits that there aren't, or a format, are refused as the parser
+/// refuses such a value.
+fn unkept_task(alloc: Global, matches: &ArgMatches) -> Result<Task, WordsFault>
+    requires met { IsMet (codes "reduce") (subcommand_rows_of matches.now) }
+    requires alone { asks_rounds (subcommand_rows_of matches.now) ≡ false }
+    requires apart { clashes (subcommand_rows_of matches.now) ≡ false }
+    requires unkept { asks_kept (subcommand_rows_of matches.now) ≡ false }
+    requires waits { is_given (codes "seconds") (subcommand_rows_of matches.now) ≡ false }
     ensures { Asks (subcommand_rows_of matches.now) result }
 {
     let Some(limits) = limits_named(limits_met(matches)) else {
@@ -581,6 +708,8 @@ fn asks_in_place(matches: &ArgMatches) -> bool
         || value_if_met(matches, "limits").is_some()
         || value_if_met(matches, "format").is_some()
         || is_flag_met(matches, "quiet-answer")
+        || asks_kept(matches)
+        || is_given(matches, "seconds")
 }
 
 /// The task of `trace`. A format that there isn't is refused as the parser refuses such a value.
@@ -906,6 +1035,13 @@ fn steps<'a>() -> ValueParser<'a>
     value_parser!(u64).range(0..4_611_686_018_427_387_904)
 }
 
+/// Reads how many seconds are between two keeps.
+fn waits<'a>() -> ValueParser<'a>
+    ensures { result ≡ Unsigned 1 most_seconds }
+{
+    value_parser!(u64).range(1..86_401)
+}
+
 /// The argument that names scripts.
 fn script_argument<'a>(alloc: Global) -> Arg<'a>
     ensures rule { rule_of result ≡ script_argument }
@@ -1050,6 +1186,9 @@ fn reduce_command<'a>(alloc: Global) -> Result<Command<'a>, AllocError>
     let command = with_arg(command, chosen_option(alloc, "nodes", steps()));
     let command = with_arg(command, text_option(alloc, "limits", "L"));
     let command = with_arg(command, text_option(alloc, "format", "FORMAT"));
+    let command = with_arg(command, text_option(alloc, "keep", "F"));
+    let command = with_arg(command, text_option(alloc, "resume", "F"));
+    let command = with_arg(command, chosen_option(alloc, "seconds", waits()));
     let command = with_arg(command, flag(alloc, "partial"));
     let command = with_arg(command, flag(alloc, "stats"));
     let command = with_arg(command, flag(alloc, "quiet-answer"));

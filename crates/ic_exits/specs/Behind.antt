@@ -9,6 +9,10 @@ use Rattle.ic_causes.specs.declared.cause.Target.TheVariants as target
 use Rattle.ic_causes.specs.Causes.{cause_line, shown_path}
 use Rattle.ic_frames.specs.declared.faults.OpenCause.{OpenCause}
 use Rattle.ic_frames.specs.declared.faults.OpenCause.TheVariants as opening
+use Rattle.ic_frames.specs.declared.faults.KeepFault.{KeepFault}
+use Rattle.ic_frames.specs.declared.faults.KeepFault.TheVariants as keep
+use Rattle.ic_keeping.specs.declared.fault.KeepingFault.{KeepingFault}
+use Rattle.ic_keeping.specs.declared.fault.KeepingFault.TheVariants as keeping
 use Rattle.ic_slots.specs.declared.fault.CreateFault.{CreateFault}
 use Rattle.ic_slots.specs.declared.fault.CreateFault.TheVariants as creating
 use Rattle.ic_book.specs.declared.fault.BookFault.{BookFault}
@@ -28,7 +32,7 @@ use Rattle.ic_batch.specs.declared.fault.Difference.{Difference}
 use Rattle.ic_batch.specs.declared.fault.Difference.TheVariants as difference
 use Rattle.ic_exits.specs.declared.failure.Failure.{Failure}
 use Rattle.ic_exits.specs.declared.failure.Failure.TheVariants.{Words, Stream, Disk, Locked, Create, NotEmpty, Open, Serve, Attend, Dump, Inspect, Jobs, Batch, Faults, NotDone}
-use Rattle.ic_exits.specs.declared.failure.Failure.TheVariants.{Round, Overgrown, TableFull, OutOfMemory}
+use Rattle.ic_exits.specs.declared.failure.Failure.TheVariants.{Round, Overgrown, TableFull, OutOfMemory, Kept, SecondFile}
 use Rattle.ic_exits.specs.declared.failure.Reached.{Reached}
 use Rattle.ic_by_rounds.specs.declared.refusal.Refusal.{Refusal}
 use Rattle.ic_round.specs.declared.round_fault.RoundFault.{RoundFault}
@@ -45,6 +49,15 @@ not_empty = codes "the file holds something; `--overwrite` makes it an empty dis
 -- of a file that no server has left so
 abbrev pub not_as_left : List ℕ
 not_as_left = codes "something else has changed the file, or it was copied in part"
+
+-- of files of which one isn't empty
+abbrev pub not_both_empty : List ℕ
+not_both_empty =
+    codes "it or its second file, F.2, holds something; `--resume F` goes on with what is kept there"
+
+-- of files in which no reduction is kept
+abbrev pub nothing_kept : List ℕ
+nothing_kept = codes "no reduction is kept in it and in its second file, F.2"
 
 -- the line that says this of the file of a path
 abbrev pub shown_of : (path words : List ℕ) → List ℕ
@@ -162,6 +175,34 @@ batch_lines (batch.Taken name is) path cause = shown_of path (taken_words is)
 batch_lines batch.Full path cause = shown_of path no_room
 batch_lines (batch.Serve fault) path cause = serve_lines fault path cause
 
+-- where a state isn't kept
+abbrev pub keep_lines : KeepFault → List ℕ → Option Cause → List ℕ
+keep_lines keep.Broken path cause = cause_line path cause
+keep_lines keep.Worn path cause = []
+keep_lines keep.Device path cause = cause_line path cause
+
+-- where no state is found in two files
+abbrev pub found_lines : OpenCause → List ℕ → Option Cause → List ℕ
+found_lines opening.Device path cause = cause_line path cause
+found_lines opening.NoSlot path cause = shown_of path nothing_kept
+found_lines opening.TwoAlike path cause = shown_of path not_as_left
+found_lines opening.Damaged path cause = shown_of path not_as_left
+found_lines opening.Memory path cause = []
+
+-- where a reduction that is kept doesn't go on
+abbrev pub kept_lines : KeepingFault → List ℕ → Option Cause → List ℕ
+kept_lines keeping.NotEmpty path cause = shown_of path not_both_empty
+kept_lines keeping.Device path cause = cause_line path cause
+kept_lines (keeping.Open fault) path cause = found_lines fault path cause
+kept_lines keeping.Unsound path cause = shown_of path not_as_left
+kept_lines keeping.Limit path cause = []
+kept_lines keeping.Memory path cause = []
+kept_lines (keeping.Keep fault) path cause = keep_lines fault path cause
+
+-- the path of the second file in which a reduction is kept
+abbrev pub second_path : List ℕ → List ℕ
+second_path path = path ++ codes ".2"
+
 -- how far a net has come that is reduced in place
 abbrev pub reached_text : Reached → List ℕ
 reached_text reached = codes "interactions " ++ decimal reached.interactions
@@ -209,3 +250,5 @@ lines_behind (Round refusal) path cause = round_lines refusal
 lines_behind (Overgrown reached nodes) path cause = overgrown_lines reached nodes
 lines_behind (TableFull reached) path cause = reached_lines reached
 lines_behind (OutOfMemory reached) path cause = reached_lines reached
+lines_behind (Kept fault) path cause = kept_lines fault path cause
+lines_behind (SecondFile fault) path cause = cause_line (second_path path) cause

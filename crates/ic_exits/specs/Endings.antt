@@ -18,6 +18,10 @@ use Rattle.ic_round.specs.declared.round_fault.RoundFault.{RoundFault}
 use Rattle.ic_round.specs.declared.round_fault.RoundFault.TheVariants as round
 use Rattle.ic_frames.specs.declared.faults.OpenCause.{OpenCause}
 use Rattle.ic_frames.specs.declared.faults.OpenCause.TheVariants as opening
+use Rattle.ic_frames.specs.declared.faults.KeepFault.{KeepFault}
+use Rattle.ic_frames.specs.declared.faults.KeepFault.TheVariants as keep
+use Rattle.ic_keeping.specs.declared.fault.KeepingFault.{KeepingFault}
+use Rattle.ic_keeping.specs.declared.fault.KeepingFault.TheVariants as keeping
 use Rattle.ic_slots.specs.declared.fault.CreateFault.{CreateFault}
 use Rattle.ic_slots.specs.declared.fault.CreateFault.TheVariants as creating
 use Rattle.ic_streams.specs.declared.fault.StreamFault.{StreamFault}
@@ -39,7 +43,7 @@ use Rattle.ic_inspect.specs.declared.fault.InspectFault.TheVariants as inspect
 use Rattle.ic_args.specs.declared.words.WordsFault.TheVariants as words
 use Rattle.ic_exits.specs.declared.failure.Failure.{Failure}
 use Rattle.ic_exits.specs.declared.failure.Failure.TheVariants.{Words, Stream, Disk, Locked, Create, NotEmpty, Open, Serve, Attend, Dump, Inspect, Jobs, Batch, Faults, NotDone}
-use Rattle.ic_exits.specs.declared.failure.Failure.TheVariants.{Round, Overgrown, TableFull, OutOfMemory}
+use Rattle.ic_exits.specs.declared.failure.Failure.TheVariants.{Round, Overgrown, TableFull, OutOfMemory, Kept, SecondFile}
 use Rattle.ic_exits.specs.declared.failure.Reached.{Reached}
 use Rattle.ic_in_place.specs.declared.running.End.{End}
 use Rattle.ic_in_place.specs.declared.running.End.TheVariants as end
@@ -84,6 +88,17 @@ batch_status (batch.Taken name difference) = 1
 batch_status batch.Full = 1
 batch_status (batch.Serve fault) = 4
 
+-- the exit status of a reduction that is kept: 3 for files that it isn't kept in, 1 for a net that is too
+-- large, 4 for all else
+abbrev pub kept_status : KeepingFault → ℕ
+kept_status keeping.NotEmpty = 3
+kept_status keeping.Device = 3
+kept_status (keeping.Open cause) = 3
+kept_status keeping.Unsound = 3
+kept_status keeping.Limit = 1
+kept_status keeping.Memory = 4
+kept_status (keeping.Keep fault) = 4
+
 -- the exit status: 1 for a refused text, round or job and for a net that is too large, 2 for refused
 -- words, 3 for a disk, 5 for rounds or interactions that didn't suffice, 6 for a disk that another
 -- server has, 4 for all else
@@ -112,6 +127,8 @@ status_of (Round refusal) = 1
 status_of (Overgrown reached nodes) = 1
 status_of (TableFull reached) = 1
 status_of (OutOfMemory reached) = 4
+status_of (Kept fault) = kept_status fault
+status_of (SecondFile fault) = 3
 
 -- why a round isn't made
 abbrev pub round_word : RoundFault → List ℕ
@@ -203,6 +220,22 @@ batch_word (batch.Taken name difference) = codes "taken " ++ name
 batch_word batch.Full = codes "full"
 batch_word (batch.Serve fault) = serve_word fault
 
+-- why a state isn't kept
+abbrev pub keep_word : KeepFault → List ℕ
+keep_word keep.Broken = codes "broken"
+keep_word keep.Worn = codes "worn"
+keep_word keep.Device = codes "device"
+
+-- why a reduction that is kept doesn't go on
+abbrev pub kept_word : KeepingFault → List ℕ
+kept_word keeping.NotEmpty = codes "not empty"
+kept_word keeping.Device = codes "device"
+kept_word (keeping.Open cause) = open_word cause
+kept_word keeping.Unsound = codes "damaged"
+kept_word keeping.Limit = codes "limit"
+kept_word keeping.Memory = codes "memory"
+kept_word (keeping.Keep fault) = keep_word fault
+
 -- a word as a line
 abbrev pub told : List ℕ → List ℕ
 told word = codes "icserve: " ++ word ++ 10 ∷ []
@@ -229,6 +262,8 @@ failure_line (Round refusal) = told (round_word refusal.fault)
 failure_line (Overgrown reached nodes) = told (codes "overgrown")
 failure_line (TableFull reached) = told (codes "table full")
 failure_line (OutOfMemory reached) = told (codes "memory")
+failure_line (Kept fault) = told (kept_word fault)
+failure_line (SecondFile fault) = told (codes "device")
 
 -- the line that tells a stuck pair
 abbrev pub stuck_line : List ℕ → List ℕ

@@ -4,6 +4,8 @@
 ghost use Rattle.std.specs.Prelude.{◌≡◌, IfOk};
 ghost use Rattle.ic_exits.specs.Behind.{book_lines, create_lines, ends_without_reader, is_of_writing, is_silent, lines_behind, open_lines, scripts_lines};
 ghost use Rattle.ic_exits.specs.Behind.{batch_lines, input_lines, inspect_lines, limit_text, overgrown_lines, reached_lines, reached_text, round_lines};
+ghost use Rattle.ic_exits.specs.Behind.{found_lines, keep_lines, kept_lines, second_path};
+ghost use Rattle.ic_causes.specs.Causes.{cause_line};
 ghost use Rattle.ic_exits.specs.Behind.{serve_lines, shown_of, stream_lines, taken_words};
 
 use crate::{Failure, Reached};
@@ -12,7 +14,9 @@ use ic_book::BookFault;
 use ic_by_rounds::Refusal;
 use ic_causes::{Cause, Reason, Target, cause_line, shown_path};
 use ic_dump::DumpFault;
+use ic_frames::KeepFault;
 use ic_inspect::InspectFault;
+use ic_keeping::KeepingFault;
 use ic_round::RoundFault;
 use ic_scripts::ScriptsFault;
 use ic_serving::ServeFault;
@@ -32,6 +36,13 @@ const NOT_AS_LEFT: &[u8] = b"something else has changed the file, or it was copi
 
 /// What is said of a disk that has no room.
 const NO_ROOM: &[u8] = b"it has jobs of other names, and no disk has more than 32";
+
+/// What is said of files of which one isn't empty.
+const NOT_BOTH_EMPTY: &[u8] =
+    b"it or its second file, F.2, holds something; `--resume F` goes on with what is kept there";
+
+/// What is said of files in which no reduction is kept.
+const NOTHING_KEPT: &[u8] = b"no reduction is kept in it and in its second file, F.2";
 
 impl Failure {
     /// Whether nothing is told of the failure, where this call has failed last: nobody reads the answers
@@ -83,6 +94,8 @@ impl Failure {
             Failure::Dump(_) | Failure::Jobs(_) | Failure::Faults => Ok(Vec::new(alloc)),
             Failure::Batch(fault) => batch_lines(alloc, *fault, path, cause),
             Failure::Inspect(fault) => inspect_lines(alloc, *fault, path, cause),
+            Failure::Kept(fault) => kept_lines(alloc, *fault, path, cause),
+            Failure::SecondFile(_) => second_lines(alloc, path, cause),
         }
     }
 }
@@ -192,6 +205,63 @@ fn open_lines(
         OpenCause::NoSlot => said_of(alloc, path, NO_DISK),
         OpenCause::TwoAlike | OpenCause::Damaged => said_of(alloc, path, NOT_AS_LEFT),
         OpenCause::Memory => Ok(Vec::new(alloc)),
+    }
+}
+
+/// What is said where the second file of a path can't be opened.
+fn second_lines(alloc: Global, path: &[u8], cause: Option<Cause>) -> Result<Vec<u8>, AllocError>
+    ensures { IfOk result (λ lines. lines.items ≡ cause_line (second_path path.now) cause) }
+{
+    let mut second = path.to_vec(alloc)?;
+    second.extend_from_slice(b".2")?;
+    cause_line(alloc, &second, cause)
+}
+
+fn kept_lines(
+    alloc: Global,
+    fault: KeepingFault,
+    path: &[u8],
+    cause: Option<Cause>,
+) -> Result<Vec<u8>, AllocError>
+    ensures { IfOk result (λ lines. lines.items ≡ kept_lines fault path.now cause) }
+{
+    match fault {
+        KeepingFault::NotEmpty => said_of(alloc, path, NOT_BOTH_EMPTY),
+        KeepingFault::Device => cause_line(alloc, path, cause),
+        KeepingFault::Open(refused) => found_lines(alloc, refused, path, cause),
+        KeepingFault::Unsound => said_of(alloc, path, NOT_AS_LEFT),
+        KeepingFault::Limit | KeepingFault::Memory => Ok(Vec::new(alloc)),
+        KeepingFault::Keep(refused) => keep_lines(alloc, refused, path, cause),
+    }
+}
+
+fn found_lines(
+    alloc: Global,
+    fault: OpenCause,
+    path: &[u8],
+    cause: Option<Cause>,
+) -> Result<Vec<u8>, AllocError>
+    ensures { IfOk result (λ lines. lines.items ≡ found_lines fault path.now cause) }
+{
+    match fault {
+        OpenCause::Device => cause_line(alloc, path, cause),
+        OpenCause::NoSlot => said_of(alloc, path, NOTHING_KEPT),
+        OpenCause::TwoAlike | OpenCause::Damaged => said_of(alloc, path, NOT_AS_LEFT),
+        OpenCause::Memory => Ok(Vec::new(alloc)),
+    }
+}
+
+fn keep_lines(
+    alloc: Global,
+    fault: KeepFault,
+    path: &[u8],
+    cause: Option<Cause>,
+) -> Result<Vec<u8>, AllocError>
+    ensures { IfOk result (λ lines. lines.items ≡ keep_lines fault path.now cause) }
+{
+    match fault {
+        KeepFault::Broken | KeepFault::Device => cause_line(alloc, path, cause),
+        KeepFault::Worn => Ok(Vec::new(alloc)),
     }
 }
 

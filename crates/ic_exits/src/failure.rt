@@ -5,7 +5,7 @@ ghost use Rattle.ic_exits.specs.Endings.{status_of, scripts_status, failure_line
 ghost use Rattle.ic_exits.specs.Endings.{check_ending, stream_word, round_word, create_word, open_word, serve_word, stuck_line};
 ghost use Rattle.ic_exits.specs.Endings.{batch_status, batch_word, cause_text, jobs_status, jobs_word, line_words, opening_failure};
 ghost use Rattle.ic_exits.specs.Endings.{dump_status, dump_word, inspect_status, inspect_word, scripts_word, script_words};
-ghost use Rattle.ic_exits.specs.Endings.{reduce_ending};
+ghost use Rattle.ic_exits.specs.Endings.{keep_word, kept_status, kept_word, reduce_ending};
 
 use ic_args::WordsFault;
 use ic_batch::{BatchFault, JobsCause, JobsFault};
@@ -15,9 +15,11 @@ use ic_check::Verdict;
 use ic_commands::print_reply;
 use ic_disk::DiskFault;
 use ic_dump::{DiskDumpFault, DumpFault};
+use ic_frames::KeepFault;
 use ic_in_place::End;
 use ic_inspect::InspectFault;
 use ic_jobs::Reply;
+use ic_keeping::KeepingFault;
 use ic_lines::ScriptFault;
 use ic_round::RoundFault;
 use ic_rules::JobName;
@@ -78,6 +80,10 @@ pub enum Failure {
     TableFull(Reached),
     /// Memory ran out as a net was reduced in place.
     OutOfMemory(Reached),
+    /// A reduction isn't kept in two files, or doesn't go on from there.
+    Kept(KeepingFault),
+    /// The second file in which a reduction is kept can't be opened or locked.
+    SecondFile(DiskFault),
 }
 
 impl Failure {
@@ -105,6 +111,8 @@ impl Failure {
             Failure::Round(_) => 1,
             Failure::Overgrown(_, _) | Failure::TableFull(_) => 1,
             Failure::OutOfMemory(_) => 4,
+            Failure::Kept(fault) => kept_status(*fault),
+            Failure::SecondFile(_) => 3,
         }
     }
 
@@ -134,6 +142,8 @@ impl Failure {
             Failure::Overgrown(_, _) => told(alloc, b"overgrown"),
             Failure::TableFull(_) => told(alloc, b"table full"),
             Failure::OutOfMemory(_) => told(alloc, b"memory"),
+            Failure::Kept(fault) => told(alloc, kept_word(*fault)),
+            Failure::SecondFile(_) => told(alloc, b"device"),
         }
     }
 }
@@ -254,6 +264,44 @@ fn open_word(cause: OpenCause) -> &'static [u8]
         OpenCause::TwoAlike => b"two alike",
         OpenCause::Damaged => b"damaged",
         OpenCause::Memory => b"memory",
+    }
+}
+
+/// The exit status of a reduction that is kept.
+fn kept_status(fault: KeepingFault) -> u8
+    ensures { result ≡ kept_status fault }
+{
+    match fault {
+        KeepingFault::NotEmpty | KeepingFault::Device => 3,
+        KeepingFault::Open(_) | KeepingFault::Unsound => 3,
+        KeepingFault::Limit => 1,
+        KeepingFault::Memory | KeepingFault::Keep(_) => 4,
+    }
+}
+
+/// The words that tell why a reduction that is kept doesn't go on.
+fn kept_word(fault: KeepingFault) -> &'static [u8]
+    ensures { result.now ≡ kept_word fault }
+{
+    match fault {
+        KeepingFault::NotEmpty => b"not empty",
+        KeepingFault::Device => b"device",
+        KeepingFault::Open(cause) => open_word(cause),
+        KeepingFault::Unsound => b"damaged",
+        KeepingFault::Limit => b"limit",
+        KeepingFault::Memory => b"memory",
+        KeepingFault::Keep(refused) => keep_word(refused),
+    }
+}
+
+/// The words that tell why a state isn't kept.
+fn keep_word(fault: KeepFault) -> &'static [u8]
+    ensures { result.now ≡ keep_word fault }
+{
+    match fault {
+        KeepFault::Broken => b"broken",
+        KeepFault::Worn => b"worn",
+        KeepFault::Device => b"device",
     }
 }
 

@@ -10,6 +10,9 @@ ghost use Rattle.ic_round.specs.declared.round_fault.RoundFault.TheVariants as r
 ghost use Rattle.ic_pool.specs.declared.fault.PoolFault.{PoolFault};
 ghost use Rattle.ic_frames.specs.declared.faults.OpenCause.{OpenCause};
 ghost use Rattle.ic_frames.specs.declared.faults.OpenCause.TheVariants as opening;
+ghost use Rattle.ic_frames.specs.declared.faults.KeepFault.{KeepFault};
+ghost use Rattle.ic_frames.specs.declared.faults.KeepFault.TheVariants as keep;
+ghost use Rattle.ic_keeping.specs.declared.fault.KeepingFault.TheVariants as keeping;
 ghost use Rattle.ic_slots.specs.declared.fault.CreateFault.{CreateFault};
 ghost use Rattle.ic_slots.specs.declared.fault.CreateFault.TheVariants as creating;
 ghost use Rattle.ic_book.specs.declared.fault.BookFault.{BookFault};
@@ -27,7 +30,7 @@ ghost use Rattle.ic_lines.specs.declared.script.ScriptFault.{ScriptFault};
 ghost use Rattle.ic_scripts.specs.declared.fault.ScriptsFault.TheVariants as scripts;
 ghost use Rattle.ic_exits.specs.declared.failure.Failure.{Failure};
 ghost use Rattle.ic_exits.specs.declared.failure.Failure.TheVariants.{Words, Stream, Disk, Locked, Create, NotEmpty, Open, Serve, Attend, Dump, Inspect, Jobs, Batch, Faults, NotDone};
-ghost use Rattle.ic_exits.specs.declared.failure.Failure.TheVariants.{Round, Overgrown, TableFull, OutOfMemory};
+ghost use Rattle.ic_exits.specs.declared.failure.Failure.TheVariants.{Round, Overgrown, TableFull, OutOfMemory, Kept, SecondFile};
 ghost use Rattle.ic_by_rounds.specs.declared.refusal.Refusal.{Refusal};
 ghost use Rattle.ic_exits.specs.declared.failure.Reached.{Reached};
 ghost use Rattle.ic_in_place.specs.declared.running.End.TheVariants as end;
@@ -258,6 +261,38 @@ pub fn lines_of_looks_are()
         → failure_line (OutOfMemory reached) ≡ codes "icserve: memory" ++ 10 ∷ [] }
     ensures stuck { (pair : List ℕ) → stuck_line pair
         ≡ codes "icserve: stuck " ++ pair ++ 10 ∷ [] }
+{}
+
+/// The statuses and the lines of a reduction that is kept, and what is told after them.
+pub fn endings_of_kept_reductions_are()
+    ensures files { (cause : OpenCause) → map status_of (Kept keeping.NotEmpty ∷ Kept keeping.Device
+        ∷ Kept (keeping.Open cause) ∷ Kept keeping.Unsound ∷ []) ≡ 3 ∷ 3 ∷ 3 ∷ 3 ∷ [] }
+    ensures second { (fault : DiskFault) → status_of (SecondFile fault) ≡ 3 }
+    ensures large { status_of (Kept keeping.Limit) ≡ 1 }
+    ensures others { (fault : KeepFault) → map status_of (Kept keeping.Memory
+        ∷ Kept (keeping.Keep fault) ∷ []) ≡ 4 ∷ 4 ∷ [] }
+    ensures words { map failure_line (Kept keeping.NotEmpty ∷ Kept keeping.Device
+        ∷ Kept (keeping.Open opening.NoSlot) ∷ Kept keeping.Unsound ∷ Kept keeping.Limit
+        ∷ Kept keeping.Memory ∷ Kept (keeping.Keep keep.Device) ∷ [])
+        ≡ map (λ word. codes "icserve: " ++ word ++ 10 ∷ []) (codes "not empty" ∷ codes "device"
+        ∷ codes "no slot" ∷ codes "damaged" ∷ codes "limit" ∷ codes "memory" ∷ codes "device" ∷ []) }
+    ensures not_empty { (path : List ℕ) (cause : Option Cause)
+        → lines_behind (Kept keeping.NotEmpty) path cause ≡ shown_path path ++ codes ": "
+        ++ codes "it or its second file, F.2, holds something; `--resume F` goes on with what is kept there"
+        ++ 10 ∷ [] }
+    ensures nothing_kept { (path : List ℕ) (cause : Option Cause)
+        → lines_behind (Kept (keeping.Open opening.NoSlot)) path cause ≡ shown_path path
+        ++ codes ": " ++ codes "no reduction is kept in it and in its second file, F.2" ++ 10 ∷ [] }
+    ensures damaged { (path : List ℕ) (cause : Option Cause)
+        → (lines_behind (Kept keeping.Unsound) path cause ≡ lines_behind (Open opening.Damaged) path cause)
+        × (lines_behind (Kept (keeping.Open opening.Damaged)) path cause
+        ≡ lines_behind (Open opening.Damaged) path cause) }
+    ensures calls { (path : List ℕ) (cause : Option Cause)
+        → (lines_behind (Kept (keeping.Keep keep.Device)) path cause ≡ cause_line path cause)
+        × (lines_behind (Kept keeping.Device) path cause ≡ cause_line path cause)
+        × (lines_behind (Kept (keeping.Open opening.Device)) path cause ≡ cause_line path cause) }
+    ensures second_file { (fault : DiskFault) (path : List ℕ) (cause : Option Cause)
+        → lines_behind (SecondFile fault) path cause ≡ cause_line (path ++ codes ".2") cause }
 {}
 
 /// Nothing is told where answers can't be written since nobody reads standard output any more. Of all else something is.

@@ -14,4 +14,5 @@ mod writing;
 
 pub use reducing::{Reduced, reduce_in_place};
 pub use running::{Bounds, End, PIECE, Watch};
-pub use stream::{Asked, Outcome, reduce_in_place_stream};
+pub use stream::{Asked, Outcome, is_written, reduce_in_place_stream};
+pub use stuck::stuck_text;

@@ -145,7 +145,7 @@ fn reached_line<V: Watch>(
 }
 
 /// Whether what was reached is written.
-fn is_written(asked: Asked, end: End) -> bool
+pub fn is_written(asked: Asked, end: End) -> bool
     ensures { result ≡ is_written asked end }
 {
     match asked {

@@ -13,7 +13,7 @@ use ic_term::Symbols;
 use std::alloc::{AllocError, Global};
 
 /// The text of the first equation of two agents, of so many equations after so many terms.
-pub(crate) fn stuck_text(
+pub fn stuck_text(
     alloc: Global,
     symbols: &Symbols,
     words: &[Word],

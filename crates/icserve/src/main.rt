@@ -6,6 +6,7 @@ mod checking;
 mod dumping;
 mod input;
 mod inspecting;
+mod keeping;
 mod looking;
 mod reducing;
 mod scripts;
@@ -14,6 +15,7 @@ mod standing;
 mod texts;
 
 use crate::input::{Input, open_file, told_of};
+use crate::keeping::KeptIn;
 use crate::reducing::Wanted;
 use crate::session::Session;
 use crate::standing::stand_ins;
@@ -102,6 +104,7 @@ fn file_of(task: &Task) -> Option<&str> {
     let file = match task {
         Task::Settle { file } | Task::Once { file } | Task::Draw { file } => file,
         Task::Reduce { file, .. } | Task::ReduceByRounds { file, .. } => file,
+        Task::ReduceKept { file, .. } => file,
         Task::Trace { file, .. } | Task::Expand { file } => file,
         _ => return None,
     };
@@ -120,6 +123,7 @@ fn path_of(task: &Task) -> &str {
         Task::Dump { disk, .. } => disk.as_str(),
         Task::Inspect { disk, .. } => disk.as_str(),
         Task::Batch { disk, .. } => disk.as_str(),
+        Task::ReduceKept { disk, .. } => disk.as_str(),
         _ => "",
     }
 }
@@ -178,6 +182,7 @@ fn on_text<T: Threads + Wait, R: Read>(
 ) -> Result<(), Failure> {
     match task {
         Task::Reduce { .. } => reduce_in_place(rt, task, input, notes, told),
+        Task::ReduceKept { .. } => reduce_kept(rt, task, input, notes, told),
         Task::ReduceByRounds {
             rounds,
             workers,
@@ -224,6 +229,46 @@ fn reduce_in_place<R: Read>(
                 figures: if *stats { Some(*format) } else { None },
             };
             reducing::reduce(rt, limits_of(*limits), bounds, wanted, input, notes, told)
+        }
+        _ => Ok(()),
+    }
+}
+
+/// Reduces in place, and keeps in files what is reached, as the task asks for it.
+fn reduce_kept<R: Read>(
+    rt: &HostRuntime,
+    task: &Task,
+    input: &mut R,
+    notes: &Notes,
+    told: &mut Vec<u8>,
+) -> Result<(), Failure> {
+    match task {
+        Task::ReduceKept {
+            disk,
+            begins,
+            seconds,
+            steps,
+            nodes,
+            partial,
+            stats,
+            format,
+            quiet,
+            ..
+        } => {
+            let kept = KeptIn {
+                path: disk.as_str(),
+                begins: *begins,
+                seconds: *seconds,
+            };
+            let bounds = Bounds {
+                steps: *steps,
+                nodes: *nodes,
+            };
+            let wanted = Wanted {
+                asked: asked_of(*quiet, *partial),
+                figures: if *stats { Some(*format) } else { None },
+            };
+            keeping::reduce(rt, kept, bounds, wanted, input, notes, told)
         }
         _ => Ok(()),
     }

@@ -46,8 +46,20 @@ pub(crate) fn reduce<R: Read>(
     );
     watching.wipe();
     let outcome = reduced.map_err(Failure::Stream)?;
+    tell_end(rt, &outcome, time_since(rt, begun), wanted, bounds.nodes)
+}
+
+/// Tells on standard error what is told of a reduction that took so long: figures, as far as they are wanted, and a stuck
+/// pair. The answer says how it ended, where its net may have so many places.
+pub(crate) fn tell_end(
+    rt: &HostRuntime,
+    outcome: &Outcome,
+    time: Duration,
+    wanted: Wanted,
+    nodes: u64,
+) -> Result<(), Failure> {
     if let Some(format) = wanted.figures {
-        tell_figures(rt, &outcome, time_since(rt, begun), format);
+        tell_figures(rt, outcome, time, format);
     }
     if let Some(pair) = &outcome.stuck {
         tell_stuck(rt, pair);
@@ -56,7 +68,7 @@ pub(crate) fn reduce<R: Read>(
         interactions: outcome.interactions,
         places: outcome.places,
     };
-    reduce_ending(outcome.end, reached, bounds.nodes)
+    reduce_ending(outcome.end, reached, nodes)
 }
 
 /// How much time has passed, or none where the clock can't be read.

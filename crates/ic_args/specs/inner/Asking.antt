@@ -1,14 +1,14 @@
 -- What a task is read from: the command that the parser met, with its rows.
-use Rattle.std.specs.Prelude.{◌≡◌, ◌≢◌, ◌≤◌, ◌⊎◌, ℕ, List, [], ◌∷◌, Option, Some, Result, Ok, Err, codes, map, option_map, string_bytes, true, false}
+use Rattle.std.specs.Prelude.{◌≡◌, ◌≢◌, ◌≤◌, ◌⊎◌, ℕ, List, [], ◌∷◌, Option, Some, Result, Ok, Err, is_some, codes, map, option_map, string_bytes, true, false}
 use Rattle.clap.specs.Words.{Row, Text}
 use Rattle.clap.specs.declared.error.ErrorKind.{ErrorKind}
 use Rattle.clap.specs.declared.error.ErrorKind.TheVariants.{DisplayHelp, DisplayVersion, OutOfMemory}
 use Rattle.ic_args.specs.Help.{help_by, help_of}
-use Rattle.ic_args.specs.Words.{IsDecimal, asks_in_place, asks_rounds, format_word, is_flag_met, figures_met, figures_word, limits_met, limits_word, is_format, is_given, most_rounds, most_steps, is_report_format, report_word}
+use Rattle.ic_args.specs.Words.{IsDecimal, asks_in_place, asks_kept, asks_rounds, clashes, kept_met, most_seconds, format_word, is_flag_met, figures_met, figures_word, limits_met, limits_word, is_format, is_given, most_rounds, most_steps, is_report_format, report_word}
 use Rattle.ic_args.specs.Words.{file_met, has_help, value_if_met}
 use Rattle.ic_args.specs.Words.{number_met, reduce_faults, value_met, values_met, version_line}
 use Rattle.ic_args.specs.declared.words.Task.{Task}
-use Rattle.ic_args.specs.declared.words.Task.TheVariants.{Settle, Once, Create, Serve, Attend, Reduce, ReduceByRounds}
+use Rattle.ic_args.specs.declared.words.Task.TheVariants.{Settle, Once, Create, Serve, Attend, Reduce, ReduceKept, ReduceByRounds}
 use Rattle.ic_args.specs.declared.words.Task.TheVariants.{Trace, Draw, Dump, Inspect, Check, Batch, Expand, Help, Version}
 use Rattle.ic_args.specs.declared.words.WordsFault.{WordsFault}
 use Rattle.ic_args.specs.declared.words.WordsFault.TheVariants.{Words, Memory}
@@ -73,7 +73,17 @@ Asks met (Ok (Reduce steps nodes partial stats limits format quiet file)) =
     × IsReadOr (codes "nodes") 0 most_steps 134217728 met nodes
     × (partial ≡ is_flag_met (codes "partial") met) × (stats ≡ is_flag_met (codes "stats") met)
     × (limits_met met ≡ limits_word limits) × (figures_met met ≡ figures_word format)
-    × (quiet ≡ is_flag_met (codes "quiet-answer") met)
+    × (quiet ≡ is_flag_met (codes "quiet-answer") met) × (asks_kept met ≡ false)
+    × (clashes met ≡ false) × (is_given (codes "seconds") met ≡ false)
+Asks met (Ok (ReduceKept disk begins seconds steps nodes partial stats format quiet file)) =
+    AsksText (codes "reduce") met (option_map string_bytes file) × (asks_rounds met ≡ false)
+    × (clashes met ≡ false) × (asks_kept met ≡ true) × (string_bytes disk ≡ kept_met met)
+    × (begins ≡ is_some (value_if_met (codes "keep") met))
+    × IsReadOr (codes "seconds") 1 most_seconds 30 met seconds
+    × IsReadOr (codes "steps") 0 most_steps most_steps met steps
+    × IsReadOr (codes "nodes") 0 most_steps 134217728 met nodes
+    × (partial ≡ is_flag_met (codes "partial") met) × (stats ≡ is_flag_met (codes "stats") met)
+    × (figures_met met ≡ figures_word format) × (quiet ≡ is_flag_met (codes "quiet-answer") met)
 Asks met (Ok (ReduceByRounds rounds workers partial file)) =
     AsksText (codes "reduce") met (option_map string_bytes file)
     × (is_given (codes "rounds") met ≡ true) × (asks_in_place met ≡ false)

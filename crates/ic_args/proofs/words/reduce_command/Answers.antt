@@ -1,6 +1,6 @@
 use Rattle.std.proofs.Common.{[], codes}
 use Rattle.clap.specs.Words.{new_app}
-use Rattle.ic_args.specs.Words.{flag, input_argument, most_rounds, most_steps, number_option, text_option}
+use Rattle.ic_args.specs.Words.{flag, input_argument, most_rounds, most_seconds, most_steps, number_option, text_option}
 use Rattle.ic_args.specs.inner.Making.{IsMade}
 use Rattle.ic_args.proofs.words.reduce_command.Goals as goal
 
@@ -13,7 +13,10 @@ returns c =
     let fourth = c.with_arg-command-4.ensures _ (number_option (codes "nodes") 0 most_steps ([])) third (c.chosen_option-4.ensures.rule 0 most_steps c.steps-2.ensures) c.chosen_option-4.ensures.local in
     let limits = c.with_arg-command-5.ensures _ (text_option (codes "limits")) fourth c.text_option.ensures.rule c.text_option.ensures.local in
     let format = c.with_arg-command-6.ensures _ (text_option (codes "format")) limits c.text_option-2.ensures.rule c.text_option-2.ensures.local in
-    let partial = c.with_arg-command-7.ensures _ (flag (codes "partial")) format c.flag.ensures.rule c.flag.ensures.local in
-    let stats = c.with_arg-command-8.ensures _ (flag (codes "stats")) partial c.flag-2.ensures.rule c.flag-2.ensures.local in
-    let quiet = c.with_arg-command-9.ensures _ (flag (codes "quiet-answer")) stats c.flag-3.ensures.rule c.flag-3.ensures.local in
+    let keep = c.with_arg-command-7.ensures _ (text_option (codes "keep")) format c.text_option-3.ensures.rule c.text_option-3.ensures.local in
+    let resume = c.with_arg-command-8.ensures _ (text_option (codes "resume")) keep c.text_option-4.ensures.rule c.text_option-4.ensures.local in
+    let seconds = c.with_arg-command-9.ensures _ (number_option (codes "seconds") 1 most_seconds ([])) resume (c.chosen_option-5.ensures.rule 1 most_seconds c.waits.ensures) c.chosen_option-5.ensures.local in
+    let partial = c.with_arg-command-10.ensures _ (flag (codes "partial")) seconds c.flag.ensures.rule c.flag.ensures.local in
+    let stats = c.with_arg-command-11.ensures _ (flag (codes "stats")) partial c.flag-2.ensures.rule c.flag-2.ensures.local in
+    let quiet = c.with_arg-command-12.ensures _ (flag (codes "quiet-answer")) stats c.flag-3.ensures.rule c.flag-3.ensures.local in
     c.with_arg.ensures _ input_argument quiet c.input_argument.ensures.rule c.input_argument.ensures.local

@@ -1,0 +1,5 @@
+pub mod Bijections
+pub mod Renumbering
+pub mod WayLemmas
+pub mod Orders
+pub mod Resuming

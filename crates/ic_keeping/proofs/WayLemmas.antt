@@ -1,0 +1,152 @@
+-- A reduction goes on: what was reached, and what is reached from there.
+use Rattle.std.proofs.Common.{◌≡◌, ℕ, ◌+◌, ◌<◌, ◌≤◌, ◌==◌, List, [], ◌∷◌, ◌++◌, Ok, length, map, count_by, refl, sym, ap, subst, ◌∙◌, arith}
+use Rattle.std.proofs.lemmas.List.{length-append}
+use Rattle.std.proofs.lemmas.List.Sums.{sum_by-append}
+use Rattle.std.specs.Prelude.{◌↔◌, Bool, IsTrue, slice_index_or}
+use Rattle.std.specs.List.{AllByRecursion}
+use Rattle.ic_term.specs.Configuration.{Configuration, IsWide, configuration_names, occurrences, one_above}
+use Rattle.ic_term.specs.Symbol.{is_over}
+use Rattle.ic_rules.specs.RuleSet.{Rules, IsRuleSet}
+use Rattle.ic_rules.specs.Rule.{Rule}
+use Rattle.ic_rules.specs.System.{SystemParts}
+use Rattle.ic_flat.specs.declared.word.Word.{Word}
+use Rattle.ic_flat.specs.Flat.{configuration_of}
+use Rattle.ic_round.specs.Naming.{HasNames}
+use Rattle.ic_reaching.specs.OneNet.{OneNet}
+use Rattle.ic_reaching.specs.Reaching.{Reaches}
+use Rattle.ic_naming.specs.Naming.{renumbered}
+use Rattle.ic_text.specs.declared.limits.TheConstants.{MAX_NAME}
+use Rattle.ic_in_place.specs.declared.running.Bounds.{Bounds}
+use Rattle.ic_in_place.specs.declared.running.End.{End}
+use Rattle.ic_in_place.specs.Counting.{AreCounts}
+use Rattle.ic_in_place.specs.Reducing.{EndsBy, IsPutTogether, IsReachedBy}
+use Rattle.ic_text.specs.SystemText.{ReadsSystemWithin}
+use Rattle.ic_text.specs.declared.limits.Limits.TheVariants.{Wide}
+use Rattle.ic_round.specs.Rounds.{IsQuiet}
+use Rattle.ic_state.specs.State.{Kept}
+use Rattle.ic_keeping.specs.Way.{AreSums, IsAnswer, IsOnWay, IsSound, IsStateOf}
+use Rattle.ic_keeping.proofs.Renumbering.{NamingLaws, occurring, renumbered_net}
+
+-- what is given by laws of the crates below
+pub record ReachingLaws : Type 0 where
+  pub names : (rs : List Rule) (c d : Configuration) (fired : List ℕ) → Reaches rs c d fired → HasNames d
+  pub net : (rs : List Rule) (c d e : Configuration) (fired : List ℕ) → Reaches rs c d fired → OneNet d e → Reaches rs c e fired
+  pub reached : (rs : Rules) (c d e : Configuration) (fired also : List ℕ) → IsRuleSet rs → IsTrue (is_over rs.symbols c) → HasNames c → Reaches rs.rules c d fired
+      → Reaches rs.rules d e also → Reaches rs.rules c e (fired ++ also)
+  pub free : (rs : Rules) (c d : Configuration) (fired : List ℕ) → IsRuleSet rs → IsTrue (is_over rs.symbols c) → HasNames c → Reaches rs.rules c d fired → (n : ℕ)
+      → (occurrences n (configuration_names c) ≡ 1) ↔ (occurrences n (configuration_names d) ≡ 1)
+  pub above : (ns : List ℕ) → AllByRecursion (λ n. n < one_above ns) ns
+
+pub count_by-append : (p : ℕ → Bool) (xs ys : List ℕ) → count_by p (xs ++ ys) ≡ count_by p xs + count_by p ys
+count_by-append p xs ys = sum_by-append _ xs ys
+
+pub counts_add : (rules : ℕ) (fired also some more sums : List ℕ) → AreCounts rules fired some → AreCounts rules also more → AreSums some more sums → AreCounts rules (fired ++ also) sums
+counts_add rules fired also some more sums first second adds = record {
+  all = adds.all ∙ first.all;
+  each = λ i below.
+      adds.each i (omega (arith, below, first.all))
+      ∙ ap (λ (k : ℕ). k + slice_index_or more i 0) (first.each i below)
+      ∙ ap (λ (k : ℕ). count_by (λ j. j == i) fired + k) (second.each i below)
+      ∙ sym (count_by-append (λ j. j == i) fired also);
+}
+
+same_parts : (c d : Configuration) → c.interface ≡ d.interface → c.equations ≡ d.equations → c.next ≡ d.next → c ≡ d
+same_parts c d one two three = λ i. record { interface = one i; equations = two i; next = three i }
+
+module _ (naming : NamingLaws) (laws : ReachingLaws) (s t : SystemParts) (sound : IsSound s) (c : Configuration) (n : ℕ) (by : List ℕ) (way : IsOnWay s c n by)
+    (rules : t.rules ≡ s.rules) (interface : t.config.interface ≡ c.interface) (equations : t.config.equations ≡ c.equations) (names : HasNames t.config) where
+  begun_as : record c { next = t.config.next } ≡ t.config
+  begun_as = same_parts (record c { next = t.config.next }) t.config (sym interface) (sym equations) refl
+
+  begun : Reaches s.rules.rules s.config t.config way.fired
+  begun = laws.net s.rules.rules s.config c t.config way.fired way.reached
+      (subst (λ (e : Configuration). OneNet c e) begun_as
+      (naming.next c t.config.next (laws.names s.rules.rules s.config c way.fired way.reached) (subst (λ (e : Configuration). HasNames e) (sym begun_as) names)))
+
+  module _ (bounds : Bounds) (answer : Configuration) (end : End) (j places : ℕ) (more sums : List ℕ) (r : IsReachedBy t bounds answer end j places more) (adds : AreSums by more sums) where
+    onward : Reaches s.rules.rules t.config answer r.reached.fired
+    onward = subst (λ (rs : Rules). Reaches rs.rules t.config answer r.reached.fired) rules r.reached.reached
+
+    pub further : IsOnWay s answer (n + j) sums
+    further = record {
+      fired = way.fired ++ r.reached.fired;
+      reached = laws.reached s.rules s.config t.config answer way.fired r.reached.fired sound.rules sound.over sound.names begun onward;
+      counted = omega (arith, way.counted, r.reached.counted, length-append way.fired r.reached.fired);
+      counts = counts_add (length s.rules.rules) way.fired r.reached.fired by more sums way.counts
+          (subst (λ (rs : Rules). AreCounts (length rs.rules) r.reached.fired more) rules r.counts) adds;
+    }
+
+    -- and so is its net with its names numbered anew, from some number on
+    module _ (low : t.config.next ≤ MAX_NAME + 1) (words : List Word) (terms : ℕ) (written : configuration_of words terms (MAX_NAME + 1) ≡ renumbered answer) where
+      abbrev kept : ℕ → Configuration
+      kept next = configuration_of words terms next
+
+      abbrev above : ℕ
+      above = one_above (configuration_names (kept 0))
+
+      free_low : (x : ℕ) → occurrences x (configuration_names answer) ≡ 1 → x ≤ MAX_NAME
+      free_low x once =
+          let first = (laws.free s.rules s.config answer further.fired sound.rules sound.over sound.names further.reached x).1 once in
+          let begins = (laws.free s.rules s.config t.config way.fired sound.rules sound.over sound.names begun x).0 first in
+          let below = occurring (λ (m : ℕ). m < t.config.next) x (configuration_names t.config) names.below (omega (arith, begins)) in
+          omega (arith, below, low)
+
+      pub kept_on_way : IsOnWay s (kept above) (n + j) sums
+      kept_on_way = record {
+        fired = further.fired;
+        reached = laws.net s.rules.rules s.config answer (kept above) further.fired further.reached
+            (renumbered_net naming answer (kept above) (laws.names s.rules.rules s.config answer further.fired further.reached) (laws.above (configuration_names (kept 0))) free_low
+            (ap (λ (e : Configuration). e.interface) written) (ap (λ (e : Configuration). e.equations) written));
+        counted = further.counted;
+        counts = further.counts;
+      }
+
+-- A state, a system that has its configuration, and the state after a piece.
+module _ (naming : NamingLaws) (laws : ReachingLaws) (s t : SystemParts) (sound : IsSound s) (k new : Kept) (is : IsStateOf s k)
+    (rules : t.rules ≡ s.rules) (interface : t.config.interface ≡ (configuration_of k.words k.terms 0).interface) (equations : t.config.equations ≡ (configuration_of k.words k.terms 0).equations)
+    (names : HasNames t.config) (low : t.config.next ≤ MAX_NAME + 1) (bounds : Bounds) (answer : Configuration) (end : End) (j places : ℕ) (more : List ℕ)
+    (r : IsReachedBy t bounds answer end j places more) (together : IsPutTogether answer) (words : List Word) (terms : ℕ)
+    (written : configuration_of words terms (MAX_NAME + 1) ≡ renumbered answer)
+    (same_text : new.text ≡ k.text) (same_words : new.words ≡ words) (same_terms : new.terms ≡ terms) (sum : new.interactions ≡ k.interactions + j) (adds : AreSums k.by_rule more new.by_rule) where
+  new_written : configuration_of new.words new.terms (MAX_NAME + 1) ≡ renumbered answer
+  new_written =
+      ap (λ (ws : List Word). configuration_of ws new.terms (MAX_NAME + 1)) same_words
+      ∙ ap (λ (n : ℕ). configuration_of words n (MAX_NAME + 1)) same_terms
+      ∙ written
+
+  on_way : IsOnWay s answer new.interactions new.by_rule
+  on_way = subst (λ (n : ℕ). IsOnWay s answer n new.by_rule) (sym sum)
+      (further naming laws s t sound (configuration_of k.words k.terms is.next) k.interactions k.by_rule is.way rules interface equations names bounds answer end j places more new.by_rule r adds)
+
+  pub answer_of : IsAnswer s end new
+  answer_of = record {
+    answer = answer;
+    way = on_way;
+    quiet = λ ended.
+        let quiet = subst (λ (e : End). EndsBy t.rules.rules bounds answer j places e) ended r.reached.ended in
+        subst (λ (rs : Rules). IsQuiet rs.rules answer) rules quiet.0;
+    together = together;
+    written = new_written;
+  }
+
+  pub state_of : IsStateOf s new
+  state_of = record {
+    reads = subst (λ (text : List ℕ). ReadsSystemWithin Wide text (Ok s)) (sym same_text) is.reads;
+    next = one_above (configuration_names (configuration_of new.words new.terms 0));
+    way = subst (λ (n : ℕ). IsOnWay s (configuration_of new.words new.terms (one_above (configuration_names (configuration_of new.words new.terms 0)))) n new.by_rule) (sym sum)
+        (kept_on_way naming laws s t sound (configuration_of k.words k.terms is.next) k.interactions k.by_rule is.way rules interface equations names bounds answer end j places more new.by_rule r adds
+        low new.words new.terms new_written);
+  }
+
+-- A text from which no interaction was made.
+pub begun_on_way : (s : SystemParts) (by : List ℕ) → ((rs : List Rule) (c : Configuration) → HasNames c → Reaches rs c c []) → HasNames s.config → length by ≡ length s.rules.rules
+    → ((i : ℕ) → slice_index_or by i 0 ≡ 0) → IsOnWay s s.config 0 by
+begun_on_way s by itself names long none = record {
+  fired = [];
+  reached = itself s.rules.rules s.config names;
+  counted = refl;
+  counts = record { all = long; each = λ i below. none i };
+}
+
+pub names_of : (c : Configuration) → IsWide c → HasNames c
+names_of c is = record { below = is.below; twice = is.twice }

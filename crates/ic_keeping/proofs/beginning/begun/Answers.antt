@@ -1,0 +1,31 @@
+use Rattle.std.proofs.Common.{◌≡◌, ◌∙◌, ℕ, List, Ok, length, sym, ap, subst}
+use Rattle.std.proofs.lemmas.Result.{err_from_is_err_and}
+use Rattle.ic_term.specs.Configuration.{Configuration}
+use Rattle.ic_rules.specs.RuleSet.{Rules}
+use Rattle.ic_text.specs.SystemText.{ReadsSystemWithin}
+use Rattle.ic_text.specs.declared.limits.Limits.TheVariants.{Wide}
+use Rattle.ic_text.specs.lemmas.PlacedWithin.{placed-within}
+use Rattle.ic_text.specs.SystemSource.{IsSystemPhrase, system_words}
+use Rattle.ic_text.specs.Words.{written_system}
+use Rattle.ic_keeping.specs.Way.{IsOnWay}
+use Rattle.ic_keeping.proofs.WayLemmas.{begun_on_way}
+use Rattle.ic_keeping.proofs.beginning.begun.Goals as goal
+
+pub returns-clause-read : goal.returns-clause-read
+returns-clause-read c =
+    let s = c.in_ok-system.system in
+    let by = c.in_ok-by_rule.by_rule.items in
+    let rules = c.rules.ensures.rules ∙ ap (λ (r : Rules). r.rules) (c.deref.ensures ∙ c.into_parts-rules.ensures.rules) in (
+      s,
+      record {
+        reads = subst (λ (text : List ℕ). ReadsSystemWithin Wide text (Ok s)) (sym (c.in_ok-kept.ensures.items_if_clones_equal (λ x y e. e))) c.in_ok-system.ensures.read;
+        next = c.into_parts-words.result.3;
+        way = subst (λ (d : Configuration). IsOnWay s d 0 by) (sym (c.into_parts-words.ensures.same ∙ c.into_parts-rules.ensures.config))
+            (begun_on_way s by c.what_is_reached_is_one_net.ensures.itself c.systems_are_sound.ensures.names (c.in_ok-by_rule.ensures.long ∙ ap length rules) c.in_ok-by_rule.ensures.none);
+      },
+    )
+
+pub returns-in_err-system-clause-place : goal.returns-in_err-system-clause-place
+returns-in_err-system-clause-place c =
+    let e = err_from_is_err_and c.from_residual.result c.from_residual.ensures.1 in
+    rw (e.1, e.2) (placed-within Wide IsSystemPhrase system_words written_system c.args.text.now _ _ _ c.in_err-system.ensures.placed)

@@ -1,0 +1,19 @@
+use Rattle.std.proofs.Common.{◌∙◌, sym, subst}
+use Rattle.ic_state.specs.State.{Kept, kept_by}
+use Rattle.ic_keeping.specs.Way.{IsStateOf}
+use Rattle.ic_keeping.proofs.Resuming.{of_calls}
+use Rattle.ic_keeping.proofs.beginning.resume.Goals as goal
+
+pub returns-in_ok-state-in-Ok-clause-state : goal.returns-in_ok-state-in-Ok-clause-state
+returns-in_ok-state-in-Ok-clause-state g c s keeps keeps_too held =
+    let disk = g.D.Disk in
+    let form = held.1 in
+    let one = c.one_state_is_held.ensures c.in-Ok.bytes.items held.0 (disk.content c.args.first) (disk.content c.args.second) (c.in-Ok.ensures.opened keeps keeps_too) held.2 in
+    subst (λ (k : Kept). IsStateOf s k)
+    (c.each_state_has_its_own_bytes.ensures form.0 (kept_by c.in_ok-state-in-Ok.state) form.1 c.in_ok-state-in-Ok.ensures.sound
+    (sym form.3 ∙ sym one ∙ sym c.deref.ensures.value ∙ c.in_ok-state-in-Ok.ensures.state)) form.2
+
+pub returns-in-Err-clause-refused : goal.returns-in-Err-clause-refused
+returns-in-Err-clause-refused g c s keeps keeps_too held =
+    let disk = g.D.Disk in
+    of_calls c.in-Err.fault.cause (disk.content c.args.first) (disk.content c.args.second) held.0 (c.in-Err.ensures.refused keeps keeps_too) held.2

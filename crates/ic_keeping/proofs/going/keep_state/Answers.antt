@@ -1,0 +1,12 @@
+use Rattle.std.proofs.Common.{◌∙◌, ℕ, List, Ok, subst}
+use Rattle.ic_kept.specs.Keeping.{CrashInKeeping}
+use Rattle.ic_keeping.proofs.going.keep_state.Goals as goal
+
+pub returns-in-Ok-clause-keeps : goal.returns-in-Ok-clause-keeps
+returns-in-Ok-clause-keeps g c =
+    let disk = g.D.Disk in
+    record {
+      crash = subst (λ (bytes : List ℕ). CrashInKeeping disk.keeps disk.image disk.clock disk.left bytes (Ok tt) c.args.keeper.now c.keep.new.self)
+          (c.deref.ensures.value ∙ c.in_ok-bytes.ensures.bytes) c.in-Ok.ensures.crash;
+      model = c.in-Ok.ensures.model;
+    }

@@ -1,0 +1,86 @@
+use Rattle.std.proofs.Common.{◌≡◌, ◌∙◌, ◌+◌, ◌*◌, ℕ, List, length, sym, ap, subst, arith}
+use Rattle.std.specs.Prelude.{IsTrue}
+use Rattle.std.specs.Arc.{arc_value}
+use Rattle.std.specs.List.{list_all}
+use Rattle.ic_rules.specs.RuleSet.{Rules}
+use Rattle.ic_flat.specs.declared.word.Word.{Word}
+use Rattle.ic_flat.specs.Flat.{configuration_of}
+use Rattle.ic_flat.specs.Words.{forest, is_word_over, IsWhole}
+use Rattle.ic_in_place.specs.declared.running.End.{End}
+use Rattle.ic_state.specs.State.{kept_by}
+use Rattle.ic_keeping.specs.Way.{IsAnswer}
+use Rattle.ic_keeping.proofs.Renumbering.{NamingLaws}
+use Rattle.ic_keeping.proofs.WayLemmas.{ReachingLaws, answer_of, state_of}
+use Rattle.ic_keeping.proofs.going.run_piece.Goals as goal
+
+pub returns-clause-goes_on : goal.returns-clause-goes_on
+returns-clause-goes_on g c s sound rules is =
+    let naming : NamingLaws = record {
+      apart = c.names_are_told_apart.ensures.apart;
+      free = c.names_are_told_apart.ensures.free;
+      one = c.a_name_step_leads_to_one_net.ensures.same;
+      next = c.a_name_step_leads_to_one_net.ensures.next;
+      other_way = c.one_net_is_an_equivalence.ensures.other_way;
+      through = c.one_net_is_an_equivalence.ensures.through;
+    } in
+    let laws : ReachingLaws = record {
+      names = c.what_is_reached_is_one_net.ensures.names;
+      net = c.what_is_reached_is_one_net.ensures.net;
+      reached = c.what_is_reached_goes_on.ensures.reached;
+      free = c.free_names_stay.ensures.reached;
+      above = c.next_is_one_above_the_greatest_name.ensures.above;
+    } in
+    let old = c.args.state.now in
+    let t = c.in_ok-system.system in
+    let reduced = c.in_ok-reduced.reduced in
+    let answer = c.in_ok-reduced.ensures in
+    let words : c.replace-words.result.items ≡ old.words.items = ap (λ ws. ws.items) c.replace-words.ensures.value in
+    let interface = c.in_ok-system.ensures.interface ∙ ap (λ (ws : List Word). (configuration_of ws old.terms 0).interface) words in
+    let equations = c.in_ok-system.ensures.equations ∙ ap (λ (ws : List Word). (configuration_of ws old.terms 0).equations) words in
+    let piece = c.in_ok-piece.ensures in
+    state_of naming laws s t sound (kept_by old) (kept_by c.take_in.new.state) is (c.in_ok-system.ensures.rules ∙ rules) interface equations c.in_ok-system.ensures.names c.in_ok-system.ensures.low
+    c.args.bounds answer.0 reduced.end reduced.interactions reduced.places reduced.by_rule.items answer.1 answer.2 reduced.words.items reduced.terms answer.4.written
+    piece.text piece.words piece.terms piece.interactions piece.by_rule
+
+pub returns-clause-answer : goal.returns-clause-answer
+returns-clause-answer g c s sound rules is =
+    let naming : NamingLaws = record {
+      apart = c.names_are_told_apart.ensures.apart;
+      free = c.names_are_told_apart.ensures.free;
+      one = c.a_name_step_leads_to_one_net.ensures.same;
+      next = c.a_name_step_leads_to_one_net.ensures.next;
+      other_way = c.one_net_is_an_equivalence.ensures.other_way;
+      through = c.one_net_is_an_equivalence.ensures.through;
+    } in
+    let laws : ReachingLaws = record {
+      names = c.what_is_reached_is_one_net.ensures.names;
+      net = c.what_is_reached_is_one_net.ensures.net;
+      reached = c.what_is_reached_goes_on.ensures.reached;
+      free = c.free_names_stay.ensures.reached;
+      above = c.next_is_one_above_the_greatest_name.ensures.above;
+    } in
+    let old = c.args.state.now in
+    let t = c.in_ok-system.system in
+    let reduced = c.in_ok-reduced.reduced in
+    let answer = c.in_ok-reduced.ensures in
+    let words : c.replace-words.result.items ≡ old.words.items = ap (λ ws. ws.items) c.replace-words.ensures.value in
+    let interface = c.in_ok-system.ensures.interface ∙ ap (λ (ws : List Word). (configuration_of ws old.terms 0).interface) words in
+    let equations = c.in_ok-system.ensures.equations ∙ ap (λ (ws : List Word). (configuration_of ws old.terms 0).equations) words in
+    let piece = c.in_ok-piece.ensures in
+    subst (λ (e : End). IsAnswer s e (kept_by c.take_in.new.state)) (sym piece.end) (answer_of naming laws s t sound (kept_by old) (kept_by c.take_in.new.state) is (c.in_ok-system.ensures.rules ∙ rules) interface equations c.in_ok-system.ensures.names c.in_ok-system.ensures.low
+    c.args.bounds answer.0 reduced.end reduced.interactions reduced.places reduced.by_rule.items answer.1 answer.2 reduced.words.items reduced.terms answer.4.written
+    piece.text piece.words piece.terms piece.interactions piece.by_rule)
+
+pub returns-clause-whole : goal.returns-clause-whole
+returns-clause-whole g c = subst (λ (ws : List Word). IsWhole ws) (sym c.in_ok-piece.ensures.words) c.in_ok-reduced.ensures.4.whole
+
+pub returns-clause-over : goal.returns-clause-over
+returns-clause-over g c = subst (λ (ws : List Word). IsTrue (list_all (is_word_over (arc_value c.args.rules.now).symbols) ws)) (sym c.in_ok-piece.ensures.words)
+    (subst (λ (rs : Rules). IsTrue (list_all (is_word_over rs.symbols) c.in_ok-reduced.reduced.words.items)) c.in_ok-system.ensures.rules c.in_ok-reduced.ensures.4.over)
+
+pub returns-clause-counted : goal.returns-clause-counted
+returns-clause-counted g c =
+    let piece = c.in_ok-piece.ensures in
+    ap (λ (ws : List Word). length (forest ws)) piece.words
+    ∙ c.in_ok-reduced.ensures.4.counted
+    ∙ omega (arith, piece.terms, piece.equations)

@@ -1,0 +1,146 @@
+//! The state that a reduction begins with, in two files, and the one with which it goes on.
+
+ghost use Rattle.std.specs.Prelude.{◌≡◌, ◌≢◌, ◌⊎◌, ◌≤◌, ℕ, List, [], Ok, Err, IfOk, IfErr, IfSome, IsTrue, IsErrOf, OnOk, length, slice_index_or};
+ghost use Rattle.ic_frames.specs.declared.faults.OpenCause.{OpenCause};
+ghost use Rattle.ic_kept.specs.Course.{HoldOne};
+ghost use Rattle.ic_kept.specs.Held.{Hold};
+ghost use Rattle.ic_kept.specs.Keeper.{Keeps, KeepsModel};
+ghost use Rattle.ic_kept.specs.Opening.{OnlyReads};
+ghost use Rattle.ic_rules.specs.System.{SystemParts};
+ghost use Rattle.ic_state.specs.State.{IsKept, Kept, kept_by, state_bytes};
+ghost use Rattle.ic_text.specs.SystemText.{ReadsSystemWithin};
+ghost use Rattle.ic_keeping.specs.Way.{IsFormOf, IsStateOf};
+
+use crate::fault::KeepingFault;
+use crate::systems::systems_are_sound;
+use ic_disk::Disk;
+use ic_kept::{CreateFault, Keeper, create};
+use ic_state::{State, StateFault, decode, encode};
+use ic_text::{Limits, Misread, TextFault, find_wide_system};
+use std::alloc::{AllocError, Global};
+
+/// The state of a text from which no interaction was made.
+pub fn begun(alloc: Global, text: &[u8]) -> Result<State, Misread>
+    ensures read { IfOk result (λ state. (s : SystemParts) × IsStateOf s (kept_by state)) }
+    ensures text { IfOk result (λ state. state.text.items ≡ text.now) }
+    ensures refused { IfErr result (λ misread. misread.fault ≢ TextFault.Memory
+        → ReadsSystemWithin Limits.Wide text.now (Err misread.fault)) }
+    ensures place { IfErr result (λ misread. IfSome misread.place (λ at. at ≤ length text.now)) }
+{
+    ic_reaching::laws::what_is_reached_is_one_net();
+    let system = find_wide_system(alloc, Limits::Wide, text)?;
+    systems_are_sound(&system);
+    let (rules, config) = system.into_parts();
+    let by_rule = zeros(alloc, rules.rules().len())?;
+    let (words, terms, _, _) = config.into_parts();
+    let kept = text.to_vec(alloc)?;
+    Ok(State {
+        text: kept,
+        words,
+        terms: terms as u64,
+        interactions: 0,
+        by_rule,
+        ended: false,
+        millis: 0,
+    })
+}
+
+/// So many counts of nothing.
+fn zeros(alloc: Global, rules: usize) -> Result<Vec<u64>, AllocError>
+    ensures long { IfOk result (λ counts. length counts.items ≡ rules) }
+    ensures none { IfOk result (λ counts. (i : ℕ) → slice_index_or counts.items i 0 ≡ 0) }
+{
+    let mut counts = Vec::with_capacity(alloc, rules)?;
+    counts.resize(rules, 0)?;
+    Ok(counts)
+}
+
+/// Keeps a state as the first in two files, if both are empty: nothing is written over.
+pub fn begin<D: Disk>(
+    alloc: Global,
+    state: &State,
+    first: &mut D,
+    second: &mut D,
+) -> Result<(), KeepingFault>
+    // A file that holds something is refused, and then nothing is written.
+    ensures empty { IsTrue (D.keeps first.old) → IsTrue (D.keeps second.old)
+        → OnOk result ((D.content first.old ≡ []) × (D.content second.old ≡ [])) }
+    ensures spares_first { IsTrue (D.keeps first.old) → IsErrOf result KeepingFault.NotEmpty
+        → OnlyReads D.content D.image D.clock D.left first.old first.new }
+    ensures spares_second { IsTrue (D.keeps second.old) → IsErrOf result KeepingFault.NotEmpty
+        → OnlyReads D.content D.image D.clock D.left second.old second.new }
+
+    // At Ok a crash leaves files that hold a state of the reduction.
+    ensures kept { (s : SystemParts) → IsStateOf s (kept_by state.now)
+        → IsTrue (D.keeps first.old) → IsTrue (D.keeps second.old)
+        → OnOk result ((one other : List ℕ) → D.image first.new one → D.image second.new other
+        → HoldOne (IsFormOf s) one other) }
+{
+    let bytes = bytes_of(alloc, state)?;
+    match create(first, second, &bytes) {
+        Ok(()) => Ok(()),
+        Err(CreateFault::NotEmpty) => Err(KeepingFault::NotEmpty),
+        Err(CreateFault::Device) => Err(KeepingFault::Device),
+    }
+}
+
+/// The bytes of a state.
+pub(crate) fn bytes_of(alloc: Global, state: &State) -> Result<Vec<u8>, KeepingFault>
+    ensures bytes { IfOk result (λ bytes. bytes.items ≡ state_bytes (kept_by state.now)) }
+    ensures sound { OnOk result (IsKept (kept_by state.now)) }
+    ensures refused { IfErr result (λ fault. fault ≢ KeepingFault.NotEmpty) }
+{
+    match encode(alloc, state) {
+        Ok(bytes) => Ok(bytes),
+        Err(StateFault::NotAState) => Err(KeepingFault::Limit),
+        Err(StateFault::Memory) => Err(KeepingFault::Memory),
+    }
+}
+
+/// The state that two files hold, and what keeps the next ones there. It begins with a sync of each, and changes nothing.
+pub fn resume<D: Disk + Drop>(
+    alloc: Global,
+    first: D,
+    second: D,
+) -> Result<(Keeper<D>, State), KeepingFault>
+    // It answers by what reads give, and that state is kept from then on.
+    ensures found { IsTrue (D.keeps first) → IsTrue (D.keeps second)
+        → IfOk result (λ found.
+        Hold (state_bytes (kept_by found.1)) (D.content first) (D.content second)) }
+    ensures kept { IsTrue (D.keeps first) → IsTrue (D.keeps second)
+        → IfOk result (λ found. KeepsModel D.keeps found.0
+        × Keeps D.image (state_bytes (kept_by found.1)) found.0) }
+
+    // Where a state of a reduction was kept, the answer is one of that reduction, unless a call fails or memory runs out.
+    ensures state { (s : SystemParts) → IsTrue (D.keeps first) → IsTrue (D.keeps second)
+        → HoldOne (IsFormOf s) (D.content first) (D.content second)
+        → IfOk result (λ found. IsStateOf s (kept_by found.1)) }
+    ensures refused { (s : SystemParts) → IsTrue (D.keeps first) → IsTrue (D.keeps second)
+        → HoldOne (IsFormOf s) (D.content first) (D.content second)
+        → IfErr result (λ fault. (fault ≡ KeepingFault.Open OpenCause.Device)
+        ⊎ (fault ≡ KeepingFault.Open OpenCause.Memory) ⊎ (fault ≡ KeepingFault.Memory)) }
+{
+    ic_kept::laws::one_state_is_held();
+    ic_state::laws::each_state_has_its_own_bytes();
+    match Keeper::open(alloc, first, second) {
+        Ok((keeper, bytes)) => {
+            let state = state_of(alloc, &bytes)?;
+            Ok((keeper, state))
+        }
+        Err(fault) => Err(KeepingFault::Open(fault.cause)),
+    }
+}
+
+/// The state of which these bytes are the form.
+fn state_of(alloc: Global, bytes: &[u8]) -> Result<State, KeepingFault>
+    ensures state { IfOk result (λ state. bytes.now ≡ state_bytes (kept_by state)) }
+    ensures sound { IfOk result (λ state. IsKept (kept_by state)) }
+    ensures refused { IfErr result (λ fault. (fault ≡ KeepingFault.Memory)
+        ⊎ ((kept : Kept) → IsKept kept → bytes.now ≢ state_bytes kept)) }
+{
+    match decode(alloc, bytes) {
+        Ok(state) => Ok(state),
+        Err(StateFault::NotAState) => Err(KeepingFault::Unsound),
+        Err(StateFault::Memory) => Err(KeepingFault::Memory),
+    }
+}

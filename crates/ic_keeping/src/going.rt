@@ -1,0 +1,332 @@
+//! A reduction that goes on from a state, and is kept after each piece.
+
+ghost use Rattle.std.specs.Prelude.{◌≡◌, ◌≢◌, ◌⊎◌, ◌+◌, ◌*◌, ◌≤◌, ℕ, List, [], Ok, Err, IfOk, IsNone, IsTrue, OnOk, OnErr, length, if◌then◌else◌};
+ghost use Rattle.std.specs.Arc.{arc_value};
+ghost use Rattle.ic_rules.specs.System.{SystemParts};
+ghost use Rattle.std.specs.List.{list_all};
+ghost use Rattle.std.specs.Option.{option_map};
+ghost use Rattle.ic_by_rounds.specs.Stuck.{stuck_text};
+ghost use Rattle.ic_flat.specs.Flat.{configuration_of};
+ghost use Rattle.ic_flat.specs.Words.{forest, is_word_over, IsWhole};
+ghost use Rattle.ic_frames.specs.declared.faults.KeepFault.{KeepFault};
+ghost use Rattle.ic_in_place.specs.Reductions.{is_written};
+ghost use Rattle.ic_kept.specs.Course.{IsKeep, Way};
+ghost use Rattle.ic_kept.specs.Keeper.{Keeps, KeepsModel};
+ghost use Rattle.ic_state.specs.State.{IsKept, kept_by, state_bytes};
+ghost use Rattle.ic_streams.specs.Streams.{line_of};
+ghost use Rattle.ic_text.specs.SystemText.{ReadsSystemWithin};
+ghost use Rattle.ic_keeping.specs.Way.{AreSums, IsAnswer, IsFormFrom, IsSound, IsStateOf};
+
+use crate::beginning::bytes_of;
+use crate::counts::add_all;
+use crate::fault::KeepingFault;
+use crate::pace::{Clock, Pace, Timed};
+use crate::systems::{system_of, systems_are_sound};
+use ic_disk::Disk;
+use ic_in_place::{Asked, Bounds, End, Reduced, Watch, is_written, reduce_in_place, stuck_text};
+use ic_kept::Keeper;
+use ic_rules::RuleSet;
+use ic_state::State;
+use ic_term::Symbols;
+use ic_text::{Limits, TextFault, find_wide_system, put_words};
+use std::alloc::Global;
+use std::mem::replace;
+use std::sync::Arc;
+
+/// How a run of a reduction has ended, and what it has come to in all runs.
+#[derive(Debug, Drop)]
+pub struct Ended {
+    /// Why it ended.
+    pub end: End,
+    /// How many places the last piece had at its end.
+    pub places: u64,
+    /// The rules of the text, and its symbols.
+    pub rules: Arc<RuleSet>,
+    /// What was reached, as it was kept.
+    pub state: State,
+    /// The line of what was reached, where it is asked for.
+    pub line: Vec<u8>,
+    /// The symbols of the first equation of two agents, where the end is quiet.
+    pub stuck: Option<Vec<u8>>,
+}
+
+/// The rules of the system that a text is read as.
+fn rules_of(alloc: Global, text: &[u8]) -> Result<Arc<RuleSet>, KeepingFault>
+    ensures rules { (s : SystemParts) → ReadsSystemWithin Limits.Wide text.now (Ok s)
+        → IfOk result (λ rules. arc_value rules ≡ s.rules) }
+    ensures sound { (s : SystemParts) → ReadsSystemWithin Limits.Wide text.now (Ok s)
+        → OnOk result (IsSound s) }
+{
+    ic_text::laws::one_system_reading();
+    match find_wide_system(alloc, Limits::Wide, text) {
+        Ok(system) => {
+            systems_are_sound(&system);
+            Ok(system.into_parts().0)
+        }
+        Err(misread) => Err(unread(misread.fault)),
+    }
+}
+
+/// Why a text that was kept isn't read.
+fn unread(fault: TextFault) -> KeepingFault {
+    match fault {
+        TextFault::Memory => KeepingFault::Memory,
+        _ => KeepingFault::Unsound,
+    }
+}
+
+/// How a piece of a reduction has ended.
+#[derive(Clone, Copy, Debug)]
+struct Piece {
+    end: End,
+    places: u64,
+    // How many equations were reached.
+    equations: usize,
+    // For how many milliseconds it made interactions.
+    millis: u64,
+}
+
+/// Reduces what a state says by so many interactions at most, and tells why no more were made and how many places there were.
+fn run_piece<C: Clock, V: Watch>(
+    alloc: Global,
+    rules: &Arc<RuleSet>,
+    state: &mut State,
+    bounds: Bounds,
+    clock: &C,
+    watch: &V,
+) -> Result<Piece, KeepingFault>
+    ensures goes_on { (s : SystemParts) → IsSound s → arc_value rules.now ≡ s.rules
+        → IsStateOf s (kept_by state.old) → OnOk result (IsStateOf s (kept_by state.new)) }
+    ensures answer { (s : SystemParts) → IsSound s → arc_value rules.now ≡ s.rules
+        → IsStateOf s (kept_by state.old)
+        → IfOk result (λ piece. IsAnswer s piece.end (kept_by state.new)) }
+    ensures later { OnOk result (state.old.interactions ≤ state.new.interactions) }
+    ensures whole { OnOk result (IsWhole state.new.words.items) }
+    ensures over { OnOk result (IsTrue (list_all (is_word_over (arc_value rules.now).symbols)
+        state.new.words.items)) }
+    ensures counted { IfOk result (λ piece. length (forest state.new.words.items)
+        ≡ state.new.terms + 2 * piece.equations) }
+{
+    ic_naming::laws::names_are_told_apart();
+    ic_reaching::laws::a_name_step_leads_to_one_net();
+    ic_reaching::laws::one_net_is_an_equivalence();
+    ic_reaching::laws::what_is_reached_is_one_net();
+    ic_reaching::laws::what_is_reached_goes_on();
+    ic_reaching::laws::free_names_stay();
+    ic_term::laws::next_is_one_above_the_greatest_name();
+    let begun = clock.millis();
+    let words = replace(&mut state.words, Vec::new(alloc));
+    let system = system_of(alloc, rules, words, state.terms)?;
+    let timed = Timed::new(clock, watch, state.interactions);
+    let reduced = reduce_in_place(alloc, &system, bounds, &timed)?;
+    let all = clock.millis().saturating_sub(begun);
+    let piece = take_in(state, reduced, all, timed.millis())?;
+    Ok(piece)
+}
+
+/// Puts into a state what was reduced, in so many milliseconds in all and so many in which interactions were made.
+fn take_in(
+    state: &mut State,
+    reduced: Reduced,
+    all: u64,
+    millis: u64,
+) -> Result<Piece, KeepingFault>
+    ensures text { state.new.text.items ≡ state.old.text.items }
+    ensures words { OnOk result (state.new.words.items ≡ reduced.words.items) }
+    ensures terms { OnOk result (state.new.terms ≡ reduced.terms) }
+    ensures interactions { OnOk result
+        (state.new.interactions ≡ state.old.interactions + reduced.interactions) }
+    ensures by_rule { OnOk result
+        (AreSums state.old.by_rule.items reduced.by_rule.items state.new.by_rule.items) }
+    ensures end { IfOk result (λ piece. piece.end ≡ reduced.end) }
+    ensures equations { IfOk result (λ piece. piece.equations ≡ reduced.equations) }
+{
+    let sum = state.interactions.checked_add(reduced.interactions);
+    state.interactions = sum.ok_or(KeepingFault::Limit)?;
+    add_all(&mut state.by_rule, &reduced.by_rule).ok_or(KeepingFault::Limit)?;
+    state.terms = reduced.terms as u64;
+    state.words = reduced.words;
+    state.ended = reduced.end == End::Quiet;
+    state.millis = state.millis.saturating_add(all);
+    Ok(Piece {
+        end: reduced.end,
+        places: reduced.places,
+        equations: reduced.equations,
+        millis,
+    })
+}
+
+/// Keeps a state.
+fn keep_state<D: Disk>(
+    alloc: Global,
+    state: &State,
+    keeper: &mut Keeper<D>,
+) -> Result<(), KeepingFault>
+    ensures keeps { OnOk result (IsKeep D.keeps D.image D.clock D.left
+        (state_bytes (kept_by state.now)) (Ok tt) keeper.old keeper.new) }
+    ensures sound { OnOk result (IsKept (kept_by state.now)) }
+    ensures refused { OnErr result ((keeper.new ≡ keeper.old) ⊎ ((fault : KeepFault)
+        × IsKept (kept_by state.now)
+        × IsKeep D.keeps D.image D.clock D.left (state_bytes (kept_by state.now)) (Err fault)
+        keeper.old keeper.new)) }
+{
+    let bytes = bytes_of(alloc, state)?;
+    match keeper.keep(&bytes) {
+        Ok(()) => Ok(()),
+        Err(fault) => Err(KeepingFault::Keep(fault)),
+    }
+}
+
+/// The line of what a state has reached, with so many equations, or nothing where it isn't asked for.
+fn line_of(
+    alloc: Global,
+    symbols: &Symbols,
+    state: &State,
+    run: Piece,
+    asked: Asked,
+) -> Result<Vec<u8>, KeepingFault>
+    requires whole { IsWhole state.now.words.items }
+    requires over { IsTrue (list_all (is_word_over symbols.now) state.now.words.items) }
+    requires counted { length (forest state.now.words.items)
+        ≡ state.now.terms + 2 * run.equations }
+    ensures { IfOk result (λ line. line.items ≡ if is_written asked run.end
+        then line_of symbols.now (configuration_of state.now.words.items state.now.terms 0)
+        else []) }
+{
+    let mut line = Vec::new(alloc);
+    if is_written(asked, run.end) {
+        let terms = state.terms as usize;
+        put_words(
+            alloc,
+            symbols,
+            &state.words,
+            terms,
+            run.equations,
+            &mut line,
+        )?;
+        line.push(b'\n')?;
+    }
+    Ok(line)
+}
+
+/// The pair that is stuck in what a state has reached, where a piece ended quiet.
+fn stuck_of(
+    alloc: Global,
+    symbols: &Symbols,
+    state: &State,
+    run: Piece,
+) -> Result<Option<Vec<u8>>, KeepingFault>
+    requires whole { IsWhole state.now.words.items }
+    requires over { IsTrue (list_all (is_word_over symbols.now) state.now.words.items) }
+    requires counted { length (forest state.now.words.items)
+        ≡ state.now.terms + 2 * run.equations }
+    ensures stuck { run.end ≡ End.Quiet
+        → IfOk result (λ stuck. option_map (λ text. text.items) stuck
+        ≡ stuck_text symbols.now (configuration_of state.now.words.items state.now.terms 0)) }
+    ensures unstuck { run.end ≢ End.Quiet → IfOk result (λ stuck. IsNone stuck) }
+{
+    match run.end {
+        End::Quiet => {
+            let terms = state.terms as usize;
+            let stuck = stuck_text(alloc, symbols, &state.words, terms, run.equations)?;
+            Ok(stuck)
+        }
+        _ => Ok(None),
+    }
+}
+
+/// What is told of a state: its line, where that is asked for, and the pair that is stuck.
+#[derive(Debug, Drop)]
+struct Told {
+    line: Vec<u8>,
+    stuck: Option<Vec<u8>>,
+}
+
+/// What is told of a state in which a piece has ended.
+fn tell(
+    alloc: Global,
+    symbols: &Symbols,
+    state: &State,
+    run: Piece,
+    asked: Asked,
+) -> Result<Told, KeepingFault>
+    requires whole { IsWhole state.now.words.items }
+    requires over { IsTrue (list_all (is_word_over symbols.now) state.now.words.items) }
+    requires counted { length (forest state.now.words.items)
+        ≡ state.now.terms + 2 * run.equations }
+    ensures line { IfOk result (λ told. told.line.items ≡ if is_written asked run.end
+        then line_of symbols.now (configuration_of state.now.words.items state.now.terms 0)
+        else []) }
+    ensures stuck { run.end ≡ End.Quiet
+        → IfOk result (λ told. option_map (λ text. text.items) told.stuck
+        ≡ stuck_text symbols.now (configuration_of state.now.words.items state.now.terms 0)) }
+    ensures unstuck { run.end ≢ End.Quiet → IfOk result (λ told. IsNone told.stuck) }
+{
+    let line = line_of(alloc, symbols, state, run, asked)?;
+    let stuck = stuck_of(alloc, symbols, state, run)?;
+    Ok(Told { line, stuck })
+}
+
+/// Goes on with a reduction from a state, in pieces that are kept one after another, until it ends.
+pub fn go_on<D: Disk, C: Clock, V: Watch>(
+    alloc: Global,
+    state: State,
+    keeper: &mut Keeper<D>,
+    bounds: Bounds,
+    pace: Pace,
+    asked: Asked,
+    clock: &C,
+    watch: &V,
+) -> Result<Ended, KeepingFault>
+    // However often the reduction was stopped before, the answer is one of the system that was read first, and the
+    // interactions are those of all runs.
+    ensures answer { (s : SystemParts) → IsStateOf s (kept_by state)
+        → IfOk result (λ ended. IsAnswer s ended.end (kept_by ended.state)) }
+    ensures line { (s : SystemParts) → IsStateOf s (kept_by state)
+        → IfOk result (λ ended. ended.line.items ≡ if is_written asked ended.end
+        then line_of s.rules.symbols
+        (configuration_of ended.state.words.items ended.state.terms 0) else []) }
+    // With it come the rules of that system, and at a quiet end the first equation of two agents, which is stuck.
+    ensures rules { (s : SystemParts) → IsStateOf s (kept_by state)
+        → IfOk result (λ ended. arc_value ended.rules ≡ s.rules) }
+    ensures stuck { (s : SystemParts) → IsStateOf s (kept_by state)
+        → IfOk result (λ ended. ended.end ≡ End.Quiet
+        → option_map (λ text. text.items) ended.stuck ≡ stuck_text s.rules.symbols
+        (configuration_of ended.state.words.items ended.state.terms 0)) }
+    ensures unstuck { IfOk result (λ ended. ended.end ≢ End.Quiet → IsNone ended.stuck) }
+    // At Ok that is kept.
+    ensures kept { (s : SystemParts) (before : List ℕ) → IsStateOf s (kept_by state)
+        → KeepsModel D.keeps keeper.old → Keeps D.image before keeper.old
+        → IsFormFrom s state.interactions before
+        → IfOk result (λ ended. Keeps D.image (state_bytes (kept_by ended.state)) keeper.new) }
+    // It keeps states of this reduction that go no less far than the one it began with, and no others.
+    ensures way { (s : SystemParts) → IsStateOf s (kept_by state)
+        → Way D.keeps D.image D.clock D.left (IsFormFrom s state.interactions)
+        keeper.old keeper.new }
+{
+    let rules = rules_of(alloc, &state.text)?;
+    let mut state = state;
+    let mut pace = pace;
+    for _ in 0..u64::MAX {
+        let left = bounds.steps.saturating_sub(state.interactions);
+        let piece = Bounds {
+            steps: pace.piece.min(left),
+            nodes: bounds.nodes,
+        };
+        let run = run_piece(alloc, &rules, &mut state, piece, clock, watch)?;
+        keep_state(alloc, &state, keeper)?;
+        if run.end != End::Steps || state.interactions >= bounds.steps {
+            let told = tell(alloc, rules.symbols(), &state, run, asked)?;
+            return Ok(Ended {
+                end: run.end,
+                places: run.places,
+                rules,
+                state,
+                line: told.line,
+                stuck: told.stuck,
+            });
+        }
+        pace = pace.after(run.millis);
+    }
+    Err(KeepingFault::Limit)
+}

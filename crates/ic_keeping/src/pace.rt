@@ -1,0 +1,98 @@
+//! How many interactions are made before what was reached is kept.
+
+use ic_in_place::Watch;
+use std::cell::Cell;
+
+/// What tells the time.
+pub trait Clock {
+    /// How many milliseconds have passed since some moment.
+    fn millis(&self) -> u64;
+}
+
+/// How many interactions the next piece makes, by how long the last one made interactions.
+#[derive(Clone, Copy, Debug)]
+pub struct Pace {
+    /// For how many milliseconds a piece should go on.
+    pub every: u64,
+    /// How many interactions the next piece makes.
+    pub piece: u64,
+}
+
+/// How many interactions the first piece makes.
+const FIRST: u64 = 1 << 22;
+
+/// How many interactions a piece makes at most.
+const MOST: u64 = 1 << 60;
+
+impl Pace {
+    /// A pace of pieces that go on for so many milliseconds.
+    pub fn new(every: u64) -> Pace {
+        Pace {
+            every,
+            piece: FIRST,
+        }
+    }
+
+    /// The pace after a piece that made interactions for so many milliseconds: at most sixteen times as many interactions, and a quarter at least.
+    pub fn after(self, took: u64) -> Pace {
+        let least = self.piece / 4;
+        let most = self.piece.saturating_mul(16);
+        let even = (self.piece / took.max(1)).saturating_mul(self.every);
+        let piece = even.max(least).min(most).min(MOST).max(FIRST);
+        Pace {
+            every: self.every,
+            piece,
+        }
+    }
+}
+
+/// When interactions of a piece were seen first, and when last.
+#[derive(Clone, Copy, Debug)]
+struct Span {
+    first: u64,
+    last: u64,
+}
+
+/// Who watches a piece of a reduction. It passes on what is seen, with the interactions of all runs, and notes for how long
+/// they are made: what it takes to plan the machine and to read it back doesn't count.
+#[derive(Drop)]
+pub(crate) struct Timed<'a, C, V> {
+    clock: &'a C,
+    watch: &'a V,
+    // How many interactions were made before the piece.
+    before: u64,
+    span: Cell<Option<Span>>,
+}
+
+impl<'a, C: Clock, V: Watch> Timed<'a, C, V> {
+    /// Who watches a piece before which so many interactions were made.
+    pub(crate) fn new(clock: &'a C, watch: &'a V, before: u64) -> Timed<'a, C, V> {
+        Timed {
+            clock,
+            watch,
+            before,
+            span: Cell::new(None),
+        }
+    }
+
+    /// For how many milliseconds the piece made interactions.
+    pub(crate) fn millis(&self) -> u64 {
+        match self.span.get() {
+            Some(span) => span.last.saturating_sub(span.first),
+            None => 0,
+        }
+    }
+}
+
+impl<C: Clock, V: Watch> Watch for Timed<'_, C, V> {
+    fn saw(&self, interactions: u64, places: u64) {
+        let now = self.clock.millis();
+        let first = match self.span.get() {
+            Some(span) => span.first,
+            None => now,
+        };
+        self.span.set(Some(Span { first, last: now }));
+        self.watch
+            .saw(self.before.saturating_add(interactions), places);
+    }
+}

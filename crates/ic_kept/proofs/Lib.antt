@@ -1,0 +1,5 @@
+pub mod FileLemmas
+pub mod SheetLemmas
+pub mod HeldLemmas
+pub mod ReadLemmas
+pub mod WriteLemmas

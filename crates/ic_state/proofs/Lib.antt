@@ -1,0 +1,4 @@
+pub mod NumberLemmas
+pub mod ListLemmas
+pub mod WordLemmas
+pub mod StateLemmas

@@ -1,0 +1,57 @@
+-- A state as bytes (this project's choice).
+use Rattle.std.specs.Prelude.{ℕ, ◌<◌, ◌^◌, Bool, true, false, List, [], ◌∷◌, ◌++◌, length}
+use Rattle.std.specs.List.{flat_map, AllByRecursion}
+use Rattle.ic_flat.specs.declared.word.Word.{Word}
+use Rattle.ic_state.specs.declared.state.State.{State}
+use Rattle.ic_state.specs.declared.form.TheConstants.{FORMAT}
+use Rattle.ic_state.specs.Numbers.{eight_bytes}
+use Rattle.ic_state.specs.Words.{word_bytes, IsKeptWord}
+
+-- The text that a reduction began with, the words that were reached and how many terms their interface has, how many
+-- interactions were made, in all and by each rule, whether it has ended, and for how many milliseconds it has gone on.
+pub record Kept : Type 0 where
+  pub text : List ℕ
+  pub words : List Word
+  pub terms : ℕ
+  pub interactions : ℕ
+  pub by_rule : List ℕ
+  pub ended : Bool
+  pub millis : ℕ
+
+-- what a value of the program says
+abbrev pub kept_by : State → Kept
+kept_by s = record {
+  text = s.text.items;
+  words = s.words.items;
+  terms = s.terms;
+  interactions = s.interactions;
+  by_rule = s.by_rule.items;
+  ended = s.ended;
+  millis = s.millis;
+}
+
+abbrev pub ended_number : Bool → ℕ
+ended_number true = 1
+ended_number false = 0
+
+-- the numbers that stand first, each in eight bytes
+abbrev pub head_numbers : Kept → List ℕ
+head_numbers k =
+    FORMAT ∷ k.terms ∷ k.interactions ∷ ended_number k.ended
+    ∷ length k.by_rule ∷ length k.words ∷ k.millis ∷ []
+
+-- A state is these numbers, the counts of the rules, the words, and the text.
+abbrev pub state_bytes : Kept → List ℕ
+state_bytes k =
+    flat_map eight_bytes (head_numbers k)
+    ++ (flat_map eight_bytes k.by_rule ++ (flat_map word_bytes k.words ++ k.text))
+
+-- each of its numbers fits its bytes
+pub record IsKept (k : Kept) : Type 0 where
+  pub terms : k.terms < 2 ^ 64
+  pub interactions : k.interactions < 2 ^ 64
+  pub rules : length k.by_rule < 2 ^ 64
+  pub count : length k.words < 2 ^ 64
+  pub millis : k.millis < 2 ^ 64
+  pub by_rule : AllByRecursion (λ n. n < 2 ^ 64) k.by_rule
+  pub words : AllByRecursion IsKeptWord k.words

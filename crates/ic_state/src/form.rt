@@ -1,0 +1,75 @@
+//! A state as bytes, and back.
+
+ghost use Rattle.std.specs.Prelude.{◌≡◌, ◌≢◌, Err, IfOk};
+ghost use Rattle.std.specs.List.{AllByRecursion};
+ghost use Rattle.ic_state.specs.State.{Kept, IsKept, ended_number, kept_by, state_bytes};
+ghost use Rattle.ic_state.specs.Words.{IsKeptWord};
+ghost use Rattle.ic_state.specs.declared.fault.StateFault.TheVariants.{NotAState};
+
+use crate::fault::StateFault;
+use crate::fields::{numbers_at, numbers_fit, put_numbers};
+use crate::state::State;
+use crate::words::{put_words, words_at};
+use std::alloc::Global;
+
+/// What the bytes of a state begin with: the letters `ICKEPT01`, as a number.
+pub const FORMAT: u64 = 0x4943_4b45_5054_3031;
+
+/// How many numbers stand before the lists of a state.
+const HEAD: u64 = 7;
+
+/// The byte form of a state, if each of its words has a number. Takes linear time.
+pub fn encode(alloc: Global, state: &State) -> Result<Vec<u8>, StateFault>
+    ensures bytes { IfOk result (λ bytes. bytes.items ≡ state_bytes (kept_by state.now)) }
+    ensures sound { IfOk result (λ _. IsKept (kept_by state.now)) }
+    ensures refused { result ≡ Err NotAState → ¬ AllByRecursion IsKeptWord state.now.words.items }
+{
+    let head = [
+        FORMAT,
+        state.terms,
+        state.interactions,
+        ended_number(state.ended),
+        state.by_rule.len() as u64,
+        state.words.len() as u64,
+        state.millis,
+    ];
+    numbers_fit(&head);
+    numbers_fit(&state.by_rule);
+    let mut out = Vec::new(alloc);
+    put_numbers(&head, &mut out)?;
+    put_numbers(&state.by_rule, &mut out)?;
+    put_words(&state.words, &mut out)?;
+    out.extend_from_slice(&state.text)?;
+    Ok(out)
+}
+
+fn ended_number(ended: bool) -> u64
+    ensures { result ≡ ended_number ended }
+{
+    if ended { 1 } else { 0 }
+}
+
+/// The state of which these bytes are the form. Takes linear time.
+pub fn decode(alloc: Global, bytes: &[u8]) -> Result<State, StateFault>
+    ensures state { IfOk result (λ state. bytes.now ≡ state_bytes (kept_by state)) }
+    ensures sound { IfOk result (λ state. IsKept (kept_by state)) }
+    ensures refused { result ≡ Err NotAState → (kept : Kept) → IsKept kept
+        → bytes.now ≢ state_bytes kept }
+{
+    let (head, rest) = numbers_at(alloc, HEAD, bytes)?;
+    if head[0] != FORMAT || head[3] > 1 {
+        return Err(StateFault::NotAState);
+    }
+    let (by_rule, rest) = numbers_at(alloc, head[4], rest)?;
+    let (words, rest) = words_at(alloc, head[5], rest)?;
+    let text = rest.to_vec(alloc)?;
+    Ok(State {
+        text,
+        words,
+        terms: head[1],
+        interactions: head[2],
+        by_rule,
+        ended: head[3] == 1,
+        millis: head[6],
+    })
+}

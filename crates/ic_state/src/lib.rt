@@ -1,0 +1,16 @@
+//! The byte form of a reduction that is kept: the text that it began with, and how far it has come.
+//!
+//! `encode` gives the bytes of a state, and `decode` the state of which bytes are the form. Whether its words write a
+//! configuration over the symbols of its text is judged by the crates above. `specs/` has the form as definitions.
+#![tactic(auto)]
+
+mod fault;
+mod fields;
+mod form;
+pub mod laws;
+mod state;
+mod words;
+
+pub use fault::StateFault;
+pub use form::{FORMAT, decode, encode};
+pub use state::State;

@@ -1,0 +1,22 @@
+//! How far a reduction has come.
+
+use ic_flat::Word;
+
+/// The text that a reduction began with, and how far it has come.
+#[derive(Debug, Drop)]
+pub struct State {
+    /// The text of the system that is reduced: its rules, and the configuration that was read first.
+    pub text: Vec<u8>,
+    /// The words of the configuration that was reached, the interface's before the equations'.
+    pub words: Vec<Word>,
+    /// How many terms its interface has.
+    pub terms: u64,
+    /// How many interactions were made.
+    pub interactions: u64,
+    /// How often each rule fired, in the order of the rules.
+    pub by_rule: Vec<u64>,
+    /// Whether the reduction has ended, with no interaction left.
+    pub ended: bool,
+    /// For how many milliseconds it has gone on.
+    pub millis: u64,
+}

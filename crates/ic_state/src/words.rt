@@ -1,0 +1,80 @@
+//! Words as numbers, and back.
+
+ghost use Rattle.std.specs.Prelude.{◌≡◌, ◌<◌, ◌*◌, ◌++◌, IfOk, IfErr, IfSome, IsNone, OnOk, length};
+ghost use Rattle.std.specs.List.{flat_map, AllByRecursion};
+ghost use Rattle.ic_state.specs.Words.{word_bytes, word_number, IsKeptWord};
+ghost use Rattle.ic_state.specs.declared.fault.StateFault.TheVariants.{NotAState};
+
+use crate::fault::StateFault;
+use crate::fields::{number_at, put_number};
+use ic_flat::Word;
+use std::alloc::Global;
+
+/// The number of the first agent. Those below are of names.
+pub(crate) const AGENTS: u64 = 9_223_372_036_854_775_808;
+
+/// How many symbols have one number of arguments.
+pub(crate) const SYMBOLS: u64 = 4_294_967_296;
+
+/// The word of a number.
+fn word_of(number: u64) -> Word
+    ensures number { number ≡ word_number result }
+    ensures kept { IsKeptWord result }
+{
+    if number < AGENTS {
+        return Word::Name(number);
+    }
+    let agent = number - AGENTS;
+    Word::Agent((agent % SYMBOLS) as u32, (agent / SYMBOLS) as usize)
+}
+
+/// The number of a word, if it has one: its name is below 2^63, or it has fewer than 2^31 arguments.
+fn number_of(word: Word) -> Option<u64>
+    ensures some { IfSome result (λ number. (number ≡ word_number word) × IsKeptWord word) }
+    ensures none { IsNone result → ¬ IsKeptWord word }
+{
+    match word {
+        Word::Name(name) if name < AGENTS => Some(name),
+        Word::Agent(symbol, arguments) if (arguments as u64) < AGENTS / SYMBOLS => {
+            Some(AGENTS + arguments as u64 * SYMBOLS + symbol as u64)
+        }
+        _ => None,
+    }
+}
+
+/// So many words, and the bytes after them.
+pub(crate) fn words_at(
+    alloc: Global,
+    count: u64,
+    bytes: &[u8],
+) -> Result<(Vec<Word>, &[u8]), StateFault>
+    ensures count { IfOk result (λ r. length r.0.items ≡ count) }
+    ensures read { IfOk result (λ r. bytes.now ≡ flat_map word_bytes r.0.items ++ r.1.now) }
+    ensures kept { IfOk result (λ r. AllByRecursion IsKeptWord r.0.items) }
+    ensures refused { IfErr result (λ fault. fault ≡ NotAState → length bytes.now < 8 * count) }
+{
+    if count > (bytes.len() / 8) as u64 {
+        return Err(StateFault::NotAState);
+    }
+    let mut words = Vec::with_capacity(alloc, count as usize)?;
+    let mut rest = bytes;
+    for _ in 0..count {
+        let (number, now_rest) = number_at(rest)?;
+        words.push(word_of(number))?;
+        rest = now_rest;
+    }
+    Ok((words, rest))
+}
+
+/// Appends words in order, if each has a number.
+pub(crate) fn put_words(words: &[Word], out: &mut Vec<u8>) -> Result<(), StateFault>
+    ensures appended { OnOk result (out.new.items ≡ out.old.items ++ flat_map word_bytes words.now) }
+    ensures kept { OnOk result (AllByRecursion IsKeptWord words.now) }
+    ensures refused { IfErr result (λ fault. fault ≡ NotAState → ¬ AllByRecursion IsKeptWord words.now) }
+{
+    for word in words {
+        let number = number_of(*word).ok_or(StateFault::NotAState)?;
+        put_number(number, out)?;
+    }
+    Ok(())
+}

@@ -1,0 +1,178 @@
+//! The program's word `reduce` where what is reached is kept in two files.
+
+use crate::reducing::{Wanted, tell_end};
+use crate::{NotedDisk, open_disk};
+use ic_causes::{NotedOutput, Notes};
+use ic_diagnostics::{Kind, refused_within};
+use ic_disk::{Disk, DiskFault};
+use ic_exits::Failure;
+use ic_in_place::{Bounds, Outcome};
+use ic_keeping::{Clock, Ended, KeepingFault, Pace, begin, begun, go_on, resume};
+use ic_progress::Watching;
+use ic_state::State;
+use ic_streams::{StreamFault, read_text_within, write_line};
+use ic_text::Limits;
+use std::io::{self, Read};
+use std::time::{Duration, Instant};
+
+/// Where a reduction is kept, and how often.
+#[derive(Clone, Copy, Debug)]
+pub(crate) struct KeptIn<'a> {
+    /// The path of the first file.
+    pub(crate) path: &'a str,
+    /// Whether it begins. Else it goes on with what is kept.
+    pub(crate) begins: bool,
+    /// About how many seconds are between two keeps.
+    pub(crate) seconds: u64,
+}
+
+/// A clock that counts from when it was made.
+#[derive(Drop)]
+struct Since<'a> {
+    rt: &'a HostRuntime,
+    begun: Option<Instant>,
+}
+
+impl Clock for Since<'_> {
+    fn millis(&self) -> u64 {
+        match (self.begun, Instant::now(self.rt)) {
+            (Some(begun), Ok(now)) => {
+                u64::try_from(now.duration_since(begun).as_millis()).unwrap_or(u64::MAX)
+            }
+            _ => 0,
+        }
+    }
+}
+
+/// Reduces a system in place, keeps in two files what is reached, and prints it at the end, as far as that is wanted.
+/// Either it begins with the system on standard input, or it goes on with what the files have.
+pub(crate) fn reduce<R: Read>(
+    rt: &HostRuntime,
+    kept: KeptIn<'_>,
+    bounds: Bounds,
+    wanted: Wanted,
+    input: &mut R,
+    notes: &Notes,
+    told: &mut Vec<u8>,
+) -> Result<(), Failure> {
+    let (first, second) = if kept.begins {
+        let state = read_state(rt, input, told).map_err(Failure::Stream)?;
+        begin_in(rt, kept.path, &state, notes)?
+    } else {
+        open_both(rt, kept.path, notes)?
+    };
+    let (mut keeper, state) = resume(rt.alloc(), first, second).map_err(Failure::Kept)?;
+    let watching = Watching::new(rt);
+    let clock = Since {
+        rt,
+        begun: Instant::now(rt).ok(),
+    };
+    let pace = Pace::new(kept.seconds.saturating_mul(1_000));
+    let ended = go_on(
+        rt.alloc(),
+        state,
+        &mut keeper,
+        bounds,
+        pace,
+        wanted.asked,
+        &clock,
+        &watching,
+    );
+    watching.wipe();
+    tell(rt, ended.map_err(Failure::Kept)?, bounds, wanted, notes)
+}
+
+/// The state with which the reduction of a text begins.
+fn read_state<R: Read>(
+    rt: &HostRuntime,
+    input: &mut R,
+    told: &mut Vec<u8>,
+) -> Result<State, StreamFault> {
+    let text = read_text_within(rt.alloc(), Limits::Wide, input)?;
+    match begun(rt.alloc(), &text) {
+        Ok(state) => Ok(state),
+        Err(misread) => Err(refused_within(
+            rt.alloc(),
+            Limits::Wide,
+            Kind::System,
+            &text,
+            misread,
+            told,
+        )),
+    }
+}
+
+/// Keeps a state as the first in the two files of a path, which are made where they are missing. The second isn't made where
+/// the first holds something.
+fn begin_in<'a>(
+    rt: &HostRuntime,
+    path: &str,
+    state: &State,
+    notes: &'a Notes,
+) -> Result<(NotedDisk<'a>, NotedDisk<'a>), Failure> {
+    let mut first = open_disk(rt, path, true, notes)?;
+    let len = first
+        .len()
+        .map_err(|_| Failure::Kept(KeepingFault::Device))?;
+    if len > 0 {
+        return Err(Failure::Kept(KeepingFault::NotEmpty));
+    }
+    let mut second = open_second(rt, path, true, notes)?;
+    begin(rt.alloc(), state, &mut first, &mut second).map_err(Failure::Kept)?;
+    Ok((first, second))
+}
+
+/// The disks in the two files of a path.
+fn open_both<'a>(
+    rt: &HostRuntime,
+    path: &str,
+    notes: &'a Notes,
+) -> Result<(NotedDisk<'a>, NotedDisk<'a>), Failure> {
+    let first = open_disk(rt, path, false, notes)?;
+    let second = open_second(rt, path, false, notes)?;
+    Ok((first, second))
+}
+
+/// Opens the disk in the second file of a path, which with `create` is made where it is missing.
+fn open_second<'a>(
+    rt: &HostRuntime,
+    path: &str,
+    create: bool,
+    notes: &'a Notes,
+) -> Result<NotedDisk<'a>, Failure> {
+    let second = format!(in rt.alloc(); "{path}.2").map_err(|_| Failure::Kept(
+        KeepingFault::Memory,
+    ))?;
+    open_disk(rt, second.as_str(), create, notes).map_err(|_| Failure::SecondFile(DiskFault))
+}
+
+/// Tells how a reduction has ended: its line on standard output, where it is wanted, and the rest on standard error.
+fn tell(
+    rt: &HostRuntime,
+    ended: Ended,
+    bounds: Bounds,
+    wanted: Wanted,
+    notes: &Notes,
+) -> Result<(), Failure> {
+    let Ended {
+        end,
+        places,
+        rules,
+        state,
+        line,
+        stuck,
+    } = ended;
+    let mut output = NotedOutput::new(io::writer(rt), notes);
+    write_line(&mut output, &line).map_err(Failure::Stream)?;
+    let time = Duration::from_millis(state.millis);
+    let outcome = Outcome {
+        end,
+        interactions: state.interactions,
+        rules,
+        by_rule: state.by_rule,
+        name_steps: None,
+        places,
+        stuck,
+    };
+    tell_end(rt, &outcome, time, wanted, bounds.nodes)
+}

@@ -1,0 +1,359 @@
+"""A reduction that is kept in two files (`reduce --keep`, `reduce --resume`) goes on after any stop, with the answer and the
+counts of one that isn't stopped. Files that hold something else are refused, and stay as they are."""
+
+import json
+import os
+import signal
+import subprocess
+import sys
+import time
+
+from program import PROGRAM, TOP, grows_to, heeds_signals, run
+from shim import noted, recording, shimmed, was_refused
+from stops import Stops
+
+sys.path.insert(0, str(TOP / "bench"))
+
+from systems import ACKERMANN, church, numeral  # noqa: E402
+
+FIGURES = ["--stats", "--format", "json"]
+HEAD = 17
+IMAGES = 3
+
+
+def ackermann(number):
+    return f"{ACKERMANN} <r|Ack(r,{numeral(number)})={numeral(3)}>"
+
+
+def figures(ran):
+    """The figures that a run tells."""
+    return json.loads(ran.err.splitlines()[0])
+
+
+def laid(content, at, data):
+    """A file's bytes with these laid over them."""
+    return content.ljust(at, b"\0")[:at] + data + content[at + len(data) :]
+
+
+def torn(draw, old, new):
+    """What a range may hold of which `new` was written over `old`, and not synced: any bytes, and these above all."""
+    at = draw.randrange(len(new) + 1)
+    drawn = [old, new, new[:at] + old[at:], old[:at] + new[at:], bytes(len(new)), b"\1" * len(new), b"\xff" * len(new)]
+    return draw.choice([*drawn, draw.randbytes(len(new))])
+
+
+class Keep(Stops):
+    seconds = 60
+
+    def setUp(self):
+        super().setUp()
+        self.file = self.room / "net.keep"
+        self.second = self.room / "net.keep.2"
+        self.log = self.room / "log"
+
+    def contents(self):
+        return [it.read_bytes() if it.exists() else None for it in (self.file, self.second)]
+
+    def put(self, contents):
+        for path, content in zip((self.file, self.second), contents):
+            path.write_bytes(content)
+
+    def clear(self):
+        for path in (self.file, self.second):
+            path.unlink(missing_ok=True)
+
+    def whole(self, text):
+        """The answer and the figures of a reduction that isn't kept."""
+        ran = run("reduce", *FIGURES, given=text)
+        self.equals(ran.command, "status", 0, ran.status)
+        return ran.out, figures(ran)
+
+    def agree(self, ran, whole):
+        """Fails unless a run that is kept has come to the same end."""
+        self.equals(ran.command, f"status; it said {ran.err}", 0, ran.status)
+        self.agrees(ran.command, "standard output", whole[0], ran.out)
+        for name in ("end", "stuck", "interactions", "by_rule"):
+            self.equals(ran.command, name, whole[1][name], figures(ran)[name])
+
+    def kept(self):
+        """How many interactions the files hold, or nothing where they are refused. What they hold is kept once more."""
+        ran = run("reduce", "--resume", self.file, "--steps", 0, "--quiet-answer", *FIGURES)
+        if ran.status == 3:
+            return None
+        self.equals(ran.command, f"status; it said {ran.err}", True, ran.status in (0, 5))
+        return figures(ran)["interactions"]
+
+    def test_a_reduction_that_is_kept_answers_as_one_that_is_not(self):
+        whole = self.whole(ackermann(3))
+        self.agree(run("reduce", "--keep", self.file, *FIGURES, given=ackermann(3)), whole)
+        # What has ended is answered again.
+        for _ in range(3):
+            self.agree(run("reduce", "--resume", self.file, *FIGURES), whole)
+        # A text in a file.
+        self.clear()
+        text = self.room / "text"
+        text.write_text(ackermann(3))
+        self.agree(run("reduce", "--keep", self.file, *FIGURES, text), whole)
+
+    def test_a_stuck_pair_is_told(self):
+        text = "{A(B(x))><B(x)} <r|A(r)=B(C),D=E(z)>"
+        whole = run("reduce", given=text)
+        self.equals(whole.command, "what is told", b"icserve: stuck D><E\n", whole.err)
+        for words, given in ((["--keep", self.file], text), (["--resume", self.file], b"")):
+            self.runs("reduce", *words, given=given, out=whole.out, err=whole.err)
+            self.agree(run("reduce", "--resume", self.file, *FIGURES), self.whole(text))
+
+    def test_what_is_not_asked_for_is_not_printed(self):
+        self.runs("reduce", "--keep", self.file, "--quiet-answer", given=ackermann(2))
+        for words in (["--nodes", 0, "--steps", 100_000], ["--nodes", 0, "--steps", 100_000, "--partial"]):
+            self.clear()
+            ran = run("reduce", "--keep", self.file, *words, given=church(14))
+            self.equals(ran.command, "the end", (1, b"icserve: overgrown\n"), (ran.status, ran.err))
+            self.equals(ran.command, "whether a line is printed", "--partial" in words, ran.out.count(b"\n") == 1)
+        self.agree(run("reduce", "--resume", self.file, *FIGURES), self.whole(church(14)))
+
+    def test_interactions_of_all_runs_are_counted_once(self):
+        whole = self.whole(ackermann(3))
+        total = whole[1]["interactions"]
+        self.runs("reduce", "--keep", self.file, "--steps", 10, "--quiet-answer", given=ackermann(3), err=["icserve: not done"], status=5)
+        for most in (10, 11, 500, 499, 900, total - 1):
+            ran = run("reduce", "--resume", self.file, "--steps", most, *FIGURES)
+            self.equals(ran.command, "status", 5, ran.status)
+            reached = max(most, reached) if most != 10 else 10
+            self.equals(ran.command, "interactions", reached, figures(ran)["interactions"])
+            self.equals(ran.command, "by rule", reached, sum(it["interactions"] for it in figures(ran)["by_rule"]))
+        self.agree(run("reduce", "--resume", self.file, *FIGURES), whole)
+
+    def test_what_a_file_holds_is_not_written_over(self):
+        for first, second in ((b"mine", None), (b"\0", None), (None, b"mine"), (bytes(HEAD), bytes(HEAD))):
+            self.clear()
+            for path, content in ((self.file, first), (self.second, second)):
+                if content is not None:
+                    path.write_bytes(content)
+            self.refuses("reduce", "--keep", self.file, given=ackermann(2), line="not empty", status=3)
+            self.equals(self.file, "what the files hold", [first or b"", second], self.contents())
+        self.clear()
+        self.agree(run("reduce", "--keep", self.file, *FIGURES, given=ackermann(2)), self.whole(ackermann(2)))
+        before = self.contents()
+        ran = run("reduce", "--keep", self.file, given=ackermann(2))
+        self.equals(ran.command, "the end", (3, b"icserve: not empty\n"), (ran.status, ran.err))
+        self.equals(ran.command, "whether --resume is told of", True, b"`--resume F`" in ran.behind)
+        self.equals(ran.command, "what the files hold", before, self.contents())
+
+    def test_a_refused_text_makes_no_file(self):
+        ran = run("reduce", "--keep", self.file, given="<r|r=")
+        self.equals(ran.command, "the end", (1, b"icserve: bad syntax\n"), (ran.status, ran.err))
+        self.equals(ran.command, "whether its place is told", True, ran.behind.startswith(b"line 1"))
+        self.equals(ran.command, "files", [None, None], self.contents())
+
+    def test_files_that_hold_no_reduction_are_refused(self):
+        self.refuses("reduce", "--resume", self.file, line="device", status=3)
+        # Of a jobs disk there is no second file.
+        disk = self.disk("net.keep")
+        ran = run("reduce", "--resume", disk)
+        self.equals(ran.command, "the end", (3, b"icserve: device\n"), (ran.status, ran.err))
+        self.equals(ran.command, "whether the second file is told of", True, b"net.keep.2" in ran.behind)
+        for contents in ((b"", b""), (bytes(HEAD), bytes(HEAD)), (b"\1" * 40, b""), (b"\1" * 40, bytes(HEAD)), (b"text", b"text")):
+            self.put(contents)
+            ran = run("reduce", "--resume", self.file)
+            self.equals(ran.command, f"status of {contents}; it said {ran.err}", 3, ran.status)
+            self.equals(ran.command, "what the files hold", list(contents), self.contents())
+        # What is kept is read whole: a file that was cut, or whose state is another.
+        self.clear()
+        run("reduce", "--keep", self.file, "--steps", 9, given=ackermann(2))
+        whole = self.contents()
+        newest = 0 if whole[0][0] == 1 and whole[0][1:9] > whole[1][1:9] * (whole[1][0] == 1) else 1
+        for at in (0, 1, 8, 16, 17, 24, 30, 70, len(whole[newest]) - 30):
+            for content in (whole[newest][:at], laid(whole[newest], at, b"\7")):
+                self.put([content if it == newest else whole[it] for it in (0, 1)])
+                ran = run("reduce", "--resume", self.file, "--steps", 0, *FIGURES)
+                self.equals(ran.command, f"an end that is told; it said {ran.err}", True, ran.status in (1, 3, 4, 5))
+
+    def test_kept_files_are_no_disks(self):
+        run("reduce", "--keep", self.file, given=ackermann(2))
+        before = self.contents()
+        for words in (["serve", "--disk"], ["dump", "--disk"], ["attend", "--disk"], ["create", "--disk"]):
+            for path in (self.file, self.second):
+                ran = run(*words, path)
+                self.equals(ran.command, f"status; it said {ran.err}", 3, ran.status)
+        self.equals(self.file, "what the files hold", before, self.contents())
+
+    def test_one_process_at_a_time(self):
+        command = [PROGRAM, "reduce", "--keep", str(self.file), "--seconds", "1"]
+        with subprocess.Popen(command, stdin=subprocess.PIPE, stdout=subprocess.DEVNULL, stderr=subprocess.DEVNULL) as process:
+            process.stdin.write(b"{A(B(x))><B(A(x))} <|A(x)=B(x)>")
+            process.stdin.close()
+            end = time.monotonic() + 30
+            while not (self.second.exists() and self.second.stat().st_size >= HEAD) and time.monotonic() < end:
+                time.sleep(0.01)
+            ran = run("reduce", "--resume", self.file)
+            process.kill()
+        self.equals(ran.command, "the end", (6, b"icserve: locked\n"), (ran.status, ran.err))
+
+    def test_a_full_device_leaves_what_was_kept(self):
+        text = church(9)
+        whole = self.whole(text)
+        run("reduce", "--keep", self.file, "--steps", 100, given=text)
+        before = self.kept()
+        most = max(len(it) for it in self.contents())
+        ran = run("reduce", "--resume", self.file, "--steps", 3000, **grows_to(most + 100))
+        self.equals(ran.command, "the end", (4, b"icserve: device\n"), (ran.status, ran.err))
+        self.equals(ran.command, "interactions that are kept", before, self.kept())
+        self.agree(run("reduce", "--resume", self.file, *FIGURES), whole)
+
+    def life(self, text, most, begins):
+        """A run that is recorded and makes at most so many interactions: what it told, and its calls on the files."""
+        words = ["--keep" if begins else "--resume", self.file, "--steps", most, "--quiet-answer", *FIGURES]
+        ran = run("reduce", *words, given=text if begins else b"", **recording(self.log))
+        self.equals(ran.command, f"status; it said {ran.err}", True, ran.status in (0, 5))
+        return ran, [it for it in noted(self.log) if it.kind in "WST"]
+
+    def moments(self, begun, calls, held, next_one, after):
+        """The moments of a life: what is synced in each file, which is written, the ranges pending there, and how many interactions
+        may be held. A file is written from where its gate is shut to where it is open and synced, and then the other is."""
+        synced, pending = list(begun), []
+        newest = max((0, 1), key=lambda it: (synced[it][:1] == b"\1", synced[it][1:9])) if held is not None else 0
+        at = 1 - newest
+        yield list(synced), at, [], {held}
+        for call in calls:
+            if call.kind == "W":
+                pending = [*pending, (call.at, call.data)]
+            elif call.kind == "S" and pending:
+                opened = pending == [(0, b"\1")]
+                is_new = pending == [(0, bytes(HEAD))]
+                for place, data in pending:
+                    synced[at] = laid(synced[at], place, data)
+                pending = []
+                if opened:
+                    held = next_one if held is not None else 0
+                if opened or (is_new and at == 1):
+                    at = 1 - at
+            is_opening = pending == [(0, b"\1")]
+            coming = next_one if held is not None else 0
+            yield list(synced), at, list(pending), {held, coming} if is_opening else {held}
+        self.equals(self.file, "the files, as the calls on them made them", after, synced)
+
+    def image_of(self, draw, synced, at, pending):
+        """What a loss of power may leave of the two files."""
+        image = synced[at]
+        for place, data in pending:
+            image = laid(image, place, torn(draw, image[place : place + len(data)].ljust(len(data), b"\0"), data))
+        if len(image) > len(synced[at]):
+            image = image[: draw.choice((len(synced[at]), len(image), draw.randrange(len(synced[at]), len(image) + 1)))]
+        return [image if it == at else synced[it] for it in (0, 1)]
+
+    def test_power_that_goes_at_any_moment_leaves_a_state_that_was_kept(self):
+        draw, text = self.draws(), ackermann(2)
+        whole = self.whole(text)
+        total, held, tried = whole[1]["interactions"], None, 0
+        contents = [b"", b""]
+        for most in (20, 21, 60, 150, total, total):
+            if held is not None:
+                self.put(contents)
+            ran, calls = self.life(text, most, held is None)
+            reached = figures(ran)["interactions"]
+            after = self.contents()
+            for synced, at, pending, counts in self.moments(contents, calls, held, reached, after):
+                for _ in range(IMAGES if pending else 1):
+                    self.put(self.image_of(draw, synced, at, pending))
+                    came = self.kept()
+                    self.equals(ran.command, f"interactions that are held, at {pending}", True, came in counts)
+                    if came is not None and draw.random() < 0.2:
+                        self.agree(run("reduce", "--resume", self.file, *FIGURES), whole)
+                    tried += 1
+            self.put(after)
+            contents, held = after, reached
+        self.equals("power cuts", f"at least 100 images, came {tried}", True, tried >= 100)
+
+    def test_each_call_on_the_files_goes_wrong_in_turn(self):
+        text = ackermann(2)
+        whole = self.whole(text)
+        total, calls = whole[1]["interactions"], 0
+        run("reduce", "--keep", self.file, "--steps", 30, given=text)
+        before = self.contents()
+        for how in ("once", "on", "done", "half", "nothing", "short", "interrupt"):
+            number, is_over = 0, False
+            while not is_over:
+                number += 1
+                self.put(before)
+                env = shimmed(f"disk {number} {how}", self.log)
+                ran = run("reduce", "--resume", self.file, "--steps", 90, "--quiet-answer", *FIGURES, env=env)
+                is_over = not was_refused(self.log)
+                if ran.status not in (5,) and (ran.status, ran.err) not in ((3, b"icserve: device\n"), (4, b"icserve: device\n")):
+                    self.told(ran.command, f"the end where call {number} went wrong, {how}", "device, or not done", ran[1:])
+                came = self.kept()
+                self.equals(ran.command, f"interactions where call {number} went wrong, {how}", True, came in (30, 90))
+                if ran.status == 5:
+                    self.equals(ran.command, "interactions that are kept where it was answered", 90, came)
+                self.agree(run("reduce", "--resume", self.file, *FIGURES), whole)
+            calls += number - 1
+        self.equals("faults", f"at least 70 calls, came {calls}", True, calls >= 70)
+        self.equals("the whole", "interactions", True, total > 90)
+
+    def test_each_call_of_a_first_keep_goes_wrong_in_turn(self):
+        text = ackermann(2)
+        whole = self.whole(text)
+        for how in ("once", "on"):
+            number, is_over = 0, False
+            while not is_over:
+                number += 1
+                self.clear()
+                env = shimmed(f"disk {number} {how}", self.log)
+                ran = run("reduce", "--keep", self.file, "--steps", 30, "--quiet-answer", given=text, env=env)
+                is_over = not was_refused(self.log)
+                self.equals(ran.command, f"status where call {number} went wrong, {how}: {ran.err}", True, ran.status in (3, 4, 5))
+                if ran.status == 5 or self.kept() is not None:
+                    self.agree(run("reduce", "--resume", self.file, *FIGURES), whole)
+                    continue
+                # Nothing was kept: it is begun anew, where the files are empty or were taken away.
+                if any(self.contents()):
+                    self.refuses("reduce", "--keep", self.file, given=text, line="not empty", status=3)
+                    self.clear()
+                self.agree(run("reduce", "--keep", self.file, *FIGURES, given=text), whole)
+
+    def test_each_growth_is_refused_in_turn(self):
+        text = "{A><B} <|A=B,x=C(x)>"
+        whole = self.whole(text)
+        run("reduce", "--keep", self.file, "--steps", 0, given=text)
+        before = self.contents()
+        number, is_over = 0, False
+        while not is_over:
+            number += 1
+            self.put(before)
+            ran = run("reduce", "--resume", self.file, *FIGURES, env=shimmed(f"growth {number} once", self.log))
+            is_over = not was_refused(self.log)
+            if ran.status:
+                word = (ran.status, ran.err.splitlines()[-1])
+                self.equals(ran.command, f"the end where growth {number} was refused", True, word in ((3, b"icserve: memory"), (4, b"icserve: memory")))
+            self.agree(run("reduce", "--resume", self.file, *FIGURES), whole)
+        self.equals("growths", f"at least 100, came {number}", True, number >= 100)
+
+    def test_100_kills_at_drawn_moments_of_a_long_reduction(self):
+        draw, text = self.draws(), ackermann(int(os.environ.get("KEEP_SIZE") or 10))
+        began = time.monotonic()
+        whole = self.whole(text)
+        took = time.monotonic() - began
+        words, given, lives, earlier = ["--keep", self.file], text.encode(), 0, 0
+        for kills in range(100):
+            command = [PROGRAM, "reduce", *map(str, words), "--seconds", "1", "--quiet-answer"]
+            pipes = {"stdin": subprocess.PIPE, "stdout": subprocess.DEVNULL, "stderr": subprocess.DEVNULL}
+            with subprocess.Popen(command, preexec_fn=heeds_signals, **pipes) as process:
+                process.stdin.write(given)
+                process.stdin.close()
+                # Where nothing is kept yet it is let alone until something is.
+                end = time.monotonic() + 30
+                while words[0] == "--keep" and not self.file.exists() and time.monotonic() < end:
+                    time.sleep(0.001)
+                time.sleep(draw.random() * took * (0.15 if kills else 0.02))
+                process.send_signal(draw.choice((signal.SIGKILL, signal.SIGKILL, signal.SIGTERM)))
+                process.wait()
+            if words[0] == "--keep" and self.kept() is None:
+                self.clear()
+                continue
+            words, given = ["--resume", self.file], b""
+            if kills % 10 == 9:
+                now = self.kept()
+                self.equals(self.file, f"interactions after {kills + 1} kills, no fewer than {earlier}", True, earlier <= now)
+                lives, earlier = lives + (now > earlier), now
+        self.agree(run("reduce", *map(str, words), "--seconds", 1, *FIGURES, given=given), whole)
+        self.equals(self.file, f"whether it went on between kills, in {took:.1f} s", True, lives > 0)
