@@ -14,9 +14,9 @@
    SHIM_DEVICE="WHEN PATH": the file of this path looks as a block device does. WHEN is `looked`, where it is looked at by its
    path, `opened`, where it is looked at once it is open, as if it had taken the place of another file just then, or `always`.
 
-   SHIM_LOG=PATH: a line is appended to this file for each call that changes a file, syncs it, writes answers or goes wrong,
-   as "KIND AT LENGTH\n" and, of a write, its bytes. KIND is W (written), T (cut or made longer), S (synced), O (written to
-   standard output), E (gone wrong, with the call's number in place of AT), C (at the end:
+   SHIM_LOG=PATH: a line is appended to this file for each call that changes a file, syncs it, reads it at a place, writes
+   answers or goes wrong, as "KIND AT LENGTH\n" and, of a write, its bytes. KIND is W (written), R (read at a place), T (cut
+   or made longer), S (synced), O (written to standard output), E (gone wrong, with the call's number in place of AT), C (at the end:
    how many calls of WHAT there were), and where SHIM is set B (a thread begun) and J (one joined). */
 #define _GNU_SOURCE
 #include <dlfcn.h>
@@ -165,6 +165,16 @@ ssize_t read(int fd, void *into, size_t count) {
     if (outcome == SHORT && count) count = 1;
     else if (outcome != MADE) return -1;
     return NEXT(read)(fd, into, count);
+}
+
+ssize_t pread(int fd, void *into, size_t count, off_t at) {
+    enum outcome outcome = is_open_file(fd) ? outcome_of("disk", EIO) : MADE;
+    if (outcome == NOTHING) return 0;
+    if (outcome == SHORT && count) count = 1;
+    else if (outcome != MADE) return -1;
+    ssize_t answer = NEXT(pread)(fd, into, count, at);
+    if (answer >= 0 && is_open_file(fd)) note('R', at, answer, NULL);
+    return answer;
 }
 
 ssize_t write(int fd, const void *bytes, size_t count) {

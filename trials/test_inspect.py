@@ -11,7 +11,7 @@ from disks import EMPTY, HEAD, OLD_EMPTY, SECOND, disk_of, put, slot
 from known import LOOP, TWO
 from model_disk import MAX_BODY, SECOND_SLOT, decode
 from program import Server, grows_to, run
-from shim import shimmed, was_refused
+from shim import noted, shimmed, was_refused
 from test_drawn_disks import form_of, table, unsound
 from test_drawn_serving import job_names, session, small_systems
 
@@ -288,6 +288,22 @@ class Inspect(ModelTrial):
         self.equals(ran.command, "what was told", calls, ends)
         self.ended(ran, out=lines)
 
+    def test_each_head_is_read_before_its_body_and_again_after_both(self):
+        """Of each slot the head is read, and then the body, unless that is too long or the head is cut off; then both heads
+        again. Those of the first slot are read first each time, as the law on two readings wants it."""
+        log = self.room / "log"
+        for second, parts in (
+            (slot(2, EMPTY), [(SECOND, HEAD), (SECOND + HEAD, len(EMPTY))]),
+            (slot(2, EMPTY)[:9] + (MAX_BODY + 1).to_bytes(4, "big"), [(SECOND, HEAD)]),
+            (slot(2, EMPTY)[:-1], [(SECOND, HEAD), (SECOND + HEAD, len(EMPTY) - 1), (SECOND + HEAD + len(EMPTY) - 1, 0)]),
+        ):
+            with self.subTest(second=second):
+                put(self.path, slot(1, EMPTY), second)
+                lines = report(self.path.read_bytes())
+                ran = self.runs("inspect", "--disk", self.path, out=lines, env=shimmed(log=log))
+                wanted = [(0, HEAD), (HEAD, len(EMPTY)), *parts, (0, HEAD), (SECOND, HEAD)]
+                self.equals(ran.command, "what is read", wanted, [(it.at, it.length) for it in noted(log) if it.kind == "R"])
+
     def test_an_output_that_cant_be_written(self):
         put(self.path, slot(1, EMPTY))
         with open("/dev/full", "wb") as full:
@@ -364,7 +380,7 @@ class Meanwhile(ModelTrial):
         """Each look shows a table that stood between the line that was answered before it and the one that was answered
         after it, or says that the file was changed; none is shown that is older than one that was shown before."""
         disk = self.new_disk()
-        kept = Kept(disk, 1)
+        kept, changed = Kept(disk, 1), 0
         with Server(self.path, "--every", 1) as server:
             self.asks_all(server, kept, [f"submit loop {LOOP.text}", f"submit other {LOOP.text}"])
             for look in range(1000):
@@ -375,7 +391,9 @@ class Meanwhile(ModelTrial):
                 ran = run("inspect", "--disk", self.path)
                 self.equals(server.said(), "answers", wanted, [server.answer() for _ in lines])
                 self.shows(ran, kept.told[first:])
+                changed += ran.status != 0
             self.ends(server)
+        self.equals("icserve inspect", "whether few of a thousand looks say that the file was changed", True, changed < 10)
         self.same_file("serve", disk)
 
     def asks_all(self, server, kept, lines):

@@ -7,6 +7,7 @@ use ic_disk::DiskFile;
 use std::alloc::Allocator;
 use std::fs::{File, Metadata, OpenFile, OpenOptions};
 use std::io::{self, Read, Seek, SeekFrom, Write};
+use std::os::unix::fs::FileExt;
 use std::rt::Files;
 
 /// The files of a runtime, while the disk in the file of this path is opened. A call to a file
@@ -27,13 +28,35 @@ pub struct NotedFile<'n> {
     notes: &'n Notes,
 }
 
-impl NotedFile<'_> {
+impl<'n> NotedFile<'n> {
+    /// Its bytes from this place on.
+    pub fn at(&self, at: u64) -> NotedFrom<'_, 'n> {
+        NotedFrom { file: self, at }
+    }
+
     /// The answer, which is noted where the call has failed.
     fn noted<T: Drop>(&self, call: FileCall, answer: io::Result<T>) -> io::Result<T>
         ensures { result ≡ answer }
     {
         self.notes.note(self.target, call, &answer);
         answer
+    }
+}
+
+/// The bytes of a file from a place on. Reading them doesn't move the place of the file itself, so several of these can
+/// read one file.
+#[derive(Drop)]
+pub struct NotedFrom<'f, 'n> {
+    file: &'f NotedFile<'n>,
+    at: u64,
+}
+
+impl Read for NotedFrom<'_, '_> {
+    fn read(&mut self, buf: &mut [u8]) -> io::Result<usize> {
+        let answer = self.file.file.read_at(buf, self.at);
+        let count = self.file.noted(FileCall::Read, answer)?;
+        self.at = self.at.saturating_add(count as u64);
+        Ok(count)
     }
 }
 

@@ -16,7 +16,7 @@ mod notes;
 mod output;
 
 pub use cause::{Cause, FileCall, Reason, Target};
-pub use files::{NotedFile, NotedFiles};
+pub use files::{NotedFile, NotedFiles, NotedFrom};
 pub use input::NotedInput;
 pub use line::{cause_line, shown_path};
 pub use notes::{Notes, cause_of, cause_of_kind};

@@ -3,7 +3,7 @@ pub mod LineLemmas
 pub mod HaltLemmas
 pub mod StuckLemmas
 pub mod HeldLemmas
-pub mod FrontLemmas
+pub mod SlotLemmas
 pub mod ReadLemmas
 pub mod MomentLemmas
 pub mod StepLemmas

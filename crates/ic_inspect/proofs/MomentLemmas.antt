@@ -140,7 +140,7 @@ module _ (at : ℕ → List ℕ) (served : IsServed at) where
       absurd (omega (arith, more, same)))
       (subst (λ (m : ℕ). Since s (at i) (at m)) to_j (since s i (j - i) is))
 
-byte_of_body : (p k : ℕ) (file : List ℕ) → k < size p file → get_or (body p file) k 0 ≡ get_or file (p + 13 + k) 0
+pub byte_of_body : (p k : ℕ) (file : List ℕ) → k < size p file → get_or (body p file) k 0 ≡ get_or file (p + 13 + k) 0
 unfolding body
 byte_of_body p k file below = get_or-take (size p file) (drop (p + 13) file) k 0 below ∙ get_or-drop (p + 13) file k 0
 
@@ -158,7 +158,7 @@ module _ (opened : (at : ℕ) (file : List ℕ) → (is_open at file ≡ true) �
         let within = ((opened (place s) (at i)).0 (head.opened ∙ is)).0 in
         (whole (place s) (at i)).1 (omega (arith, head.size_is, none), omega (arith, within, head.size_is, none))
     whole_by (suc n) some =
-        let last = amid n (omega (arith, some)) in
+        let last = amid is_whole_read n (omega (arith, some)) in
         let few = ((whole (place s) read).0 is_whole_read).0 in
         let same = size_at last.0 last.1 last.2 in
         let there : is_whole (place s) (at last.0) ≡ true = (whole (place s) (at last.0)).1 (omega (arith, few, same), omega (arith, last.3.within, same, some)) in
@@ -174,7 +174,7 @@ module _ (opened : (at : ℕ) (file : List ℕ) → (is_open at file ≡ true) �
         ext_get_or 0 (body (place s) (at i)) (body (place s) read) (long_there ∙ sym long_read)
         (λ n inside.
         let below : n < size (place s) read = omega (arith, inside, long_there) in
-        let seen = amid n below in
+        let seen = amid is_whole_read n below in
         let same = stays seen.0 seen.1 seen.2 in
         let inner : n < size (place s) (at seen.0) = omega (arith, below, size_at seen.0 seen.1 seen.2) in
         ap (λ (b : List ℕ). get_or b n 0) (sym same.body_is)

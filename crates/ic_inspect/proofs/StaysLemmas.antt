@@ -1,12 +1,15 @@
 -- Lemmas: a file that stays as it is, over time.
-use Rattle.std.proofs.Common.{ℕ, ◌+◌, ◌≤◌, List, length, inl, inr, refl, arith}
-use Rattle.ic_frames.specs.declared.frame.TheConstants.{HEAD}
+use Rattle.std.proofs.Common.{◌≡◌, ◌↔◌, ℕ, ◌+◌, ◌<◌, ◌≤◌, true, List, length, drop, get_or, inl, inr, refl, sym, ap, ◌∙◌, arith}
+use Rattle.ic_frames.specs.declared.frame.TheConstants.{HEAD, MAX_BODY}
 use Rattle.ic_frames.specs.declared.slot.Slot.{Slot}
 use Rattle.ic_frames.specs.declared.slot.Slot.TheVariants.{First, Second}
-use Rattle.ic_frames.specs.Fields.{size}
+use Rattle.ic_frames.specs.declared.slot.TheConstants.{SECOND_AT}
+use Rattle.ic_frames.specs.Fields.{is_whole, size}
 use Rattle.ic_frames.specs.Held.{IsNewest}
 use Rattle.ic_frames.specs.Places.{place, other}
-use Rattle.ic_inspect.specs.Moments.{IsBodyAmid, IsHeadOf, IsReading, IsReadTwice, IsSameSlot, IsServed}
+use Rattle.ic_inspect.specs.Moments.{AreSlotsRead, IsBodyAmid, IsBodyRead, IsHeadOf, IsHeadRead, IsReadTwice, IsSameSlot, IsServed}
+use Rattle.ic_inspect.proofs.MomentLemmas.{byte_of_body}
+use Rattle.ic_inspect.proofs.SlotLemmas.{SameAt, same_drop, same_refl}
 
 same_slot : (slot : Slot) (file : List ℕ) → IsSameSlot slot file file
 same_slot slot file = record { opened = refl; number_is = refl; size_is = refl; whole_is = refl; body_is = refl }
@@ -17,14 +20,14 @@ stays_served slot file is i = record { newest = slot; is_newest = is; stays = sa
 head_of : (slot : Slot) (file : List ℕ) → IsHeadOf slot file file
 head_of slot file = record { opened = refl; number_is = refl; size_is = refl }
 
-module _ (file : List ℕ) (whole : (slot : Slot) → place slot + HEAD + size (place slot) file ≤ length file) where
-  body_of : (slot : Slot) (from until : ℕ) → from ≤ until → IsBodyAmid slot (λ moment. file) from until file
-  body_of slot from until later k less =
-      let all = whole slot in
-      (from, omega arith, later, record { within = omega (arith, all, less); same = refl })
+module _ (whole : (at : ℕ) (file : List ℕ) → (is_whole at file ≡ true) ↔ ((size at file ≤ MAX_BODY) × (at + HEAD + size at file ≤ length file))) where
+  body_of : (slot : Slot) (file : List ℕ) (from until : ℕ) → from ≤ until → IsBodyAmid slot (λ moment. file) from until file
+  body_of slot file from until later w k less =
+      let all = (whole (place slot) file).0 w in
+      (from, omega arith, later, record { within = omega (arith, all.1, less); same = refl })
 
-  pub stays_twice : IsReadTwice (λ moment. file) file
-  stays_twice = record {
+  pub stays_twice : (file : List ℕ) → IsReadTwice (λ moment. file) file
+  stays_twice file = record {
     first = 0;
     second = 0;
     first_again = 0;
@@ -34,18 +37,34 @@ module _ (file : List ℕ) (whole : (slot : Slot) → place slot + HEAD + size (
     second_head = head_of Second file;
     first_head_again = head_of First file;
     second_head_again = head_of Second file;
-    first_body = body_of First 0 0 (omega arith);
-    second_body = body_of Second 0 0 (omega arith);
+    first_body = body_of First file 0 0 (omega arith);
+    second_body = body_of Second file 0 0 (omega arith);
   }
 
-module _ (file : List ℕ) (from until : ℕ) (later : from ≤ until) (whole : (slot : Slot) → place slot + HEAD + size (place slot) file ≤ length file) where
-  pub stays_read : IsReading (λ moment. file) from until file
-  stays_read = record {
-    first = from;
-    second = from;
-    in_order = (omega arith, omega arith, later);
-    first_head = head_of First file;
-    second_head = head_of Second file;
-    first_body = body_of file whole First from until later;
-    second_body = body_of file whole Second from until later;
+  -- the bytes of a slot, from its place on
+  head_read : (slot : Slot) (bytes file : List ℕ) → SameAt 0 (place slot) bytes file → IsHeadRead slot bytes file
+  head_read slot bytes file same = record { opened = same.opened; number_is = same.number_is; size_is = same.size_is }
+
+  body_read : (slot : Slot) (bytes file : List ℕ) (from until : ℕ) → from ≤ until → SameAt 0 (place slot) bytes file → IsBodyRead slot (λ moment. file) from until bytes
+  body_read slot bytes file from until later same w k less =
+      let all = (whole (place slot) file).0 (same.whole_is ∙ w) in
+      let inside : k < size (place slot) file = omega (arith, less, same.size_is) in (
+        from,
+        omega arith,
+        later,
+        omega (arith, all.1, inside),
+        sym (byte_of_body (place slot) k file inside) ∙ ap (λ b. get_or b k 0) (same.body_is w) ∙ byte_of_body 0 k bytes less,
+      )
+
+  pub stays_read : (file : List ℕ) (from until : ℕ) → from ≤ until → AreSlotsRead (λ moment. file) from until file (drop SECOND_AT file)
+  stays_read file from until later = record {
+    heads = record {
+      first = from;
+      second = from;
+      in_order = (omega arith, omega arith, later);
+      first_head = head_read First file file (same_refl 0 file);
+      second_head = head_read Second (drop SECOND_AT file) file (same_drop SECOND_AT file);
+    };
+    first_body = body_read First file file from until later (same_refl 0 file);
+    second_body = body_read Second (drop SECOND_AT file) file from until later (same_drop SECOND_AT file);
   }

@@ -1,11 +1,10 @@
 -- To be believed: what is told of a file, and what is read of it (this project's choice).
-use Rattle.std.specs.Prelude.{◌≡◌, ℕ, List, [], ◌∷◌, Option, None, Some, take}
+use Rattle.std.specs.Prelude.{◌≡◌, ℕ, List, [], ◌∷◌, Option}
 use Rattle.std.specs.Io.KnownBytes.{Appends}
 use Rattle.ic_output.specs.Output.{AppendsFront}
 use Rattle.ic_frames.specs.declared.slot.Slot.TheVariants.{First, Second}
 use Rattle.ic_inspect.specs.declared.fault.InspectFault.{InspectFault}
 use Rattle.ic_inspect.specs.declared.fault.InspectFault.TheVariants.{Read, Changed, Memory, Write}
-use Rattle.ic_inspect.specs.declared.inspecting.TheConstants.{LIMIT}
 use Rattle.ic_inspect.specs.declared.seen.Seen.{Seen}
 use Rattle.ic_inspect.specs.Seeing.{IsSeen}
 use Rattle.ic_inspect.specs.declared.inspecting.Layout.{Layout}
@@ -35,16 +34,6 @@ WritesTold layout file old new =
 abbrev pub WritesToldPart : Layout → List ℕ → Option (List ℕ) → Option (List ℕ) → Type 0
 WritesToldPart layout file old new =
     (lines : List ℕ) × Tells layout file lines × AppendsFront old new [] lines
-
--- these are the first bytes that a reader has, where it tells them
-abbrev pub IsFrontOf : List ℕ → Option (List ℕ) → Type 0
-IsFrontOf bytes None = Unit {0}
-IsFrontOf bytes (Some all) = bytes ≡ take LIMIT all
-
--- these aren't the first bytes that a reader has, where it tells them
-abbrev pub IsOtherThan : List ℕ → Option (List ℕ) → Type 0
-IsOtherThan bytes None = Unit {0}
-IsOtherThan bytes (Some all) = ¬ (bytes ≡ take LIMIT all)
 
 -- the lasting numbers of the faults
 abbrev pub inspect_fault_number : InspectFault → ℕ

@@ -5,5 +5,6 @@ pub mod Halts
 pub mod Stuck
 pub mod Report
 pub mod Objects
+pub mod Slots
 pub mod Inspecting
 pub mod Moments

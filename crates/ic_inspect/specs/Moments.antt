@@ -50,24 +50,41 @@ pub record IsByteOf (i : ℕ) (read file : List ℕ) : Type 0 where
   pub within : i < length file
   pub same : slice_index file i ≡ slice_index read i
 
--- each byte of a slot's body was read of the file at some moment between these
+-- each byte of a slot's body was read of the file at some moment between these, if that is whole
 abbrev pub IsBodyAmid : Slot → (ℕ → List ℕ) → (from until : ℕ) → List ℕ → Type 0
-IsBodyAmid slot at from until read = (k : ℕ) → k < size (place slot) read
+IsBodyAmid slot at from until read = is_whole (place slot) read ≡ true
+    → (k : ℕ) → k < size (place slot) read
     → (m : ℕ) × (from ≤ m) × (m ≤ until) × IsByteOf (place slot + HEAD + k) read (at m)
 
--- These bytes were read of the file between two moments: the head of each slot at one moment, that of
--- the first slot first, and each body byte by byte after its head.
-pub record IsReading (at : ℕ → List ℕ) (from until : ℕ) (read : List ℕ) : Type 0 where
+-- what was read from a slot's place on begins with the head of this slot in the file
+pub record IsHeadRead (slot : Slot) (bytes file : List ℕ) : Type 0 where
+  pub opened : is_open (place slot) file ≡ is_open 0 bytes
+  pub number_is : number (place slot) file ≡ number 0 bytes
+  pub size_is : size (place slot) file ≡ size 0 bytes
+
+-- each byte of its body was read of the file at some moment between these, if that is whole
+abbrev pub IsBodyRead : Slot → (ℕ → List ℕ) → (from until : ℕ) → List ℕ → Type 0
+IsBodyRead slot at from until bytes = is_whole 0 bytes ≡ true → (k : ℕ) → k < size 0 bytes
+    → (m : ℕ) × (from ≤ m) × (m ≤ until) × (place slot + HEAD + k < length (at m))
+    × (slice_index (at m) (place slot + HEAD + k) ≡ slice_index bytes (HEAD + k))
+
+-- These bytes were read from the places of the two slots on between two moments: the head of each
+-- slot at one moment, and that of the first slot first.
+pub record AreHeadsRead (at : ℕ → List ℕ) (from until : ℕ) (one two : List ℕ) : Type 0 where
   pub first : ℕ
   pub second : ℕ
   pub in_order : (from ≤ first) × (first ≤ second) × (second ≤ until)
-  pub first_head : IsHeadOf First read (at first)
-  pub second_head : IsHeadOf Second read (at second)
-  pub first_body : IsBodyAmid First at first until read
-  pub second_body : IsBodyAmid Second at second until read
+  pub first_head : IsHeadRead First one (at first)
+  pub second_head : IsHeadRead Second two (at second)
 
--- These bytes were read twice, one reading after the other: the head of each slot at one moment each
--- time, and each body of the first reading byte by byte after its head.
+-- their bodies were read too, byte by byte, each after its head
+pub record AreSlotsRead (at : ℕ → List ℕ) (from until : ℕ) (one two : List ℕ) : Type 0 where
+  pub heads : AreHeadsRead at from until one two
+  pub first_body : IsBodyRead First at heads.first until one
+  pub second_body : IsBodyRead Second at heads.second until two
+
+-- These bytes were read of a file, and the heads of its slots twice: each head at one moment each
+-- time, and each body, where it is whole, byte by byte between the two times of its head.
 pub record IsReadTwice (at : ℕ → List ℕ) (read : List ℕ) : Type 0 where
   pub first : ℕ
   pub second : ℕ

@@ -27,7 +27,11 @@ pub record IsSlotSeen (at : ℕ) (seen : Seen) (file : List ℕ) : Type 0 where
   pub size_is : seen.size ≡ size at file
   pub body_is : IsBodySeen at seen.body file
 
--- what is seen of a slot: nothing where the file ends before its head does
+-- what is seen of the slot that begins here: nothing, where the file ends before its head does
+abbrev pub IsSeenAt : ℕ → Option Seen → List ℕ → Type 0
+IsSeenAt at None file = length file < at + HEAD
+IsSeenAt at (Some seen) file = IsSlotSeen at seen file
+
+-- what is seen of a slot
 abbrev pub IsSeen : Slot → Option Seen → List ℕ → Type 0
-IsSeen slot None file = length file < place slot + HEAD
-IsSeen slot (Some seen) file = IsSlotSeen (place slot) seen file
+IsSeen slot seen file = IsSeenAt (place slot) seen file

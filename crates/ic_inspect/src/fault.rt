@@ -9,7 +9,8 @@ use std::alloc::{AllocError, AllocFailed};
 pub enum InspectFault {
     /// The file can't be read.
     Read = 1,
-    /// It was written meanwhile: the second reader gave other bytes.
+    /// It was written meanwhile: a slot's head was another one at the second reading, or the file had its second slot
+    /// only then.
     Changed = 2,
     /// A growth was refused.
     Memory = 3,

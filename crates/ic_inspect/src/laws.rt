@@ -1,6 +1,6 @@
 //! Laws of the definitions that the contracts of this crate cite.
 
-ghost use Rattle.std.specs.Prelude.{◌≡◌, ◌≢◌, IsTrue, ◌+◌, ◌++◌, ◌<◌, ◌≤◌, ℕ, List, [], ◌∷◌, Option, None, Some, Contains, IsSome, OnOk, codes, drop, length, map, take, false, true};
+ghost use Rattle.std.specs.Prelude.{◌≡◌, ◌≢◌, IsTrue, ◌+◌, ◌++◌, ◌<◌, ◌≤◌, ℕ, List, [], ◌∷◌, Option, None, Some, Contains, IsSome, OnOk, codes, drop, length, map, false, true};
 ghost use Rattle.std.specs.Fmt.{decimal};
 ghost use Rattle.std.specs.List.{AllByRecursion, find, flat_map};
 ghost use Rattle.ic_term.specs.Configuration.{Configuration, configuration_nodes};
@@ -19,7 +19,8 @@ ghost use Rattle.ic_jobs.specs.Table.{IsTable};
 ghost use Rattle.ic_frames.specs.declared.frame.TheConstants.{HEAD, MAX_BODY};
 ghost use Rattle.ic_frames.specs.declared.slot.Slot.{Slot};
 ghost use Rattle.ic_frames.specs.declared.slot.Slot.TheVariants.{First, Second};
-ghost use Rattle.ic_frames.specs.Fields.{number, body, is_open, is_whole, size, IsMade};
+ghost use Rattle.ic_frames.specs.declared.slot.TheConstants.{SECOND_AT};
+ghost use Rattle.ic_frames.specs.Fields.{number, body, is_open, is_whole, IsMade};
 ghost use Rattle.ic_frames.specs.Frames.{content_of, target_of, number_of, is_closed, is_staged, KeepsModel};
 ghost use Rattle.ic_frames.specs.Held.{IsClosedIn, IsNewest};
 ghost use Rattle.ic_frames.specs.Opened.{IsOnNewest};
@@ -27,7 +28,6 @@ ghost use Rattle.ic_frames.specs.Places.{place, other};
 ghost use Rattle.ic_frames.specs.Staged.{IsStaged};
 ghost use Rattle.ic_slots.specs.Held.{Held, IsHeld, the_table, no_slot, two_alike, damaged};
 ghost use Rattle.ic_inspect.specs.declared.fault.InspectFault.{InspectFault};
-ghost use Rattle.ic_inspect.specs.declared.inspecting.TheConstants.{LIMIT};
 ghost use Rattle.ic_inspect.specs.declared.inspecting.Layout.{Layout};
 ghost use Rattle.ic_inspect.specs.declared.seen.Body.TheVariants.{TooLong, CutShort, NoTable, Holds};
 ghost use Rattle.ic_inspect.specs.declared.seen.Seen.{Seen};
@@ -38,11 +38,13 @@ ghost use Rattle.ic_inspect.specs.Stuck.{stuck_of};
 ghost use Rattle.ic_inspect.specs.Objects.{stuck_field};
 ghost use Rattle.ic_inspect.specs.Held.{as_newest, held_of, newest_of};
 ghost use Rattle.ic_inspect.specs.Report.{active_pairs, counts_text, job_line, line, newest_text, report, slot_line, stuck_part, table_lines, told_held, halt_text, why_text};
-ghost use Rattle.ic_inspect.specs.Moments.{IsReading, IsServed, IsServerStep, IsReadTwice, IsReadTwiceBetween, IsWholeNewest};
+ghost use Rattle.ic_inspect.specs.Moments.{AreHeadsRead, AreSlotsRead, IsServed, IsServerStep, IsReadTwice, IsReadTwiceBetween, IsWholeNewest};
 ghost use Rattle.ic_inspect.specs.Inspecting.{Tells, WritesTold, all_inspect_faults, inspect_fault_number};
+ghost use Rattle.ic_inspect.specs.Slots.{file_of, is_one_file, slot_read};
 
 use crate::fault::InspectFault;
-use crate::inspecting::{Layout, inspect, read_front};
+use crate::inspecting::{Layout, inspect};
+use crate::reading::read_slots;
 use ic_disk::Disk;
 use ic_frames::laws::{one_body_is_kept, the_newest_slot_is_held};
 use ic_frames::{Frames, KeepFault};
@@ -193,12 +195,17 @@ pub fn pairs_with_a_rule_are_counted()
         → active_pairs rs c ≡ active_pairs rs d }
 {}
 
-/// What is seen of the first 8,388,608 bytes of a file is seen of the file, and so are their lines.
-pub fn the_front_is_seen_as_the_file()
+/// What is read of the two slots of a file may be of one file, and what is seen of that is seen of the file. So are its
+/// lines.
+pub fn the_slots_are_seen_as_the_file()
+    ensures one_file { (file : List ℕ)
+        → is_one_file (slot_read file) (slot_read (drop SECOND_AT file)) ≡ true }
     ensures seen { (slot : Slot) (seen : Option Seen) (file : List ℕ)
-        → IsSeen slot seen (take LIMIT file) → IsSeen slot seen file }
+        → IsSeen slot seen (file_of (slot_read file) (slot_read (drop SECOND_AT file)))
+        → IsSeen slot seen file }
     ensures lines { (layout : Layout) (file lines : List ℕ)
-        → Tells layout (take LIMIT file) lines → Tells layout file lines }
+        → Tells layout (file_of (slot_read file) (slot_read (drop SECOND_AT file))) lines
+        → Tells layout file lines }
 {
     ic_frames::laws::a_slot_is_open_or_whole();
 }
@@ -215,38 +222,45 @@ pub fn a_table_that_is_shown_stood()
     ic_slots::laws::the_newest_table_is_held();
 }
 
-/// A file that stays as it is, and has both bodies within it, is read as it is, at any moment and twice. A server that
-/// does nothing leaves it so.
+/// A file that stays as it is, is read as it is, at any moment and twice. A server that does nothing leaves it so.
 pub fn a_file_that_stays_is_read_as_it_is()
     ensures read { (file : List ℕ) (from until : ℕ) → from ≤ until
-        → ((slot : Slot) → place slot + HEAD + size (place slot) file ≤ length file)
-        → IsReading (λ moment. file) from until file }
-    ensures twice { (file : List ℕ)
-        → ((slot : Slot) → place slot + HEAD + size (place slot) file ≤ length file)
-        → IsReadTwice (λ moment. file) file }
+        → AreSlotsRead (λ moment. file) from until file (drop SECOND_AT file) }
+    ensures twice { (file : List ℕ) → IsReadTwice (λ moment. file) file }
     ensures served { (slot : Slot) (file : List ℕ) → IsNewest slot file
         → IsServed (λ moment. file) }
-{}
+{
+    ic_frames::laws::a_slot_is_open_or_whole();
+}
 
-/// Two readings of a file over time, of which the second begins where the first has ended: what is told is told of the
-/// bytes of the first, and these were read twice. So a table of them stood in the file meanwhile, as
-/// `a_table_that_is_shown_stood` says.
-pub fn what_is_inspected_was_read_twice<R: Read, S: Read, W: Write>(
+/// A reading of the slots of a file over time, and one of their heads that begins where the first has ended: what is told
+/// is told of a file that has the slots of the first reading, and they were read twice. So a table of them stood in the
+/// file meanwhile, as `a_table_that_is_shown_stood` says.
+pub fn what_is_inspected_was_read_twice<R: Read, S: Read, T: Read, U: Read, W: Write>(
     alloc: Global,
     layout: Layout,
-    reader: &mut R,
-    again: &mut S,
+    first: &mut R,
+    second: &mut S,
+    first_again: &mut T,
+    second_again: &mut U,
     writer: &mut W,
 ) -> Result<(), InspectFault>
-    ensures told { (all : List ℕ) → R.remaining reader.old ≡ Some all → OnOk result
-        (WritesTold layout (take LIMIT all) (W.contents writer.old) (W.contents writer.new)) }
-    ensures twice { (at : ℕ → List ℕ) (from between later until : ℕ) (all others : List ℕ)
-        → R.remaining reader.old ≡ Some all → IsReading at from between (take LIMIT all)
-        → S.remaining again.old ≡ Some others → IsReading at later until (take LIMIT others)
-        → between ≤ later → OnOk result (IsReadTwiceBetween at from until (take LIMIT all)) }
+    ensures told { (one two : List ℕ) → R.remaining first.old ≡ Some one
+        → S.remaining second.old ≡ Some two → OnOk result
+        (WritesTold layout (file_of (slot_read one) (slot_read two))
+        (W.contents writer.old) (W.contents writer.new)) }
+    ensures twice { (at : ℕ → List ℕ) (from between later until : ℕ)
+        (one two one_later two_later : List ℕ)
+        → R.remaining first.old ≡ Some one → S.remaining second.old ≡ Some two
+        → T.remaining first_again.old ≡ Some one_later
+        → U.remaining second_again.old ≡ Some two_later
+        → AreSlotsRead at from between one two → between ≤ later
+        → AreHeadsRead at later until one_later two_later → OnOk result
+        (IsReadTwiceBetween at from until (file_of (slot_read one) (slot_read two))) }
 {
-    let first = read_front(alloc, reader)?;
-    inspect(alloc, layout, &first, again, writer)
+    ic_frames::laws::a_slot_is_open_or_whole();
+    let slots = read_slots(alloc, first, second)?;
+    inspect(alloc, layout, &slots, first_again, second_again, writer)
 }
 
 /// What a keep writes beside a newest slot that is whole is a step of a server, and so is what stands in the midst of

@@ -1,8 +1,8 @@
 //! What a disk's file holds, told in lines of words or as objects of JSON, with nothing changed and no lock taken.
 //!
-//! `read_front` reads a file once. `inspect` is handed what it gave, reads the file again, and writes what both
-//! readings saw: each slot, and the jobs of the table that is held. `told` makes these lines of bytes. `laws` says that
-//! what is told as held is what an opening of the disk finds.
+//! `read_slots` reads the two slots of a file once. `inspect` is handed what it gave, reads the heads of the slots again,
+//! and writes what it saw if they are the same: each slot, and the jobs of the table that is held. `laws` says that what
+//! is told as held is what an opening of the disk finds, and that it stood in the file meanwhile.
 #![tactic(auto)]
 
 mod choosing;
@@ -12,6 +12,7 @@ mod inspecting;
 pub mod laws;
 mod looking;
 mod objects;
+mod reading;
 mod seen;
 mod stuck;
 mod telling;
@@ -19,5 +20,6 @@ mod telling;
 pub use choosing::Newest;
 pub use fault::InspectFault;
 pub use halts::Halt;
-pub use inspecting::{LIMIT, Layout, inspect, read_front, told};
+pub use inspecting::{Layout, inspect};
+pub use reading::{Slots, read_slots};
 pub use seen::{Body, Seen};

@@ -1,41 +1,43 @@
 //! Looking at the bytes of a slot.
 
 ghost use Rattle.std.specs.Prelude.{◌≡◌, ◌+◌, ◌≤◌, length, IfOk};
+ghost use Rattle.ic_frames.specs.declared.frame.TheConstants.{MAX_BODY};
 ghost use Rattle.ic_frames.specs.Fields.{number, size, is_open};
-ghost use Rattle.ic_frames.specs.Places.{place};
-ghost use Rattle.ic_inspect.specs.Seeing.{IsSeen, IsBodySeen};
+ghost use Rattle.ic_inspect.specs.Seeing.{IsSeenAt, IsBodySeen};
+ghost use Rattle.ic_inspect.specs.Slots.{body_room};
 
 use crate::seen::{Body, Seen};
 use ic_codec::{CodecFault, decode};
-use ic_frames::{HEAD, MAX_BODY, SECOND_AT, Slot};
+use ic_frames::{HEAD, MAX_BODY};
 use std::alloc::{AllocError, Global};
 
-/// What is seen of a slot, where the file has its head.
-pub(crate) fn see(alloc: Global, file: &[u8], slot: Slot) -> Result<Option<Seen>, AllocError>
-    ensures { IfOk result (λ seen. IsSeen slot seen file.now) }
+/// What is seen of a slot with which these bytes begin, where they have its head.
+pub(crate) fn see(alloc: Global, slot: &[u8]) -> Result<Option<Seen>, AllocError>
+    ensures { IfOk result (λ seen. IsSeenAt 0 seen slot.now) }
 {
-    let at = place_of(slot);
-    if file.len() < at + HEAD {
+    if slot.len() < HEAD {
         return Ok(None);
     }
-    let size = size_at(file, at);
-    let body = body_at(alloc, file, at, size as usize)?;
+    let size = size_at(slot, 0);
+    let body = body_at(alloc, slot, 0, size as usize)?;
     Ok(Some(Seen {
-        opened: is_open(file, at),
-        number: number_at(file, at),
+        opened: is_open(slot, 0),
+        number: number_at(slot, 0),
         size,
         body,
     }))
 }
 
-/// The byte that a slot begins at.
-fn place_of(slot: Slot) -> usize
-    ensures { result ≡ place slot }
+/// How many bytes of a slot's body are read, where it begins with these bytes.
+pub(crate) fn body_room(slot: &[u8]) -> usize
+    ensures is { result ≡ body_room slot.now }
+    ensures few { result ≤ MAX_BODY }
 {
-    match slot {
-        Slot::First => 0,
-        Slot::Second => SECOND_AT as usize,
+    if slot.len() < HEAD {
+        return 0;
     }
+    let size = size_at(slot, 0) as usize;
+    if size > MAX_BODY { 0 } else { size }
 }
 
 /// Whether the slot whose head begins here is open.

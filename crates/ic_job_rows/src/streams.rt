@@ -1,7 +1,7 @@
 //! A writer that takes all and fails when it is flushed, and what a dump and a look at a disk answer then.
 
 use ic_dump::dump_jobs;
-use ic_inspect::{Layout, inspect};
+use ic_inspect::{Layout, Slots, inspect};
 use ic_jobs::Table;
 use ic_notation::Trouble;
 use std::alloc::Global;
@@ -32,8 +32,20 @@ pub fn undumped(alloc: Global) -> Result<Vec<u8>, Trouble> {
 
 /// The number of the fault of a look at no bytes, 0 for none.
 pub fn unshown(alloc: Global) -> Result<Vec<u8>, Trouble> {
-    let mut again: &[u8] = &[];
-    let number = match inspect(alloc, Layout::Words, &[], &mut again, &mut Unflushed) {
+    let slots = Slots {
+        first: Vec::new(alloc),
+        second: Vec::new(alloc),
+    };
+    let mut first: &[u8] = &[];
+    let mut second: &[u8] = &[];
+    let number = match inspect(
+        alloc,
+        Layout::Words,
+        &slots,
+        &mut first,
+        &mut second,
+        &mut Unflushed,
+    ) {
         Ok(()) => 0,
         Err(fault) => fault.number(),
     };

@@ -5,7 +5,8 @@ use ic_args::ReportFormat;
 use ic_causes::{NotedFile, NotedFiles, NotedOutput, Notes};
 use ic_disk::{DiskFault, open_plain};
 use ic_exits::Failure;
-use ic_inspect::{InspectFault, Layout, read_front};
+use ic_frames::SECOND_AT;
+use ic_inspect::{InspectFault, Layout, read_slots};
 use std::fs::OpenOptions;
 use std::io;
 
@@ -32,22 +33,25 @@ pub(crate) fn inspect(
     Err(Failure::Inspect(InspectFault::Changed))
 }
 
-/// Reads the file twice, one time after the other, and prints what it holds, if both times are alike.
+/// Reads the slots of the file and then their heads again, and prints what it holds, if both times are alike.
 fn look(rt: &HostRuntime, path: &str, layout: Layout, notes: &Notes) -> Result<bool, Failure> {
-    let first = read_once(rt, path, notes)?;
-    let mut again = open_to_read(rt, path, notes).map_err(|_| Failure::Disk(DiskFault))?;
+    let file = open_to_read(rt, path, notes).map_err(|_| Failure::Disk(DiskFault))?;
+    let (mut first, mut second) = (file.at(0), file.at(SECOND_AT));
+    let slots = read_slots(rt.alloc(), &mut first, &mut second).map_err(Failure::Inspect)?;
+    let (mut first, mut second) = (file.at(0), file.at(SECOND_AT));
     let mut output = NotedOutput::new(io::writer(rt), notes);
-    match ic_inspect::inspect(rt.alloc(), layout, &first, &mut again, &mut output) {
+    match ic_inspect::inspect(
+        rt.alloc(),
+        layout,
+        &slots,
+        &mut first,
+        &mut second,
+        &mut output,
+    ) {
         Ok(()) => Ok(true),
         Err(InspectFault::Changed) => Ok(false),
         Err(fault) => Err(Failure::Inspect(fault)),
     }
-}
-
-/// What the file of this path has now, in as many bytes as `inspect` looks at.
-fn read_once(rt: &HostRuntime, path: &str, notes: &Notes) -> Result<Vec<u8>, Failure> {
-    let mut file = open_to_read(rt, path, notes).map_err(|_| Failure::Disk(DiskFault))?;
-    read_front(rt.alloc(), &mut file).map_err(Failure::Inspect)
 }
 
 /// Opens the file of this path, which has to be a plain one, since others may keep who reads waiting.

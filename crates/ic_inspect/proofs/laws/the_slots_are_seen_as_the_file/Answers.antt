@@ -1,11 +1,12 @@
 use Rattle.ic_frames.specs.declared.slot.Slot.TheVariants.{First, Second}
-use Rattle.ic_inspect.proofs.FrontLemmas.{front_seen}
-use Rattle.ic_inspect.proofs.laws.the_front_is_seen_as_the_file.Goals as goal
+use Rattle.ic_inspect.proofs.ReadingLemmas.{file_seen, is_one}
+use Rattle.ic_inspect.proofs.laws.the_slots_are_seen_as_the_file.Goals as goal
 
 pub returns : goal.returns
 returns c =
-    let seen = front_seen c.a_slot_is_open_or_whole.ensures.whole in
+    let seen = file_seen c.a_slot_is_open_or_whole.ensures.whole in
     record {
+      one_file = is_one;
       seen = seen;
       lines = λ layout file lines is. record {
         first = is.first;
