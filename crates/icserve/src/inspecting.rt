@@ -11,7 +11,7 @@ use std::fs::OpenOptions;
 use std::io;
 
 /// How often a file is looked at, at most, that is written meanwhile.
-const LOOKS: u32 = 20;
+const LOOKS: u32 = 200;
 
 /// Prints what the file of this path holds, which stays as it is, in this format. No lock is taken, so a server may
 /// have it open.
