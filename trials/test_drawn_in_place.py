@@ -7,7 +7,7 @@ import draws
 import model
 import nets
 from program import IN_MEMORY, Trial, run
-from test_in_place import name_steps_of, stats_of
+from test_in_place import InPlace, name_steps_of, stats_of
 
 SYSTEMS = int(os.environ.get("SYSTEMS") or 400)
 
@@ -143,3 +143,46 @@ class DrawnInPlace(Trial):
 
         self.all_are_reduced(system)
         self.have_come(quiet=60, by_rounds=50, cut=50)
+
+
+class DrawnWires(InPlace):
+    seconds = 5
+
+    def test_wires_end_where_their_turns_lead(self):
+        """Each turn joins the ends of some wires to others, so that names join names until terms come to the last of them."""
+        drawn = self.draws()
+        for turns in (10, 5_000, 20_000):
+            for _ in range(max(1, SYSTEMS // 40)):
+                rules, config, wanted = self.wired(drawn, turns)
+                ran = run("reduce", given=rules + config)
+                self.equals(ran.command, "status and standard error", (0, b""), (ran.status, ran.err))
+                self.is_net(ran.command, rules + "<|>", ran.out, wanted)
+
+    def wired(self, drawn, turns):
+        """Rules, a configuration whose wires they permute in so many turns, and its answer. The first few wires are joined only
+        as a pair of S and T is reduced."""
+        count = drawn.randint(1, 7)
+        late = drawn.randint(0, min(count, (15 - count) // 2))
+        to = drawn.sample(range(count), count)
+        here, there, given, beside = ([model.name_text(it + 20 * series) for it in range(count)] for series in range(4))
+        twice = [it for it in beside[:late] for _ in "ST"]
+        before = dict(zip(to, there[:late] + here[late:]))
+        pairs = [drawn.sample([f"S({one})", f"T({two})"], 2) for one, two in zip(here[:late], there)]
+        last = self.ends(drawn, count)
+        turn = f"A(U({','.join([before[it] for it in range(count)] + twice)}))><U({','.join(here + sum(pairs, []))})"
+        rules = f"{{{turn};S(x)><T(x);Z><U({','.join(last + ['E', 'F'] * late)});E><F}} "
+        at = list(range(count))
+        for _ in range(turns):
+            at = [to[it] for it in at]
+        config = f"<{','.join(given)}|{'A(' * turns}Z{')' * turns}=U({','.join(given + twice)})>"
+        return rules, config, f"<{','.join(last[it] for it in at)}|>"
+
+    def ends(self, drawn, count):
+        """What comes to the ends of so many wires: terms, or the other end of one that is among them."""
+        names = [model.name_text(it + 80) for it in range(count)]
+        ends = [drawn.choice(("B", "G(B)", f"P({it},{it})")) for it in names]
+        order = drawn.sample(range(count), count)
+        for one, two in zip(order[::2], order[1::2]):
+            if drawn.random() < 0.5:
+                ends[one] = ends[two] = names[one]
+        return ends

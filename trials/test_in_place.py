@@ -34,6 +34,9 @@ DOUBLES = "{D(D(x,y),D(z,w))><E(E(x,y),E(z,w))} <|D(a,b)=E(a,b)>"
 # Two to the power of a number: some twice as many interactions.
 POWER = "{Exp(S(Z))><Z;Exp(r)><S(Exp(Dbl(r)));Dbl(Z)><Z;Dbl(S(S(x)))><S(Dbl(x))}"
 
+# Two interactions of a turn of it join names twice, and leave a net of the same nodes.
+JOINS = "{U(x,K(w,z),S(x))><K(U(y,w,z),T(y));S(x)><T(x)} <r|U(r,m,n)=K(m,n)>"
+
 
 def numeral(number):
     return "S(" * number + "Z" + ")" * number
@@ -389,6 +392,37 @@ class HardNets(InPlace):
             made, places, _ = stats_of(ran.err)
             self.equals(ran.command, "interactions", 300_000, made)
             self.equals(ran.command, f"at most {most} places: {places}", True, places <= most)
+
+    def test_names_that_join_names_are_put_through(self):
+        """A net of few nodes takes few places, however often its rules join names."""
+        for count in (1_000_000, 300_000):
+            ran = run("reduce", "--steps", count, "--nodes", 20_000, "--stats", given=JOINS)
+            made, places, rest = stats_of(ran.err)
+            self.equals(ran.command, "status, interactions and what else is told", (5, count, b"icserve: not done\n"), (ran.status, made, rest))
+            self.equals(ran.command, f"few places: {places}", True, places < 9_000)
+            self.is_net(ran.command, JOINS, ran.out, "<r|U(r,m,n)=K(m,n)>")
+
+    def test_an_answer_comes_through_many_names(self):
+        """Names that were put through at one look join others until the next, and in the end an answer comes to the last."""
+        rules = "{A(U(y,z,z))><U(x,S(x),T(y));S(x)><T(x);Z><U(Q(a,B),a,C)}"
+        for count in (100, 5_000, 100_000):
+            given = f"{rules} <r|" + "A(" * count + "Z" + ")" * count + "=U(r,n,n)>"
+            _, places = self.reduces(given=given, out=["<Q(C,B)|>"], interactions=2 * count + 1)
+            self.equals(given[:80], f"places beside those of the configuration: {places}", True, places < count + 10_000)
+
+    def test_circles_that_are_made_again_and_again_stay(self):
+        """A circle of names is part of the net, whether names were put through since it was made or not."""
+        for rules, pair, turn in (
+            ("{A(B(x),y,y)><B(A(x,z,z))}", "A(n,m,m)=B(n)", 1),
+            ("{B(A(x,z,z))><A(B(x),y,y)}", "A(n,m,m)=B(n)", 1),
+            ("{A(C(x,y))><B(D(x,y));C(A(x),y)><D(B(x),y)}", "A(n)=B(n)", 2),
+        ):
+            for count in (1_000, 10_000):
+                text = f"{rules} <|{pair}>"
+                ran = run("reduce", "--steps", count * turn, given=text)
+                self.equals(ran.command, "status and standard error", (5, b"icserve: not done\n"), (ran.status, ran.err))
+                circles = "".join(f",{name}={name}" for name in map(model.name_text, range(100, 100 + count)))
+                self.is_net(ran.command, text, ran.out, f"<|{pair}{circles}>")
 
 
 class Growths(InPlace):

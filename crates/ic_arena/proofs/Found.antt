@@ -1,12 +1,10 @@
 -- Lemmas: free places are found, whatever is done with the others.
-use Rattle.std.proofs.Common.{◌≡◌, ◌≢◌, ℕ, zero, suc, ◌+◌, ◌*◌, ◌<◌, ◌≤◌, List, [], ◌∷◌, ◌++◌, length, take, drop, refl, ap, sym, ◌∙◌, subst, arith, slice_set, slice_index_or}
-use Rattle.std.specs.List.{AllByRecursion}
+use Rattle.std.proofs.Common.{◌≡◌, ℕ, zero, suc, ◌+◌, ◌*◌, ◌<◌, ◌≤◌, List, [], ◌∷◌, ◌++◌, length, take, drop, refl, ap, sym, ◌∙◌, subst, arith, slice_set, slice_index_or}
 use Rattle.std.proofs.Math.Nat.{suc-mul, zero-mul}
 use Rattle.std.proofs.Math.Seq.{drop-append_seam, set-append_seam}
 use Rattle.std.proofs.lemmas.List.{get_or-set_same, get_or-set_other, length-set, length-drop, drop-append-le, drop-drop, append-nil}
 use Rattle.ic_arena.specs.declared.word.Word.{Word}
 use Rattle.ic_arena.specs.declared.word.TheConstants.{FREE, IDLE}
-use Rattle.ic_arena.specs.Word.{name_word}
 use Rattle.ic_arena.specs.Tables.{entry}
 use Rattle.ic_arena.specs.inner.Free.{AreUsed, AreFound, firsts}
 use Rattle.ic_arena.proofs.HeapPieces.{block_first, in_three, length_before, length_block}
@@ -102,6 +100,18 @@ pub found_some : (n : ℕ) (ws : List Word) (at : ℕ) → at < length ws → (e
     → (k : ℕ) × AreFound (suc k) ws at
 found_some zero ws at there free found = absurd (used_at ws at found there free)
 found_some (suc k) ws at there free found = (k, found)
+
+-- so at least one is
+pub found_one : (n : ℕ) (ws : List Word) (at : ℕ) → at < length ws → (entry ws at).tag ≡ FREE → AreFound n ws at
+    → (k : ℕ) × (n ≡ suc k) × AreFound (suc k) ws at
+found_one zero ws at there free found = absurd (used_at ws at found there free)
+found_one (suc k) ws at there free found = (k, refl, found)
+
+-- and where none is found, none is counted
+pub found_zero : (n : ℕ) (ws : List Word) (at : ℕ) → (at < length ws → ¬ ((entry ws at).tag ≡ FREE))
+    → AreFound n ws at → n ≡ 0
+found_zero zero ws at h found = refl
+found_zero (suc n) ws at h found = absurd (h found.0 found.1)
 
 -- ---- first words of blocks
 

@@ -1,6 +1,5 @@
 -- Lemmas: how many pieces the tables hold, and when all places are in use.
-use Rattle.std.proofs.Common.{◌≡◌, ℕ, zero, suc, ◌+◌, ◌*◌, ◌<◌, ◌≤◌, ◌==◌, List, [], ◌∷◌, ◌++◌, Bool, true, false, cond, length, take, drop, refl, ap, sym, ◌∙◌, subst, arith, max, slice_index_or, slice_set}
-use Rattle.std.specs.List.{AllByRecursion}
+use Rattle.std.proofs.Common.{◌≡◌, ℕ, zero, suc, ◌+◌, ◌*◌, ◌<◌, ◌≤◌, ◌==◌, List, [], ◌∷◌, ◌++◌, Bool, true, false, cond, length, take, drop, refl, ap, sym, ◌∙◌, arith, max, slice_set}
 use Rattle.std.proofs.Math.Nat.{max-eq_left, max-eq_right, suc-mul}
 use Rattle.std.proofs.lemmas.Bool.{ne_eqb}
 use Rattle.std.proofs.lemmas.List.{length-append, length-drop, length-set}
@@ -8,9 +7,10 @@ use Rattle.ic_arena.specs.declared.word.Word.{Word}
 use Rattle.ic_arena.specs.declared.word.TheConstants.{FREE, IDLE}
 use Rattle.ic_arena.specs.Word.{agent_word, name_word}
 use Rattle.ic_arena.specs.Piece.{Piece, idle, waits, agent_of}
-use Rattle.ic_arena.specs.Tables.{entry_piece, names_pieces, block_piece, blocks_from}
-use Rattle.ic_arena.specs.inner.Free.{AreUsed, firsts}
-use Rattle.ic_arena.proofs.Found.{used_end}
+use Rattle.ic_arena.specs.Tables.{Replaced, entry, entry_piece, names_pieces, block_piece, blocks_from}
+use Rattle.ic_arena.specs.inner.Free.{AreFound, AreUsed, firsts}
+use Rattle.ic_arena.proofs.Found.{found_freed, used_end}
+use Rattle.ic_arena.proofs.NamesPieces.{opened_again}
 
 -- as many as before, or as are in use
 pub as_before : (old new used : ℕ) → new ≡ old → used ≤ new → new ≡ max old used
@@ -68,6 +68,33 @@ names_more ws w h all =
     names_full 0 (ws ++ w ∷ []) (used_end ws w h all) in
     let long = length-append ws (w ∷ []) in
     as_used (length ws) (length (ws ++ w ∷ [])) (length (names_pieces 0 (ws ++ w ∷ []))) (sym full) (omega arith)
+
+one_longer : (p : Piece) (xs ys : List Piece) → Replaced [] (p ∷ []) xs ys → length ys ≡ length xs + 1
+one_longer p xs ys r =
+    let a : length xs ≡ length r.front + length r.back = ap length r.before ∙ length-append r.front r.back in
+    let b : length ys ≡ length r.front + length (p ∷ r.back) = ap length r.after ∙ length-append r.front (p ∷ r.back) in
+    omega arith
+
+-- names in use, and those that are found free, are all
+pub used_and_found : (n : ℕ) (ws : List Word) (at : ℕ) → AreFound n ws at → length (names_pieces 0 ws) + n ≡ length ws
+used_and_found zero ws at found = let full = names_full 0 ws found in omega arith
+used_and_found (suc n) ws at found =
+    let mark : Word = record { tag = IDLE; index = 0 } in
+    let set : List Word = slice_set ws at mark in
+    let long : length set ≡ length ws = length-set ws at mark in
+    let rest : length (names_pieces 0 set) + n ≡ length set = used_and_found n set (entry ws at).index found.2 in
+    let more : length (names_pieces 0 set) ≡ length (names_pieces 0 ws) + 1 =
+    one_longer (idle (name_word at)) (names_pieces 0 ws) (names_pieces 0 set) (opened_again ws at 0 found.0 found.1) in
+    omega arith
+
+-- where a word waits, not all are free
+pub some_used : (n : ℕ) (ws : List Word) (at i : ℕ) → i < length ws → ¬ ((entry ws i).tag ≡ FREE) → AreFound n ws at
+    → n + 1 ≤ length ws
+some_used n ws at i there used found =
+    let freed : List Word = slice_set ws i (record { tag = FREE; index = at }) in
+    let after = used_and_found (suc n) freed i (found_freed n ws at i there used found) in
+    let long : length freed ≡ length ws = length-set ws i (record { tag = FREE; index = at }) in
+    omega arith
 
 -- ---- blocks
 

@@ -96,6 +96,15 @@ put_to_wait ws i v h none word =
     replaced_as _ _ _ _ _ _ (idle_piece i (entry ws i) none) (waits_piece i v word)
     (replaced_at ws 0 i i v (sym (zero-add i)) h)
 
+-- another word waits
+pub wait_replaced : (ws : List Word) (i : ℕ) (v : Word) → i < length ws → (entry ws i).tag < IDLE
+    → v.tag < IDLE
+    → Replaced (waits (name_word i) (entry ws i) ∷ []) (waits (name_word i) v ∷ [])
+    (names_pieces 0 ws) (names_pieces 0 (slice_set ws i v))
+wait_replaced ws i v h waited word =
+    replaced_as _ _ _ _ _ _ (waits_piece i (entry ws i) waited) (waits_piece i v word)
+    (replaced_at ws 0 i i v (sym (zero-add i)) h)
+
 -- a name is freed
 pub freed : (ws : List Word) (i n : ℕ) → i < length ws → (entry ws i).tag < IDLE
     → Replaced (waits (name_word i) (entry ws i) ∷ []) []

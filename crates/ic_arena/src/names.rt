@@ -1,6 +1,6 @@
 //! The table of names.
 
-ghost use Rattle.std.specs.Prelude.{◌≡◌, ◌+◌, ◌^◌, ◌<◌, ◌≤◌, [], ◌∷◌, ◌++◌, length, max, OnOk};
+ghost use Rattle.std.specs.Prelude.{◌≡◌, ◌≢◌, ℕ, ◌+◌, ◌^◌, ◌<◌, ◌≤◌, [], ◌∷◌, ◌++◌, length, max, OnOk};
 ghost use Rattle.ic_arena.specs.Word.{name_word};
 ghost use Rattle.ic_arena.specs.Piece.{idle, waits};
 ghost use Rattle.ic_arena.specs.Tables.{Replaced, names_pieces, entry};
@@ -15,10 +15,12 @@ pub struct Names {
     entries: Vec<Word>,
     /// The name that was freed last, if one is free. What it holds tells the one that was freed before.
     free: u32,
+    /// How many names are free.
+    unused: usize,
 }
 
 impl Model for Names {
-    ghost use Rattle.std.specs.Prelude.{ℕ, vec_capacity};
+    ghost use Rattle.std.specs.Prelude.{vec_capacity};
     ghost use Rattle.ic_arena.specs.Tables.{Entries};
     ghost use Rattle.ic_arena.specs.inner.Free.{AreFound};
 
@@ -26,7 +28,7 @@ impl Model for Names {
 
     ghost view = { λ n. record { entries = n.entries.items; capacity = vec_capacity n.entries } };
 
-    ghost invariant = { λ n. (free : ℕ) × AreFound free n.entries.items n.free };
+    ghost invariant = { λ n. AreFound n.unused n.entries.items n.free };
 }
 
 impl Names {
@@ -37,6 +39,7 @@ impl Names {
         Names {
             entries: Vec::new(alloc),
             free: 0,
+            unused: 0,
         }
     }
 
@@ -45,6 +48,13 @@ impl Names {
         ensures { result ≡ length self.now.entries }
     {
         self.entries.len()
+    }
+
+    /// How many names are in use: those for which a word waits, or nothing does.
+    pub fn used(&self) -> usize
+        ensures { result ≡ length (names_pieces 0 self.now.entries) }
+    {
+        self.entries.len() - self.unused
     }
 
     /// Takes the memory for so many names more.
@@ -76,6 +86,7 @@ impl Names {
         if last < self.entries.len() && self.entries[last].tag == FREE {
             let name = self.free;
             self.free = self.entries[last].index;
+            self.unused -= 1;
             self.entries[last] = mark;
             return name;
         }
@@ -105,12 +116,32 @@ impl Names {
         self.entries[name as usize] = word;
     }
 
+    /// Lets another word wait for a name for which a word waits.
+    pub fn replace(&mut self, name: u32, word: Word)
+        requires there { name < length self.old.entries }
+        requires waits { (entry self.old.entries name).tag < IDLE }
+        requires word { word.tag < IDLE }
+        ensures replaced { Replaced (waits (name_word name) (entry self.old.entries name) ∷ [])
+            (waits (name_word name) word ∷ [])
+            (names_pieces 0 self.old.entries) (names_pieces 0 self.new.entries) }
+        ensures is { entry self.new.entries name ≡ word }
+        ensures others { (i : ℕ) → i ≢ name
+            → entry self.new.entries i ≡ entry self.old.entries i }
+        ensures len { length self.new.entries ≡ length self.old.entries }
+        ensures capacity { self.new.capacity ≡ self.old.capacity }
+    {
+        self.entries[name as usize] = word;
+    }
+
     /// Frees a name for which a word waits.
     pub fn free(&mut self, name: u32)
         requires there { name < length self.old.entries }
         requires waits { (entry self.old.entries name).tag < IDLE }
         ensures freed { Replaced (waits (name_word name) (entry self.old.entries name) ∷ []) []
             (names_pieces 0 self.old.entries) (names_pieces 0 self.new.entries) }
+        ensures is { (entry self.new.entries name).tag ≡ FREE }
+        ensures others { (i : ℕ) → i ≢ name
+            → entry self.new.entries i ≡ entry self.old.entries i }
         ensures len { length self.new.entries ≡ length self.old.entries }
         ensures capacity { self.new.capacity ≡ self.old.capacity }
     {
@@ -119,5 +150,6 @@ impl Names {
             index: self.free,
         };
         self.free = name;
+        self.unused += 1;
     }
 }

@@ -21,7 +21,7 @@ use Rattle.ic_round.specs.Naming.{HasNames}
 use Rattle.ic_round.specs.Rounds.{IsQuiet}
 use Rattle.ic_reaching.specs.OneNet.{OneNet}
 use Rattle.ic_reaching.specs.Reaching.{Reaches}
-use Rattle.ic_machine.specs.Net.{Net, pieces, HasNext}
+use Rattle.ic_machine.specs.Net.{Net, pieces, HasNext, IsPair}
 use Rattle.ic_machine.specs.Plan.{Plans}
 use Rattle.ic_meaning.specs.Words.{Numbers}
 use Rattle.ic_meaning.specs.Nets.{net_of}
@@ -34,7 +34,7 @@ use Rattle.ic_in_place.specs.declared.running.End.TheVariants.{Quiet, Steps, Nod
 use Rattle.ic_in_place.specs.declared.running.End.TheVariants as end
 use Rattle.ic_in_place.specs.Reducing.{CanInteract, IsPutTogether, EndsBy, IsReachedBy}
 use Rattle.ic_in_place.specs.Counting.{TellsNameSteps}
-use Rattle.ic_in_place.specs.Running.{IsFullNext}
+use Rattle.ic_in_place.specs.Running.{HasPairs, IsFullNext}
 use Rattle.ic_in_place.specs.Holding.{AreGiven, IsHeldAt}
 use Rattle.ic_in_place.specs.inner.Numbering.{written_numbers, HasNumber, IsNumbered}
 use Rattle.ic_in_place.specs.inner.Stopping.{arities_of, StopsBy, HasStopped}
@@ -107,14 +107,14 @@ full_at bounds p m places Steps is e = cc
 full_at bounds p m places Nodes is e = cc
 full_at bounds p m places end.Memory is e = cc
 
--- a pair was left where memory ran out
-left_at : (bounds : Bounds) (p : Plans) (m : Net) (places : ℕ) (stop : End) → StopsBy bounds p m places stop → stop ≡ end.Memory
-    → m.pending ≢ []
-left_at bounds p m places end.Memory is e = is
-left_at bounds p m places Quiet is e = cc
-left_at bounds p m places Steps is e = cc
-left_at bounds p m places Nodes is e = cc
-left_at bounds p m places Limit is e = cc
+-- equations were left where memory ran out, and each is a pair
+left_at : (bounds : Bounds) (p : Plans) (m : Net) (places : ℕ) (stop : End) → AllByRecursion IsPair m.pending
+    → StopsBy bounds p m places stop → stop ≡ end.Memory → HasPairs m.pending
+left_at bounds p m places end.Memory pairs is e = record { some = is; pairs = pairs }
+left_at bounds p m places Quiet pairs is e = cc
+left_at bounds p m places Steps pairs is e = cc
+left_at bounds p m places Nodes pairs is e = cc
+left_at bounds p m places Limit pairs is e = cc
 
 numbered_names : (given : List ℕ) (ts : List Token) → AllByRecursion (IsNumbered given) ts → AllByRecursion (HasNumber given) (names_of ts)
 numbered_names given [] all = tt
@@ -191,7 +191,7 @@ answered_so laws s bounds given m end places by_rule stopped ts terms equations 
           ended = ends_alike s bounds stopped.plans answer m places end next (quiet net.names_too are).0 (quiet net.names_too are).1 stopped.ended;
           next = left_over bounds stopped.plans m places end stopped.ended;
           full = full_at bounds stopped.plans m places end stopped.ended;
-          left = left_at bounds stopped.plans m places end stopped.ended;
+          left = left_at bounds stopped.plans m places end stopped.pairs stopped.ended;
         };
         counts = stopped.counts;
       }),
@@ -217,7 +217,7 @@ unread_so itself s bounds given m Steps places by_rule stopped none = absurd (fa
 unread_so itself s bounds given m Nodes places by_rule stopped none = record {
   answer = net_of stopped.held.numbers m.interface (pieces m);
   reached = record {
-    reached = record { fired = stopped.fired; reached = stopped.held.reached; counted = stopped.counted; within = stopped.within; held = held_at s bounds given m Nodes places by_rule _ stopped (itself _ stopped.held.has_names); ended = (stopped.ended.0, stopped.ended.1, stopped.ended.2); next = left_over bounds stopped.plans m places Nodes stopped.ended; full = full_at bounds stopped.plans m places Nodes stopped.ended; left = left_at bounds stopped.plans m places Nodes stopped.ended };
+    reached = record { fired = stopped.fired; reached = stopped.held.reached; counted = stopped.counted; within = stopped.within; held = held_at s bounds given m Nodes places by_rule _ stopped (itself _ stopped.held.has_names); ended = (stopped.ended.0, stopped.ended.1, stopped.ended.2); next = left_over bounds stopped.plans m places Nodes stopped.ended; full = full_at bounds stopped.plans m places Nodes stopped.ended; left = left_at bounds stopped.plans m places Nodes stopped.pairs stopped.ended };
     counts = stopped.counts;
   };
   name_steps = refl;
@@ -226,7 +226,7 @@ unread_so itself s bounds given m Nodes places by_rule stopped none = record {
 unread_so itself s bounds given m Limit places by_rule stopped none = record {
   answer = net_of stopped.held.numbers m.interface (pieces m);
   reached = record {
-    reached = record { fired = stopped.fired; reached = stopped.held.reached; counted = stopped.counted; within = stopped.within; held = held_at s bounds given m Limit places by_rule _ stopped (itself _ stopped.held.has_names); ended = tt; next = left_over bounds stopped.plans m places Limit stopped.ended; full = full_at bounds stopped.plans m places Limit stopped.ended; left = left_at bounds stopped.plans m places Limit stopped.ended };
+    reached = record { fired = stopped.fired; reached = stopped.held.reached; counted = stopped.counted; within = stopped.within; held = held_at s bounds given m Limit places by_rule _ stopped (itself _ stopped.held.has_names); ended = tt; next = left_over bounds stopped.plans m places Limit stopped.ended; full = full_at bounds stopped.plans m places Limit stopped.ended; left = left_at bounds stopped.plans m places Limit stopped.pairs stopped.ended };
     counts = stopped.counts;
   };
   name_steps = refl;
@@ -235,7 +235,7 @@ unread_so itself s bounds given m Limit places by_rule stopped none = record {
 unread_so itself s bounds given m end.Memory places by_rule stopped none = record {
   answer = net_of stopped.held.numbers m.interface (pieces m);
   reached = record {
-    reached = record { fired = stopped.fired; reached = stopped.held.reached; counted = stopped.counted; within = stopped.within; held = held_at s bounds given m end.Memory places by_rule _ stopped (itself _ stopped.held.has_names); ended = tt; next = left_over bounds stopped.plans m places end.Memory stopped.ended; full = full_at bounds stopped.plans m places end.Memory stopped.ended; left = left_at bounds stopped.plans m places end.Memory stopped.ended };
+    reached = record { fired = stopped.fired; reached = stopped.held.reached; counted = stopped.counted; within = stopped.within; held = held_at s bounds given m end.Memory places by_rule _ stopped (itself _ stopped.held.has_names); ended = tt; next = left_over bounds stopped.plans m places end.Memory stopped.ended; full = full_at bounds stopped.plans m places end.Memory stopped.ended; left = left_at bounds stopped.plans m places end.Memory stopped.pairs stopped.ended };
     counts = stopped.counts;
   };
   name_steps = refl;

@@ -27,9 +27,9 @@ unfolding ran_nothing
 ran_nothing-fired p a = ran_none-fired p a
 
 -- looks are a run, by the plans that fired
-pub looked_ran : (p : Plans) (nodes : ℕ) (fired : List ℕ) (first last : Net) → Looked p nodes fired first last
+pub looked_ran : (p : Plans) (nodes allowed : ℕ) (fired : List ℕ) (first last : Net) → Looked p nodes allowed fired first last
     → (run : Ran p first last) × (run.fired ≡ fired)
-looked_ran p nodes fired first last (no_look m) = (ran_nothing p m, ran_nothing-fired p m)
-looked_ran p nodes fired first last (one_more_look is a b c before next) =
-    let earlier = looked_ran p nodes is a b before in
+looked_ran p nodes allowed fired first last (no_look m) = (ran_nothing p m, ran_nothing-fired p m)
+looked_ran p nodes allowed fired first last (one_more_look low high is a b c before next) =
+    let earlier = looked_ran p nodes low is a b before in
     (ran_through p a b c earlier.0 next.ran, ran_through-fired p a b c earlier.0 next.ran ∙ ap (λ l. l ++ next.ran.fired) earlier.1)

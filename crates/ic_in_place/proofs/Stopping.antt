@@ -22,7 +22,7 @@ use Rattle.ic_in_place.specs.inner.Summing.{IsSummed}
 use Rattle.ic_in_place.proofs.Onward.{all_of_both, looked_ran, ran_nothing, ran_nothing-fired, ran_through, ran_through-fired}
 use Rattle.ic_machine.specs.lemmas.RunsOn.{ran_steps}
 use Rattle.ic_arena.specs.Piece.{Piece}
-use Rattle.ic_machine.specs.Steps.{Step, Steps as StepsOf, no_step, one_more, turns, puts, meets, fires}
+use Rattle.ic_machine.specs.Steps.{Step, Steps as StepsOf, no_step, one_more, turns, puts, meets, joins, fires}
 use Rattle.std.proofs.lemmas.List.Sums.{count_by-le-length}
 use Rattle.std.proofs.lemmas.Option.{slice_get_within}
 use Rattle.ic_in_place.specs.inner.Stopping.{arities_of, IsSound, IsBegun, StopsBy, HasStopped}
@@ -73,6 +73,7 @@ known_step : (p : Plans) (xs ys : List Piece) (fired : List ℕ) → Step p fire
 known_step p xs ys fired (turns a b is) = tt
 known_step p xs ys fired (puts a b is) = tt
 known_step p xs ys fired (meets a b is) = tt
+known_step p xs ys fired (joins a b is) = tt
 known_step p xs ys fired (fires i a b is) = (slice_get_within p.plans i is.plan is.has_plan, tt)
 
 known_plans : (p : Plans) (xs ys : List Piece) (fired : List ℕ) → StepsOf p fired xs ys → AllByRecursion (λ i. i < length p.plans) fired
@@ -98,7 +99,7 @@ pub stopped_so : StopLaws → (s : SystemParts) (bounds : Bounds) (numbers : Lis
     → (by_rule : List ℕ) → IsSummed (length s.rules.rules) numbers m.counts by_rule → length numbers ≡ length p.plans → m.interactions < 2 ^ 64
     → HasStopped s bounds given by_rule m end places
 stopped_so laws s bounds numbers p given plan operands old m end places sound arities plans of_rules start stands are begun runs nodes looked all enough pairs watched by_rule summed numbered low =
-    let before = looked_ran p bounds.nodes watched.before old watched.mark watched.looked in
+    let before = looked_ran p bounds.nodes watched.allowed watched.before old watched.mark watched.looked in
     let ran : Ran p old m = ran_through p old watched.mark m before.0 watched.after in
     let count : length (arities_of s) ≡ length s.rules.symbols = length-map s.rules.symbols (λ x. x.arity) in
     let compiled : AreCompiled s.rules numbers p s.config given plan operands = record {

@@ -1,5 +1,5 @@
 -- What a system is reduced to in place (this project's choice).
-use Rattle.std.specs.Prelude.{◌≡◌, ◌≢◌, ℕ, suc, ◌+◌, ◌*◌, ◌<◌, ◌≤◌, List, [], ◌++◌, IsTrue, length}
+use Rattle.std.specs.Prelude.{◌≡◌, ℕ, suc, ◌+◌, ◌*◌, ◌<◌, ◌≤◌, List, ◌++◌, IsTrue, length}
 use Rattle.std.specs.List.{list_all, AllByRecursion}
 use Rattle.ic_term.specs.Tree.{Tree, name, agent, names, Pair}
 use Rattle.ic_term.specs.Configuration.{Configuration, configuration_names, occurrences}
@@ -19,7 +19,7 @@ use Rattle.ic_in_place.specs.declared.running.TheConstants.{PIECE}
 use Rattle.ic_in_place.specs.declared.running.Bounds.{Bounds}
 use Rattle.ic_in_place.specs.declared.running.End.{End}
 use Rattle.ic_in_place.specs.declared.running.End.TheVariants.{Quiet, Steps, Nodes, Limit, Memory}
-use Rattle.ic_in_place.specs.Running.{IsFullNext}
+use Rattle.ic_in_place.specs.Running.{HasPairs, IsFullNext}
 use Rattle.ic_in_place.specs.Holding.{IsHeldAt}
 use Rattle.ic_in_place.specs.Counting.{AreCounts}
 
@@ -59,7 +59,8 @@ EndsBy rs bounds c interactions places Memory = Unit {0}
 
 -- A configuration is reached from that of a system by so many interactions, at most as many as may be made, and this is
 -- why no more were made. The machine that held it had so many places. Where it stopped for these, a pair that can fire was
--- left. Where it stopped at a limit, a table would be full, and where memory ran out, a pair was left.
+-- left. Where it stopped at a limit, a table would be full. Where memory ran out, equations were left, and no side of one is
+-- a name of the net.
 pub record IsReached (s : SystemParts) (bounds : Bounds) (answer : Configuration) (end : End)
     (interactions places : ℕ) : Type 0 where
   pub fired : List ℕ
@@ -70,7 +71,7 @@ pub record IsReached (s : SystemParts) (bounds : Bounds) (answer : Configuration
   pub ended : EndsBy s.rules.rules bounds answer interactions places end
   pub next : end ≡ Nodes → HasNext held.plans held.machine.pending
   pub full : end ≡ Limit → IsFullNext held.plans held.machine
-  pub left : end ≡ Memory → held.machine.pending ≢ []
+  pub left : end ≡ Memory → HasPairs held.machine.pending
 
 -- The same, and how many of these interactions were made by each rule.
 pub record IsReachedBy (s : SystemParts) (bounds : Bounds) (answer : Configuration) (end : End)

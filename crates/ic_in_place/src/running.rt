@@ -3,8 +3,9 @@
 ghost use Rattle.std.specs.Prelude.{◌≡◌, ◌≢◌, ◌+◌, ◌<◌, ◌≤◌, ◌^◌, length, sum, IfSome, IfNone};
 ghost use Rattle.std.specs.List.{AllByRecursion};
 ghost use Rattle.ic_machine.specs.Net.{IsAtPlace, IsPair};
+ghost use Rattle.ic_machine.specs.Plan.{Plans};
 ghost use Rattle.ic_machine.specs.Runs.{Ran};
-ghost use Rattle.ic_in_place.specs.Running.{RunsOn, IsLookedAt, IsWatched};
+ghost use Rattle.ic_in_place.specs.Running.{names_allowed, RunsOn, IsLookedAt, IsTidy, IsWatched};
 
 use ic_machine::{Ended, Machine, MachineFault, Program};
 
@@ -60,6 +61,7 @@ pub(crate) fn run_in_pieces<V: Watch>(
     ensures enough { length machine.new.places ≤ result.1 }
 {
     let mut left = bounds.steps;
+    let mut due = names_until_sweep(machine);
     'pieces: loop {
         let steps = left.min(PIECE);
         left -= steps;
@@ -75,7 +77,31 @@ pub(crate) fn run_in_pieces<V: Watch>(
         if places > bounds.nodes {
             return (End::Nodes, places);
         }
+        due = sweep_if_due(machine, due);
     }
+}
+
+/// Puts names through if so many are in use. Answers how many may be in use before that is done next.
+fn sweep_if_due(machine: &mut Machine, due: u64) -> u64
+    ensures ran { (p : Plans) → Ran p machine.old machine.new }
+    ensures same { machine.new ≡ record machine.old { places = machine.new.places } }
+    ensures fewer { length machine.new.places ≤ length machine.old.places }
+    ensures tidy { IsTidy due result machine.new }
+{
+    if machine.names_in_use() < due {
+        return due;
+    }
+    machine.sweep();
+    names_until_sweep(machine)
+}
+
+/// How many names may be in use before they are put through: the greater of twice as many as are and half of all that there
+/// are, and 4,096 more. So at least a quarter as many are opened between two passes as a pass visits.
+fn names_until_sweep(machine: &Machine) -> u64
+    ensures { result ≡ names_allowed machine.now }
+{
+    let used = 2 * machine.names_in_use();
+    used.max(machine.names() / 2) + PIECE
 }
 
 /// Runs a piece of so many interactions, and tells why it ended before all were made.

@@ -53,11 +53,11 @@ one_more law s bounds answer end interactions places set over named is next =
 
 -- ---- how many pairs fired
 
-looked_counted : (p : Plans) (nodes : ℕ) (fired : List ℕ) (first last : Net) → Looked p nodes fired first last
+looked_counted : (p : Plans) (nodes allowed : ℕ) (fired : List ℕ) (first last : Net) → Looked p nodes allowed fired first last
     → last.interactions ≡ first.interactions + length fired
-looked_counted p nodes fired first last (no_look m) = omega arith
-looked_counted p nodes fired first last (one_more_look before a m b looked next) =
-    let then = looked_counted p nodes before a m looked in
+looked_counted p nodes allowed fired first last (no_look m) = omega arith
+looked_counted p nodes allowed fired first last (one_more_look low high before a m b looked next) =
+    let then = looked_counted p nodes low before a m looked in
     let counted = next.ran.counted in
     omega (arith, then, counted, length-append before next.ran.fired)
 
@@ -66,22 +66,22 @@ pub all_counted : (s : SystemParts) (bounds : Bounds) (answer : Configuration) (
 all_counted s bounds answer end interactions places is =
     let w = is.held.watched in
     let all : List ℕ = w.before ++ w.after.fired in
-    let looked = looked_counted is.held.plans bounds.nodes w.before is.held.first w.mark w.looked in
+    let looked = looked_counted is.held.plans bounds.nodes w.allowed w.before is.held.first w.mark w.looked in
     let after = w.after.counted in
     let many : length is.fired ≡ length all = ap (length {A = ℕ}) is.held.by_plans ∙ length-map all (rule_number is.held.rule_numbers) in
     omega (arith, looked, after, many, is.counted, is.held.none, length-append w.before w.after.fired)
 
 -- places are looked at after whole pieces
-looked_whole : (p : Plans) (nodes : ℕ) (fired : List ℕ) (first last : Net) → Looked p nodes fired first last
+looked_whole : (p : Plans) (nodes allowed : ℕ) (fired : List ℕ) (first last : Net) → Looked p nodes allowed fired first last
     → (looks : ℕ) × (last.interactions ≡ first.interactions + looks * PIECE)
-looked_whole p nodes fired first last (no_look m) = (0, omega arith)
-looked_whole p nodes fired first last (one_more_look before a m b looked next) =
-    let then = looked_whole p nodes before a m looked in
+looked_whole p nodes allowed fired first last (no_look m) = (0, omega arith)
+looked_whole p nodes allowed fired first last (one_more_look low high before a m b looked next) =
+    let then = looked_whole p nodes low before a m looked in
     let whole = next.whole in
     (suc then.0, omega (arith, then.1, whole))
 
 pub mark_whole : (s : SystemParts) (bounds : Bounds) (answer : Configuration) (end : End) (interactions places : ℕ)
     → (is : IsReached s bounds answer end interactions places) → (looks : ℕ) × (is.held.watched.mark.interactions ≡ looks * 4096)
 mark_whole s bounds answer end interactions places is =
-    let whole = looked_whole is.held.plans bounds.nodes is.held.watched.before is.held.first is.held.watched.mark is.held.watched.looked in
+    let whole = looked_whole is.held.plans bounds.nodes is.held.watched.allowed is.held.watched.before is.held.first is.held.watched.mark is.held.watched.looked in
     (whole.0, omega (arith, whole.1, is.held.none))

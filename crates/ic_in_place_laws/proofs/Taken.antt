@@ -52,16 +52,16 @@ record IsGrown (p : Plans) (nodes : ℕ) (fired : List ℕ) (first last : Net) :
   pub few : all_places last ≤ max nodes (all_places first)
   pub plans : AllByRecursion (IsFired p) fired
 
-looked_grown : PlaceLaws → (p : Plans) (nodes : ℕ) (fired : List ℕ) (first last : Net) → Looked p nodes fired first last
+looked_grown : PlaceLaws → (p : Plans) (nodes allowed : ℕ) (fired : List ℕ) (first last : Net) → Looked p nodes allowed fired first last
     → ((kind : ℕ) → in_use kind (pieces first) ≤ places_of kind first) → IsGrown p nodes fired first last
-looked_grown laws p nodes fired first last (no_look m) uses = record {
+looked_grown laws p nodes allowed fired first last (no_look m) uses = record {
   grown = omega arith;
   uses = uses;
   few = le-max_right nodes (all_places m);
   plans = tt;
 }
-looked_grown laws p nodes fired first last (one_more_look before a m b looked next) uses =
-    let then = looked_grown laws p nodes before a m looked uses in
+looked_grown laws p nodes allowed fired first last (one_more_look low high before a m b looked next) uses =
+    let then = looked_grown laws p nodes low before a m looked uses in
     let more = laws.fired p m b next.ran then.uses in
     let grown = then.grown in
     let within : all_places b ≤ nodes = next.within.places in
@@ -77,7 +77,7 @@ looked_grown laws p nodes fired first last (one_more_look before a m b looked ne
 module _ (laws : PlaceLaws) (s : SystemParts) (bounds : Bounds) (answer : Configuration) (end : End) (interactions places : ℕ)
     (set : IsRuleSet s.rules) (is : IsReached s bounds answer end interactions places) where
   marked : IsGrown is.held.plans bounds.nodes is.held.watched.before is.held.first is.held.watched.mark
-  marked = looked_grown laws is.held.plans bounds.nodes is.held.watched.before is.held.first is.held.watched.mark is.held.watched.looked
+  marked = looked_grown laws is.held.plans bounds.nodes is.held.watched.allowed is.held.watched.before is.held.first is.held.watched.mark is.held.watched.looked
       (λ kind. laws.begun is.held.plans (length is.held.given) is.held.plan is.held.operands is.held.first kind is.held.starts)
 
   begun : all_places is.held.first ≤ configuration_nodes s.config

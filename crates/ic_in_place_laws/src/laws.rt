@@ -27,6 +27,7 @@ ghost use Rattle.ic_in_place.specs.declared.stream.Asked.TheVariants.{Nothing};
 ghost use Rattle.ic_in_place.specs.declared.stream.Outcome.{Outcome};
 ghost use Rattle.ic_in_place.specs.Counting.{TellsNameSteps};
 ghost use Rattle.ic_in_place.specs.Reducing.{IsPutTogether, IsReached};
+ghost use Rattle.ic_in_place.specs.Running.{HasPairs};
 ghost use Rattle.ic_in_place.specs.Reductions.{EndsAs, ReducesInPlace, Tells, is_written};
 
 /// What stands in an empty output after a reduction to a quiet end is the line of the net of every order, and the outcome
@@ -89,8 +90,8 @@ pub fn a_stuck_pair_is_of_a_quiet_end()
         ≡ stuck_text s.rules.symbols (renumbered answer)) }
 {}
 
-/// Where there were too many places, or a table would be full, one more interaction is possible. Where memory ran out, a pair
-/// or an equation was still pending.
+/// Where there were too many places, or a table would be full, one more interaction is possible. Where memory ran out,
+/// equations were left, each between agents or free names.
 pub fn a_stop_comes_before_an_interaction()
     ensures nodes { (s : SystemParts) (bounds : Bounds) (answer : Configuration)
         (interactions places : ℕ)
@@ -106,7 +107,7 @@ pub fn a_stop_comes_before_an_interaction()
         × (length fired ≡ interactions + 1) }
     ensures memory { (s : SystemParts) (bounds : Bounds) (answer : Configuration)
         (interactions places : ℕ) → (is : IsReached s bounds answer Memory interactions places)
-        → is.held.machine.pending ≢ [] }
+        → HasPairs is.held.machine.pending }
 {
     ic_meaning::laws::steps_of_pieces_are_steps_of_the_net();
 }

@@ -1,6 +1,7 @@
 pub mod NameRooms
 pub mod LinkSteps
 pub mod Links
+pub mod Sweeps
 pub mod Heaps
 pub mod Fresh
 pub mod Making

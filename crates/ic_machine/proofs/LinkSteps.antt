@@ -6,7 +6,7 @@ use Rattle.ic_arena.specs.declared.word.Word.{Word}
 use Rattle.ic_arena.specs.Piece.{Piece, equated, idle, waits}
 use Rattle.ic_arena.specs.Tables.{Replaced}
 use Rattle.ic_machine.specs.Plan.{Plans}
-use Rattle.ic_machine.specs.Steps.{turns, puts, meets, Steps, no_step}
+use Rattle.ic_machine.specs.Steps.{turns, puts, meets, joins, Steps, no_step}
 use Rattle.ic_machine.specs.lemmas.Orders.{replaced_before, replaced_after}
 use Rattle.ic_machine.specs.lemmas.StepsOn.{one_step}
 
@@ -68,3 +68,31 @@ pended p l r ns ps rest =
     no_step (e ∷ (ns ++ (ps ++ rest))) (ns ++ ((ps ++ e ∷ []) ++ rest))
     (subst (λ (l : List Piece). IsPermutation (e ∷ (ns ++ (ps ++ rest))) (ns ++ l)) (sym b)
     (IsPermutation-sym _ _ a))
+
+-- a name waits for what waited for another, which is freed first
+pub joined : (p : Plans) (x y u : Word) (ns mid ms rest : List Piece) → Replaced (waits y u ∷ []) [] ns mid
+    → Replaced (waits x y ∷ []) (waits x u ∷ []) mid ms → Steps p [] (ns ++ rest) (ms ++ rest)
+joined p x y u ns mid ms rest gone put =
+    let left : List Piece = gone.front ++ gone.back in
+    let others : List Piece = put.front ++ put.back in
+    let taken : IsPermutation ns (waits y u ∷ mid) =
+    IsPermutation-trans ns (waits y u ∷ left) (waits y u ∷ mid) (replaced_before (waits y u ∷ []) [] ns mid gone)
+    (IsPermutation-cons (waits y u) left mid
+    (IsPermutation-sym mid left (replaced_after (waits y u ∷ []) [] ns mid gone))) in
+    let both : IsPermutation ns (waits y u ∷ waits x y ∷ others) =
+    IsPermutation-trans ns (waits y u ∷ mid) (waits y u ∷ waits x y ∷ others) taken
+    (IsPermutation-cons (waits y u) mid (waits x y ∷ others)
+    (replaced_before (waits x y ∷ []) (waits x u ∷ []) mid ms put)) in
+    let given : IsPermutation ns (waits x y ∷ waits y u ∷ others) =
+    IsPermutation-trans ns (waits y u ∷ waits x y ∷ others) (waits x y ∷ waits y u ∷ others) both
+    (IsPermutation-middle (waits y u ∷ []) (waits x y) others) in
+    one_step p [] (ns ++ rest) (ms ++ rest)
+    (joins (ns ++ rest) (ms ++ rest) (record {
+      named = x;
+      between = y;
+      waiting = u;
+      rest = others ++ rest;
+      given = IsPermutation-append_left rest ns (waits x y ∷ waits y u ∷ others) given;
+      result = IsPermutation-append_left rest ms (waits x u ∷ others)
+          (replaced_after (waits x y ∷ []) (waits x u ∷ []) mid ms put);
+    }))

@@ -22,7 +22,7 @@ use Rattle.ic_machine.specs.lemmas.FiringKeeps.{all_append}
 use Rattle.ic_machine.specs.lemmas.Orders.{to_front, replaced_sum}
 use Rattle.ic_machine.specs.lemmas.StepsOn.{steps_to, steps_through}
 use Rattle.ic_machine.proofs.LinkSteps.{met, pended, turned}
-use Rattle.ic_machine.proofs.NameRooms.{as_name, replaced_length}
+use Rattle.ic_machine.proofs.NameRooms.{as_name, named_roomy, replaced_length}
 
 pub steps_from : (p : Plans) (is : List ℕ) (xs ys zs : List Piece) → IsPermutation xs ys
     → Steps p is ys zs → Steps p is xs zs
@@ -203,3 +203,11 @@ on_neither p start e ns rest ps qs before is =
 pub steps_on : (p : Plans) (mid : List Piece) {xs zs : List Piece} → Steps p [] xs mid → Steps p [] mid zs
     → Steps p [] xs zs
 steps_on p mid {xs} {zs} s t = steps_through p [] [] xs mid zs s t
+
+-- the left side of an equation has room, where it is a name
+pub side_room : (l r : Word) (ws : List Word) → AreNamed l r ws → l.tag ≡ NAME
+    → 1 ≤ sum_by (room l) (names_pieces 0 ws)
+side_room l r ws named tag =
+    let is : l ≡ name_word l.index = as_name l tag in
+    subst (λ (w : Word). 1 ≤ sum_by (room w) (names_pieces 0 ws)) (sym is)
+    (named_roomy l.index r ws (subst (λ (w : Word). AreNamed w r ws) is named))

@@ -1,5 +1,5 @@
 -- As many places as were ever in use.
-use Rattle.std.proofs.Common.{◌≡◌, ◌⊎◌, ℕ, zero, suc, ◌+◌, ◌<◌, ◌≤◌, inl, inr, List, [], ◌∷◌, Contains, cond, length, map, max, slice_index_or, refl, ◌∙◌, sym, ap, arith}
+use Rattle.std.proofs.Common.{◌≡◌, ◌⊎◌, ℕ, zero, suc, ◌<◌, ◌≤◌, inl, inr, List, [], ◌∷◌, Contains, cond, length, map, max, slice_index_or, refl, ◌∙◌, sym, ap, arith}
 use Rattle.std.specs.List.{AllByRecursion}
 use Rattle.std.proofs.Math.Nat.{max-eq_left, max-eq_right}
 use Rattle.std.proofs.lemmas.Bool.Decides.{leb_tells}
@@ -8,7 +8,7 @@ use Rattle.ic_arena.specs.Piece.{Piece, equated, idle, waits}
 use Rattle.ic_machine.specs.Plan.{Planned, Plans}
 use Rattle.ic_machine.specs.Net.{Net, in_use, is_at, pieces, places_of}
 use Rattle.ic_machine.specs.Runs.{Ran, Starts, Way, greatest}
-use Rattle.ic_machine.specs.Steps.{Step, turns, puts, meets, fires, Steps, no_step, one_more}
+use Rattle.ic_machine.specs.Steps.{Step, turns, puts, meets, joins, fires, Steps, no_step, one_more}
 use Rattle.ic_machine.specs.lemmas.Balance.{no_front, no_back}
 use Rattle.ic_machine.specs.lemmas.Separation.{sum_of_parts}
 
@@ -29,6 +29,10 @@ step_uses p is kind xs ys e (puts a b t) =
 step_uses p is kind xs ys e (meets a b t) =
     let x = sum_of_parts (used kind) a (equated t.named t.other ∷ waits t.named t.waiting ∷ []) t.rest t.given in
     let y = sum_of_parts (used kind) b (equated t.waiting t.other ∷ []) t.rest t.result in
+    omega arith
+step_uses p is kind xs ys e (joins a b t) =
+    let x = sum_of_parts (used kind) a (waits t.named t.between ∷ waits t.between t.waiting ∷ []) t.rest t.given in
+    let y = sum_of_parts (used kind) b (waits t.named t.waiting ∷ []) t.rest t.result in
     omega arith
 step_uses p is kind xs ys e (fires i a b t) = cc
 

@@ -37,6 +37,16 @@ pub record Meets (xs ys : List Piece) : Type 0 where
   pub given : IsPermutation xs (equated named other ∷ waits named waiting ∷ rest)
   pub result : IsPermutation ys (equated waiting other ∷ rest)
 
+-- A name waits for another name for which a word waits: the first waits for this word from now on, and the other is gone
+-- (indirection).
+pub record Joins (xs ys : List Piece) : Type 0 where
+  pub named : Word
+  pub between : Word
+  pub waiting : Word
+  pub rest : List Piece
+  pub given : IsPermutation xs (waits named between ∷ waits between waiting ∷ rest)
+  pub result : IsPermutation ys (waits named waiting ∷ rest)
+
 -- Two agents whose symbols have a plan: both are gone, and what the plan makes of their arguments is there (interaction).
 pub record Fires (p : Plans) (fired : ℕ) (xs ys : List Piece) : Type 0 where
   pub left : ℕ
@@ -72,6 +82,7 @@ pub data Step (p : Plans) : List ℕ → List Piece → List Piece → Type 0 wh
   turns : (xs ys : List Piece) → Turns xs ys → Step p [] xs ys
   puts : (xs ys : List Piece) → Puts xs ys → Step p [] xs ys
   meets : (xs ys : List Piece) → Meets xs ys → Step p [] xs ys
+  joins : (xs ys : List Piece) → Joins xs ys → Step p [] xs ys
   fires : (i : ℕ) (xs ys : List Piece) → Fires p i xs ys → Step p (i ∷ []) xs ys
 
 -- Steps one after another, which fire pairs by these plans, in this order.

@@ -1,5 +1,6 @@
 -- For private functions. No public clause needs what stands here.
 pub mod Linking
+pub mod Sweeping
 pub mod Firing
 pub mod Pairs
 pub mod PairIndex

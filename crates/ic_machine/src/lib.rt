@@ -12,6 +12,7 @@ mod machine;
 mod pairs;
 mod places;
 mod plan;
+mod sweeping;
 mod tables;
 
 pub use equation::Equation;

@@ -1,14 +1,13 @@
 //! Equations that are linked into the net.
 
-ghost use Rattle.std.specs.Prelude.{◌≡◌, ◌+◌, ◌<◌, ◌≤◌, List, [], ◌∷◌, ◌++◌, map, length, vec_len, vec_capacity, IfSome, IfNone};
+ghost use Rattle.std.specs.Prelude.{◌≡◌, ◌+◌, ◌<◌, ◌≤◌, List, [], ◌∷◌, ◌++◌, map, length, sum_by, vec_len, vec_capacity, IfSome, IfNone};
 ghost use Rattle.std.specs.List.{AllByRecursion};
-ghost use Rattle.ic_arena.specs.Word.{name_word};
-ghost use Rattle.ic_arena.specs.Piece.{Piece, equated};
+ghost use Rattle.ic_arena.specs.Piece.{Piece, room};
 ghost use Rattle.ic_arena.specs.Tables.{names_pieces};
 ghost use Rattle.ic_machine.specs.Plan.{Plans, linked};
 ghost use Rattle.ic_machine.specs.Net.{equated_of};
 ghost use Rattle.ic_machine.specs.Steps.{Steps};
-ghost use Rattle.ic_machine.specs.inner.Linking.{AreNamed, AreLinks, Meeting, Pushed};
+ghost use Rattle.ic_machine.specs.inner.Linking.{AreNamed, AreLinks, IsEnd, IsTaken, Pushed};
 
 use crate::equation::Equation;
 use crate::plan::Link;
@@ -42,8 +41,8 @@ pub(crate) fn link_each(
     }
 }
 
-/// Links an equation: where one side is a name, the other side waits for it from now on, or meets what waits. Two sides
-/// that are no names are pending.
+/// Links an equation: if a word waits for a side that is a name, it takes the place of that, as long as one does. Then one
+/// side waits for the other, if that is a name. Two sides that are no names are pending.
 fn link(names: &mut Names, pending: &mut Vec<Equation>, equation: Equation)
     requires named { AreNamed equation.left equation.right names.old.entries }
     requires room { vec_len pending.old < vec_capacity pending.old }
@@ -60,39 +59,58 @@ fn link(names: &mut Names, pending: &mut Vec<Equation>, equation: Equation)
     let mut left = equation.left;
     let mut right = equation.right;
     'follow: loop {
-        if left.tag == NAME {
-            let Some(waiting) = meet(names, left.index, right) else {
-                return;
-            };
+        if let Some(waiting) = taken(names, left) {
             left = waiting;
-        } else if right.tag == NAME {
-            let Some(waiting) = meet(names, right.index, left) else {
-                return;
-            };
+        } else if let Some(waiting) = taken(names, right) {
             right = waiting;
         } else {
-            pending.push_reserved(Equation { left, right });
+            settle(names, pending, Equation { left, right });
             return;
         }
     }
 }
 
-/// Answers the word that waits for a name, which is gone then. Where none does, this word waits from now on.
-fn meet(names: &mut Names, name: u32, word: Word) -> Option<Word>
-    requires named { AreNamed (name_word name) word names.old.entries }
-    ensures put { IfNone result ((p : Plans) (rest : List Piece) → Steps p []
-        (equated (name_word name) word ∷ (names_pieces 0 names.old.entries ++ rest))
-        (names_pieces 0 names.new.entries ++ rest)) }
-    ensures met { IfSome result (λ u. Meeting (name_word name) word u
-        names.old.entries names.new.entries) }
+/// Takes what waits for a word, if that is a name for which a word waits. The name is gone then.
+fn taken(names: &mut Names, word: Word) -> Option<Word>
+    requires room { word.tag ≡ NAME → 1 ≤ sum_by (room word) (names_pieces 0 names.old.entries) }
+    ensures taken { IfSome result (IsTaken word names.old.entries names.new.entries) }
+    ensures none { IfNone result (IsEnd word names.old.entries) }
+    ensures same { IfNone result (names.new ≡ names.old) }
     ensures names { length names.new.entries ≡ length names.old.entries }
     ensures memory { names.new.capacity ≡ names.old.capacity }
 {
-    let waiting = names.get(name);
-    if waiting.tag == IDLE {
-        names.put(name, word);
+    if word.tag != NAME {
         return None;
     }
-    names.free(name);
+    let waiting = names.get(word.index);
+    if waiting.tag == IDLE {
+        return None;
+    }
+    names.free(word.index);
     Some(waiting)
+}
+
+/// Lets one side of an equation wait for the other, if that is a name. Nothing waits for either of them.
+fn settle(names: &mut Names, pending: &mut Vec<Equation>, equation: Equation)
+    requires named { AreNamed equation.left equation.right names.old.entries }
+    requires left { IsEnd equation.left names.old.entries }
+    requires right { IsEnd equation.right names.old.entries }
+    requires room { vec_len pending.old < vec_capacity pending.old }
+    ensures steps { (p : Plans) (rest : List Piece) → Steps p []
+        (equated_of equation
+        ∷ (names_pieces 0 names.old.entries ++ (map equated_of pending.old.items ++ rest)))
+        (names_pieces 0 names.new.entries ++ (map equated_of pending.new.items ++ rest)) }
+    ensures pushed { Pushed pending.old.items pending.new.items }
+    ensures len { vec_len pending.new ≤ vec_len pending.old + 1 }
+    ensures capacity { vec_capacity pending.new ≡ vec_capacity pending.old }
+    ensures names { length names.new.entries ≡ length names.old.entries }
+    ensures memory { names.new.capacity ≡ names.old.capacity }
+{
+    if equation.left.tag == NAME {
+        names.put(equation.left.index, equation.right);
+    } else if equation.right.tag == NAME {
+        names.put(equation.right.index, equation.left);
+    } else {
+        pending.push_reserved(equation);
+    }
 }

@@ -3,20 +3,21 @@
 ghost use Rattle.std.specs.Prelude.{◌≡◌, ◌≢◌, ℕ, ◌+◌, ◌^◌, ◌<◌, ◌≤◌, List, [], ◌∷◌, ◌++◌, true, false, Ok, Err, Contains, length, map, sum, sum_by, vec_capacity, IfOk, OnErr, IfSome, IfNone, MatchOption};
 ghost use Rattle.std.specs.List.{AllByRecursion};
 ghost use Rattle.ic_arena.specs.declared.word.Word.{Word as AnyWord};
-ghost use Rattle.ic_arena.specs.declared.word.TheConstants.{GIVEN};
+ghost use Rattle.ic_arena.specs.declared.word.TheConstants.{GIVEN, NAME};
 ghost use Rattle.ic_arena.specs.Word.{name_word};
 ghost use Rattle.ic_arena.specs.Piece.{agent_of, room, waits};
 ghost use Rattle.ic_arena.specs.Tables.{register};
-ghost use Rattle.ic_machine.specs.Plan.{planned};
+ghost use Rattle.ic_machine.specs.Plan.{Plans, planned};
 ghost use Rattle.ic_machine.specs.Separate.{IsSeparate};
 ghost use Rattle.ic_machine.specs.Runs.{IsStart, Starts, Counted, Ran};
-ghost use Rattle.ic_machine.specs.Net.{pieces, HasNext, IsAtPlace, IsFull, IsPair};
+ghost use Rattle.ic_machine.specs.Net.{pieces, in_use, ArePutThrough, HasNext, IsAtPlace, IsFull, IsPair};
 ghost use Rattle.ic_machine.specs.inner.Pairs.{HasNumber, IsLast, Passed};
 
 use crate::equation::Equation;
 use crate::firing::push_given;
 use crate::places::{Parts, Places, count_places};
 use crate::plan::{Plan, Program};
+use crate::sweeping::sweep;
 use crate::tables::Tables;
 use ic_arena::{IDLE, Word};
 use std::alloc::{AllocError, Global};
@@ -179,6 +180,35 @@ impl Machine {
     {
         let found = find_plan(program, &mut self.tables.pending, &mut self.aside)?;
         Ok(found.is_none())
+    }
+
+    /// Puts names through: one that waits for another, for which a word waits, waits for this word from now on, and the place
+    /// of the other is free. A pass over the names.
+    pub fn sweep(&mut self)
+        ensures ran { (p : Plans) → Ran p self.old self.new }
+        ensures same { self.new ≡ record self.old { places = self.new.places } }
+        ensures through { ArePutThrough self.new.places }
+        ensures fewer { length self.new.places ≤ length self.old.places }
+        ensures places { AllByRecursion IsAtPlace self.new.places }
+        ensures separate { IsSeparate self.new.arities self.new.interface (pieces self.new) }
+    {
+        sweep(&mut self.tables.names);
+    }
+
+    /// How many names there are, the free ones too.
+    pub fn names(&self) -> u64
+        ensures count { result ≡ self.now.names }
+        ensures few { result < 2 ^ 32 }
+    {
+        self.tables.names.len() as u64
+    }
+
+    /// How many names are in use.
+    pub fn names_in_use(&self) -> u64
+        ensures count { result ≡ in_use NAME self.now.places }
+        ensures few { result < 2 ^ 32 }
+    {
+        self.tables.names.used() as u64
     }
 
     /// The words of the interface.

@@ -8,7 +8,7 @@ use Rattle.ic_arena.specs.Piece.{Piece, equated, idle, waits, agent_of, agent_wi
 use Rattle.ic_arena.specs.Tables.{register}
 use Rattle.ic_machine.specs.declared.plan.Link.{Link}
 use Rattle.ic_machine.specs.Plan.{Made, Planned, Plans, ArePlans, constants, made_each, linked, pieces_made}
-use Rattle.ic_machine.specs.Steps.{AreFresh, Step, turns, puts, meets, fires, Steps, no_step, one_more}
+use Rattle.ic_machine.specs.Steps.{AreFresh, Step, turns, puts, meets, joins, fires, Steps, no_step, one_more}
 use Rattle.ic_machine.specs.lemmas.Separation.{sum_of_parts}
 use Rattle.ic_machine.specs.lemmas.FiresKeep.{sum_of_pair, steps_keep}
 use Rattle.ic_meaning.specs.Nets.{holds, AreNetPieces}
@@ -112,6 +112,11 @@ step_once p fired xs ys (meets a b s) once w =
     let before = once w in
     let x = sum_of_parts (holds w) a (equated s.named s.other ∷ waits s.named s.waiting ∷ []) s.rest s.given in
     let y = sum_of_parts (holds w) b (equated s.waiting s.other ∷ []) s.rest s.result in
+    omega arith
+step_once p fired xs ys (joins a b s) once w =
+    let before = once w in
+    let x = sum_of_parts (holds w) a (waits s.named s.between ∷ waits s.between s.waiting ∷ []) s.rest s.given in
+    let y = sum_of_parts (holds w) b (waits s.named s.waiting ∷ []) s.rest s.result in
     omega arith
 step_once p fired xs ys (fires place a b f) once w =
     let rs : List Word = constants (length p.arities) ++ (f.left_args ++ (f.right_args ++ (f.names ++ f.made))) in

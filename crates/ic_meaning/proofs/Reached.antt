@@ -22,7 +22,7 @@ use Rattle.ic_arena.specs.Tables.{register}
 use Rattle.ic_machine.specs.declared.plan.Link.{Link}
 use Rattle.ic_machine.specs.Plan.{Made, Planned, Plans, ArePlans, IsPlan, AreMade, constants, made_each, linked, link_operands, operands_of, pieces_made, plan_at, plan_of, number_of}
 use Rattle.ic_machine.specs.Separate.{IsSeparate}
-use Rattle.ic_machine.specs.Steps.{Turns, Puts, Meets, Fires, Step, turns, puts, meets, fires, Steps, no_step, one_more}
+use Rattle.ic_machine.specs.Steps.{Turns, Puts, Meets, Joins, Fires, Step, turns, puts, meets, joins, fires, Steps, no_step, one_more}
 use Rattle.ic_machine.specs.lemmas.Balance.{no_front, no_back}
 use Rattle.ic_machine.specs.lemmas.FiresKeep.{steps_keep}
 use Rattle.ic_meaning.specs.Words.{Numbers, AreNumbers, term}
@@ -33,7 +33,7 @@ use Rattle.ic_meaning.proofs.Orders.{all_order, all_parts, all_back}
 use Rattle.ic_meaning.proofs.Made.{UsedFrom, used_from}
 use Rattle.ic_meaning.proofs.Registers.{register_back, held_in, registers_of, place_below}
 use Rattle.ic_meaning.proofs.Taken.{made_pieces, take_made, ArePlaces}
-use Rattle.ic_meaning.proofs.Wholes.{with_equations, put_back, order_net, turns_net, puts_net, meets_net}
+use Rattle.ic_meaning.proofs.Wholes.{with_equations, put_back, order_net, turns_net, puts_net, meets_net, joins_net}
 use Rattle.ic_meaning.proofs.Settings.{FreeWord, Setting, above_all}
 use Rattle.ic_meaning.proofs.Fired.{agent_term, to_meeting}
 use Rattle.ic_meaning.proofs.Fires.{rule_of_plan, fits_lengths, made_agent, plan_equations, used_held, places_from}
@@ -213,10 +213,16 @@ meets_pieces arities a b s are =
     let front = all_order (IsPiece arities) a (equated s.named s.other ∷ waits s.named s.waiting ∷ s.rest) s.given are in
     all_order (IsPiece arities) (equated s.waiting s.other ∷ s.rest) b (IsPermutation-sym b _ s.result) (tt, front.1.1)
 
+joins_pieces : (arities : List ℕ) (a b : List Piece) → Joins a b → ArePieces arities a → ArePieces arities b
+joins_pieces arities a b s are =
+    let front = all_order (IsPiece arities) a (waits s.named s.between ∷ waits s.between s.waiting ∷ s.rest) s.given are in
+    all_order (IsPiece arities) (waits s.named s.waiting ∷ s.rest) b (IsPermutation-sym b _ s.result) (front.0, front.1.1)
+
 pub step_pieces : (p : Plans) (fired : List ℕ) (xs ys : List Piece) → ArePlans p → Step p fired xs ys → ArePieces p.arities xs → ArePieces p.arities ys
 step_pieces p fired xs ys plans (turns a b s) are = turns_pieces p.arities a b s are
 step_pieces p fired xs ys plans (puts a b s) are = puts_pieces p.arities a b s are
 step_pieces p fired xs ys plans (meets a b s) are = meets_pieces p.arities a b s are
+step_pieces p fired xs ys plans (joins a b s) are = joins_pieces p.arities a b s are
 step_pieces p fired xs ys plans (fires place a b f) are =
     let plan = plan_of_fires p place a b f plans in
     let front = all_order (IsPiece p.arities) a _ f.given are in
@@ -240,6 +246,7 @@ link_step : NetLaws → (n : Numbers) (i : List Word) (p : Plans) (fired : List 
 link_step laws n i p fired xs ys e named are (turns a b s) = (turns_net laws n i a b named s, turns_pieces n.arities a b s are)
 link_step laws n i p fired xs ys e named are (puts a b s) = (puts_net laws n i a b named are s, puts_pieces n.arities a b s are)
 link_step laws n i p fired xs ys e named are (meets a b s) = (meets_net laws n i a b named are s, meets_pieces n.arities a b s are)
+link_step laws n i p fired xs ys e named are (joins a b s) = (joins_net laws n i a b named are s, joins_pieces n.arities a b s are)
 link_step laws n i p fired xs ys e named are (fires place a b f) = absurd (some_list e)
   where
     some_list : {k : ℕ} {ks : List ℕ} → k ∷ ks ≡ [] → ⊥
@@ -271,6 +278,9 @@ step_reach laws rs numbers p n c i fired xs ys before set over named plans of_ru
     transport (Reaches rs.rules c (net_of n i b)) (sym (append-nil before)) (laws.net rs c (net_of n i a) (net_of n i b) before reached net)
 step_reach laws rs numbers p n c i fired xs ys before set over named plans of_rules sound same separate are reached (meets a b s) =
     let net = meets_net laws.nets n i a b (laws.names rs c (net_of n i a) before reached) are s in
+    transport (Reaches rs.rules c (net_of n i b)) (sym (append-nil before)) (laws.net rs c (net_of n i a) (net_of n i b) before reached net)
+step_reach laws rs numbers p n c i fired xs ys before set over named plans of_rules sound same separate are reached (joins a b s) =
+    let net = joins_net laws.nets n i a b (laws.names rs c (net_of n i a) before reached) are s in
     transport (Reaches rs.rules c (net_of n i b)) (sym (append-nil before)) (laws.net rs c (net_of n i a) (net_of n i b) before reached net)
 step_reach laws rs numbers p n c i fired xs ys before set over named plans of_rules sound same separate are reached (fires place a b f) =
     let all = fires_reach laws rs numbers p n c i a b before place set over named plans of_rules sound same separate reached f in

@@ -14,7 +14,7 @@ use Rattle.ic_reaching.specs.OneNet.{OneNet}
 use Rattle.ic_arena.specs.declared.word.Word.{Word}
 use Rattle.ic_arena.specs.Word.{agent_word}
 use Rattle.ic_arena.specs.Piece.{Piece, equated, idle, waits, agent_with}
-use Rattle.ic_machine.specs.Steps.{Turns, Puts, Meets}
+use Rattle.ic_machine.specs.Steps.{Turns, Puts, Meets, Joins}
 use Rattle.ic_meaning.specs.Words.{Numbers, AreNumbers, term}
 use Rattle.ic_meaning.specs.Nets.{equations_of, net_of, IsPiece, ArePieces, IsAgentOf}
 use Rattle.ic_meaning.proofs.Given.{NetLaws}
@@ -153,6 +153,34 @@ meets_net laws n i xs ys named are s =
     let third = put_front laws (map (term n) i) x (term n s.waiting) (term n s.other) rest c.next second.names_too in
     let e : Configuration = with_equations n i (record { left = term n s.waiting; right = term n s.other } ∷ rest) c.next in
     put_back laws n i c ys (equated s.waiting s.other ∷ []) s.rest c.next (laws.through c d e second third) s.result
+
+pub joins_net : NetLaws → (n : Numbers) (i : List Word) (xs ys : List Piece) → HasNames (net_of n i xs) → ArePieces n.arities xs → Joins xs ys
+    → OneNet (net_of n i xs) (net_of n i ys)
+joins_net laws n i xs ys named are s =
+    let c : Configuration = net_of n i xs in
+    let first = brought laws n i xs (waits s.named s.between ∷ waits s.between s.waiting ∷ []) s.rest named s.given in
+    let is_name = piece_front n (waits s.between s.waiting) xs (waits s.named s.between ∷ s.rest) are
+    (IsPermutation-trans xs (waits s.named s.between ∷ waits s.between s.waiting ∷ s.rest) (waits s.between s.waiting ∷ waits s.named s.between ∷ s.rest) s.given
+    (IsPermutation-middle (waits s.named s.between ∷ []) (waits s.between s.waiting) s.rest)) in
+    let is = place_term n s.between (name_tag n.arities s.between.tag is_name) in
+    let x : ℕ = n.of_place s.named in
+    let y : ℕ = n.of_place s.between in
+    let t : Tree = term n s.waiting in
+    let rest : List Pair = flat_map (equations_of n) s.rest in
+    let p : Pair = record { left = name x; right = name y } in
+    let q : Pair = record { left = name y; right = t } in
+    let r : Pair = record { left = t; right = name x } in
+    let d : Configuration = with_equations n i (p ∷ q ∷ rest) c.next in
+    let e : Configuration = with_equations n i (turned p ∷ q ∷ rest) c.next in
+    let f : Configuration = with_equations n i (r ∷ rest) c.next in
+    let g : Configuration = with_equations n i (turned r ∷ rest) c.next in
+    let second : OneNet c d =
+    transport (λ (v : Tree). OneNet c (with_equations n i (record { left = name x; right = v } ∷ q ∷ rest) c.next)) is first in
+    let third : OneNet d e = laws.turned d p (q ∷ rest) second.names_too (IsPermutation-refl d.equations) in
+    let fourth : OneNet e f = put_front laws (map (term n) i) y t (name x) rest c.next third.names_too in
+    let fifth : OneNet f g = laws.turned f r rest fourth.names_too (IsPermutation-refl f.equations) in
+    put_back laws n i c ys (waits s.named s.waiting ∷ []) s.rest c.next
+    (laws.through c f g (laws.through c e f (laws.through c d e second third) fourth) fifth) s.result
 
 -- ---- an agent put into the equation before it
 

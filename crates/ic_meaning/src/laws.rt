@@ -15,7 +15,7 @@ ghost use Rattle.ic_arena.specs.Piece.{Piece};
 ghost use Rattle.ic_machine.specs.Plan.{Planned, Plans, ArePlans, IsPlan};
 ghost use Rattle.ic_machine.specs.Runs.{Begins};
 ghost use Rattle.ic_machine.specs.Separate.{IsSeparate};
-ghost use Rattle.ic_machine.specs.Steps.{Turns, Puts, Meets, Fires, Step, Steps};
+ghost use Rattle.ic_machine.specs.Steps.{Turns, Puts, Meets, Joins, Fires, Step, Steps};
 ghost use Rattle.ic_meaning.specs.Words.{Numbers, AreNumbers};
 ghost use Rattle.ic_meaning.specs.Nets.{net_of, ArePieces, AreNetPieces, IsStuckPiece};
 ghost use Rattle.ic_meaning.specs.Plans.{ArePlansOf, StandsFor, StandsForNet, rule_number};
@@ -31,6 +31,8 @@ pub fn steps_that_fire_nothing_keep_the_net()
         → ArePieces n.arities xs → Puts xs ys → OneNet (net_of n i xs) (net_of n i ys) }
     ensures meets { (n : Numbers) (i : List Word) (xs ys : List Piece) → HasNames (net_of n i xs)
         → ArePieces n.arities xs → Meets xs ys → OneNet (net_of n i xs) (net_of n i ys) }
+    ensures joins { (n : Numbers) (i : List Word) (xs ys : List Piece) → HasNames (net_of n i xs)
+        → ArePieces n.arities xs → Joins xs ys → OneNet (net_of n i xs) (net_of n i ys) }
     ensures linked { (p : Plans) (n : Numbers) (i : List Word) (xs ys : List Piece)
         → HasNames (net_of n i xs) → ArePieces n.arities xs → Steps p [] xs ys
         → OneNet (net_of n i xs) (net_of n i ys) }

@@ -2,10 +2,10 @@
 use Rattle.std.specs.Prelude.{◌≡◌, ℕ, ◌+◌, ◌<◌, ◌≤◌, List, [], ◌∷◌, ◌++◌, length, map, sum_by}
 use Rattle.std.specs.List.{AllByRecursion, flat_map}
 use Rattle.ic_arena.specs.declared.word.Word.{Word}
-use Rattle.ic_arena.specs.declared.word.TheConstants.{IDLE}
+use Rattle.ic_arena.specs.declared.word.TheConstants.{IDLE, NAME}
 use Rattle.ic_arena.specs.Word.{name_word, count}
-use Rattle.ic_arena.specs.Piece.{Piece, equated, room, uses}
-use Rattle.ic_arena.specs.Tables.{names_pieces}
+use Rattle.ic_arena.specs.Piece.{Piece, equated, waits, room, uses}
+use Rattle.ic_arena.specs.Tables.{Replaced, entry, names_pieces}
 use Rattle.ic_machine.specs.declared.equation.Equation.{Equation}
 use Rattle.ic_machine.specs.declared.plan.Link.{Link}
 use Rattle.ic_machine.specs.Net.{IsPair}
@@ -28,6 +28,16 @@ pub record AreLinks (links : List Link) (registers entries : List Word) : Type 0
   pub named : (i : ℕ) → sum_by (uses (name_word i)) (map (linked registers) links)
       + sum_by (uses (name_word i)) (names_pieces 0 entries)
       ≤ sum_by (room (name_word i)) (names_pieces 0 entries)
+
+-- a word is no name, or one for which nothing waits
+abbrev pub IsEnd : Word → List Word → Type 0
+IsEnd w entries = w.tag ≡ NAME → (entry entries w.index).tag ≡ IDLE
+
+-- This word waited for a name, which is gone.
+pub record IsTaken (name : Word) (old new : List Word) (waiting : Word) : Type 0 where
+  pub named : name.tag ≡ NAME
+  pub word : waiting.tag < IDLE
+  pub gone : Replaced (waits name waiting ∷ []) [] (names_pieces 0 old) (names_pieces 0 new)
 
 -- A word met the one that waited for a name, and the name is gone.
 pub record Meeting (name word waiting : Word) (old new : List Word) : Type 0 where

@@ -8,7 +8,7 @@ use Rattle.ic_arena.specs.Piece.{Piece, equated, idle, waits, room, uses}
 use Rattle.ic_machine.specs.declared.equation.Equation.{Equation}
 use Rattle.ic_machine.specs.Plan.{Plans}
 use Rattle.ic_machine.specs.Net.{equated_of}
-use Rattle.ic_machine.specs.Steps.{Step, turns, puts, meets, fires, Steps, no_step, one_more}
+use Rattle.ic_machine.specs.Steps.{Step, turns, puts, meets, joins, fires, Steps, no_step, one_more}
 use Rattle.ic_machine.specs.lemmas.Separation.{sum_of_parts, twice}
 
 pub no_front : {X : Type 0} (xs ys : List X) → xs ++ ys ≡ [] → xs ≡ []
@@ -39,6 +39,12 @@ step_balances p is w xs ys e (meets a b t) =
     let uy = sum_of_parts (uses w) b (equated t.waiting t.other ∷ []) t.rest t.result in
     let rx = sum_of_parts (room w) a (equated t.named t.other ∷ waits t.named t.waiting ∷ []) t.rest t.given in
     let ry = sum_of_parts (room w) b (equated t.waiting t.other ∷ []) t.rest t.result in
+    omega arith
+step_balances p is w xs ys e (joins a b t) =
+    let ux = sum_of_parts (uses w) a (waits t.named t.between ∷ waits t.between t.waiting ∷ []) t.rest t.given in
+    let uy = sum_of_parts (uses w) b (waits t.named t.waiting ∷ []) t.rest t.result in
+    let rx = sum_of_parts (room w) a (waits t.named t.between ∷ waits t.between t.waiting ∷ []) t.rest t.given in
+    let ry = sum_of_parts (room w) b (waits t.named t.waiting ∷ []) t.rest t.result in
     omega arith
 step_balances p is w xs ys e (fires i a b t) = cc
 

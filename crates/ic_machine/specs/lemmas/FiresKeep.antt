@@ -10,8 +10,8 @@ use Rattle.ic_arena.specs.Piece.{Piece, equated, agent_with, room, uses}
 use Rattle.ic_arena.specs.Tables.{register}
 use Rattle.ic_machine.specs.Plan.{Planned, Plans, ArePlans, IsPlan, constants, operands_of, pieces_made, plan_at, plan_of}
 use Rattle.ic_machine.specs.Separate.{IsSeparate}
-use Rattle.ic_machine.specs.Steps.{Fires, Step, turns, puts, meets, fires, Steps, no_step, one_more}
-use Rattle.ic_machine.specs.lemmas.Separation.{sum_of_parts, separate_in_order, turns_keep, puts_keep, meets_keep}
+use Rattle.ic_machine.specs.Steps.{Fires, Step, turns, puts, meets, joins, fires, Steps, no_step, one_more}
+use Rattle.ic_machine.specs.lemmas.Separation.{sum_of_parts, separate_in_order, turns_keep, puts_keep, meets_keep, joins_keep}
 use Rattle.ic_machine.specs.lemmas.FiringKeeps.{uses_few, plan_uses, plan_room}
 
 pub agent_uses : (w a : Word) (ws : List Word) → sum_by (uses w) (agent_with a ws) ≡ count w ws
@@ -83,6 +83,7 @@ pub step_keeps : (p : Plans) (is : List ℕ) (i : List Word) (xs ys : List Piece
 step_keeps p is i xs ys sound (turns a b t) s = turns_keep p.arities i a b t s
 step_keeps p is i xs ys sound (puts a b t) s = puts_keep p.arities i a b t s
 step_keeps p is i xs ys sound (meets a b t) s = meets_keep p.arities i a b t s
+step_keeps p is i xs ys sound (joins a b t) s = joins_keep p.arities i a b t s
 step_keeps p is i xs ys sound (fires n a b t) s = fires_keep p n i a b sound t s
 
 pub steps_keep : (p : Plans) (is : List ℕ) (i : List Word) (xs ys : List Piece) → ArePlans p

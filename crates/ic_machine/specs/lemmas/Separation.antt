@@ -7,7 +7,7 @@ use Rattle.ic_arena.specs.declared.word.Word.{Word}
 use Rattle.ic_arena.specs.Word.{word_eq}
 use Rattle.ic_arena.specs.Piece.{Piece, equated, idle, waits, room, uses}
 use Rattle.ic_machine.specs.Separate.{IsSeparate}
-use Rattle.ic_machine.specs.Steps.{Turns, Puts, Meets}
+use Rattle.ic_machine.specs.Steps.{Turns, Puts, Meets, Joins}
 
 -- a sum over pieces of which some are brought to the front
 pub sum_of_parts : (f : Piece → ℕ) (xs front rest : List Piece) → IsPermutation xs (front ++ rest)
@@ -59,5 +59,16 @@ meets_keep arities i xs ys t s = record {
       let uy = sum_of_parts (uses w) ys (equated t.waiting t.other ∷ []) t.rest t.result in
       let rx = sum_of_parts (room w) xs (equated t.named t.other ∷ waits t.named t.waiting ∷ []) t.rest t.given in
       let ry = sum_of_parts (room w) ys (equated t.waiting t.other ∷ []) t.rest t.result in
+      omega arith;
+}
+
+pub joins_keep : (arities : List ℕ) (i : List Word) (xs ys : List Piece) → Joins xs ys
+    → IsSeparate arities i xs → IsSeparate arities i ys
+joins_keep arities i xs ys t s = record {
+  each = λ w c. let before = s.each w c in
+      let ux = sum_of_parts (uses w) xs (waits t.named t.between ∷ waits t.between t.waiting ∷ []) t.rest t.given in
+      let uy = sum_of_parts (uses w) ys (waits t.named t.waiting ∷ []) t.rest t.result in
+      let rx = sum_of_parts (room w) xs (waits t.named t.between ∷ waits t.between t.waiting ∷ []) t.rest t.given in
+      let ry = sum_of_parts (room w) ys (waits t.named t.waiting ∷ []) t.rest t.result in
       omega arith;
 }

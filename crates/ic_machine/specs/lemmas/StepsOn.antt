@@ -5,7 +5,7 @@ use Rattle.std.proofs.lemmas.List.{append-nil}
 use Rattle.std.proofs.lemmas.List.Sorted.{IsPermutation-refl, IsPermutation-trans, IsPermutation-sym}
 use Rattle.ic_arena.specs.Piece.{Piece}
 use Rattle.ic_machine.specs.Plan.{Plans}
-use Rattle.ic_machine.specs.Steps.{Step, turns, puts, meets, fires, Steps, no_step, one_more}
+use Rattle.ic_machine.specs.Steps.{Step, turns, puts, meets, joins, fires, Steps, no_step, one_more}
 
 -- the pieces after a step, in another order
 pub step_to : (p : Plans) (is : List ℕ) (xs ys zs : List Piece) → Step p is xs ys → IsPermutation ys zs
@@ -27,6 +27,14 @@ step_to p is xs ys zs (puts a b s) h = puts a zs (record {
 step_to p is xs ys zs (meets a b s) h = meets a zs (record {
   named = s.named;
   other = s.other;
+  waiting = s.waiting;
+  rest = s.rest;
+  given = s.given;
+  result = IsPermutation-trans zs b _ (IsPermutation-sym b zs h) s.result;
+})
+step_to p is xs ys zs (joins a b s) h = joins a zs (record {
+  named = s.named;
+  between = s.between;
   waiting = s.waiting;
   rest = s.rest;
   given = s.given;

@@ -1,35 +1,58 @@
-use Rattle.std.proofs.Common.{[], ◌++◌, arith, refl}
-use Rattle.ic_in_place.specs.Running.{no_look, one_more_look}
+use Rattle.std.proofs.Common.{◌≡◌, ℕ, [], ◌++◌, sum, ap, sym, subst, ◌∙◌, arith, refl}
+use Rattle.ic_machine.specs.Net.{Net}
+use Rattle.ic_machine.specs.Runs.{Ran}
+use Rattle.ic_in_place.specs.Running.{Looked, no_look, one_more_look}
 use Rattle.ic_in_place.proofs.Onward.{ran_nothing, ran_through}
 use Rattle.ic_in_place.proofs.Pieces.{too_many, goes_on, looked_at, next_look, one_more_piece}
 use Rattle.ic_in_place.proofs.running.run_in_pieces.Goals as goal
 
 pub pieces-init : goal.pieces-init
-pieces-init g c = record { ran = ran_nothing c.args.program.now c.args.machine.now; counted = refl; whole = (0, omega arith); looked = ([], no_look c.args.machine.now) }
+pieces-init g c = record {
+  ran = ran_nothing c.args.program.now c.args.machine.now;
+  counted = refl;
+  whole = (0, omega arith);
+  looked = (
+    [],
+    subst (λ (n : ℕ). Looked c.args.program.now c.args.bounds.nodes n [] c.args.machine.now c.args.machine.now)
+        (sym c.names_until_sweep-due.ensures) (no_look c.args.machine.now),
+  );
+}
 
 pub pieces-smaller : goal.pieces-smaller
 pieces-smaller g c = omega (arith, c.min-steps.ensures, c.if-left-eq0.false)
 
 pub pieces-preserved : goal.pieces-preserved
-pieces-preserved g c = record {
-  ran = ran_through c.args.program.now c.args.machine.now c.pieces.machine c.run_piece-ended.new.machine c.pieces.invariant.ran c.run_piece-ended.ensures.ran;
-  counted = goes_on c.args.program.now c.args.bounds.steps c.pieces.left c.min-steps.result c.args.machine.now c.pieces.machine c.run_piece-ended.new.machine
-      c.pieces.invariant.counted (omega (arith, c.min-steps.ensures)) c.in_default.ensures.none;
-  whole = one_more_piece c.args.program.now c.min-steps.result c.args.machine.now c.pieces.machine c.run_piece-ended.new.machine
-      c.pieces.invariant.whole c.in_default.ensures.none (omega (arith, c.min-steps.ensures, c.if-left-eq0.false));
-  looked = (
-    c.pieces.invariant.looked.0 ++ c.run_piece-ended.ensures.ran.fired,
-    one_more_look c.pieces.invariant.looked.0 c.args.machine.now c.pieces.machine c.run_piece-ended.new.machine c.pieces.invariant.looked.1 (record {
-      ran = c.run_piece-ended.ensures.ran;
-      whole = next_look c.args.program.now c.min-steps.result c.pieces.machine c.run_piece-ended.new.machine c.in_default.ensures.none
-          (omega (arith, c.min-steps.ensures, c.if-left-eq0.false));
-      within = record {
-        places = omega (arith, c.places-places.ensures.count, c.if-places-bounds.false);
-        pieces = omega (arith, c.places-places.ensures.pieces, c.if-places-bounds.false);
-      };
-    }),
-  );
-}
+pieces-preserved g c =
+    -- a whole piece, and names that were put through after it
+    let next : Ran c.args.program.now c.pieces.machine c.sweep_if_due-due.new.machine =
+    ran_through c.args.program.now c.pieces.machine c.run_piece-ended.new.machine c.sweep_if_due-due.new.machine c.run_piece-ended.ensures.ran
+    (c.sweep_if_due-due.ensures.ran c.args.program.now) in
+    let same : c.sweep_if_due-due.new.machine.interactions ≡ c.run_piece-ended.new.machine.interactions =
+    ap (λ (n : Net). n.interactions) c.sweep_if_due-due.ensures.same in
+    record {
+      ran = ran_through c.args.program.now c.args.machine.now c.pieces.machine c.sweep_if_due-due.new.machine c.pieces.invariant.ran next;
+      counted = (let before = goes_on c.args.program.now c.args.bounds.steps c.pieces.left c.min-steps.result c.args.machine.now c.pieces.machine c.run_piece-ended.new.machine
+          c.pieces.invariant.counted (omega (arith, c.min-steps.ensures)) c.in_default.ensures.none in omega (arith, before, same));
+      whole = (let before = one_more_piece c.args.program.now c.min-steps.result c.args.machine.now c.pieces.machine c.run_piece-ended.new.machine
+          c.pieces.invariant.whole c.in_default.ensures.none (omega (arith, c.min-steps.ensures, c.if-left-eq0.false)) in (before.0, same ∙ before.1));
+      looked = (
+        c.pieces.invariant.looked.0 ++ next.fired,
+        one_more_look c.pieces.due c.sweep_if_due-due.result c.pieces.invariant.looked.0 c.args.machine.now c.pieces.machine c.sweep_if_due-due.new.machine c.pieces.invariant.looked.1 (record {
+          ran = next;
+          whole = same ∙ next_look c.args.program.now c.min-steps.result c.pieces.machine c.run_piece-ended.new.machine c.in_default.ensures.none
+              (omega (arith, c.min-steps.ensures, c.if-left-eq0.false));
+          tidy = c.sweep_if_due-due.ensures.tidy;
+          within = record {
+            places = (let names : c.sweep_if_due-due.new.machine.names ≡ c.run_piece-ended.new.machine.names =
+                ap (λ (n : Net). n.names) c.sweep_if_due-due.ensures.same in
+                let agents : sum c.sweep_if_due-due.new.machine.agents ≡ sum c.run_piece-ended.new.machine.agents =
+                ap (λ (n : Net). sum n.agents) c.sweep_if_due-due.ensures.same in
+                omega (arith, c.places-places.ensures.count, c.if-places-bounds.false, names, agents));
+            pieces = omega (arith, c.places-places.ensures.pieces, c.if-places-bounds.false, c.sweep_if_due-due.ensures.fewer);
+          };
+        }),
+      );
+    }
 
 pub returns-in-Some-clause-ran : goal.returns-in-Some-clause-ran
 returns-in-Some-clause-ran g c =
@@ -51,6 +74,7 @@ returns-then-places-bounds-clause-ends g c =
 pub returns-in-Some-clause-watched : goal.returns-in-Some-clause-watched
 returns-in-Some-clause-watched g c = record {
   mark = c.pieces.machine;
+  allowed = c.pieces.due;
   before = c.pieces.invariant.looked.0;
   looked = c.pieces.invariant.looked.1;
   after = c.run_piece-ended.ensures.ran;
@@ -60,6 +84,7 @@ returns-in-Some-clause-watched g c = record {
 pub returns-then-left-eq0-clause-watched : goal.returns-then-left-eq0-clause-watched
 returns-then-left-eq0-clause-watched g c = record {
   mark = c.pieces.machine;
+  allowed = c.pieces.due;
   before = c.pieces.invariant.looked.0;
   looked = c.pieces.invariant.looked.1;
   after = c.run_piece-ended.ensures.ran;
@@ -69,6 +94,7 @@ returns-then-left-eq0-clause-watched g c = record {
 pub returns-then-places-bounds-clause-watched : goal.returns-then-places-bounds-clause-watched
 returns-then-places-bounds-clause-watched g c = record {
   mark = c.pieces.machine;
+  allowed = c.pieces.due;
   before = c.pieces.invariant.looked.0;
   looked = c.pieces.invariant.looked.1;
   after = c.run_piece-ended.ensures.ran;

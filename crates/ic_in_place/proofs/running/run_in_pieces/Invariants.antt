@@ -10,7 +10,7 @@ invariant-pieces g l = record {
   ran : Ran l.program l.initial.machine l.machine;
   counted : l.machine.interactions + l.left ≡ l.initial.machine.interactions + l.bounds.steps;
   whole : (looks : ℕ) × (l.machine.interactions ≡ l.initial.machine.interactions + looks * PIECE);
-  looked : (fired : List ℕ) × Looked l.program l.bounds.nodes fired l.initial.machine l.machine;
+  looked : (fired : List ℕ) × Looked l.program l.bounds.nodes l.due fired l.initial.machine l.machine;
 }
 
 abbrev pub decreases-pieces : goal.decreases-pieces

@@ -1,14 +1,13 @@
-use Rattle.std.proofs.Common.{List, [], ◌∷◌, ◌++◌, map, ap, sym, subst, ◌∙◌, refl}
+use Rattle.std.proofs.Common.{List, [], ◌∷◌, ◌++◌, map, subst, ◌∙◌, refl}
 use Rattle.std.proofs.lemmas.List.Sorted.{IsPermutation-refl}
 use Rattle.ic_arena.specs.declared.word.Word.{Word}
-use Rattle.ic_arena.specs.Piece.{Piece, equated}
-use Rattle.ic_arena.specs.Tables.{names_pieces}
+use Rattle.ic_arena.specs.Piece.{Piece, equated, waits}
+use Rattle.ic_arena.specs.Tables.{Entries, Replaced, names_pieces}
 use Rattle.ic_machine.specs.declared.equation.Equation.{Equation}
 use Rattle.ic_machine.specs.Net.{equated_of}
 use Rattle.ic_machine.specs.Steps.{Steps, no_step}
-use Rattle.ic_machine.specs.inner.Linking.{Pushed}
-use Rattle.ic_machine.proofs.LinkSteps.{turned}
-use Rattle.ic_machine.proofs.Links.{named_turned, on_left, on_neither, on_right, pushed_none, steps_on}
+use Rattle.ic_machine.specs.inner.Linking.{Meeting, Pushed}
+use Rattle.ic_machine.proofs.Links.{meeting, meets_right, named_turned, side_room, steps_on}
 use Rattle.ic_machine.proofs.linking.link.Goals as goal
 
 pub follow-init : goal.follow-init
@@ -24,98 +23,81 @@ follow-init c = record {
   capacity = refl;
 }
 
-pub returns-in_default-clause-steps : goal.returns-in_default-clause-steps
-returns-in_default-clause-steps c = λ p rest.
-    let ns : List Piece = names_pieces 0 c.follow.names.entries in
-    let ms : List Piece = names_pieces 0 c.meet.new.names.entries in
-    let before : List Piece = names_pieces 0 c.args.names.now.entries in
-    subst (λ (l : List Equation). Steps p []
-    (equated_of c.args.equation ∷ (before ++ (map equated_of c.args.pending.now.items ++ rest)))
-    (ms ++ (map equated_of l ++ rest))) (sym c.follow.invariant.pending)
-    (on_left p (equated_of c.args.equation ∷ (before ++ (map equated_of c.args.pending.now.items ++ rest)))
-    c.follow.left c.follow.right ns (map equated_of c.args.pending.now.items ++ rest)
-    (ms ++ (map equated_of c.args.pending.now.items ++ rest)) c.if-left-eq-NAME.true
-    (c.follow.invariant.steps p (map equated_of c.args.pending.now.items ++ rest))
-    (c.in_default.ensures.put p (map equated_of c.args.pending.now.items ++ rest)))
+pub taken-requires : goal.taken-requires
+taken-requires c = record { room = side_room c.follow.left c.follow.right c.follow.names.entries c.follow.invariant.named }
 
-pub returns-in_default-clause-pushed : goal.returns-in_default-clause-pushed
-returns-in_default-clause-pushed c =
-    subst (λ (l : List Equation). Pushed c.args.pending.now.items l) (sym c.follow.invariant.pending)
-    (pushed_none c.args.pending.now.items)
-
-pub follow-preserved-then-left-eq-NAME : goal.follow-preserved-then-left-eq-NAME
-follow-preserved-then-left-eq-NAME c = record {
-  steps = λ p rest.
-      let ns : List Piece = names_pieces 0 c.follow.names.entries in
-      let ms : List Piece = names_pieces 0 c.meet.new.names.entries in
-      on_left p (equated_of c.args.equation ∷ (names_pieces 0 c.args.names.now.entries ++ rest))
-      c.follow.left c.follow.right ns rest (equated c.in-Some.waiting c.follow.right ∷ (ms ++ rest))
-      c.if-left-eq-NAME.true (c.follow.invariant.steps p rest) (c.in-Some.ensures.met.steps p rest);
-  named = c.in-Some.ensures.met.named;
-  names = c.meet.ensures.names ∙ c.follow.invariant.names;
-  memory = c.meet.ensures.memory ∙ c.follow.invariant.memory;
-  pending = c.follow.invariant.pending;
-  len = c.follow.invariant.len;
-  capacity = c.follow.invariant.capacity;
-}
-
-pub returns-in_default-meet-clause-steps : goal.returns-in_default-meet-clause-steps
-returns-in_default-meet-clause-steps c = λ p rest.
-    let ns : List Piece = names_pieces 0 c.follow.names.entries in
-    let ms : List Piece = names_pieces 0 c.meet-then-right-eq-NAME.new.names.entries in
-    let before : List Piece = names_pieces 0 c.args.names.now.entries in
-    subst (λ (l : List Equation). Steps p []
-    (equated_of c.args.equation ∷ (before ++ (map equated_of c.args.pending.now.items ++ rest)))
-    (ms ++ (map equated_of l ++ rest))) (sym c.follow.invariant.pending)
-    (on_right p (equated_of c.args.equation ∷ (before ++ (map equated_of c.args.pending.now.items ++ rest)))
-    c.follow.left c.follow.right ns (map equated_of c.args.pending.now.items ++ rest)
-    (ms ++ (map equated_of c.args.pending.now.items ++ rest)) c.if-right-eq-NAME.true
-    (c.follow.invariant.steps p (map equated_of c.args.pending.now.items ++ rest))
-    (c.in_default-meet.ensures.put p (map equated_of c.args.pending.now.items ++ rest)))
-
-pub returns-in_default-meet-clause-pushed : goal.returns-in_default-meet-clause-pushed
-returns-in_default-meet-clause-pushed c =
-    subst (λ (l : List Equation). Pushed c.args.pending.now.items l) (sym c.follow.invariant.pending)
-    (pushed_none c.args.pending.now.items)
-
-pub follow-preserved : goal.follow-preserved
-follow-preserved c = record {
-  steps = λ p rest.
-      let ns : List Piece = names_pieces 0 c.follow.names.entries in
-      let ms : List Piece = names_pieces 0 c.meet-then-right-eq-NAME.new.names.entries in
-      let u : Word = c.in-Some-meet.waiting in
-      on_right p (equated_of c.args.equation ∷ (names_pieces 0 c.args.names.now.entries ++ rest))
-      c.follow.left c.follow.right ns rest (equated c.follow.left u ∷ (ms ++ rest))
-      c.if-right-eq-NAME.true (c.follow.invariant.steps p rest)
-      (steps_on p (equated u c.follow.left ∷ (ms ++ rest)) (c.in-Some-meet.ensures.met.steps p rest)
-      (turned p u c.follow.left (ms ++ rest)));
-  named = named_turned c.in-Some-meet.waiting c.follow.left c.meet-then-right-eq-NAME.new.names.entries
-      c.in-Some-meet.ensures.met.named;
-  names = c.meet-then-right-eq-NAME.ensures.names ∙ c.follow.invariant.names;
-  memory = c.meet-then-right-eq-NAME.ensures.memory ∙ c.follow.invariant.memory;
-  pending = c.follow.invariant.pending;
-  len = c.follow.invariant.len;
-  capacity = c.follow.invariant.capacity;
-}
-
-pub returns-else-right-eq-NAME-clause-steps : goal.returns-else-right-eq-NAME-clause-steps
-returns-else-right-eq-NAME-clause-steps c = λ p rest.
-    let ns : List Piece = names_pieces 0 c.follow.names.entries in
-    let start : List Piece = equated_of c.args.equation
-    ∷ (names_pieces 0 c.args.names.now.entries ++ (map equated_of c.args.pending.now.items ++ rest)) in
-    on_neither p start (record { left = c.follow.left; right = c.follow.right }) ns rest c.follow.pending.items
-    c.push_reserved.new.self.items
-    (subst (λ (l : List Equation). Steps p [] start
-    (equated c.follow.left c.follow.right ∷ (ns ++ (map equated_of l ++ rest)))) (sym c.follow.invariant.pending)
-    (c.follow.invariant.steps p (map equated_of c.args.pending.now.items ++ rest)))
-    c.push_reserved.ensures.items
-
-pub returns-else-right-eq-NAME-clause-pushed : goal.returns-else-right-eq-NAME-clause-pushed
-returns-else-right-eq-NAME-clause-pushed c =
-    let e : Equation = record { left = c.follow.left; right = c.follow.right } in
+pub taken-requires-in_default : goal.taken-requires-in_default
+taken-requires-in_default c =
+    let l : Word = c.follow.left in
+    let r : Word = c.follow.right in
     record {
-      more = e ∷ [];
-      after = c.push_reserved.ensures.items
-          ∙ ap (λ (l : List Equation). l ++ e ∷ []) c.follow.invariant.pending;
-      pairs = ((c.if-left-eq-NAME.false, c.if-right-eq-NAME.false), tt);
+      room = rw c.in_default.ensures.same
+          (side_room r l c.follow.names.entries (named_turned l r c.follow.names.entries c.follow.invariant.named));
     }
+
+-- what waited for the left side takes its place
+pub follow-preserved-in-Some : goal.follow-preserved-in-Some
+follow-preserved-in-Some c =
+    let l : Word = c.follow.left in
+    let r : Word = c.follow.right in
+    let u : Word = c.in-Some.waiting in
+    let old : List Word = c.follow.names.entries in
+    let new : List Word = c.taken.new.names.entries in
+    let met : Meeting l r u old new = meeting l r u old new c.follow.invariant.named c.in-Some.ensures.taken.word c.in-Some.ensures.taken.gone in
+    record {
+      steps = λ p rest. steps_on p (equated l r ∷ (names_pieces 0 old ++ rest)) (c.follow.invariant.steps p rest) (met.steps p rest);
+      named = met.named;
+      names = c.taken.ensures.names ∙ c.follow.invariant.names;
+      memory = c.taken.ensures.memory ∙ c.follow.invariant.memory;
+      pending = c.follow.invariant.pending;
+      len = c.follow.invariant.len;
+      capacity = c.follow.invariant.capacity;
+    }
+
+-- what waited for the right side does
+pub follow-preserved : goal.follow-preserved
+follow-preserved c =
+    let l : Word = c.follow.left in
+    let r : Word = c.follow.right in
+    let u : Word = c.in-Some-taken.waiting in
+    let old : List Word = c.follow.names.entries in
+    let new : List Word = c.taken-in_default.new.names.entries in
+    let met : Meeting r l u old new = meeting r l u old new (named_turned l r old c.follow.invariant.named)
+    c.in-Some-taken.ensures.taken.word
+    (subst (λ (n : Entries). Replaced (waits r u ∷ []) [] (names_pieces 0 n.entries) (names_pieces 0 new)) c.in_default.ensures.same
+    c.in-Some-taken.ensures.taken.gone) in
+    record {
+      steps = λ p rest. steps_on p (equated l r ∷ (names_pieces 0 old ++ rest)) (c.follow.invariant.steps p rest)
+          (meets_right p l r u (names_pieces 0 old) (names_pieces 0 new) rest met.steps);
+      named = named_turned u l new met.named;
+      names = c.taken-in_default.ensures.names ∙ c.taken.ensures.names ∙ c.follow.invariant.names;
+      memory = c.taken-in_default.ensures.memory ∙ c.taken.ensures.memory ∙ c.follow.invariant.memory;
+      pending = c.follow.invariant.pending;
+      len = c.follow.invariant.len;
+      capacity = c.follow.invariant.capacity;
+    }
+
+pub settle-requires-clause-named : goal.settle-requires-clause-named
+settle-requires-clause-named c = rw (c.in_default-taken.ensures.same, c.in_default.ensures.same) c.follow.invariant.named
+
+pub settle-requires-clause-left : goal.settle-requires-clause-left
+settle-requires-clause-left c = rw (c.in_default-taken.ensures.same, c.in_default.ensures.same) c.in_default.ensures.none
+
+pub settle-requires-clause-right : goal.settle-requires-clause-right
+settle-requires-clause-right c = rw c.in_default-taken.ensures.same c.in_default-taken.ensures.none
+
+pub returns-in_default-taken-clause-steps : goal.returns-in_default-taken-clause-steps
+returns-in_default-taken-clause-steps c = λ p rest.
+    let l : Word = c.follow.left in
+    let r : Word = c.follow.right in
+    let ns : List Piece = names_pieces 0 c.follow.names.entries in
+    let others : List Piece = map equated_of c.args.pending.now.items ++ rest in
+    let end : List Piece = names_pieces 0 c.settle.new.names.entries ++ (map equated_of c.settle.new.pending.items ++ rest) in
+    steps_on p (equated l r ∷ (ns ++ others)) (c.follow.invariant.steps p others)
+    (subst (λ (e : List Equation). Steps p [] (equated l r ∷ (ns ++ (map equated_of e ++ rest))) end) c.follow.invariant.pending
+    (subst (λ (n : Entries). Steps p [] (equated l r ∷ (names_pieces 0 n.entries ++ (map equated_of c.follow.pending.items ++ rest))) end)
+    (c.in_default-taken.ensures.same ∙ c.in_default.ensures.same) (c.settle.ensures.steps p rest)))
+
+pub returns-in_default-taken-clause-pushed : goal.returns-in_default-taken-clause-pushed
+returns-in_default-taken-clause-pushed c =
+    subst (λ (l : List Equation). Pushed l c.settle.new.pending.items) c.follow.invariant.pending c.settle.ensures.pushed

@@ -1,6 +1,6 @@
 use Rattle.ic_meaning.proofs.Given.{NetLaws}
 use Rattle.ic_meaning.proofs.Reached.{linked_net}
-use Rattle.ic_meaning.proofs.Wholes.{order_net, turns_net, puts_net, meets_net}
+use Rattle.ic_meaning.proofs.Wholes.{order_net, turns_net, puts_net, meets_net, joins_net}
 use Rattle.ic_meaning.proofs.laws.steps_that_fire_nothing_keep_the_net.Goals as goal
 
 pub returns-clause-order : goal.returns-clause-order
@@ -58,6 +58,20 @@ returns-clause-meets c =
       taken = c.pieces_are_put_in_turn.ensures.taken;
     } in
     meets_net nets
+
+pub returns-clause-joins : goal.returns-clause-joins
+returns-clause-joins c =
+    let nets : NetLaws = record {
+      itself = c.one_net_is_an_equivalence.ensures.itself;
+      through = c.one_net_is_an_equivalence.ensures.through;
+      next = c.a_name_step_leads_to_one_net.ensures.next;
+      order = c.the_order_of_equations_is_no_matter.ensures.order;
+      turned = c.the_order_of_equations_is_no_matter.ensures.turned;
+      anywhere = c.a_piece_is_put_for_its_name.ensures.anywhere;
+      in_one = c.a_piece_is_put_for_its_name.ensures.equation;
+      taken = c.pieces_are_put_in_turn.ensures.taken;
+    } in
+    joins_net nets
 
 pub returns-clause-linked : goal.returns-clause-linked
 returns-clause-linked c =

@@ -1,11 +1,11 @@
-use Rattle.std.proofs.Common.{◌≡◌, ◌<◌, ℕ, zero, suc, List, [], ◌∷◌, ◌++◌, length, ap, sym, subst, ◌∙◌, arith, max, slice_set, slice_index_or}
+use Rattle.std.proofs.Common.{◌≡◌, ◌-◌, ◌<◌, ℕ, zero, suc, List, [], ◌∷◌, ◌++◌, length, ap, sym, subst, ◌∙◌, arith, max, slice_set, slice_index_or}
 use Rattle.ic_arena.specs.declared.word.Word.{Word}
 use Rattle.ic_arena.specs.declared.word.TheConstants.{FREE, IDLE}
 use Rattle.ic_arena.specs.Word.{name_word}
 use Rattle.ic_arena.specs.Piece.{idle}
 use Rattle.ic_arena.specs.Tables.{Entries, Replaced, names_pieces, entry}
 use Rattle.ic_arena.specs.inner.Free.{AreFound, AreUsed}
-use Rattle.ic_arena.proofs.Found.{found_none, found_some, found_used, used_end}
+use Rattle.ic_arena.proofs.Found.{found_none, found_one, found_used, found_zero, used_end}
 use Rattle.ic_arena.proofs.Full.{names_again, names_more}
 use Rattle.ic_arena.proofs.NamesPieces.{opened_again, opened_after}
 use Rattle.ic_arena.proofs.names.Names.open.Goals as goal
@@ -20,9 +20,9 @@ read_free : (ws : List Word) (i : ℕ) (w : Word) → i < length ws → w ≡ sl
     → (entry ws i).tag ≡ FREE
 read_free ws i w h e free = ap (λ (v : Word). v.tag) (sym (read_entry ws i w h e)) ∙ free
 
-none_free : (ws : List Word) (at : ℕ) → (n : ℕ) × AreFound n ws at → (at < length ws → ¬ ((entry ws at).tag ≡ FREE))
+none_free : (n : ℕ) (ws : List Word) (at : ℕ) → AreFound n ws at → (at < length ws → ¬ ((entry ws at).tag ≡ FREE))
     → AreUsed ws
-none_free ws at found h = found_none found.0 ws at h found.1
+none_free n ws at found h = found_none n ws at h found
 
 -- the name that was freed last isn't free
 not_found : (c : goal.After-push_reserved) → c.self.inside.free < length c.self.inside.entries.items
@@ -54,12 +54,22 @@ returns-then-index-clause-len c =
     (names_again old c.self.inside.free (record { tag = IDLE; index = 0 }))
 
 pub invariant_of-self-2 : goal.invariant_of-self-2
-invariant_of-self-2 c = (
-  0,
-  subst AreUsed (sym c.push_reserved.ensures.items)
-      (used_end c.self.inside.entries.items (record { tag = IDLE; index = 0 }) (λ e. omega arith)
-      (none_free c.self.inside.entries.items c.self.inside.free c.self.invariant (not_found c))),
-)
+invariant_of-self-2 c =
+    let old = c.self.inside in
+    let none : old.unused ≡ 0 = found_zero old.unused old.entries.items old.free (not_found c) c.self.invariant in
+    subst (λ (n : ℕ). AreFound n c.push_reserved.new.self.items old.free) (sym none)
+    (subst AreUsed (sym c.push_reserved.ensures.items)
+    (used_end old.entries.items (record { tag = IDLE; index = 0 }) (λ e. omega arith)
+    (none_free old.unused old.entries.items old.free c.self.invariant (not_found c))))
+
+-- at least one is free
+pub overflow_sub-self : goal.overflow_sub-self
+overflow_sub-self c =
+    let old = c.self.inside in
+    let there : old.free < length old.entries.items = (let whole = old.entries.ok.0 in let before = c.if-last-len.true in omega (arith, c.len.ensures)) in
+    let free : (entry old.entries.items old.free).tag ≡ FREE = read_free old.entries.items old.free c.index.result.now there c.index.ensures c.if-index.true in
+    let some = found_one old.unused old.entries.items old.free there free c.self.invariant in
+    omega (arith, some.1)
 
 pub returns-clause-len : goal.returns-clause-len
 returns-clause-len c =
@@ -69,7 +79,7 @@ returns-clause-len c =
     (sym c.push_reserved.ensures.items)
     (subst (λ (v : Entries). length (old ++ mark ∷ []) ≡ max (length v.entries) (length (names_pieces 0 (old ++ mark ∷ []))))
     c.self.view_is (names_more old mark (λ e. omega arith)
-    (none_free old c.self.inside.free c.self.invariant (not_found c))))
+    (none_free c.self.inside.unused old c.self.inside.free c.self.invariant (not_found c))))
 
 pub invariant_of-self : goal.invariant_of-self
 invariant_of-self c =
@@ -78,13 +88,14 @@ invariant_of-self c =
     let mark : Word = record { tag = IDLE; index = 0 } in
     let there : name < length old = (let whole = c.self.inside.entries.ok.0 in let before = c.if-last-len.true in omega (arith, c.len.ensures)) in
     let free : (entry old name).tag ≡ FREE = read_free old name c.index.result.now there c.index.ensures c.if-index.true in
-    let some : (k : ℕ) × AreFound (suc k) old name = found_some c.self.invariant.0 old name there free c.self.invariant.1 in
+    let some : (k : ℕ) × (c.self.inside.unused ≡ suc k) × AreFound (suc k) old name =
+    found_one c.self.inside.unused old name there free c.self.invariant in
+    let left : some.0 ≡ c.self.inside.unused - 1 = omega (arith, some.1) in
     let next : c.index-then-index.result.now ≡ entry old name =
-    read_entry old name c.index-then-index.result.now there c.index-then-index.ensures in (
-      some.0,
-      subst (λ (v : Word). AreFound some.0 (slice_set old name mark) v.index) (sym next)
-          (found_used some.0 old name mark (λ e. omega arith) some.1),
-    )
+    read_entry old name c.index-then-index.result.now there c.index-then-index.ensures in
+    subst (λ (n : ℕ). AreFound n (slice_set old name mark) c.index-then-index.result.now.index) left
+    (subst (λ (v : Word). AreFound some.0 (slice_set old name mark) v.index) (sym next)
+    (found_used some.0 old name mark (λ e. omega arith) some.2))
 
 pub returns-clause-opened : goal.returns-clause-opened
 returns-clause-opened c =

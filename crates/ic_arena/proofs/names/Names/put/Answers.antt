@@ -21,8 +21,6 @@ invariant_of-self c =
     let old = c.self.inside in
     let there = subst (λ (v : Entries). c.args.name < length v.entries) (sym c.self.view_is) c.requires.there in
     let none = subst (λ (v : Entries). (entry v.entries c.args.name).tag ≡ IDLE) (sym c.self.view_is) c.requires.idle in
-    let word = c.requires.word in (
-      c.self.invariant.0,
-      found_set c.self.invariant.0 old.entries.items old.free c.args.name c.args.word there
-          (λ e. omega arith) (λ e. omega arith) c.self.invariant.1,
-    )
+    let word = c.requires.word in
+    found_set old.unused old.entries.items old.free c.args.name c.args.word there
+    (λ e. omega arith) (λ e. omega arith) c.self.invariant

@@ -1,0 +1,18 @@
+use Rattle.std.proofs.Common.{◌≡◌, ◌<◌, ◌≤◌, ℕ, List, [], ◌++◌, length}
+use Rattle.ic_arena.specs.Piece.{Piece}
+use Rattle.ic_arena.specs.Tables.{names_pieces}
+use Rattle.ic_machine.specs.Plan.{Plans}
+use Rattle.ic_machine.specs.Steps.{Steps}
+use Rattle.ic_machine.specs.inner.Sweeping.{IsThrough, IsRoomy}
+use Rattle.ic_machine.proofs.sweeping.sweep.Given as goal
+
+-- the first names are through
+abbrev pub invariant-loop-name : goal.invariant-loop-name
+invariant-loop-name l = record {
+  steps : (p : Plans) (rest : List Piece) → Steps p [] (names_pieces 0 l.initial.names.entries ++ rest) (names_pieces 0 l.names.entries ++ rest);
+  room : IsRoomy l.names.entries;
+  through : (i : ℕ) → i < l.name → IsThrough l.names.entries i;
+  fewer : length (names_pieces 0 l.names.entries) ≤ length (names_pieces 0 l.initial.names.entries);
+  names : length l.names.entries ≡ length l.initial.names.entries;
+  memory : l.names.capacity ≡ l.initial.names.capacity;
+}
