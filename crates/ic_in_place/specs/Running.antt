@@ -46,14 +46,14 @@ pub record IsWithin (nodes : ℕ) (m : Net) : Type 0 where
 abbrev pub names_allowed : Net → ℕ
 names_allowed m = max (2 * in_use NAME m.places) (m.names / 2) + PIECE
 
--- Fewer names are in use than were allowed before, and as many are allowed still. Or no name joins two others, and how many
--- are allowed is counted anew.
+-- Fewer names are in use than were allowed before, and as many are allowed still. Or none is left to put through, and how
+-- many are allowed is counted anew.
 abbrev pub IsTidy : ℕ → ℕ → Net → Type 0
 IsTidy before allowed m = ((in_use NAME m.places < before) × (allowed ≡ before))
     ⊎ (ArePutThrough m.places × (allowed ≡ names_allowed m))
 
--- One more whole piece of a run was made, and then there were at most so many places. Names were put through if as many were
--- in use as were allowed before.
+-- One more whole piece of a run was made, and then there were at most so many places. Fewer names are in use than were
+-- allowed before, or all are put through.
 pub record IsNextLook (p : Plans) (nodes before allowed : ℕ) (old new : Net) : Type 0 where
   pub ran : Ran p old new
   pub whole : new.interactions ≡ old.interactions + PIECE

@@ -1,6 +1,7 @@
 //! Laws of what a reduction in place answers and tells.
 
 ghost use Rattle.std.specs.Prelude.{◌≡◌, ◌≢◌, ℕ, ◌+◌, ◌≤◌, List, [], false, Option, None, Some, Ok, Err, IsTrue, length};
+ghost use Rattle.std.specs.List.{AllByRecursion};
 ghost use Rattle.std.specs.Option.{option_map};
 ghost use Rattle.ic_term.specs.Configuration.{Configuration};
 ghost use Rattle.ic_term.specs.Symbol.{is_over};
@@ -9,6 +10,7 @@ ghost use Rattle.ic_rules.specs.RuleSet.{IsRuleSet};
 ghost use Rattle.ic_rules.specs.System.{SystemParts};
 ghost use Rattle.ic_round.specs.Naming.{HasNames};
 ghost use Rattle.ic_round.specs.Rounds.{IsQuiet};
+ghost use Rattle.ic_machine.specs.Net.{IsPair};
 ghost use Rattle.ic_confluence.specs.Kinds.{Kind, Chain};
 ghost use Rattle.ic_reaching.specs.OneNet.{OneNet};
 ghost use Rattle.ic_reaching.specs.Reaching.{Reaches, rules_fired};
@@ -27,7 +29,6 @@ ghost use Rattle.ic_in_place.specs.declared.stream.Asked.TheVariants.{Nothing};
 ghost use Rattle.ic_in_place.specs.declared.stream.Outcome.{Outcome};
 ghost use Rattle.ic_in_place.specs.Counting.{TellsNameSteps};
 ghost use Rattle.ic_in_place.specs.Reducing.{IsPutTogether, IsReached};
-ghost use Rattle.ic_in_place.specs.Running.{HasPairs};
 ghost use Rattle.ic_in_place.specs.Reductions.{EndsAs, ReducesInPlace, Tells, is_written};
 
 /// What stands in an empty output after a reduction to a quiet end is the line of the net of every order, and the outcome
@@ -107,7 +108,7 @@ pub fn a_stop_comes_before_an_interaction()
         × (length fired ≡ interactions + 1) }
     ensures memory { (s : SystemParts) (bounds : Bounds) (answer : Configuration)
         (interactions places : ℕ) → (is : IsReached s bounds answer Memory interactions places)
-        → HasPairs is.held.machine.pending }
+        → (is.held.machine.pending ≢ []) × AllByRecursion IsPair is.held.machine.pending }
 {
     ic_meaning::laws::steps_of_pieces_are_steps_of_the_net();
 }

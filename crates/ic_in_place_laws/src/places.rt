@@ -1,14 +1,14 @@
 //! Laws of the places that a reduction in place takes.
 
-ghost use Rattle.std.specs.Prelude.{◌≡◌, ℕ, ◌+◌, ◌*◌, ◌^◌, ◌≤◌, Bool, List, [], ◌∷◌, Contains, length, max, sum_by};
+ghost use Rattle.std.specs.Prelude.{◌≡◌, ◌⊎◌, ℕ, ◌+◌, ◌*◌, ◌/◌, ◌^◌, ◌<◌, ◌≤◌, Bool, List, [], ◌∷◌, Contains, length, max, sum_by};
 ghost use Rattle.ic_term.specs.Configuration.{Configuration, configuration_names, configuration_nodes};
 ghost use Rattle.ic_rules.specs.Rule.{Rule, IsRule, rule_nodes};
 ghost use Rattle.ic_rules.specs.RuleSet.{Rules, IsRuleSet};
 ghost use Rattle.ic_rules.specs.System.{SystemParts};
 ghost use Rattle.ic_arena.specs.declared.word.Word.{Word};
 ghost use Rattle.ic_arena.specs.declared.word.TheConstants.{NAME};
-ghost use Rattle.ic_arena.specs.Piece.{Piece, equated};
-ghost use Rattle.ic_machine.specs.Net.{Net, all_places};
+ghost use Rattle.ic_arena.specs.Piece.{Piece, equated, waits};
+ghost use Rattle.ic_machine.specs.Net.{Net, all_places, in_use};
 ghost use Rattle.ic_machine.specs.Plan.{Planned, Plans, IsPlan, places_made};
 ghost use Rattle.ic_machine.specs.Runs.{Starts, Way};
 ghost use Rattle.ic_machine.specs.Steps.{Fires, Steps};
@@ -19,6 +19,7 @@ ghost use Rattle.ic_in_place.specs.declared.running.End.TheVariants.{Limit};
 ghost use Rattle.ic_in_place.specs.Agents.{agents_with_arguments, with_arguments};
 ghost use Rattle.ic_in_place.specs.Holding.{AreCompiled, AreGiven};
 ghost use Rattle.ic_in_place.specs.Reducing.{IsReached, IsReachedBy};
+ghost use Rattle.ic_in_place.specs.Running.{IsNextLook};
 ghost use Rattle.ic_in_place_laws.specs.Nodes.{nodes_at, nodes_fired};
 
 /// A plan that stands for a rule makes no more names than the rule has, and as many agents as its arguments have with
@@ -87,4 +88,16 @@ pub fn a_pair_fires_after_all_is_linked()
         → (before : List Piece) × Steps p [] xs before × Fires p i before m
         × ((l r : Word) → Contains before (equated l r)
         → (¬ (l.tag ≡ NAME)) × (¬ (r.tag ≡ NAME))) }
+{}
+
+/// What a look at the places finds of names. Fewer are in use than were allowed before, and as many are allowed from then
+/// on. Or no name waits for another for which a word waits, and twice as many as are in use are allowed, or half of all
+/// that there are if these are more, and 4,096.
+pub fn names_are_put_through_at_looks()
+    ensures { (p : Plans) (nodes before allowed : ℕ) (old new : Net)
+        → IsNextLook p nodes before allowed old new
+        → ((in_use NAME new.places < before) × (allowed ≡ before))
+        ⊎ (((x y u : Word) → Contains new.places (waits x y) → Contains new.places (waits y u)
+        → x ≡ y)
+        × (allowed ≡ max (2 * in_use NAME new.places) (new.names / 2) + 4096)) }
 {}

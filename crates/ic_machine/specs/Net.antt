@@ -90,7 +90,7 @@ places_of (suc s) n = slice_index_or n.agents s 0
 abbrev pub all_places : Net → ℕ
 all_places n = n.names + sum n.agents
 
--- A word for which another one waits itself waits for none but itself: no name joins two others.
+-- A word for which another one waits itself waits for none but itself.
 abbrev pub ArePutThrough : List Piece → Type 0
 ArePutThrough ps = (x y u : Word) → Contains ps (waits x y) → Contains ps (waits y u) → x ≡ y
 

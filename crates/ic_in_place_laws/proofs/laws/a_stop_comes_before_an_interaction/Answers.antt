@@ -12,4 +12,5 @@ returns-clause-full c = λ s bounds answer interactions places set over named is
     one_more c.steps_of_pieces_are_steps_of_the_net.ensures.reached s bounds answer Limit interactions places set over named is (is.full refl).0
 
 pub returns-clause-memory : goal.returns-clause-memory
-returns-clause-memory c = λ s bounds answer interactions places is. is.left refl
+returns-clause-memory c = λ s bounds answer interactions places is.
+    let left = is.left refl in (left.some, left.pairs)
