@@ -79,11 +79,13 @@ def give_up(counts):
 
 def main(words):
     print(f"trials: {PROGRAM}, SEED={SEED} (set it to draw the same again)", flush=True)
-    if "--without-program" not in words and not os.access(PROGRAM, os.X_OK):
+    tries_it = "--without-program" not in words
+    if tries_it and not os.access(PROGRAM, os.X_OK):
         print("trials: it isn't there: make prove makes it, and so does ./gate. make trials tries the one that ./icserve runs")
         print("0 passed, 1 failed")
         return 1
-    prepare()
+    if tries_it:
+        prepare()
     counts = {"ok": 0, "FAILED": 0, "skipped": 0}
     failed, reasons = [], set()
     watch = threading.Timer(AT_MOST, give_up, [counts])
