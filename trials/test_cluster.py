@@ -44,6 +44,15 @@ class Scripts(Shards):
                     self.is_left("jobs.txt", "there")
                     self.equals(self.room / "there", "what is there", [], list((self.room / "there").iterdir()))
 
+    def test_each_script_tells_how_it_is_used(self):
+        for script in ("cut", "shard", "gather", "progress"):
+            for word in ("--help", "-h"):
+                ran = self.script(script, word)
+                self.equals(ran.command, "status and standard error", (0, b""), (ran.status, ran.err))
+                self.equals(ran.command, "its first words", True, ran.out.startswith(script.encode() + b" "))
+                self.equals(ran.command, "whether it tells the statuses", True, b"\nStatus 0: " in ran.out)
+        self.is_left()
+
     def test_without_the_program_each_script_says_so(self):
         self.cut([TWICE])
         for script, words in {"cut": ["jobs.txt", "new"], "shard": ["jobs/00001"], "progress": ["jobs"]}.items():
