@@ -57,13 +57,12 @@ class Pages(Trial):
     def test_the_session_of_the_readme_prints_what_the_readme_says(self):
         section = (TOP / "README.md").read_text().split("## A session")[1].split("\n## ")[0]
         (self.room / "session.md").write_text(section)
-        served, lines, prints, killed, prints_then, console = blocks_of(self.room / "session.md")
+        served, lines, prints, killed, prints_then = blocks_of(self.room / "session.md")
         self.equals("README.md", f"it kills a server: {killed}", True, "KILL" in killed[0])
         file = (TOP / "examples/addition.session").read_text().split("\n")
         self.equals("README.md", "the lines of examples/addition.session", [it for it in file if it], lines)
         self.typed("README.md", served, prints)
         self.killed_at(killed, prints_then)
-        self.equals("README.md", "how many commands stand after the session", 1, len(typed_in(console)))
 
     def killed_at(self, commands, prints):
         """The server that is killed after two seconds has answered before. On a machine that is busy it may not have: then the
@@ -101,8 +100,6 @@ class Pages(Trial):
                     self.typed(page, [command], wanted)
 
     def test_the_session_of_the_page_on_clusters_prints_what_the_page_says(self):
-        if not shutil.which("parallel"):
-            self.skipTest("GNU parallel isn't installed: apt install parallel")
         console = next(it for it in blocks_of("docs/cluster.md") if it[0].startswith("$ "))
         for command, wanted in typed_in(console):
             self.typed("docs/cluster.md", [command], wanted)
