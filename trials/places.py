@@ -31,6 +31,7 @@ BEHIND_OF = {
 }
 BEHIND_OF["system"] |= BEHIND_OF["configuration"]
 COMMENTS, NO_COMMENTS = (b"#", b"//", b"/*", b"--"), "there are no comments; `icserve expand` takes out those that begin with #"
+EQUATED = "the interface and | come before the equations: <r|Add(r,Z)=Z>"
 MADE_SYSTEM = ": {} before it makes it a system"
 
 
@@ -262,10 +263,15 @@ def sentence_of_syntax(text, at, kind):
     if front[-1] + here in ("()", ";}"):
         return {"(": "a symbol without arguments has no parentheses", ";": "there is no ; before }"}[front[-1]]
     if front[-1].isalnum() or front[-1] in "-)":
-        if here == "," and (stand_of(front) or " ")[0] == "><":
+        stand = stand_of(front) or " "
+        if here == "," and stand[0] == "><":
             return "rules are separated by ;"
+        if here == "=" and stand[0] == "<":
+            return EQUATED
         sought = sought_behind(front)
         return f"{sought} is looked for here" if sought else f"no {kind} goes on with this"
+    if front[-1] + here == ">{" and not re.search(r"[{;][^{}<>|=;]*>$", front):
+        return "the rules come before the configuration"
     if kind == "system" and front.endswith("><"):
         return "a symbol is looked for here"
     if re.search(r"[{;][^{}<>|=;]*>$", front):

@@ -8,7 +8,7 @@ use Rattle.ic_text.specs.Name.{is_numeral}
 use Rattle.ic_text.specs.Token.{is_blank, is_word_byte}
 use Rattle.ic_diagnostics.specs.Lines.{trimmed}
 use Rattle.ic_diagnostics.specs.declared.sights.Sight.{Sight}
-use Rattle.ic_diagnostics.specs.declared.sights.Sight.TheVariants.{End, SystemMark, ConfigMark, CommandWord, Comment, NoName, NoSymbol, Small, Expanded, Applied, Empty, Ended, Listed, Argument, After, Crossing, Crossed, Front, Behind}
+use Rattle.ic_diagnostics.specs.declared.sights.Sight.TheVariants.{End, SystemMark, ConfigMark, CommandWord, Comment, NoName, NoSymbol, Small, Expanded, Applied, Empty, Ended, Listed, Equated, Late, Argument, After, Crossing, Crossed, Front, Behind}
 use Rattle.ic_diagnostics.specs.declared.stands.Spot.{Spot}
 use Rattle.ic_diagnostics.specs.declared.stands.Stand.{Stand}
 use Rattle.ic_diagnostics.specs.declared.stands.Stand.TheVariants as standing
@@ -210,6 +210,38 @@ abbrev pub is_listed : Spot → (here : Option ℕ) → Bool
 is_listed spot None = false
 is_listed spot (Some d) = d == 44 && (spot.depth == 0 && is_second spot.stand)
 
+-- in the interface
+abbrev pub is_in_interface : Stand → Bool
+is_in_interface standing.Interface = true
+is_in_interface standing.Front = false
+is_in_interface standing.First = false
+is_in_interface standing.Second = false
+is_in_interface standing.Rules = false
+is_in_interface standing.Left = false
+is_in_interface standing.Right = false
+is_in_interface standing.Over = false
+
+-- `=` after a term of the interface
+abbrev pub is_equated : Spot → (here : Option ℕ) → Bool
+is_equated spot None = false
+is_equated spot (Some d) = d == 61 && (spot.depth == 0 && is_in_interface spot.stand)
+
+-- after the configuration
+abbrev pub is_over : Stand → Bool
+is_over standing.Over = true
+is_over standing.Front = false
+is_over standing.First = false
+is_over standing.Second = false
+is_over standing.Rules = false
+is_over standing.Interface = false
+is_over standing.Left = false
+is_over standing.Right = false
+
+-- `{` after the configuration
+abbrev pub is_late : (before here : Option ℕ) → Stand → Bool
+is_late (Some b) (Some d) stand = b == 62 && (d == 123 && is_over stand)
+is_late before here stand = false
+
 -- further on, where no word is amiss: a mark that is amiss by itself, or anything else, by what stands
 -- before it
 abbrev pub marked_sight : (front rest : List ℕ) → Sight
@@ -217,8 +249,10 @@ marked_sight front rest =
     if empties (last_byte front) (slice_get rest 0) then Empty
     else (if ends_rules (last_byte front) (slice_get rest 0) then Ended
     else (if ends_term (last_byte front)
-    then (if is_listed (spot_of front) (slice_get rest 0) then Listed else term_sight front)
-    else mark_sight (last_byte front) (spot_of front).stand))
+    then (if is_listed (spot_of front) (slice_get rest 0) then Listed
+    else (if is_equated (spot_of front) (slice_get rest 0) then Equated else term_sight front))
+    else (if is_late (last_byte front) (slice_get rest 0) (spot_of front).stand then Late
+    else mark_sight (last_byte front) (spot_of front).stand)))
 
 -- further on: a comment, a word that is amiss, or anything else
 abbrev pub inner_sight : (front rest : List ℕ) → Sight

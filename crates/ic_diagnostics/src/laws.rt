@@ -169,6 +169,13 @@ pub fn what_is_looked_for_is_told()
         ≡ codes "; or } is looked for here" }
     ensures interface { sentence System (codes "{} <a b|>") Syntax 6 Nothing
         ≡ codes ", or | is looked for here" }
+    ensures equated { AllByRecursion (λ text. sentence Config text Syntax 10 Nothing
+        ≡ codes "the interface and | come before the equations: <r|Add(r,Z)=Z>")
+        (codes " <Add(r,Z)=Z>" ∷ codes "<Add(r,Z) = Z, r|>" ∷ []) }
+    ensures late_config { sentence Config (codes "<|A=B> {A><B}") Syntax 7 Nothing
+        ≡ codes "the rules come before the configuration" }
+    ensures late_system { sentence System (codes "{} <|A=B> {A><B}") Syntax 10 Nothing
+        ≡ codes "the rules come before the configuration" }
     ensures left { sentence Config (codes "<r|r,S(Z)=r>") Syntax 4 Nothing
         ≡ codes "= is looked for here" }
     ensures right { AllByRecursion (λ text.

@@ -4,7 +4,7 @@ ghost use Rattle.std.specs.Prelude.{◌≡◌, ◌≤◌, false, length};
 ghost use Rattle.std.specs.List.{list_all};
 ghost use Rattle.ic_text.specs.Token.{is_blank};
 ghost use Rattle.ic_diagnostics.specs.Sights.{begins_rule, begins_word, behind_word, empties, ends_rules, ends_term, first_byte, first_word, front_sight, has_dash, inner_sight, is_command, is_dashed, is_in_rule, is_joined};
-ghost use Rattle.ic_diagnostics.specs.Sights.{begins_as_name, is_applied, is_listed, is_misnamed, is_no_name, is_no_symbol, is_on_side, is_small, is_spread, is_stray, marked_sight, opens, opens_applied, opens_spread};
+ghost use Rattle.ic_diagnostics.specs.Sights.{begins_as_name, is_applied, is_equated, is_in_interface, is_late, is_listed, is_misnamed, is_over, is_no_name, is_no_symbol, is_on_side, is_small, is_spread, is_stray, marked_sight, opens, opens_applied, opens_spread};
 ghost use Rattle.ic_diagnostics.specs.Sights.{is_again, is_second, is_symbol, is_term_due, joins, last_byte, last_word, mark_sight, opens_comment, opens_term, rule_front, sight_at, stands_in, term_sight};
 
 use crate::lines::trimmed;
@@ -42,6 +42,10 @@ pub enum Sight {
     Ended,
     /// A comma after a rule.
     Listed,
+    /// `=` after a term of the interface.
+    Equated,
+    /// `{` after the configuration.
+    Late,
     /// Anything else, after a term in an agent's parentheses, and whether the term may have arguments.
     Argument(bool),
     /// Anything else, after a term that stands there, and whether the term may have arguments.
@@ -314,9 +318,13 @@ fn marked_sight(front: &[u8], rest: &[u8]) -> Sight
     } else if ends_term(last) {
         if is_listed(spot_of(front), here) {
             Sight::Listed
+        } else if is_equated(spot_of(front), here) {
+            Sight::Equated
         } else {
             term_sight(front)
         }
+    } else if is_late(last, here, spot_of(front).stand) {
+        Sight::Late
     } else {
         mark_sight(last, spot_of(front).stand)
     }
@@ -339,6 +347,58 @@ fn is_listed(spot: Spot, here: Option<u8>) -> bool
     match here {
         Some(byte) => byte == b',' && spot.depth == 0 && is_second(spot.stand),
         None => false,
+    }
+}
+
+/// Whether a place is in the interface.
+fn is_in_interface(stand: Stand) -> bool
+    ensures { result ≡ is_in_interface stand }
+{
+    match stand {
+        Stand::Interface => true,
+        Stand::Front
+        | Stand::First
+        | Stand::Second
+        | Stand::Rules
+        | Stand::Left
+        | Stand::Right
+        | Stand::Over => false,
+    }
+}
+
+/// Whether a byte is `=` after a term of the interface.
+fn is_equated(spot: Spot, here: Option<u8>) -> bool
+    ensures { result ≡ is_equated spot here }
+{
+    match here {
+        Some(byte) => byte == b'=' && spot.depth == 0 && is_in_interface(spot.stand),
+        None => false,
+    }
+}
+
+/// Whether a place is after the configuration.
+fn is_over(stand: Stand) -> bool
+    ensures { result ≡ is_over stand }
+{
+    match stand {
+        Stand::Over => true,
+        Stand::Front
+        | Stand::First
+        | Stand::Second
+        | Stand::Rules
+        | Stand::Interface
+        | Stand::Left
+        | Stand::Right => false,
+    }
+}
+
+/// Whether these bytes are the end of a configuration and the begin of rules.
+fn is_late(before: Option<u8>, here: Option<u8>, stand: Stand) -> bool
+    ensures { result ≡ is_late before here stand }
+{
+    match (before, here) {
+        (Some(before), Some(here)) => before == b'>' && here == b'{' && is_over(stand),
+        (None, _) | (Some(_), None) => false,
     }
 }
 

@@ -27,6 +27,12 @@ const NO_COMMENTS: &[u8] =
 /// What is told of parentheses with nothing in them.
 const NO_PARENTHESES: &[u8] = b"a symbol without arguments has no parentheses";
 
+/// What is told of an equation in the interface.
+const EQUATED: &[u8] = b"the interface and | come before the equations: <r|Add(r,Z)=Z>";
+
+/// What is told of rules after the configuration.
+const LATE: &[u8] = b"the rules come before the configuration";
+
 /// What names and symbols are, where a word is neither.
 const NAMES: &[u8] = b"a name is a letter a to z, maybe with a number from 1 on, \
 and a symbol begins with A to Z or 0 to 9; `icserve expand` takes long names";
@@ -147,6 +153,8 @@ fn config_sentence(sight: Sight) -> &'static [u8]
         Sight::NoSymbol => SYMBOLS,
         Sight::Applied => NO_ARGUMENTS,
         Sight::Empty => NO_PARENTHESES,
+        Sight::Equated => EQUATED,
+        Sight::Late => LATE,
         Sight::Argument(opens) => argument_sentence(opens),
         Sight::After(stand, opens) => {
             stand_sentence(b"no configuration goes on with this", stand, opens)
@@ -182,6 +190,8 @@ fn system_sentence(sight: Sight) -> &'static [u8]
         Sight::Empty => NO_PARENTHESES,
         Sight::Ended => b"there is no ; before }",
         Sight::Listed => b"rules are separated by ;",
+        Sight::Equated => EQUATED,
+        Sight::Late => LATE,
         Sight::Argument(opens) => argument_sentence(opens),
         Sight::After(stand, opens) => stand_sentence(b"no system goes on with this", stand, opens),
         Sight::Crossing => b"< is looked for here",
