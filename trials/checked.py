@@ -30,6 +30,7 @@ PASSED = {
     "budget": "a budget is 1 to 4294967295",
     "number": "a run makes at most 1000 rounds",
 }
+JOB_NAME = "a job's name has small letters, digits and - only"
 READERS = {"system": model.read_system, "configuration": model.read_configuration}
 
 
@@ -102,6 +103,9 @@ def found_in_line(line, kind):
     inner = places.found(line[end:], "system") if due in ("budget", "system") else None
     if kind != "syntax":
         return kind, end + inner[1], inner[2]
+    follows_name = due == "budget" or due == "name" and len(words) == 2
+    if (not inner or not inner[1]) and follows_name and re.match(rb"[A-Za-z0-9-][_'\x80-\xff]", line[end - 1 : end + 1]):
+        return "syntax", end, JOB_NAME
     if not inner or not inner[1]:
         return "syntax", end, places.NO_COMMENTS if line.startswith(places.COMMENTS, end) else SOUGHT[due]
     return "syntax", end + inner[1], places.sentence_of_syntax(line, end + inner[1], "system")

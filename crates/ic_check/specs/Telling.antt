@@ -1,5 +1,5 @@
 -- To be believed: how a fault is told (this project's choice).
-use Rattle.std.specs.Prelude.{ℕ, ◌+◌, List, [], ◌∷◌, ◌++◌, Option, None, Some, codes, drop, take, if◌then◌else◌}
+use Rattle.std.specs.Prelude.{ℕ, ◌+◌, List, [], ◌∷◌, ◌++◌, Bool, true, false, ◌&&◌, Option, None, Some, codes, drop, take, if◌then◌else◌}
 use Rattle.std.specs.Fmt.{decimal}
 use Rattle.std.specs.List.{concat}
 use Rattle.ic_text.specs.declared.fault.TextFault.{TextFault}
@@ -7,7 +7,7 @@ use Rattle.ic_text.specs.Text.{fault_text}
 use Rattle.ic_text.specs.Token.{is_blank}
 use Rattle.ic_diagnostics.specs.declared.telling.Kind.TheVariants.{System}
 use Rattle.ic_diagnostics.specs.Lines.{column, last_line, line_number, told_at}
-use Rattle.ic_diagnostics.specs.Sights.{opens_comment}
+use Rattle.ic_diagnostics.specs.Sights.{is_joined, opens_comment}
 use Rattle.ic_diagnostics.specs.Telling.{comment_sentence, sentence}
 use Rattle.ic_check.specs.declared.due.Due.{Due}
 use Rattle.ic_check.specs.declared.due.Due.TheVariants.{Command, SubmitName, Budget, System as Opened, OldName, NewName, VerbName, Number, Nothing}
@@ -68,9 +68,27 @@ line_limit_sentence NameBytes = codes "a job's name has at most 16 bytes"
 line_limit_sentence BudgetRounds = codes "a budget is 1 to 4294967295"
 line_limit_sentence RunRounds = codes "a run makes at most 1000 rounds"
 
+-- where a job's name goes on with a byte that no name has
+abbrev pub job_name_sentence : List ℕ
+job_name_sentence = codes "a job's name has small letters, digits and - only"
+
+-- a job's name stands before the place where this is looked for
+abbrev pub follows_name : Due → Bool
+follows_name Budget = true
+follows_name NewName = true
+follows_name Command = false
+follows_name SubmitName = false
+follows_name Opened = false
+follows_name OldName = false
+follows_name VerbName = false
+follows_name Number = false
+follows_name Nothing = false
+
 -- what is amiss at the place of a line's fault
 abbrev pub line_sentence : List ℕ → TextFault → ℕ → LineDetail → List ℕ
 line_sentence line fault at (Sought due) =
-    if opens_comment (drop at line) then comment_sentence else sought_sentence due
+    if opens_comment (drop at line) then comment_sentence
+    else (if follows_name due && is_joined (take at line) (drop at line) then job_name_sentence
+    else sought_sentence due)
 line_sentence line fault at (Passed limit) = line_limit_sentence limit
 line_sentence line fault at (Within detail) = sentence System line fault at detail

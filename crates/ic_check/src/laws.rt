@@ -54,7 +54,7 @@ ghost use Rattle.ic_check.specs.Scripts.{TellsScript, TellsScriptLine, run_sente
 ghost use Rattle.ic_check.specs.Sessions.{TellsRefusal, lines_sentence, refusal_line};
 ghost use Rattle.ic_check.specs.Symbols.{config_symbols, text_symbols};
 ghost use Rattle.ic_check.specs.Objects.{fault_fields, finding_fields, object_of, objects_of};
-ghost use Rattle.ic_check.specs.Telling.{fault_line, line_limit_sentence, place_text, placed_line, sought_sentence, spot_text};
+ghost use Rattle.ic_check.specs.Telling.{fault_line, line_limit_sentence, line_sentence, place_text, placed_line, sought_sentence, spot_text};
 ghost use Rattle.ic_check.specs.Warnings.{Warns, once_line, once_lines, pair_text, ruleless_line, unused_line, warning_line};
 
 /// An equation is told as one without a rule exactly where both sides are agents and no rule is of their two symbols.
@@ -275,7 +275,7 @@ pub fn limits_of_lines_are_passed()
 }
 
 /// The sentences of what is looked for. That of a command tells each word with which a line begins, and no others, and
-/// how a file begins that has no lines.
+/// how a file begins that has no lines. Where a job's name goes on with another byte, it is told what names have.
 pub fn sentences_tell_what_is_looked_for()
     ensures command { sought_sentence due.Command
         ≡ codes "a command is looked for here: " ++ listed told_commands
@@ -290,6 +290,11 @@ pub fn sentences_tell_what_is_looked_for()
     ensures system { sought_sentence due.System ≡ codes "{ is looked for here" }
     ensures number { sought_sentence due.Number ≡ codes "a number is looked for here" }
     ensures nothing { sought_sentence due.Nothing ≡ codes "nothing is looked for here" }
+    ensures submit_name { AllByRecursion (λ line. line_sentence line Syntax 8 (Sought due.Budget)
+        ≡ codes "a job's name has small letters, digits and - only")
+        (codes "submit a_b {} <|>" ∷ codes "submit a' {} <|>" ∷ []) }
+    ensures old_name { line_sentence (codes "copy a_b c") Syntax 6 (Sought due.NewName)
+        ≡ codes "a job's name has small letters, digits and - only" }
 {
     lines_begin_with_command_words();
 }

@@ -2,11 +2,13 @@
 
 ghost use Rattle.std.specs.Prelude.{◌≡◌, ◌≢◌, ◌≤◌, ◌++◌, IfOk, IfSome, OnOk, length};
 ghost use Rattle.ic_check.specs.Checking.{told_fault, told_line_fault};
-ghost use Rattle.ic_check.specs.Telling.{fault_line, line_limit_sentence, line_sentence, place_text, placed_line, sought_sentence, spot_text};
+ghost use Rattle.ic_check.specs.Telling.{fault_line, follows_name, line_limit_sentence, line_sentence, place_text, placed_line, sought_sentence, spot_text};
 
 use crate::due::{Due, LineLimit};
 use crate::line_places::{LineDetail, LinePlace};
-use ic_diagnostics::{Kind, column, last_line, line_number, opens_comment, sentence, told_at};
+use ic_diagnostics::{
+    Kind, column, is_joined, last_line, line_number, opens_comment, sentence, told_at,
+};
 use ic_text::{Misread, TextFault, print_fault, put_decimal};
 use std::alloc::{AllocError, Global};
 
@@ -135,6 +137,25 @@ pub(crate) fn put_fault(
 const COMMAND: &[u8] = b"a command is looked for here: submit, copy, pause, resume, cancel, fetch, \
 list or run; a file with one text begins with { or <";
 
+/// What is told where a job's name goes on with a byte that no name has.
+const JOB_NAME: &[u8] = b"a job's name has small letters, digits and - only";
+
+/// Whether a job's name stands before the place where this is looked for.
+fn follows_name(due: Due) -> bool
+    ensures { result ≡ follows_name due }
+{
+    match due {
+        Due::Budget | Due::NewName => true,
+        Due::Command
+        | Due::SubmitName
+        | Due::System
+        | Due::OldName
+        | Due::VerbName
+        | Due::Number
+        | Due::Nothing => false,
+    }
+}
+
 /// What is looked for where a line doesn't go on.
 fn sought_sentence(due: Due) -> &'static [u8]
     ensures { result.now ≡ sought_sentence due }
@@ -176,8 +197,11 @@ pub(crate) fn line_sentence(
 {
     match place.detail {
         LineDetail::Sought(due) => {
-            if opens_comment(&line[place.at..]) {
+            let (front, rest) = line.split_at(place.at);
+            if opens_comment(rest) {
                 Vec::from_slice(alloc, NO_COMMENTS)
+            } else if follows_name(due) && is_joined(front, rest) {
+                Vec::from_slice(alloc, JOB_NAME)
             } else {
                 Vec::from_slice(alloc, sought_sentence(due))
             }

@@ -168,7 +168,7 @@ fn joins(before: Option<u8>, here: Option<u8>) -> bool
 }
 
 /// Whether a word at the end of a text goes on with such a byte.
-fn is_joined(front: &[u8], rest: &[u8]) -> bool
+pub fn is_joined(front: &[u8], rest: &[u8]) -> bool
     ensures { result ≡ is_joined front.now rest.now }
 {
     joins(front.last().copied(), rest.first().copied())
