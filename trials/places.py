@@ -177,7 +177,7 @@ def fault_of_names_and_rules(reader):
     for at, text, form, _ in reader.words[reader.before :]:
         seen[text] = seen.get(text, 0) + (form is NAME)
         if seen[text] == 3:
-            return "name", at, "in a configuration a name stands at most twice"
+            return "name", at, "in a configuration a name stands at most twice; `icserve expand` writes rules that copy"
     pairs = [{left[0][1], right[0][1]} for left, right in reader.sides]
     for index, pair in enumerate(pairs):
         if pair in pairs[:index]:

@@ -85,7 +85,7 @@ class Scripts(Shards):
         for lines, said in (
             (["", "\r", " \t"], "jobs.txt has no job"),
             ([], "jobs.txt has no job"),
-            ([*good, "", "submit x {} <r|r=r>"], "jobs.txt:12:18: bad name r: in a configuration a name stands at most twice"),
+            ([*good, "", "submit x {} <r|r=r>"], "jobs.txt:12:18: bad name r: in a configuration a name stands at most twice; `icserve expand` writes rules that copy"),
             (["submit x", *good], "jobs.txt:1:9: bad syntax: "),
             ([*good, "", "list"], "jobs.txt:12: this is no submit"),
             ([*good, "run 10", "list"], "jobs.txt:11: this is no submit"),

@@ -51,7 +51,7 @@ class Files(Trial):
                 path.write_text("<x|x=A(x)>")
                 seen = "".join(chr(it) if 32 <= it < 127 else "?" for it in bytes(path))
                 err = ["icserve: bad name x", f"{seen}, line 1, column 8", "    <x|x=A(x)>", "           ^"]
-                self.runs("settle", path, err=[*err, "in a configuration a name stands at most twice"], status=1)
+                self.runs("settle", path, err=[*err, "in a configuration a name stands at most twice; `icserve expand` writes rules that copy"], status=1)
         self.runs("settle", "--", "--sum.ic", cwd=self.text(CHAIN, "--sum.ic").parent, out=["<S(Z)|>"])
         self.runs("settle", "./-", cwd=self.text(CHAIN, "-").parent, out=["<S(Z)|>"])
 

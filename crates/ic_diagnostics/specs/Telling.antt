@@ -158,7 +158,8 @@ syntax_sentence System sight = system_sentence sight
 
 -- what is amiss at the place of a refusal of which no more is known
 abbrev pub plain_sentence : Kind → TextFault → Sight → List ℕ
-plain_sentence kind (Name n) sight = codes "in a configuration a name stands at most twice"
+plain_sentence kind (Name n) sight = codes "in a configuration a name stands at most twice; "
+    ++ codes "`icserve expand` writes rules that copy"
 plain_sentence kind (Twice i) sight = codes "a rule before this one is of the same two symbols"
 plain_sentence kind (Lopsided i) sight =
     codes "a rule of a symbol with itself reads the same from both sides"

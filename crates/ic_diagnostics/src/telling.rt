@@ -27,6 +27,10 @@ const NO_COMMENTS: &[u8] =
 /// What is told of parentheses with nothing in them.
 const NO_PARENTHESES: &[u8] = b"a symbol without arguments has no parentheses";
 
+/// What is told of a name that stands for the third time.
+const TWICE: &[u8] =
+    b"in a configuration a name stands at most twice; `icserve expand` writes rules that copy";
+
 /// What is told of an equation in the interface.
 const EQUATED: &[u8] = b"the interface and | come before the equations: <r|Add(r,Z)=Z>";
 
@@ -216,7 +220,7 @@ fn plain_sentence(kind: Kind, fault: TextFault, sight: Sight) -> &'static [u8]
     ensures { result.now ≡ plain_sentence kind fault sight }
 {
     match fault {
-        TextFault::Name(_) => b"in a configuration a name stands at most twice",
+        TextFault::Name(_) => TWICE,
         TextFault::Twice(_) => b"a rule before this one is of the same two symbols",
         TextFault::Lopsided(_) => b"a rule of a symbol with itself reads the same from both sides",
         TextFault::Syntax
