@@ -167,12 +167,12 @@ def renamed(words):
 
 def fault_of_names_and_rules(reader):
     """The fault of names or of rules, its place and a sentence, or None: of names in rules, in the configuration, then of rules."""
-    for left, right in reader.sides:
+    for number, (left, right) in enumerate(reader.sides, 1):
         at = miscounted(left + right)
         if at is not None:
             text = next(text for place, text, *_ in left + right if place == at).decode()
             often = "stands once" if [it[1].decode() for it in left + right].count(text) == 1 else "stands here for the third time"
-            return "namecount", at, f"in a rule each name stands exactly twice: {text} {often}"
+            return "namecount", at, f"rule {number}: in a rule each name stands exactly twice: {text} {often}"
     seen = {}
     for at, text, form, _ in reader.words[reader.before :]:
         seen[text] = seen.get(text, 0) + (form is NAME)
@@ -181,10 +181,10 @@ def fault_of_names_and_rules(reader):
     pairs = [{left[0][1], right[0][1]} for left, right in reader.sides]
     for index, pair in enumerate(pairs):
         if pair in pairs[:index]:
-            return "twice", reader.sides[index][0][0][0], "a rule before this one is of the same two symbols"
-    for left, right in reader.sides:
+            return "twice", reader.sides[index][0][0][0], f"rule {index + 1}: a rule before this one is of the same two symbols"
+    for number, (left, right) in enumerate(reader.sides, 1):
         if left[0][1] == right[0][1] and renamed(left + right) != renamed(right + left):
-            return "lopsided", left[0][0], "a rule of a symbol with itself reads the same from both sides"
+            return "lopsided", left[0][0], f"rule {number}: a rule of a symbol with itself reads the same from both sides"
 
 
 def fault_of_words(reader):

@@ -25,7 +25,7 @@ use Rattle.ic_text.specs.declared.misread.Limit.TheVariants as bound
 use Rattle.ic_causes.specs.Causes.{is_printable, shown_byte, shown_path}
 use Rattle.ic_diagnostics.specs.Lines.{column, last_line, line_number, told_at}
 use Rattle.ic_diagnostics.specs.Sights.{first_word, is_again, is_joined, opens_comment, sight_at}
-use Rattle.ic_diagnostics.specs.Telling.{argument_sentence, behind_in_config, behind_in_system, behind_mark, comment_sentence, config_sentence, count_words, limit_sentence, opened, plain_sentence, sentence, sight_sentence, stand_sentence, syntax_sentence, system_sentence, wants_term}
+use Rattle.ic_diagnostics.specs.Telling.{argument_sentence, behind_in_config, behind_in_system, behind_mark, comment_sentence, config_sentence, count_words, limit_sentence, namecount_sentence, of_rule, opened, plain_sentence, sentence, sight_sentence, stand_sentence, syntax_sentence, system_sentence, wants_term}
 use Rattle.ic_diagnostics.specs.declared.sights.Sight.{Sight}
 use Rattle.ic_diagnostics.specs.declared.sights.Sight.TheVariants.{End, SystemMark, ConfigMark, CommandWord, Comment, NoName, NoSymbol, Small, Expanded, Applied, Empty, Ended, Listed, Equated, Late, Argument, After, Crossing, Crossed, Front, Behind}
 use Rattle.ic_diagnostics.specs.declared.stands.Stand.{Stand}
@@ -231,16 +231,23 @@ count_free : (again : Bool) → has_feed (count_words again) ≡ false
 count_free false = refl
 count_free true = refl
 
+rule_free : (i : ℕ) (words : List ℕ) → has_feed words ≡ false → has_feed (of_rule i words) ≡ false
+rule_free i words free =
+    let numbered = codes "rule " ++ decimal (i + 1) in
+    both_free (numbered ++ codes ": ") words
+    (both_free numbered (codes ": ") (both_free (codes "rule ") (decimal (i + 1)) refl (decimal_free (i + 1))) refl) free
+
 sight_free : (kind : Kind) (fault : TextFault) (detail : Detail) (text : List ℕ) (again : Bool) (sight : Sight)
     → has_feed (sight_sentence kind fault detail (first_word text) again sight) ≡ false
 sight_free kind Syntax Nothing text again sight = plain_free kind Syntax sight
 sight_free kind Limit Nothing text again sight = plain_free kind Limit sight
 sight_free kind Arity Nothing text again sight = plain_free kind Arity sight
 sight_free kind (NameCount i) Nothing text again sight =
-    all_free (codes "in a rule each name stands exactly twice: " ∷ first_word text ∷ count_words again ∷ []) (refl, (word_free text, (count_free again, tt)))
+    rule_free i (namecount_sentence (first_word text) again)
+    (all_free (codes "in a rule each name stands exactly twice: " ∷ first_word text ∷ count_words again ∷ []) (refl, (word_free text, (count_free again, tt))))
 sight_free kind (Name n) Nothing text again sight = plain_free kind (Name n) sight
-sight_free kind (Twice i) Nothing text again sight = plain_free kind (Twice i) sight
-sight_free kind (Lopsided i) Nothing text again sight = plain_free kind (Lopsided i) sight
+sight_free kind (Twice i) Nothing text again sight = rule_free i (plain_sentence kind (Twice i) sight) (plain_free kind (Twice i) sight)
+sight_free kind (Lopsided i) Nothing text again sight = rule_free i (plain_sentence kind (Lopsided i) sight) (plain_free kind (Lopsided i) sight)
 sight_free kind Memory Nothing text again sight = plain_free kind Memory sight
 sight_free kind fault (Passed limit) text again sight = limit_free limit
 sight_free kind fault (Arities first here) text again sight =

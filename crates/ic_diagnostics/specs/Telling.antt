@@ -1,5 +1,5 @@
 -- To be believed: what is told of a refused text beside its refusal (this project's choice).
-use Rattle.std.specs.Prelude.{◌≡◌, ℕ, List, [], ◌∷◌, ◌++◌, Option, None, Some, Err, codes, drop, slice_get, ◌==◌, Bool, true, false, ◌||◌, if◌then◌else◌}
+use Rattle.std.specs.Prelude.{◌≡◌, ℕ, ◌+◌, List, [], ◌∷◌, ◌++◌, Option, None, Some, Err, codes, drop, slice_get, ◌==◌, Bool, true, false, ◌||◌, if◌then◌else◌}
 use Rattle.std.specs.Fmt.{decimal}
 use Rattle.std.specs.List.{concat}
 use Rattle.ic_text.specs.declared.fault.TextFault.{TextFault}
@@ -215,10 +215,17 @@ abbrev pub namecount_sentence : (name : List ℕ) → (again : Bool) → List �
 namecount_sentence name again =
     concat (codes "in a rule each name stands exactly twice: " ∷ name ∷ count_words again ∷ [])
 
+-- what is amiss with the rule of this place, from 0, with its number, from 1
+abbrev pub of_rule : ℕ → List ℕ → List ℕ
+of_rule i words = codes "rule " ++ decimal (i + 1) ++ codes ": " ++ words
+
 -- what is amiss at the place of a refusal of which no more is known, by the word there, by whether it
 -- stands in its rule before the place, and by whatever else stands there
 abbrev pub place_sentence : Kind → TextFault → List ℕ → Bool → Sight → List ℕ
-place_sentence kind (NameCount i) word again sight = namecount_sentence word again
+place_sentence kind (NameCount i) word again sight = of_rule i (namecount_sentence word again)
+place_sentence kind (Twice i) word again sight = of_rule i (plain_sentence kind (Twice i) sight)
+place_sentence kind (Lopsided i) word again sight =
+    of_rule i (plain_sentence kind (Lopsided i) sight)
 place_sentence kind fault word again sight = plain_sentence kind fault sight
 
 -- the same of any refusal with these limits

@@ -10,7 +10,7 @@ ghost use Rattle.ic_rules.specs.declared.limits.TheConstants.{MAX_RULES, MAX_RUL
 ghost use Rattle.ic_text.specs.declared.limits.TheConstants.{MAX_NAME, MAX_TEXT, MAX_WIDE_TEXT};
 ghost use Rattle.ic_text.specs.declared.limits.Limits.TheVariants.{Wide};
 ghost use Rattle.ic_text.specs.declared.fault.TextFault.{TextFault};
-ghost use Rattle.ic_text.specs.declared.fault.TextFault.TheVariants.{Arity, NameCount, Syntax};
+ghost use Rattle.ic_text.specs.declared.fault.TextFault.TheVariants.{Arity, Lopsided, NameCount, Syntax, Twice};
 ghost use Rattle.ic_text.specs.declared.misread.Detail.{Detail};
 ghost use Rattle.ic_text.specs.declared.misread.Detail.TheVariants.{Nothing};
 ghost use Rattle.ic_text.specs.declared.misread.Limit.TheVariants.{TextBytes, SymbolBytes, Arguments, NameNumber, Symbols, Rules, RuleNodes, Interface, Nodes};
@@ -24,7 +24,7 @@ ghost use Rattle.ic_diagnostics.specs.declared.telling.Kind.{Kind};
 ghost use Rattle.ic_diagnostics.specs.declared.telling.Kind.TheVariants.{Config, System};
 ghost use Rattle.ic_diagnostics.specs.Sights.{command_words, first_word, is_again};
 ghost use Rattle.ic_diagnostics.specs.Telling.{Appended, IsOfArities, IsToldOf, applied_sentence, arity_sentence, comment_sentence, expanded_sentence, limit_sentence};
-ghost use Rattle.ic_diagnostics.specs.Telling.{limit_sentence_within, name_sentence, namecount_sentence, sentence, small_sentence, symbol_sentence};
+ghost use Rattle.ic_diagnostics.specs.Telling.{limit_sentence_within, name_sentence, namecount_sentence, of_rule, sentence, small_sentence, symbol_sentence};
 ghost use Rattle.ic_diagnostics.specs.Lines.{IsMarked, begins_with_feed, column, feed, first_line, head_of, is_ascii, is_feed, is_printable, last_line, line_number, margin, picture_of, place_lines, shown, shown_before, shown_behind, told_at};
 
 /// A line feed ends a line and begins one. The last line is what follows the last line feed.
@@ -241,14 +241,22 @@ pub fn comments_are_told()
 {}
 
 /// A name that stands in a rule for the only time, or for the third time, is told with that. What stands in another rule
-/// doesn't count.
+/// doesn't count. With what is amiss in a rule its number is told, from 1.
 pub fn miscounts_are_told()
     ensures once { sentence System (codes "{A(x)><B} <x|>") (NameCount 0) 3 Nothing
-        ≡ codes "in a rule each name stands exactly twice: x stands once" }
+        ≡ codes "rule " ++ decimal 1
+        ++ codes ": in a rule each name stands exactly twice: x stands once" }
     ensures third { sentence System (codes "{A(x)><B(x);C(x1,x)><D(x1,S(x),x)} <|>") (NameCount 1) 31 Nothing
-        ≡ codes "in a rule each name stands exactly twice: x stands here for the third time" }
+        ≡ codes "rule " ++ decimal 2
+        ++ codes ": in a rule each name stands exactly twice: x stands here for the third time" }
     ensures again { (text : List ℕ) (at i : ℕ) → sentence System text (NameCount i) at Nothing
-        ≡ namecount_sentence (first_word (drop at text)) (is_again text at) }
+        ≡ of_rule i (namecount_sentence (first_word (drop at text)) (is_again text at)) }
+    ensures twice { (text : List ℕ) (at i : ℕ) → sentence System text (Twice i) at Nothing
+        ≡ codes "rule " ++ decimal (i + 1)
+        ++ codes ": a rule before this one is of the same two symbols" }
+    ensures lopsided { (text : List ℕ) (at i : ℕ) → sentence System text (Lopsided i) at Nothing
+        ≡ codes "rule " ++ decimal (i + 1)
+        ++ codes ": a rule of a symbol with itself reads the same from both sides" }
 {}
 
 /// The sentence of each limit tells its number.

@@ -4,13 +4,13 @@ ghost use Rattle.std.specs.Prelude.{◌≡◌, ◌≤◌, IfOk, IfSome, drop, fa
 ghost use Rattle.ic_text.specs.declared.limits.Limits.TheVariants.{Wide};
 ghost use Rattle.ic_diagnostics.specs.Sights.{first_word, is_again, sight_at};
 ghost use Rattle.ic_diagnostics.specs.Telling.{argument_sentence, arity_sentence, behind_in_config, behind_in_system, behind_mark, config_sentence, count_words};
-ghost use Rattle.ic_diagnostics.specs.Telling.{limit_sentence, limit_sentence_within, namecount_sentence, place_sentence, plain_sentence, sentence, sentence_within};
+ghost use Rattle.ic_diagnostics.specs.Telling.{limit_sentence, limit_sentence_within, namecount_sentence, of_rule, place_sentence, plain_sentence, sentence, sentence_within};
 ghost use Rattle.ic_diagnostics.specs.Telling.{stand_sentence, syntax_sentence, system_sentence, told_lines, told_lines_within};
 
 use crate::lines::place_lines;
 use crate::sights::{Sight, first_word, is_again, sight_at};
 use crate::stands::Stand;
-use ic_text::{Detail, Limit, Limits, Misread, TextFault};
+use ic_text::{Detail, Limit, Limits, Misread, TextFault, put_decimal};
 use std::alloc::{AllocError, Global};
 
 /// What a text was to be.
@@ -324,11 +324,35 @@ fn place_sentence(
         (first_word (drop at text.now)) (is_again text.now at) (sight_at text.now at)) }
 {
     match fault {
-        TextFault::NameCount(_) => {
-            namecount_sentence(alloc, first_word(&text[at..]), is_again(text, at))
+        TextFault::NameCount(rule) => {
+            let words = namecount_sentence(alloc, first_word(&text[at..]), is_again(text, at))?;
+            of_rule(alloc, rule, &words)
         }
-        _ => Vec::from_slice(alloc, plain_sentence(kind, fault, sight_at(text, at))),
+        TextFault::Twice(rule) => {
+            of_rule(alloc, rule, plain_sentence(kind, fault, sight_at(text, at)))
+        }
+        TextFault::Lopsided(rule) => {
+            of_rule(alloc, rule, plain_sentence(kind, fault, sight_at(text, at)))
+        }
+        TextFault::Syntax
+        | TextFault::Limit
+        | TextFault::Arity
+        | TextFault::Name(_)
+        | TextFault::Memory => {
+            Vec::from_slice(alloc, plain_sentence(kind, fault, sight_at(text, at)))
+        }
     }
+}
+
+/// What is amiss with the rule of this place, from 0, with its number, from 1.
+fn of_rule(alloc: Global, rule: u32, words: &[u8]) -> Result<Vec<u8>, AllocError>
+    ensures { IfOk result (λ sentence. sentence.items ≡ of_rule rule words.now) }
+{
+    let mut sentence = Vec::from_slice(alloc, b"rule ")?;
+    put_decimal(u64::from(rule) + 1, &mut sentence)?;
+    sentence.extend_from_slice(b": ")?;
+    sentence.extend_from_slice(words)?;
+    Ok(sentence)
 }
 
 /// What is amiss at a place of a text that is refused there with the limits of what is served.
