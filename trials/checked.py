@@ -106,6 +106,8 @@ def found_in_line(line, kind):
     follows_name = due == "budget" or due == "name" and len(words) == 2
     if (not inner or not inner[1]) and follows_name and re.match(rb"[A-Za-z0-9-][_'\x80-\xff]", line[end - 1 : end + 1]):
         return "syntax", end, JOB_NAME
+    if line.startswith(places.ORDER_MARK):
+        return "syntax", 0, places.MARKED
     if not inner or not inner[1]:
         return "syntax", end, places.NO_COMMENTS if line.startswith(places.COMMENTS, end) else SOUGHT[due]
     return "syntax", end + inner[1], places.sentence_of_syntax(line, end + inner[1], "system")

@@ -30,7 +30,8 @@ BEHIND_OF = {
     "system": {"{": "a symbol or } is looked for here", ";": "a symbol is looked for here", "}": "< is looked for here"},
 }
 BEHIND_OF["system"] |= BEHIND_OF["configuration"]
-COMMENTS, NO_COMMENTS = (b"#", b"//", b"/*", b"--"), "there are no comments; `icserve expand` takes out those that begin with #"
+COMMENTS, NO_COMMENTS = (b"#", b"//", b"/*", b"--", b"(*"), "there are no comments; `icserve expand` takes out those that begin with #"
+ORDER_MARK, MARKED = b"\xef\xbb\xbf", "a byte order mark stands before the text: take it out"
 EQUATED = "the interface and | come before the equations: <r|Add(r,Z)=Z>"
 MADE_SYSTEM = ": {} before it makes it a system"
 
@@ -254,6 +255,8 @@ def sentence_of_syntax(text, at, kind):
             return f"a {kind} begins with {mark}, and this is {of}" + (MADE_SYSTEM if kind == "system" else "")
         if word in COMMANDS:
             return f"a {kind} begins with {mark}, and commands are served"
+        if text.startswith(ORDER_MARK, at):
+            return MARKED
         return NO_COMMENTS if text.startswith(COMMENTS, at) else f"a {kind} begins with {mark}"
     if text.startswith(COMMENTS, at):
         return NO_COMMENTS

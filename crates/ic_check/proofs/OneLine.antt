@@ -24,10 +24,10 @@ use Rattle.ic_text.specs.declared.misread.Limit.{Limit as Bound}
 use Rattle.ic_text.specs.declared.misread.Limit.TheVariants as bound
 use Rattle.ic_causes.specs.Causes.{is_printable, shown_byte, shown_path}
 use Rattle.ic_diagnostics.specs.Lines.{column, last_line, line_number, told_at}
-use Rattle.ic_diagnostics.specs.Sights.{first_word, is_again, is_joined, opens_comment, sight_at}
-use Rattle.ic_diagnostics.specs.Telling.{argument_sentence, behind_in_config, behind_in_system, behind_mark, comment_sentence, config_sentence, count_words, limit_sentence, namecount_sentence, of_rule, opened, plain_sentence, sentence, sight_sentence, stand_sentence, syntax_sentence, system_sentence, wants_term}
+use Rattle.ic_diagnostics.specs.Sights.{first_word, is_again, is_joined, opens_comment, opens_order_mark, sight_at}
+use Rattle.ic_diagnostics.specs.Telling.{argument_sentence, behind_in_config, behind_in_system, behind_mark, comment_sentence, config_sentence, count_words, limit_sentence, namecount_sentence, of_rule, opened, order_mark_sentence, plain_sentence, sentence, sight_sentence, stand_sentence, syntax_sentence, system_sentence, wants_term}
 use Rattle.ic_diagnostics.specs.declared.sights.Sight.{Sight}
-use Rattle.ic_diagnostics.specs.declared.sights.Sight.TheVariants.{End, SystemMark, ConfigMark, CommandWord, Comment, NoName, NoSymbol, Small, Expanded, Applied, Empty, Ended, Listed, Equated, Late, Argument, After, Crossing, Crossed, Front, Behind}
+use Rattle.ic_diagnostics.specs.declared.sights.Sight.TheVariants.{End, SystemMark, ConfigMark, CommandWord, Comment, OrderMark, NoName, NoSymbol, Small, Expanded, Applied, Empty, Ended, Listed, Equated, Late, Argument, After, Crossing, Crossed, Front, Behind}
 use Rattle.ic_diagnostics.specs.declared.stands.Stand.{Stand}
 use Rattle.ic_diagnostics.specs.declared.stands.Stand.TheVariants as standing
 use Rattle.ic_diagnostics.specs.declared.telling.Kind.{Kind}
@@ -153,6 +153,7 @@ config_free SystemMark = refl
 config_free ConfigMark = refl
 config_free CommandWord = refl
 config_free Comment = refl
+config_free OrderMark = refl
 config_free NoName = refl
 config_free NoSymbol = refl
 config_free Small = refl
@@ -176,6 +177,7 @@ system_free SystemMark = refl
 system_free ConfigMark = refl
 system_free CommandWord = refl
 system_free Comment = refl
+system_free OrderMark = refl
 system_free NoName = refl
 system_free NoSymbol = refl
 system_free Small = refl
@@ -315,7 +317,9 @@ line_words_free : (line : List ℕ) (fault : TextFault) (at : ℕ) (detail : Lin
 line_words_free line fault at (Sought due) =
     let is_named = follows_name due && is_joined (take at line) (drop at line) in
     let last = if is_named then job_name_sentence else sought_sentence due in
-    either_free (opens_comment (drop at line)) comment_sentence last refl (either_free is_named job_name_sentence (sought_sentence due) refl (sought_free due))
+    let marked = if opens_order_mark line then order_mark_sentence else last in
+    either_free (opens_comment (drop at line)) comment_sentence marked refl
+    (either_free (opens_order_mark line) order_mark_sentence last refl (either_free is_named job_name_sentence (sought_sentence due) refl (sought_free due)))
 line_words_free line fault at (Beyond limit) = line_limit_free limit
 line_words_free line fault at (Within detail) = sight_free System fault detail (drop at line) (is_again line at) (sight_at line at)
 

@@ -7,8 +7,8 @@ use Rattle.ic_text.specs.Text.{fault_text}
 use Rattle.ic_text.specs.Token.{is_blank}
 use Rattle.ic_diagnostics.specs.declared.telling.Kind.TheVariants.{System}
 use Rattle.ic_diagnostics.specs.Lines.{column, last_line, line_number, told_at}
-use Rattle.ic_diagnostics.specs.Sights.{is_joined, opens_comment}
-use Rattle.ic_diagnostics.specs.Telling.{comment_sentence, sentence}
+use Rattle.ic_diagnostics.specs.Sights.{is_joined, opens_comment, opens_order_mark}
+use Rattle.ic_diagnostics.specs.Telling.{comment_sentence, order_mark_sentence, sentence}
 use Rattle.ic_check.specs.declared.due.Due.{Due}
 use Rattle.ic_check.specs.declared.due.Due.TheVariants.{Command, SubmitName, Budget, System as Opened, OldName, NewName, VerbName, Number, Nothing}
 use Rattle.ic_check.specs.declared.due.LineLimit.{LineLimit}
@@ -88,7 +88,8 @@ follows_name Nothing = false
 abbrev pub line_sentence : List ℕ → TextFault → ℕ → LineDetail → List ℕ
 line_sentence line fault at (Sought due) =
     if opens_comment (drop at line) then comment_sentence
+    else (if opens_order_mark line then order_mark_sentence
     else (if follows_name due && is_joined (take at line) (drop at line) then job_name_sentence
-    else sought_sentence due)
+    else sought_sentence due))
 line_sentence line fault at (Passed limit) = line_limit_sentence limit
 line_sentence line fault at (Within detail) = sentence System line fault at detail

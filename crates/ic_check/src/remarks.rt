@@ -7,7 +7,8 @@ ghost use Rattle.ic_check.specs.Telling.{fault_line, follows_name, line_limit_se
 use crate::due::{Due, LineLimit};
 use crate::line_places::{LineDetail, LinePlace};
 use ic_diagnostics::{
-    Kind, column, is_joined, last_line, line_number, opens_comment, sentence, told_at,
+    Kind, column, is_joined, last_line, line_number, opens_comment, opens_order_mark, sentence,
+    told_at,
 };
 use ic_text::{Misread, TextFault, print_fault, put_decimal};
 use std::alloc::{AllocError, Global};
@@ -137,6 +138,9 @@ pub(crate) fn put_fault(
 const COMMAND: &[u8] = b"a command is looked for here: submit, copy, pause, resume, cancel, fetch, \
 list or run; a file with one text begins with { or <";
 
+/// What is told of a byte order mark.
+const ORDER_MARK: &[u8] = b"a byte order mark stands before the text: take it out";
+
 /// What is told where a job's name goes on with a byte that no name has.
 const JOB_NAME: &[u8] = b"a job's name has small letters, digits and - only";
 
@@ -200,6 +204,8 @@ pub(crate) fn line_sentence(
             let (front, rest) = line.split_at(place.at);
             if opens_comment(rest) {
                 Vec::from_slice(alloc, NO_COMMENTS)
+            } else if opens_order_mark(line) {
+                Vec::from_slice(alloc, ORDER_MARK)
             } else if follows_name(due) && is_joined(front, rest) {
                 Vec::from_slice(alloc, JOB_NAME)
             } else {

@@ -7,12 +7,12 @@ use Rattle.ic_text.specs.Token.{is_blank, is_word_byte}
 use Rattle.ic_text.specs.declared.misread.Detail.TheVariants.{Nothing}
 use Rattle.ic_text.specs.declared.fault.TextFault.TheVariants.{Syntax}
 use Rattle.ic_diagnostics.specs.declared.sights.Sight.{Sight}
-use Rattle.ic_diagnostics.specs.declared.sights.Sight.TheVariants.{End, SystemMark, ConfigMark, CommandWord, Comment, Front}
+use Rattle.ic_diagnostics.specs.declared.sights.Sight.TheVariants.{End, SystemMark, ConfigMark, CommandWord, Comment, OrderMark, Front}
 use Rattle.ic_diagnostics.specs.declared.telling.Kind.{Kind}
 use Rattle.ic_diagnostics.specs.declared.telling.Kind.TheVariants.{Config, System}
 use Rattle.ic_diagnostics.specs.Lines.{feed, first_line, head_of, last_line, picture_of, place_lines, told_at}
-use Rattle.ic_diagnostics.specs.Sights.{command_words, first_word, front_sight, inner_sight, is_command, opens_comment, sight_at}
-use Rattle.ic_diagnostics.specs.Telling.{comment_sentence, sentence, syntax_sentence}
+use Rattle.ic_diagnostics.specs.Sights.{command_words, first_word, front_sight, inner_sight, is_command, opens_comment, opens_order_mark, sight_at}
+use Rattle.ic_diagnostics.specs.Telling.{comment_sentence, order_mark_sentence, sentence, syntax_sentence}
 use Rattle.ic_diagnostics.proofs.Arities.{run_is_first}
 use Rattle.ic_diagnostics.proofs.Trimmed.{told-inner}
 
@@ -59,7 +59,7 @@ command_front (b ∷ bs) rest is stops =
     by_marks (b == 123) (b == 60) is.1 (ap is_command (run_is_first (b ∷ bs) rest is.2 stops) ∙ is.0)
   where
     by_marks : (m n : Bool) → cond m false (cond n false true) ≡ true → is_command (first_word (b ∷ bs ++ rest)) ≡ true
-        → cond m SystemMark (cond n ConfigMark (cond (is_command (first_word (b ∷ bs ++ rest))) CommandWord (cond (opens_comment (b ∷ bs ++ rest)) Comment Front))) ≡ CommandWord
+        → cond m SystemMark (cond n ConfigMark (cond (is_command (first_word (b ∷ bs ++ rest))) CommandWord (cond (opens_comment (b ∷ bs ++ rest)) Comment (cond (opens_order_mark (b ∷ bs ++ rest)) OrderMark Front)))) ≡ CommandWord
     by_marks true n e command = absurd (false≢true e)
     by_marks false true e command = absurd (false≢true e)
     by_marks false false e command = rw command refl
@@ -99,3 +99,8 @@ pub comment_told : (kind : Kind) (blanks mark rest : List ℕ) → list_all is_b
 comment_told kind blanks [] rest all is = absurd is
 comment_told Config blanks (b ∷ bs) rest all is = told_by_sight Config _ (length blanks) Comment (sight_in_front blanks (bs ++ rest) b all ∙ is rest)
 comment_told System blanks (b ∷ bs) rest all is = told_by_sight System _ (length blanks) Comment (sight_in_front blanks (bs ++ rest) b all ∙ is rest)
+
+-- and so is a byte order mark
+pub order_mark_told : (kind : Kind) (rest : List ℕ) → sentence kind (239 ∷ 187 ∷ 191 ∷ rest) Syntax 0 Nothing ≡ order_mark_sentence
+order_mark_told Config rest = told_by_sight Config (239 ∷ 187 ∷ 191 ∷ rest) 0 OrderMark (sight_in_front [] (187 ∷ 191 ∷ rest) 239 refl)
+order_mark_told System rest = told_by_sight System (239 ∷ 187 ∷ 191 ∷ rest) 0 OrderMark (sight_in_front [] (187 ∷ 191 ∷ rest) 239 refl)

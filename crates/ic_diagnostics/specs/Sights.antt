@@ -8,7 +8,7 @@ use Rattle.ic_text.specs.Name.{is_numeral}
 use Rattle.ic_text.specs.Token.{is_blank, is_word_byte}
 use Rattle.ic_diagnostics.specs.Lines.{trimmed}
 use Rattle.ic_diagnostics.specs.declared.sights.Sight.{Sight}
-use Rattle.ic_diagnostics.specs.declared.sights.Sight.TheVariants.{End, SystemMark, ConfigMark, CommandWord, Comment, NoName, NoSymbol, Small, Expanded, Applied, Empty, Ended, Listed, Equated, Late, Argument, After, Crossing, Crossed, Front, Behind}
+use Rattle.ic_diagnostics.specs.declared.sights.Sight.TheVariants.{End, SystemMark, ConfigMark, CommandWord, Comment, OrderMark, NoName, NoSymbol, Small, Expanded, Applied, Empty, Ended, Listed, Equated, Late, Argument, After, Crossing, Crossed, Front, Behind}
 use Rattle.ic_diagnostics.specs.declared.stands.Spot.{Spot}
 use Rattle.ic_diagnostics.specs.declared.stands.Stand.{Stand}
 use Rattle.ic_diagnostics.specs.declared.stands.Stand.TheVariants as standing
@@ -31,7 +31,12 @@ is_command word = list_any (λ w. bytes_eq word w) command_words
 abbrev pub opens_comment : List ℕ → Bool
 opens_comment text = starts_with nat_eq text (codes "#")
     || (starts_with nat_eq text (codes "//")
-    || (starts_with nat_eq text (codes "/*") || starts_with nat_eq text (codes "--")))
+    || (starts_with nat_eq text (codes "/*")
+    || (starts_with nat_eq text (codes "--") || starts_with nat_eq text (codes "(*"))))
+
+-- the byte order mark of UTF-8
+abbrev pub opens_order_mark : List ℕ → Bool
+opens_order_mark text = starts_with nat_eq text (239 ∷ 187 ∷ 191 ∷ [])
 
 -- at the front of a text: a mark or a word with which a text of some kind begins
 abbrev pub front_sight : List ℕ → Sight
@@ -40,7 +45,8 @@ front_sight (b ∷ bs) =
     if b == 123 then SystemMark
     else (if b == 60 then ConfigMark
     else (if is_command (first_word (b ∷ bs)) then CommandWord
-    else (if opens_comment (b ∷ bs) then Comment else Front)))
+    else (if opens_comment (b ∷ bs) then Comment
+    else (if opens_order_mark (b ∷ bs) then OrderMark else Front))))
 
 -- a mark after which a term or an agent may come
 abbrev pub opens_term : Option ℕ → Bool

@@ -23,7 +23,7 @@ use Rattle.ic_streams.specs.declared.fault.StreamFault.TheVariants.{Text}
 use Rattle.ic_diagnostics.specs.declared.telling.Kind.{Kind}
 use Rattle.ic_diagnostics.specs.declared.telling.Kind.TheVariants.{Config, System}
 use Rattle.ic_diagnostics.specs.declared.sights.Sight.{Sight}
-use Rattle.ic_diagnostics.specs.declared.sights.Sight.TheVariants.{End, SystemMark, ConfigMark, CommandWord, Comment, NoName, NoSymbol, Small, Expanded, Applied, Empty, Ended, Listed, Equated, Late, Argument, After, Crossing, Crossed, Behind}
+use Rattle.ic_diagnostics.specs.declared.sights.Sight.TheVariants.{End, SystemMark, ConfigMark, CommandWord, Comment, OrderMark, NoName, NoSymbol, Small, Expanded, Applied, Empty, Ended, Listed, Equated, Late, Argument, After, Crossing, Crossed, Behind}
 use Rattle.ic_diagnostics.specs.declared.stands.Stand.{Stand}
 use Rattle.ic_diagnostics.specs.declared.stands.Stand.TheVariants as standing
 use Rattle.ic_diagnostics.specs.Lines.{place_lines}
@@ -81,6 +81,9 @@ argument_sentence opens = opened opens (codes ", or ) is looked for here")
 abbrev pub comment_sentence : List ℕ
 comment_sentence = codes "there are no comments; `icserve expand` takes out those that begin with #"
 
+abbrev pub order_mark_sentence : List ℕ
+order_mark_sentence = codes "a byte order mark stands before the text: take it out"
+
 -- what names and symbols are, where a name is given arguments
 abbrev pub applied_sentence : List ℕ
 applied_sentence = codes "a name has no arguments: names begin with a to z, and symbols, "
@@ -115,6 +118,7 @@ config_sentence End = codes "the text ends before its configuration does: <INTER
 config_sentence SystemMark = codes "a configuration begins with <, and this is a system"
 config_sentence CommandWord = codes "a configuration begins with <, and commands are served"
 config_sentence Comment = comment_sentence
+config_sentence OrderMark = order_mark_sentence
 config_sentence NoName = name_sentence
 config_sentence NoSymbol = symbol_sentence
 config_sentence Applied = applied_sentence
@@ -134,6 +138,7 @@ system_sentence ConfigMark = codes "a system begins with {, and this is a config
     ++ codes "{} before it makes it a system"
 system_sentence CommandWord = codes "a system begins with {, and commands are served"
 system_sentence Comment = comment_sentence
+system_sentence OrderMark = order_mark_sentence
 system_sentence NoName = name_sentence
 system_sentence NoSymbol = symbol_sentence
 system_sentence Small = small_sentence

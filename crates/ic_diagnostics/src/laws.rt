@@ -229,15 +229,20 @@ pub fn rules_that_slip_are_told()
         ≡ codes "there is no ; before }" ∷ codes "there is no ; before }" ∷ [] }
 {}
 
-/// What begins a comment in other languages is told not to be one, at the front of a text and further on.
+/// What begins a comment in other languages is told not to be one, at the front of a text and further on. A byte order
+/// mark before a text is told, too.
 pub fn comments_are_told()
     ensures front { (kind : Kind) (blanks rest : List ℕ) → list_all is_blank blanks ≡ true →
         AllByRecursion (λ mark. sentence kind (blanks ++ (mark ++ rest)) Syntax (length blanks) Nothing
         ≡ codes "there are no comments; `icserve expand` takes out those that begin with #")
-        (codes "#" ∷ codes "//" ∷ codes "/*" ∷ codes "--" ∷ []) }
+        (codes "#" ∷ codes "//" ∷ codes "/*" ∷ codes "--" ∷ codes "(*" ∷ []) }
+    ensures order_mark { (kind : Kind) (rest : List ℕ) →
+        sentence kind (239 ∷ 187 ∷ 191 ∷ rest) Syntax 0 Nothing
+        ≡ codes "a byte order mark stands before the text: take it out" }
     ensures inner { map (λ mark. sentence System (codes "{A><B} " ++ mark) Syntax 7 Nothing)
-        (codes "# <|>" ∷ codes "// <|>" ∷ codes "/* <|>" ∷ codes "-- <|>" ∷ [])
-        ≡ comment_sentence ∷ comment_sentence ∷ comment_sentence ∷ comment_sentence ∷ [] }
+        (codes "# <|>" ∷ codes "// <|>" ∷ codes "/* <|>" ∷ codes "-- <|>" ∷ codes "(* <|>" ∷ [])
+        ≡ comment_sentence ∷ comment_sentence ∷ comment_sentence ∷ comment_sentence
+        ∷ comment_sentence ∷ [] }
 {}
 
 /// A name that stands in a rule for the only time, or for the third time, is told with that. What stands in another rule

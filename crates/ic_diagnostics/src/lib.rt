@@ -14,7 +14,7 @@ mod stream;
 mod telling;
 
 pub use lines::{column, last_line, line_number, place_lines, told_at};
-pub use sights::{Sight, first_word, is_joined, opens_comment};
+pub use sights::{Sight, first_word, is_joined, opens_comment, opens_order_mark};
 pub use stands::{Spot, Stand};
 pub use stream::{once_telling, refused, refused_within, settle_telling};
 pub use telling::{Kind, sentence, told_lines};

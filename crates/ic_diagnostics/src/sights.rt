@@ -5,7 +5,7 @@ ghost use Rattle.std.specs.List.{list_all};
 ghost use Rattle.ic_text.specs.Token.{is_blank};
 ghost use Rattle.ic_diagnostics.specs.Sights.{begins_rule, begins_word, behind_word, empties, ends_rules, ends_term, first_byte, first_word, front_sight, has_dash, inner_sight, is_command, is_dashed, is_in_rule, is_joined};
 ghost use Rattle.ic_diagnostics.specs.Sights.{begins_as_name, is_applied, is_equated, is_in_interface, is_late, is_listed, is_misnamed, is_over, is_no_name, is_no_symbol, is_on_side, is_small, is_spread, is_stray, marked_sight, opens, opens_applied, opens_spread};
-ghost use Rattle.ic_diagnostics.specs.Sights.{is_again, is_second, is_symbol, is_term_due, joins, last_byte, last_word, mark_sight, opens_comment, opens_term, rule_front, sight_at, stands_in, term_sight};
+ghost use Rattle.ic_diagnostics.specs.Sights.{is_again, is_second, is_symbol, is_term_due, joins, last_byte, last_word, mark_sight, opens_comment, opens_order_mark, opens_term, rule_front, sight_at, stands_in, term_sight};
 
 use crate::lines::trimmed;
 use crate::stands::{Spot, Stand, spot_of};
@@ -24,6 +24,8 @@ pub enum Sight {
     CommandWord,
     /// What begins a comment in other languages.
     Comment,
+    /// At the front, a byte order mark.
+    OrderMark,
     /// Where a term may stand, a word that begins as a name does and isn't one; or a word that goes on with `_`, `'` or a
     /// byte past ASCII.
     NoName,
@@ -148,6 +150,14 @@ pub fn opens_comment(text: &[u8]) -> bool
         || text.starts_with(b"//".as_slice())
         || text.starts_with(b"/*".as_slice())
         || text.starts_with(b"--".as_slice())
+        || text.starts_with(b"(*".as_slice())
+}
+
+/// Whether a text begins with a byte order mark.
+pub fn opens_order_mark(text: &[u8]) -> bool
+    ensures { result ≡ opens_order_mark text.now }
+{
+    text.starts_with(b"\xef\xbb\xbf".as_slice())
 }
 
 /// Whether a word is mostly meant to go on with a byte of no text.
@@ -275,6 +285,8 @@ fn front_sight(text: &[u8]) -> Sight
                 Sight::CommandWord
             } else if opens_comment(text) {
                 Sight::Comment
+            } else if opens_order_mark(text) {
+                Sight::OrderMark
             } else {
                 Sight::Front
             }

@@ -24,6 +24,9 @@ pub enum Kind {
 const NO_COMMENTS: &[u8] =
     b"there are no comments; `icserve expand` takes out those that begin with #";
 
+/// What is told of a byte order mark.
+const ORDER_MARK: &[u8] = b"a byte order mark stands before the text: take it out";
+
 /// What is told of parentheses with nothing in them.
 const NO_PARENTHESES: &[u8] = b"a symbol without arguments has no parentheses";
 
@@ -153,6 +156,7 @@ fn config_sentence(sight: Sight) -> &'static [u8]
         Sight::SystemMark => b"a configuration begins with <, and this is a system",
         Sight::CommandWord => b"a configuration begins with <, and commands are served",
         Sight::Comment => NO_COMMENTS,
+        Sight::OrderMark => ORDER_MARK,
         Sight::NoName => NAMES,
         Sight::NoSymbol => SYMBOLS,
         Sight::Applied => NO_ARGUMENTS,
@@ -186,6 +190,7 @@ fn system_sentence(sight: Sight) -> &'static [u8]
         }
         Sight::CommandWord => b"a system begins with {, and commands are served",
         Sight::Comment => NO_COMMENTS,
+        Sight::OrderMark => ORDER_MARK,
         Sight::NoName => NAMES,
         Sight::NoSymbol => SYMBOLS,
         Sight::Small => b"both symbols of a rule begin with A to Z or 0 to 9",
