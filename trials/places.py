@@ -265,6 +265,8 @@ def sentence_of_syntax(text, at, kind):
     here = text[at : at + 1].decode("latin-1")
     if front[-1] + here in ("()", ";}"):
         return {"(": "a symbol without arguments has no parentheses", ";": "there is no ; before }"}[front[-1]]
+    if front[-1] == "," and here and here in ">|)":
+        return "there is no , at the end of a list"
     if front[-1].isalnum() or front[-1] in "-)":
         stand = stand_of(front) or " "
         if here == "," and stand[0] == "><":

@@ -8,7 +8,7 @@ use Rattle.ic_text.specs.Name.{is_numeral}
 use Rattle.ic_text.specs.Token.{is_blank, is_word_byte}
 use Rattle.ic_diagnostics.specs.Lines.{trimmed}
 use Rattle.ic_diagnostics.specs.declared.sights.Sight.{Sight}
-use Rattle.ic_diagnostics.specs.declared.sights.Sight.TheVariants.{End, SystemMark, ConfigMark, CommandWord, Comment, OrderMark, NoName, NoSymbol, Small, Expanded, Applied, Empty, Ended, Listed, Equated, Late, Argument, After, Crossing, Crossed, Front, Behind}
+use Rattle.ic_diagnostics.specs.declared.sights.Sight.TheVariants.{End, SystemMark, ConfigMark, CommandWord, Comment, OrderMark, NoName, NoSymbol, Small, Expanded, Applied, Empty, Ended, Trailing, Listed, Equated, Late, Argument, After, Crossing, Crossed, Front, Behind}
 use Rattle.ic_diagnostics.specs.declared.stands.Spot.{Spot}
 use Rattle.ic_diagnostics.specs.declared.stands.Stand.{Stand}
 use Rattle.ic_diagnostics.specs.declared.stands.Stand.TheVariants as standing
@@ -211,6 +211,11 @@ abbrev pub ends_rules : (before here : Option ℕ) → Bool
 ends_rules (Some b) (Some d) = b == 59 && d == 125
 ends_rules before here = false
 
+-- a mark with which a list of terms or equations ends, `>`, `|` or `)`, after a comma
+abbrev pub ends_list : (before here : Option ℕ) → Bool
+ends_list (Some b) (Some d) = b == 44 && (d == 62 || (d == 124 || d == 41))
+ends_list before here = false
+
 -- a comma after a rule
 abbrev pub is_listed : Spot → (here : Option ℕ) → Bool
 is_listed spot None = false
@@ -254,11 +259,12 @@ abbrev pub marked_sight : (front rest : List ℕ) → Sight
 marked_sight front rest =
     if empties (last_byte front) (slice_get rest 0) then Empty
     else (if ends_rules (last_byte front) (slice_get rest 0) then Ended
+    else (if ends_list (last_byte front) (slice_get rest 0) then Trailing
     else (if ends_term (last_byte front)
     then (if is_listed (spot_of front) (slice_get rest 0) then Listed
     else (if is_equated (spot_of front) (slice_get rest 0) then Equated else term_sight front))
     else (if is_late (last_byte front) (slice_get rest 0) (spot_of front).stand then Late
-    else mark_sight (last_byte front) (spot_of front).stand)))
+    else mark_sight (last_byte front) (spot_of front).stand))))
 
 -- further on: a comment, a word that is amiss, or anything else
 abbrev pub inner_sight : (front rest : List ℕ) → Sight

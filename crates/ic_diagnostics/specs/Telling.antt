@@ -23,7 +23,7 @@ use Rattle.ic_streams.specs.declared.fault.StreamFault.TheVariants.{Text}
 use Rattle.ic_diagnostics.specs.declared.telling.Kind.{Kind}
 use Rattle.ic_diagnostics.specs.declared.telling.Kind.TheVariants.{Config, System}
 use Rattle.ic_diagnostics.specs.declared.sights.Sight.{Sight}
-use Rattle.ic_diagnostics.specs.declared.sights.Sight.TheVariants.{End, SystemMark, ConfigMark, CommandWord, Comment, OrderMark, NoName, NoSymbol, Small, Expanded, Applied, Empty, Ended, Listed, Equated, Late, Argument, After, Crossing, Crossed, Behind}
+use Rattle.ic_diagnostics.specs.declared.sights.Sight.TheVariants.{End, SystemMark, ConfigMark, CommandWord, Comment, OrderMark, NoName, NoSymbol, Small, Expanded, Applied, Empty, Ended, Trailing, Listed, Equated, Late, Argument, After, Crossing, Crossed, Behind}
 use Rattle.ic_diagnostics.specs.declared.stands.Stand.{Stand}
 use Rattle.ic_diagnostics.specs.declared.stands.Stand.TheVariants as standing
 use Rattle.ic_diagnostics.specs.Lines.{place_lines}
@@ -89,6 +89,10 @@ abbrev pub applied_sentence : List ℕ
 applied_sentence = codes "a name has no arguments: names begin with a to z, and symbols, "
     ++ codes "which may have them, with A to Z or 0 to 9"
 
+-- of a comma at the end of a list
+abbrev pub trailing_sentence : List ℕ
+trailing_sentence = codes "there is no , at the end of a list"
+
 -- of an equation in the interface
 abbrev pub equated_sentence : List ℕ
 equated_sentence = codes "the interface and | come before the equations: <r|Add(r,Z)=Z>"
@@ -123,6 +127,7 @@ config_sentence NoName = name_sentence
 config_sentence NoSymbol = symbol_sentence
 config_sentence Applied = applied_sentence
 config_sentence Empty = empty_sentence
+config_sentence Trailing = trailing_sentence
 config_sentence Equated = equated_sentence
 config_sentence Late = late_sentence
 config_sentence (Argument opens) = argument_sentence opens
@@ -147,6 +152,7 @@ system_sentence Applied = applied_sentence
 system_sentence Empty = empty_sentence
 system_sentence Ended = codes "there is no ; before }"
 system_sentence Listed = codes "rules are separated by ;"
+system_sentence Trailing = trailing_sentence
 system_sentence Equated = equated_sentence
 system_sentence Late = late_sentence
 system_sentence (Argument opens) = argument_sentence opens

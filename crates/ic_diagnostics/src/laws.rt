@@ -172,6 +172,9 @@ pub fn what_is_looked_for_is_told()
     ensures equated { AllByRecursion (λ text. sentence Config text Syntax 10 Nothing
         ≡ codes "the interface and | come before the equations: <r|Add(r,Z)=Z>")
         (codes " <Add(r,Z)=Z>" ∷ codes "<Add(r,Z) = Z, r|>" ∷ []) }
+    ensures trailing { AllByRecursion (λ text. sentence System text Syntax 9 Nothing
+        ≡ codes "there is no , at the end of a list")
+        (codes "{} <r,   |>" ∷ codes "{} <|A=B,>" ∷ codes "{A(x,    )><B}" ∷ []) }
     ensures late_config { sentence Config (codes "<|A=B> {A><B}") Syntax 7 Nothing
         ≡ codes "the rules come before the configuration" }
     ensures late_system { sentence System (codes "{} <|A=B> {A><B}") Syntax 10 Nothing

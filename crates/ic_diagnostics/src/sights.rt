@@ -3,7 +3,7 @@
 ghost use Rattle.std.specs.Prelude.{◌≡◌, ◌≤◌, false, length};
 ghost use Rattle.std.specs.List.{list_all};
 ghost use Rattle.ic_text.specs.Token.{is_blank};
-ghost use Rattle.ic_diagnostics.specs.Sights.{begins_rule, begins_word, behind_word, empties, ends_rules, ends_term, first_byte, first_word, front_sight, has_dash, inner_sight, is_command, is_dashed, is_in_rule, is_joined};
+ghost use Rattle.ic_diagnostics.specs.Sights.{begins_rule, begins_word, behind_word, empties, ends_list, ends_rules, ends_term, first_byte, first_word, front_sight, has_dash, inner_sight, is_command, is_dashed, is_in_rule, is_joined};
 ghost use Rattle.ic_diagnostics.specs.Sights.{begins_as_name, is_applied, is_equated, is_in_interface, is_late, is_listed, is_misnamed, is_over, is_no_name, is_no_symbol, is_on_side, is_small, is_spread, is_stray, marked_sight, opens, opens_applied, opens_spread};
 ghost use Rattle.ic_diagnostics.specs.Sights.{is_again, is_second, is_symbol, is_term_due, joins, last_byte, last_word, mark_sight, opens_comment, opens_order_mark, opens_term, rule_front, sight_at, stands_in, term_sight};
 
@@ -42,6 +42,8 @@ pub enum Sight {
     Empty,
     /// `}` after `;`.
     Ended,
+    /// A mark with which a list ends, after a comma.
+    Trailing,
     /// A comma after a rule.
     Listed,
     /// `=` after a term of the interface.
@@ -327,6 +329,8 @@ fn marked_sight(front: &[u8], rest: &[u8]) -> Sight
         Sight::Empty
     } else if ends_rules(last, here) {
         Sight::Ended
+    } else if ends_list(last, here) {
+        Sight::Trailing
     } else if ends_term(last) {
         if is_listed(spot_of(front), here) {
             Sight::Listed
@@ -348,6 +352,18 @@ fn ends_rules(before: Option<u8>, here: Option<u8>) -> bool
 {
     match (before, here) {
         (Some(before), Some(here)) => before == b';' && here == b'}',
+        (None, _) | (Some(_), None) => false,
+    }
+}
+
+/// Whether these bytes are a comma and the end of a list of terms or equations.
+fn ends_list(before: Option<u8>, here: Option<u8>) -> bool
+    ensures { result ≡ ends_list before here }
+{
+    match (before, here) {
+        (Some(before), Some(here)) => {
+            before == b',' && (here == b'>' || here == b'|' || here == b')')
+        }
         (None, _) | (Some(_), None) => false,
     }
 }

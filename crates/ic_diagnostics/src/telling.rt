@@ -34,6 +34,9 @@ const NO_PARENTHESES: &[u8] = b"a symbol without arguments has no parentheses";
 const TWICE: &[u8] =
     b"in a configuration a name stands at most twice; `icserve expand` writes rules that copy";
 
+/// What is told of a comma at the end of a list.
+const TRAILING: &[u8] = b"there is no , at the end of a list";
+
 /// What is told of an equation in the interface.
 const EQUATED: &[u8] = b"the interface and | come before the equations: <r|Add(r,Z)=Z>";
 
@@ -161,6 +164,7 @@ fn config_sentence(sight: Sight) -> &'static [u8]
         Sight::NoSymbol => SYMBOLS,
         Sight::Applied => NO_ARGUMENTS,
         Sight::Empty => NO_PARENTHESES,
+        Sight::Trailing => TRAILING,
         Sight::Equated => EQUATED,
         Sight::Late => LATE,
         Sight::Argument(opens) => argument_sentence(opens),
@@ -199,6 +203,7 @@ fn system_sentence(sight: Sight) -> &'static [u8]
         Sight::Empty => NO_PARENTHESES,
         Sight::Ended => b"there is no ; before }",
         Sight::Listed => b"rules are separated by ;",
+        Sight::Trailing => TRAILING,
         Sight::Equated => EQUATED,
         Sight::Late => LATE,
         Sight::Argument(opens) => argument_sentence(opens),

@@ -16,6 +16,7 @@ returns c = record {
   second = refl;
   interface = refl;
   equated = (refl, (refl, tt));
+  trailing = (refl, (refl, (refl, tt)));
   late_config = refl;
   late_system = refl;
   left = refl;
