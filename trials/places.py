@@ -246,6 +246,8 @@ def sentence_of_syntax(text, at, kind):
     and a word may be amiss. Rules are separated by semicolons, of which none ends them. Behind a mark and behind a term the sentence
     tells what is looked for."""
     if at == len(text):
+        if not text.strip(b" \t\r\n"):
+            return f"the text is empty: a {kind} is {FORMS[kind]}"
         return f"the text ends before its {kind} does: {FORMS[kind]}"
     mark, other, of = ("<", b"{", "a system") if kind == "configuration" else ("{", b"<", "a configuration")
     front, word = text[:at].strip(b" \t\r\n").decode("latin-1"), re.match(rb"[A-Za-z0-9-]*", text[at:]).group()

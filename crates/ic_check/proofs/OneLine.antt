@@ -27,7 +27,7 @@ use Rattle.ic_diagnostics.specs.Lines.{column, last_line, line_number, told_at}
 use Rattle.ic_diagnostics.specs.Sights.{first_word, is_again, is_joined, opens_comment, opens_order_mark, sight_at}
 use Rattle.ic_diagnostics.specs.Telling.{argument_sentence, behind_in_config, behind_in_system, behind_mark, comment_sentence, config_sentence, count_words, limit_sentence, namecount_sentence, of_rule, opened, order_mark_sentence, plain_sentence, sentence, sight_sentence, stand_sentence, syntax_sentence, system_sentence, wants_term}
 use Rattle.ic_diagnostics.specs.declared.sights.Sight.{Sight}
-use Rattle.ic_diagnostics.specs.declared.sights.Sight.TheVariants.{End, SystemMark, ConfigMark, CommandWord, Comment, OrderMark, NoName, NoSymbol, Small, Expanded, Applied, Empty, Ended, Trailing, Listed, Equated, Late, Argument, After, Crossing, Crossed, Front, Behind}
+use Rattle.ic_diagnostics.specs.declared.sights.Sight.TheVariants.{Blank, End, SystemMark, ConfigMark, CommandWord, Comment, OrderMark, NoName, NoSymbol, Small, Expanded, Applied, Empty, Ended, Trailing, Listed, Equated, Late, Argument, After, Crossing, Crossed, Front, Behind}
 use Rattle.ic_diagnostics.specs.declared.stands.Stand.{Stand}
 use Rattle.ic_diagnostics.specs.declared.stands.Stand.TheVariants as standing
 use Rattle.ic_diagnostics.specs.declared.telling.Kind.{Kind}
@@ -148,6 +148,7 @@ argument_free : (opens : Bool) → has_feed (argument_sentence opens) ≡ false
 argument_free opens = opened_free opens (codes ", or ) is looked for here") refl
 
 config_free : (sight : Sight) → has_feed (config_sentence sight) ≡ false
+config_free Blank = refl
 config_free End = refl
 config_free SystemMark = refl
 config_free ConfigMark = refl
@@ -173,6 +174,7 @@ config_free Front = refl
 config_free (Behind b) = in_config_free b
 
 system_free : (sight : Sight) → has_feed (system_sentence sight) ≡ false
+system_free Blank = refl
 system_free End = refl
 system_free SystemMark = refl
 system_free ConfigMark = refl

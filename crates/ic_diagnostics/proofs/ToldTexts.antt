@@ -7,11 +7,11 @@ use Rattle.ic_text.specs.Token.{is_blank, is_word_byte}
 use Rattle.ic_text.specs.declared.misread.Detail.TheVariants.{Nothing}
 use Rattle.ic_text.specs.declared.fault.TextFault.TheVariants.{Syntax}
 use Rattle.ic_diagnostics.specs.declared.sights.Sight.{Sight}
-use Rattle.ic_diagnostics.specs.declared.sights.Sight.TheVariants.{End, SystemMark, ConfigMark, CommandWord, Comment, OrderMark, Front}
+use Rattle.ic_diagnostics.specs.declared.sights.Sight.TheVariants.{Blank, End, SystemMark, ConfigMark, CommandWord, Comment, OrderMark, Front}
 use Rattle.ic_diagnostics.specs.declared.telling.Kind.{Kind}
 use Rattle.ic_diagnostics.specs.declared.telling.Kind.TheVariants.{Config, System}
 use Rattle.ic_diagnostics.specs.Lines.{feed, first_line, head_of, last_line, picture_of, place_lines, told_at}
-use Rattle.ic_diagnostics.specs.Sights.{command_words, first_word, front_sight, inner_sight, is_command, opens_comment, opens_order_mark, sight_at}
+use Rattle.ic_diagnostics.specs.Sights.{command_words, end_sight, first_word, front_sight, inner_sight, is_command, opens_comment, opens_order_mark, sight_at}
 use Rattle.ic_diagnostics.specs.Telling.{comment_sentence, order_mark_sentence, sentence, syntax_sentence}
 use Rattle.ic_diagnostics.proofs.Arities.{run_is_first}
 use Rattle.ic_diagnostics.proofs.Trimmed.{told-inner}
@@ -29,10 +29,16 @@ lines_in_parts a b words c =
     let behind : drop (told_at text (length a)) text ≡ c ∷ b = ap (λ n. drop n text) at ∙ drop_at a (c ∷ b) (length a) refl in
     λ i. concat (head_of (front i) ∷ picture_of (last_line (front i)) (first_line (behind i)) ∷ words ∷ feed ∷ [])
 
-pub sight_at_end : (text : List ℕ) → sight_at text (length text) ≡ End
-sight_at_end text =
+-- the end of a text is seen as one
+at_end : (text : List ℕ) → sight_at text (length text) ≡ end_sight text
+at_end text =
     let same : (length text == length text) ≡ true = eq-eqb (length text) (length text) refl in
     rw same refl
+
+-- what is seen at the end of a text of blanks alone, and of any other
+pub sight_at_end : (text : List ℕ) (sight : Sight) (blank : Bool) → list_all is_blank text ≡ blank → cond blank Blank End ≡ sight
+    → sight_at text (length text) ≡ sight
+sight_at_end text sight blank all is = at_end text ∙ ap (λ b. cond b Blank End) all ∙ is
 
 -- behind blanks alone stands the front of a text
 pub sight_in_front : (blanks b : List ℕ) (c : ℕ) → list_all is_blank blanks ≡ true → sight_at (blanks ++ c ∷ b) (length blanks) ≡ front_sight (c ∷ b)
@@ -43,7 +49,7 @@ sight_in_front blanks b c all =
     let front : take at text ≡ blanks = take_at blanks (c ∷ b) at refl in
     let behind : drop at text ≡ c ∷ b = drop_at blanks (c ∷ b) at refl in
     let blank : list_all is_blank (take at text) ≡ true = ap (list_all is_blank) front ∙ all in
-    (λ i. cond (other i) End (cond (blank i) (front_sight (drop at text)) (inner_sight (take at text) (drop at text)))) ∙ ap front_sight behind
+    (λ i. cond (other i) (end_sight text) (cond (blank i) (front_sight (drop at text)) (inner_sight (take at text) (drop at text)))) ∙ ap front_sight behind
 
 -- a word of a command begins with no mark
 abbrev begins_otherwise : List ℕ → Bool

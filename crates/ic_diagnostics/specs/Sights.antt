@@ -8,7 +8,7 @@ use Rattle.ic_text.specs.Name.{is_numeral}
 use Rattle.ic_text.specs.Token.{is_blank, is_word_byte}
 use Rattle.ic_diagnostics.specs.Lines.{trimmed}
 use Rattle.ic_diagnostics.specs.declared.sights.Sight.{Sight}
-use Rattle.ic_diagnostics.specs.declared.sights.Sight.TheVariants.{End, SystemMark, ConfigMark, CommandWord, Comment, OrderMark, NoName, NoSymbol, Small, Expanded, Applied, Empty, Ended, Trailing, Listed, Equated, Late, Argument, After, Crossing, Crossed, Front, Behind}
+use Rattle.ic_diagnostics.specs.declared.sights.Sight.TheVariants.{Blank, End, SystemMark, ConfigMark, CommandWord, Comment, OrderMark, NoName, NoSymbol, Small, Expanded, Applied, Empty, Ended, Trailing, Listed, Equated, Late, Argument, After, Crossing, Crossed, Front, Behind}
 use Rattle.ic_diagnostics.specs.declared.stands.Spot.{Spot}
 use Rattle.ic_diagnostics.specs.declared.stands.Stand.{Stand}
 use Rattle.ic_diagnostics.specs.declared.stands.Stand.TheVariants as standing
@@ -275,10 +275,14 @@ inner_sight front rest =
     else (if is_applied front rest then Applied
     else (if is_no_name front rest then NoName else marked_sight front rest))))
 
+-- at the end of a text: whether it is of blanks alone
+abbrev pub end_sight : List ℕ → Sight
+end_sight text = if list_all is_blank text then Blank else End
+
 -- what stands at a place of a text; the place is at the front where only blanks stand before it
 abbrev pub sight_at : List ℕ → ℕ → Sight
 sight_at text at =
-    if at == length text then End
+    if at == length text then end_sight text
     else (if list_all is_blank (take at text) then front_sight (drop at text)
     else inner_sight (take at text) (drop at text))
 

@@ -23,7 +23,7 @@ use Rattle.ic_streams.specs.declared.fault.StreamFault.TheVariants.{Text}
 use Rattle.ic_diagnostics.specs.declared.telling.Kind.{Kind}
 use Rattle.ic_diagnostics.specs.declared.telling.Kind.TheVariants.{Config, System}
 use Rattle.ic_diagnostics.specs.declared.sights.Sight.{Sight}
-use Rattle.ic_diagnostics.specs.declared.sights.Sight.TheVariants.{End, SystemMark, ConfigMark, CommandWord, Comment, OrderMark, NoName, NoSymbol, Small, Expanded, Applied, Empty, Ended, Trailing, Listed, Equated, Late, Argument, After, Crossing, Crossed, Behind}
+use Rattle.ic_diagnostics.specs.declared.sights.Sight.TheVariants.{Blank, End, SystemMark, ConfigMark, CommandWord, Comment, OrderMark, NoName, NoSymbol, Small, Expanded, Applied, Empty, Ended, Trailing, Listed, Equated, Late, Argument, After, Crossing, Crossed, Behind}
 use Rattle.ic_diagnostics.specs.declared.stands.Stand.{Stand}
 use Rattle.ic_diagnostics.specs.declared.stands.Stand.TheVariants as standing
 use Rattle.ic_diagnostics.specs.Lines.{place_lines}
@@ -118,6 +118,7 @@ expanded_sentence = codes "`icserve expand` writes the rules for which copy and 
 -- what is amiss where a configuration doesn't go on, by what stands there: the text may be of another
 -- kind, a system or lines of commands
 abbrev pub config_sentence : Sight → List ℕ
+config_sentence Blank = codes "the text is empty: a configuration is <INTERFACE|EQUATIONS>"
 config_sentence End = codes "the text ends before its configuration does: <INTERFACE|EQUATIONS>"
 config_sentence SystemMark = codes "a configuration begins with <, and this is a system"
 config_sentence CommandWord = codes "a configuration begins with <, and commands are served"
@@ -138,6 +139,7 @@ config_sentence sight = codes "a configuration begins with <"
 
 -- the same of a system, where the text may be a configuration or lines of commands
 abbrev pub system_sentence : Sight → List ℕ
+system_sentence Blank = codes "the text is empty: a system is {RULES} <INTERFACE|EQUATIONS>"
 system_sentence End = codes "the text ends before its system does: {RULES} <INTERFACE|EQUATIONS>"
 system_sentence ConfigMark = codes "a system begins with {, and this is a configuration: "
     ++ codes "{} before it makes it a system"

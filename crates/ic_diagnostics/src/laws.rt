@@ -121,7 +121,7 @@ pub fn places_are_told_in_parts()
 {}
 
 /// A text that begins with the mark of the other kind, or with the word of a command, is told so, and so is one that
-/// ends.
+/// ends. One of blanks alone is told to be empty.
 pub fn other_texts_are_told_so()
     ensures system { (blanks rest : List ℕ) → list_all is_blank blanks ≡ true →
         sentence Config (blanks ++ 123 ∷ rest) Syntax (length blanks) Nothing
@@ -135,7 +135,12 @@ pub fn other_texts_are_told_so()
         ≡ codes "a configuration begins with <, and commands are served")
         × (sentence System (blanks ++ (word ++ rest)) Syntax (length blanks) Nothing
         ≡ codes "a system begins with {, and commands are served")) command_words }
-    ensures end { (text : List ℕ) →
+    ensures blank { (text : List ℕ) → list_all is_blank text ≡ true →
+        (sentence Config text Syntax (length text) Nothing
+        ≡ codes "the text is empty: a configuration is <INTERFACE|EQUATIONS>")
+        × (sentence System text Syntax (length text) Nothing
+        ≡ codes "the text is empty: a system is {RULES} <INTERFACE|EQUATIONS>") }
+    ensures end { (text : List ℕ) → list_all is_blank text ≡ false →
         (sentence Config text Syntax (length text) Nothing
         ≡ codes "the text ends before its configuration does: <INTERFACE|EQUATIONS>")
         × (sentence System text Syntax (length text) Nothing

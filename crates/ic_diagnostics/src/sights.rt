@@ -3,7 +3,7 @@
 ghost use Rattle.std.specs.Prelude.{◌≡◌, ◌≤◌, false, length};
 ghost use Rattle.std.specs.List.{list_all};
 ghost use Rattle.ic_text.specs.Token.{is_blank};
-ghost use Rattle.ic_diagnostics.specs.Sights.{begins_rule, begins_word, behind_word, empties, ends_list, ends_rules, ends_term, first_byte, first_word, front_sight, has_dash, inner_sight, is_command, is_dashed, is_in_rule, is_joined};
+ghost use Rattle.ic_diagnostics.specs.Sights.{begins_rule, begins_word, behind_word, empties, end_sight, ends_list, ends_rules, ends_term, first_byte, first_word, front_sight, has_dash, inner_sight, is_command, is_dashed, is_in_rule, is_joined};
 ghost use Rattle.ic_diagnostics.specs.Sights.{begins_as_name, is_applied, is_equated, is_in_interface, is_late, is_listed, is_misnamed, is_over, is_no_name, is_no_symbol, is_on_side, is_small, is_spread, is_stray, marked_sight, opens, opens_applied, opens_spread};
 ghost use Rattle.ic_diagnostics.specs.Sights.{is_again, is_second, is_symbol, is_term_due, joins, last_byte, last_word, mark_sight, opens_comment, opens_order_mark, opens_term, rule_front, sight_at, stands_in, term_sight};
 
@@ -14,7 +14,9 @@ use ic_text::{is_blank, is_numeral, is_word_byte};
 /// What stands at a place of a text, as far as it tells what is amiss there.
 #[derive(Clone, Copy, Debug, PartialEq, Eq)]
 pub enum Sight {
-    /// The end of the text.
+    /// The end of a text of blanks alone.
+    Blank,
+    /// The end of any other text.
     End,
     /// At the front, the mark with which a system begins.
     SystemMark,
@@ -562,13 +564,24 @@ fn are_blank(text: &[u8]) -> bool
     text.iter().all(|byte| is_blank(*byte))
 }
 
+/// What is seen at the end of a text.
+fn end_sight(text: &[u8]) -> Sight
+    ensures { result ≡ end_sight text.now }
+{
+    if are_blank(text) {
+        Sight::Blank
+    } else {
+        Sight::End
+    }
+}
+
 /// What stands at a place of a text.
 pub(crate) fn sight_at(text: &[u8], at: usize) -> Sight
     requires { at ≤ length text.now }
     ensures { result ≡ sight_at text.now at }
 {
     if at == text.len() {
-        return Sight::End;
+        return end_sight(text);
     }
     let (front, rest) = text.split_at(at);
     if are_blank(front) {

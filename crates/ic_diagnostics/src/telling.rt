@@ -155,6 +155,7 @@ fn config_sentence(sight: Sight) -> &'static [u8]
     ensures { result.now ≡ config_sentence sight }
 {
     match sight {
+        Sight::Blank => b"the text is empty: a configuration is <INTERFACE|EQUATIONS>",
         Sight::End => b"the text ends before its configuration does: <INTERFACE|EQUATIONS>",
         Sight::SystemMark => b"a configuration begins with <, and this is a system",
         Sight::CommandWord => b"a configuration begins with <, and commands are served",
@@ -188,6 +189,7 @@ fn system_sentence(sight: Sight) -> &'static [u8]
     ensures { result.now ≡ system_sentence sight }
 {
     match sight {
+        Sight::Blank => b"the text is empty: a system is {RULES} <INTERFACE|EQUATIONS>",
         Sight::End => b"the text ends before its system does: {RULES} <INTERFACE|EQUATIONS>",
         Sight::ConfigMark => {
             b"a system begins with {, and this is a configuration: {} before it makes it a system"

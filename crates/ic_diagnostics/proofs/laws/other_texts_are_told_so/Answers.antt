@@ -1,5 +1,5 @@
-use Rattle.std.proofs.Common.{length}
-use Rattle.ic_diagnostics.specs.declared.sights.Sight.TheVariants.{End, SystemMark, ConfigMark}
+use Rattle.std.proofs.Common.{true, false, length, refl}
+use Rattle.ic_diagnostics.specs.declared.sights.Sight.TheVariants.{Blank, End, SystemMark, ConfigMark}
 use Rattle.ic_diagnostics.specs.declared.telling.Kind.TheVariants.{Config, System}
 use Rattle.ic_diagnostics.proofs.ToldTexts.{commands_told, sight_at_end, sight_in_front, told_by_sight}
 use Rattle.ic_diagnostics.proofs.laws.other_texts_are_told_so.Goals as goal
@@ -14,4 +14,13 @@ pub returns-clause-commands : goal.returns-clause-commands
 returns-clause-commands c = commands_told
 
 pub returns-clause-end : goal.returns-clause-end
-returns-clause-end c = λ text. (told_by_sight Config text (length text) End (sight_at_end text), told_by_sight System text (length text) End (sight_at_end text))
+returns-clause-end c = λ text more. (
+  told_by_sight Config text (length text) End (sight_at_end text End false more refl),
+  told_by_sight System text (length text) End (sight_at_end text End false more refl),
+)
+
+pub returns-clause-blank : goal.returns-clause-blank
+returns-clause-blank c = λ text all. (
+  told_by_sight Config text (length text) Blank (sight_at_end text Blank true all refl),
+  told_by_sight System text (length text) Blank (sight_at_end text Blank true all refl),
+)
