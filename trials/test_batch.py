@@ -136,7 +136,7 @@ class Batch(Trial):
         with Server(path) as server:
             self.answers(server, "list", "jobs")
             ran = self.refuses(*self.words([submitted("two", TWO)]), line="locked", status=6)
-            self.equals(ran.command, "what is told behind", f"{path}: lock: another server has it open\n".encode(), ran.behind)
+            self.equals(ran.command, "what is told behind", f"{path}: lock: another process has it open\n".encode(), ran.behind)
             self.ends(server)
         self.brings([submitted("two", TWO)], [end_of("two", TWO, 9)])
 

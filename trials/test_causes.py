@@ -78,7 +78,7 @@ class Causes(Trial):
             for word, *more in words:
                 ran = run(word, "--disk", path, *more, given="list")
                 self.equals(ran.command, "status and standard output", (6, b""), (ran.status, ran.out))
-                self.tells(ran, "locked", f"{path}: lock: another server has it open")
+                self.tells(ran, "locked", f"{path}: lock: another process has it open")
             self.ends(server)
         self.serves(path, "list", ["jobs"])
 

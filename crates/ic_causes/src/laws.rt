@@ -33,7 +33,7 @@ pub fn a_cause_is_told()
       target = target.File;
       call = call.Lock;
       reason = reason.Locked;
-    })) ≡ codes "a.disk: lock: another server has it open" ++ 10 ∷ [] }
+    })) ≡ codes "a.disk: lock: another process has it open" ++ 10 ∷ [] }
     ensures full { cause_line (codes "a.disk") (Some (record {
       target = target.File;
       call = call.Write;
@@ -96,7 +96,7 @@ pub fn reasons_are_told_in_words()
     ensures links { reason_words reason.Links ≡ codes "too many symbolic links" }
     ensures no_rights { reason_words reason.NoRights ≡ codes "no rights" }
     ensures read_only { reason_words reason.ReadOnly ≡ codes "the file system takes no writes" }
-    ensures locked { reason_words reason.Locked ≡ codes "another server has it open" }
+    ensures locked { reason_words reason.Locked ≡ codes "another process has it open" }
     ensures no_wait { reason_words reason.NoWait
         ≡ codes "nothing is there yet, and it is set not to wait" }
     ensures running { reason_words reason.Running ≡ codes "is a program that runs" }
@@ -162,7 +162,7 @@ pub fn reasons_are()
     ensures untold { (c : FileCall) → reason_of c Uncategorized None ≡ reason.Untold }
 {}
 
-/// That another server has the file open is told of a lock alone.
+/// That another process has the file open is told of a lock alone.
 pub fn a_lock_alone_is_told_as_held()
     ensures only { (c : FileCall) (kind : ErrorKind) (number : Option ℤ)
         → reason_of c kind number ≡ reason.Locked → (c ≡ call.Lock) × (kind ≡ WouldBlock) }

@@ -92,7 +92,7 @@ fn reason_words(alloc: Global, reason: Reason) -> Result<Vec<u8>, AllocError>
         Reason::Links => b"too many symbolic links".to_vec(alloc),
         Reason::NoRights => b"no rights".to_vec(alloc),
         Reason::ReadOnly => b"the file system takes no writes".to_vec(alloc),
-        Reason::Locked => b"another server has it open".to_vec(alloc),
+        Reason::Locked => b"another process has it open".to_vec(alloc),
         Reason::NoWait => b"nothing is there yet, and it is set not to wait".to_vec(alloc),
         Reason::Running => b"is a program that runs".to_vec(alloc),
         Reason::NoRoom => b"no room left on the device".to_vec(alloc),
