@@ -8,8 +8,9 @@ from program import IN_MEMORY, SEED, TOP, Trial, run
 
 MOST = 16_777_216
 SENTENCES = {
-    "copier": "copy is of a symbol that terms of the text have with two arguments",
-    "eraser": "erase is of a symbol that terms of the text have without arguments",
+    "symbol": "copy and erase are of symbols, and no term of the text has this one",
+    "copier": "copy is of a symbol with two arguments, and this one has COUNT where it stands first",
+    "eraser": "erase is of a symbol without arguments, and this one has COUNT where it stands first",
     "rules": "no rule is left for which this stands: each is given before",
     "end": "; or } is looked for here",
 }
@@ -57,26 +58,28 @@ WORKED = {
 
 # A text, the place of its fault, and what is told of it.
 REFUSED = {
-    "an unknown copier": ("{copy D} <|A=B>", (1, 7), "copier"),
-    "an unknown eraser": ("{ erase\nE} <|A=B>", (2, 1), "eraser"),
-    "a copier of three": ("{copy D} <|D(a,b,c)=D(a,b,c)>", (1, 7), "copier"),
-    "a copier of none": ("{copy D} <|D=D>", (1, 7), "copier"),
-    "an eraser of one": ("{erase E} <|E(a)=E(a)>", (1, 8), "eraser"),
-    "a name": ("{copy d} <|D(a,b)=D(a,b)>", (1, 7), "copier"),
-    "nothing": ("{copy ;A><B} <|D(a,b)=D(a,b)>", (1, 7), "copier"),
+    "an unknown copier": ("{copy D} <|A=B>", (1, 7), "symbol"),
+    "an unknown eraser": ("{ erase\nE} <|A=B>", (2, 1), "symbol"),
+    "a copier of three": ("{copy D} <|D(a,b,c)=D(a,b,c)>", (1, 7), ("copier", 3)),
+    "a copier of none": ("{copy D} <|D=D>", (1, 7), ("copier", 0)),
+    "a copier of three in a rule": ("{A><D(a,b,c);copy D} <|D(a,b)=A>", (1, 19), ("copier", 3)),
+    "an eraser of one": ("{erase E} <|E(a)=E(a)>", (1, 8), ("eraser", 1)),
+    "a name": ("{copy d} <|D(a,b)=D(a,b)>", (1, 7), "symbol"),
+    "nothing": ("{copy ;A><B} <|D(a,b)=D(a,b)>", (1, 7), "symbol"),
     "twice": ("{copy D;\n  copy D} <|D(a,b)=Z>", (2, 8), "rules"),
     "all given": ("{E><E;A><E;erase E} <|A=E>", (1, 18), "rules"),
     "arguments": ("{copy D(x,y)} <|D(a,b)=Z>", (1, 8), "end"),
     "a rule": ("{erase E >< E} <|E=Z>", (1, 10), "end"),
     "the end of rules": ("{erase E <|E=Z>", (1, 10), "end"),
     "another symbol": ("{erase E E} <|E=Z>", (1, 10), "end"),
-    "the first of two": ("{copy A;copy B} <|>", (1, 7), "copier"),
+    "the first of two": ("{copy A;copy B} <|>", (1, 7), "symbol"),
 }
 
 
 def told(place, what):
     line, column = place
-    return f"line {line}, column {column}\n", SENTENCES[what] + "\n"
+    what, count = (what, "") if isinstance(what, str) else what
+    return f"line {line}, column {column}\n", SENTENCES[what].replace("COUNT", str(count)) + "\n"
 
 
 # ---- a model
@@ -167,7 +170,8 @@ def model(text):
             out.append(piece)
         elif spot in (b"copy", b"erase"):
             if symbols.get(piece) != {b"copy": 2, b"erase": 0}[spot]:
-                raise Refused(at, "copier" if spot == b"copy" else "eraser")
+                lack = "copier" if spot == b"copy" else "eraser"
+                raise Refused(at, (lack, symbols[piece]) if piece in symbols else "symbol")
             others = [] if piece in earlier else [
                 (it, arity) for it, arity in symbols.items()
                 if len(it) <= 32 and arity <= 15 and frozenset((piece, it)) not in given and it not in earlier

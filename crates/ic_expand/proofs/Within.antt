@@ -16,7 +16,7 @@ use Rattle.ic_expand.specs.declared.spot.Spot.TheVariants.{Elsewhere, Opening, A
 use Rattle.ic_expand.specs.Comments.{uncommented}
 use Rattle.ic_expand.specs.Pieces.{first_byte, pieces}
 use Rattle.ic_expand.specs.Spots.{after}
-use Rattle.ic_expand.specs.Expanding.{Sheet, before_text, expanded, has_symbol, is_end, lack_of, piece_text, refusal, refused_at, sheet_of, unless_refused, unless_some, wanted, with_generic, written, written_pieces}
+use Rattle.ic_expand.specs.Expanding.{Sheet, arity_in, before_text, expanded, has_symbol, is_end, lack_of, piece_text, refusal, refused_at, sheet_of, unless_refused, unless_some, wanted, with_generic, written, written_pieces}
 use Rattle.ic_expand.specs.Streams.{told_text}
 use Rattle.ic_expand.proofs.Cutting.{concat-pieces}
 
@@ -30,9 +30,10 @@ inner_some : (text : List ℕ) (ts : List Symbol) → Inner text (unless_some ts
 inner_some text [] = refl
 inner_some text (t ∷ ts) = tt
 
-inner_lack : (text : List ℕ) (kind : Kind) → Inner text (Some (lack_of kind))
-inner_lack text Copier = refl
-inner_lack text Eraser = refl
+inner_lack : (text : List ℕ) (kind : Kind) (arity : Option ℕ) → Inner text (Some (lack_of kind arity))
+inner_lack text kind None = refl
+inner_lack text Copier (Some n) = refl
+inner_lack text Eraser (Some n) = refl
 
 inner_by : (text : List ℕ) (b : Bool) (o p : Option Reason) → Inner text o → Inner text p → Inner text (cond b o p)
 inner_by text true o p one other = one
@@ -42,7 +43,7 @@ inner_at : (text : List ℕ) (sheet : Sheet) (earlier : List (List ℕ)) (spot :
 inner_at text sheet earlier Elsewhere p = tt
 inner_at text sheet earlier Opening p = tt
 inner_at text sheet earlier (Asked kind) p =
-    inner_by text (has_symbol sheet.symbols kind p) (unless_some (wanted sheet earlier p)) (Some (lack_of kind)) (inner_some text (wanted sheet earlier p)) (inner_lack text kind)
+    inner_by text (has_symbol sheet.symbols kind p) (unless_some (wanted sheet earlier p)) (Some (lack_of kind (arity_in sheet.symbols p))) (inner_some text (wanted sheet earlier p)) (inner_lack text kind (arity_in sheet.symbols p))
 inner_at text sheet earlier Given p = inner_by text (is_end (first_byte p)) None (Some NoEnd) tt refl
 
 inner_refusal : (text : List ℕ) (sheet : Sheet) (earlier : List (List ℕ)) (spot : Spot) (p : List ℕ) → Inner text (refusal sheet earlier spot p)

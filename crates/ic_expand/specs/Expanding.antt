@@ -5,7 +5,7 @@ use Rattle.std.specs.Str.{bytes_eq}
 use Rattle.ic_text.specs.Token.{is_blank}
 use Rattle.ic_term.specs.Symbol.{Symbol}
 use Rattle.ic_expand.specs.declared.fault.Reason.{Reason}
-use Rattle.ic_expand.specs.declared.fault.Reason.TheVariants.{TextBytes, NoCopier, NoEraser, NoRules, NoEnd}
+use Rattle.ic_expand.specs.declared.fault.Reason.TheVariants.{TextBytes, NoSymbol, NoCopier, NoEraser, NoRules, NoEnd}
 use Rattle.ic_expand.specs.declared.fault.ExpandFault.{ExpandFault}
 use Rattle.ic_expand.specs.declared.fault.ExpandFault.TheVariants.{Refused}
 use Rattle.ic_expand.specs.declared.limits.TheConstants.{MAX_RICH_TEXT}
@@ -60,10 +60,16 @@ piece_text sheet earlier (Asked kind) p = if is_blank (first_byte p) then p
     else in_row true (rules_of sheet earlier kind p)
 piece_text sheet earlier spot p = told_word sheet.longs sheet.spare p
 
--- a symbol is looked for that is a copier, or an eraser
-abbrev pub lack_of : Kind → Reason
-lack_of Copier = NoCopier
-lack_of Eraser = NoEraser
+-- how many arguments a text has with this symbol where that stands first, if it stands in a term
+abbrev pub arity_in : List Symbol → List ℕ → Option ℕ
+arity_in [] s = None
+arity_in (t ∷ ts) s = if bytes_eq s t.text then Some t.arity else arity_in ts s
+
+-- what is amiss with a symbol that isn't the one that is looked for, by how many arguments it has
+abbrev pub lack_of : Kind → Option ℕ → Reason
+lack_of kind None = NoSymbol
+lack_of Copier (Some n) = NoCopier n
+lack_of Eraser (Some n) = NoEraser n
 
 -- why there are no rules, if there are none
 abbrev pub unless_some : List Symbol → Option Reason
@@ -77,7 +83,8 @@ is_end b = b == 59 || b == 125
 -- why a piece is refused that is no blank, if it is
 abbrev pub refused_at : Sheet → (earlier : List (List ℕ)) → Spot → List ℕ → Option Reason
 refused_at sheet earlier (Asked kind) p = if has_symbol sheet.symbols kind p
-    then unless_some (wanted sheet earlier p) else Some (lack_of kind)
+    then unless_some (wanted sheet earlier p)
+    else Some (lack_of kind (arity_in sheet.symbols p))
 refused_at sheet earlier Given p = if is_end (first_byte p) then None else Some NoEnd
 refused_at sheet earlier spot p = None
 

@@ -1,5 +1,6 @@
 -- To be believed: what a stream is answered whose text is expanded (this project's choice).
 use Rattle.std.specs.Prelude.{◌≡◌, ◌≤◌, ℕ, ◌+◌, List, ◌++◌, Option, Ok, Err, codes, length}
+use Rattle.std.specs.Fmt.{decimal}
 use Rattle.std.specs.Io.KnownBytes.{Consumes, IsAtEnd}
 use Rattle.ic_text.specs.declared.fault.TextFault.{TextFault}
 use Rattle.ic_text.specs.declared.fault.TextFault.TheVariants.{Syntax, Limit}
@@ -10,31 +11,40 @@ use Rattle.ic_diagnostics.specs.Lines.{place_lines}
 use Rattle.ic_expand.specs.Comments.{uncommented}
 use Rattle.ic_expand.specs.Expanding.{expanded}
 use Rattle.ic_expand.specs.declared.fault.Reason.{Reason}
-use Rattle.ic_expand.specs.declared.fault.Reason.TheVariants.{TextBytes, NoCopier, NoEraser, NoRules, NoEnd}
+use Rattle.ic_expand.specs.declared.fault.Reason.TheVariants.{TextBytes, NoSymbol, NoCopier, NoEraser, NoRules, NoEnd}
 use Rattle.ic_expand.specs.declared.fault.ExpandFault.TheVariants.{Refused}
 use Rattle.ic_expand.specs.declared.limits.TheConstants.{MAX_RICH_TEXT}
 
 -- the fault of a text that is refused
 abbrev pub text_fault : Reason → TextFault
 text_fault TextBytes = Limit
-text_fault NoCopier = Syntax
-text_fault NoEraser = Syntax
+text_fault NoSymbol = Syntax
+text_fault (NoCopier n) = Syntax
+text_fault (NoEraser n) = Syntax
 text_fault NoRules = Syntax
 text_fault NoEnd = Syntax
+
+-- words, and how many arguments a symbol has
+abbrev pub counted : List ℕ → ℕ → List ℕ
+counted words n = words ++ decimal n ++ codes " where it stands first"
 
 -- what is amiss at the place of a refusal
 abbrev pub reason_sentence : Reason → List ℕ
 reason_sentence TextBytes = codes "a text has at most 16777216 bytes"
-reason_sentence NoCopier = codes "copy is of a symbol that terms of the text have with two arguments"
-reason_sentence NoEraser = codes "erase is of a symbol that terms of the text have without arguments"
+reason_sentence NoSymbol = codes "copy and erase are of symbols, and no term of the text has this one"
+reason_sentence (NoCopier n) =
+    counted (codes "copy is of a symbol with two arguments, and this one has ") n
+reason_sentence (NoEraser n) =
+    counted (codes "erase is of a symbol without arguments, and this one has ") n
 reason_sentence NoRules = codes "no rule is left for which this stands: each is given before"
 reason_sentence NoEnd = codes "; or } is looked for here"
 
 -- the text in which the place of a refusal is: that without comments, but for one that is too long
 abbrev pub told_text : Reason → List ℕ → List ℕ
 told_text TextBytes text = text
-told_text NoCopier text = uncommented text
-told_text NoEraser text = uncommented text
+told_text NoSymbol text = uncommented text
+told_text (NoCopier n) text = uncommented text
+told_text (NoEraser n) text = uncommented text
 told_text NoRules text = uncommented text
 told_text NoEnd text = uncommented text
 

@@ -10,10 +10,12 @@ use std::alloc::{AllocError, AllocFailed};
 pub enum Reason {
     /// It has too many bytes.
     TextBytes,
-    /// After `copy` no symbol stands that terms of the text have with two arguments.
-    NoCopier,
-    /// After `erase` no symbol stands that terms of the text have without arguments.
-    NoEraser,
+    /// After `copy` or `erase` no symbol stands that a term of the text has.
+    NoSymbol,
+    /// The symbol after `copy` has not two, but so many arguments where it stands first.
+    NoCopier(usize),
+    /// The symbol after `erase` has so many arguments where it stands first, and not none.
+    NoEraser(usize),
     /// Each rule for which this `copy` or `erase` would stand is given already.
     NoRules,
     /// After the symbol of a `copy` or an `erase` neither `;` nor `}` stands.

@@ -3,7 +3,7 @@
 ghost use Rattle.std.specs.Prelude.{◌≡◌, ◌≢◌, ◌≤◌, ◌++◌, ◌⊎◌, Ok, IfOk, IfErr, OnOk, OnErr, length};
 ghost use Rattle.std.specs.Io.KnownBytes.{Keeps};
 ghost use Rattle.ic_streams.specs.Streams.{FaultOf, IsAnswered, OfText};
-ghost use Rattle.ic_expand.specs.Streams.{Expands, TakesAt, TakesSome, TakesText, TakesWhole, Told, ToldAt, reason_sentence, refusal_lines, text_fault, told_text};
+ghost use Rattle.ic_expand.specs.Streams.{Expands, TakesAt, TakesSome, TakesText, TakesWhole, Told, ToldAt, counted, reason_sentence, refusal_lines, text_fault, told_text};
 ghost use Rattle.ic_streams.specs.declared.fault.StreamFault.TheVariants.{Text};
 
 use crate::comments::without_comments;
@@ -116,27 +116,55 @@ fn refusal_lines(
     requires { at ≤ length (told_text reason text.now) }
     ensures { IfOk result (λ lines. lines.items ≡ refusal_lines text.now reason at) }
 {
-    let sentence = reason_sentence(reason);
+    let sentence = reason_sentence(alloc, reason)?;
     match reason {
-        Reason::TextBytes => place_lines(alloc, text, at, sentence),
-        Reason::NoCopier | Reason::NoEraser | Reason::NoRules | Reason::NoEnd => {
+        Reason::TextBytes => place_lines(alloc, text, at, &sentence),
+        Reason::NoSymbol
+        | Reason::NoCopier(_)
+        | Reason::NoEraser(_)
+        | Reason::NoRules
+        | Reason::NoEnd => {
             let body = without_comments(alloc, text)?;
-            place_lines(alloc, &body, at, sentence)
+            place_lines(alloc, &body, at, &sentence)
         }
     }
 }
 
+/// What is said before the number of arguments of a symbol that is no copier.
+const COPIERS: &[u8] = b"copy is of a symbol with two arguments, and this one has ";
+
+/// What is said before that of a symbol that is no eraser.
+const ERASERS: &[u8] = b"erase is of a symbol without arguments, and this one has ";
+
+/// What is said after that number.
+const FIRST: &[u8] = b" where it stands first";
+
 /// What is amiss at the place of a refusal.
-fn reason_sentence(reason: Reason) -> &'static [u8]
-    ensures { result.now ≡ reason_sentence reason }
+fn reason_sentence(alloc: Global, reason: Reason) -> Result<Vec<u8>, AllocError>
+    ensures { IfOk result (λ words. words.items ≡ reason_sentence reason) }
 {
     match reason {
-        Reason::TextBytes => b"a text has at most 16777216 bytes",
-        Reason::NoCopier => b"copy is of a symbol that terms of the text have with two arguments",
-        Reason::NoEraser => b"erase is of a symbol that terms of the text have without arguments",
-        Reason::NoRules => b"no rule is left for which this stands: each is given before",
-        Reason::NoEnd => b"; or } is looked for here",
+        Reason::TextBytes => Vec::from_slice(alloc, b"a text has at most 16777216 bytes"),
+        Reason::NoSymbol => {
+            Vec::from_slice(alloc, b"copy and erase are of symbols, and no term of the text has this one")
+        }
+        Reason::NoCopier(count) => counted(alloc, COPIERS, count),
+        Reason::NoEraser(count) => counted(alloc, ERASERS, count),
+        Reason::NoRules => {
+            Vec::from_slice(alloc, b"no rule is left for which this stands: each is given before")
+        }
+        Reason::NoEnd => Vec::from_slice(alloc, b"; or } is looked for here"),
     }
+}
+
+/// What is amiss with a symbol that has so many arguments.
+fn counted(alloc: Global, words: &[u8], count: usize) -> Result<Vec<u8>, AllocError>
+    ensures { IfOk result (λ sentence. sentence.items ≡ counted words.now count) }
+{
+    let mut sentence = words.to_vec(alloc)?;
+    sentence.extend_from_slice(count.to_string(alloc)?.as_bytes())?;
+    sentence.extend_from_slice(FIRST)?;
+    Ok(sentence)
 }
 
 /// The fault of a text that is refused.
@@ -145,6 +173,10 @@ fn text_fault(reason: Reason) -> TextFault
 {
     match reason {
         Reason::TextBytes => TextFault::Limit,
-        Reason::NoCopier | Reason::NoEraser | Reason::NoRules | Reason::NoEnd => TextFault::Syntax,
+        Reason::NoSymbol
+        | Reason::NoCopier(_)
+        | Reason::NoEraser(_)
+        | Reason::NoRules
+        | Reason::NoEnd => TextFault::Syntax,
     }
 }

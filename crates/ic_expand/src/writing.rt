@@ -3,7 +3,7 @@
 ghost use Rattle.std.specs.Prelude.{◌≡◌, ◌≢◌, ◌++◌, true, IfErr, IfOk, OnOk, Ok, Err, map};
 ghost use Rattle.ic_expand.specs.Generic.{in_row};
 ghost use Rattle.ic_expand.specs.Spots.{behind_first};
-ghost use Rattle.ic_expand.specs.Expanding.{expanded, has_symbol, kept_word, lack_of, piece_text, refusal, rules_of, sheet_of, unless_some, wanted, with_generic, written_pieces};
+ghost use Rattle.ic_expand.specs.Expanding.{arity_in, expanded, has_symbol, kept_word, lack_of, piece_text, refusal, rules_of, sheet_of, unless_some, wanted, with_generic, written_pieces};
 ghost use Rattle.ic_expand.specs.Pieces.{pieces};
 ghost use Rattle.ic_expand.specs.inner.Sheets.{sheet_in, symbol_in};
 
@@ -41,13 +41,26 @@ fn has_symbol(symbols: &[Use], kind: Kind, text: &[u8]) -> bool
     false
 }
 
-/// What is looked for, if no such symbol stands.
-fn lack_of(kind: Kind) -> Reason
-    ensures { result ≡ lack_of kind }
+/// How many arguments a text has with this symbol where that stands first, if it stands in a term.
+fn arity_in(symbols: &[Use], text: &[u8]) -> Option<usize>
+    ensures { result ≡ arity_in (map symbol_in symbols.now) text.now }
 {
-    match kind {
-        Kind::Copier => Reason::NoCopier,
-        Kind::Eraser => Reason::NoEraser,
+    for symbol in symbols {
+        if text == symbol.text.as_slice() {
+            return Some(symbol.arity);
+        }
+    }
+    None
+}
+
+/// What is amiss with a symbol that isn't the one that is looked for, by how many arguments it has.
+fn lack_of(kind: Kind, arity: Option<usize>) -> Reason
+    ensures { result ≡ lack_of kind arity }
+{
+    match (kind, arity) {
+        (Kind::Copier, Some(count)) => Reason::NoCopier(count),
+        (Kind::Eraser, Some(count)) => Reason::NoEraser(count),
+        (Kind::Copier | Kind::Eraser, None) => Reason::NoSymbol,
     }
 }
 
@@ -97,7 +110,7 @@ impl Sheet {
             Spot::Asked(kind) if has_symbol(&self.symbols, kind, piece) => {
                 self.lacks_rules(earlier, piece)
             }
-            Spot::Asked(kind) => Some(lack_of(kind)),
+            Spot::Asked(kind) => Some(lack_of(kind, arity_in(&self.symbols, piece))),
         }
     }
 
