@@ -8,9 +8,10 @@ from program import IN_MEMORY, SEED, TOP, Trial, run
 
 MOST = 16_777_216
 SENTENCES = {
-    "symbol": "copy and erase are of symbols, and no term of the text has this one",
-    "copier": "copy is of a symbol with two arguments, and this one has COUNT where it stands first",
-    "eraser": "erase is of a symbol without arguments, and this one has COUNT where it stands first",
+    "text": "a text begins with { or <; lines for serve aren't expanded",
+    "symbol": "copy and erase need a symbol that stands in a term, and this one stands in none",
+    "copier": "copy needs a symbol with two arguments, and this one has COUNT where it stands first",
+    "eraser": "erase needs a symbol without arguments, and this one has COUNT where it stands first",
     "rules": "no rule is left for which this stands: each is given before",
     "end": "; or } is looked for here",
 }
@@ -20,7 +21,7 @@ WORKED = {
     "nothing": ("", ""),
     "a plain text": ("{Add(x,x)><Z; Add(S(x),y)><S(Add(x,y))} <r|Add(r,S(Z))=S(Z)>\n",) * 2,
     "a configuration": (" < a1 , z | a1 = S(z) >\r\n",) * 2,
-    "no calculus at all": ("A() ;; x01- >< {(",) * 2,
+    "no calculus at all": ("< A() ;; x01- >< {(",) * 2,
     "a comment alone": ("# nothing", ""),
     "comments": ("<a # one\n,a # two ## three\n|>#", "<a \n,a \n|>"),
     "comments past ASCII": ("<a,a|># \u00fc\u2200\x00\x7f\n#\n", "<a,a|>\n\n"),
@@ -58,6 +59,9 @@ WORKED = {
 
 # A text, the place of its fault, and what is told of it.
 REFUSED = {
+    "a line": ("submit two {A><B} <|A=B>", (1, 1), "text"),
+    "a line behind a comment": ("# a session\n\tlist # all\nrun 3\n", (2, 2), "text"),
+    "another byte": (" =<|>", (1, 2), "text"),
     "an unknown copier": ("{copy D} <|A=B>", (1, 7), "symbol"),
     "an unknown eraser": ("{ erase\nE} <|A=B>", (2, 1), "symbol"),
     "a copier of three": ("{copy D} <|D(a,b,c)=D(a,b,c)>", (1, 7), ("copier", 3)),
@@ -137,6 +141,9 @@ class Refused(Exception):
 def model(text):
     """What a text is written as, or its first fault, by the pieces of the text and a first walk over them."""
     body = re.sub(rb"#[^\n]*", b"", text)
+    begun = body.lstrip(b" \t\r\n")
+    if begun and begun[:1] not in b"{<":
+        raise Refused(len(body) - len(begun), "text")
     pieces = WORD.findall(body)
     spots, at, spot = [], 0, "else"
     for piece in pieces:
@@ -348,6 +355,7 @@ class Model(Trial):
         draw = random.Random(f"{SEED} bytes")
         for _ in range(100):
             data = bytes(draw.choice(b"{};<>|=,()#-_ \nABab01copy\xff\x00\x80") for _ in range(draw.randint(0, 60)))
+            data = draw.choice([b"{", b"<", b" <", b"#\n{", b""]) + data
             ran = run("expand", given=data)
             try:
                 self.agrees(ran.command, "what is written", model(data), ran.out)

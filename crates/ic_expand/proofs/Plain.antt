@@ -7,7 +7,7 @@ use Rattle.std.proofs.lemmas.Bool.Decides.{nat_tests}
 use Rattle.std.proofs.lemmas.Slice.Eq.{bytes_eq-Decides}
 use Rattle.ic_text.specs.Token.{is_blank}
 use Rattle.ic_expand.specs.declared.fault.Reason.{Reason}
-use Rattle.ic_expand.specs.declared.fault.Reason.TheVariants.{TextBytes}
+use Rattle.ic_expand.specs.declared.fault.Reason.TheVariants.{TextBytes, NoText}
 use Rattle.ic_expand.specs.declared.fault.ExpandFault.TheVariants.{Refused}
 use Rattle.ic_expand.specs.declared.fault.ExpandFault.{ExpandFault}
 use Rattle.ic_expand.specs.declared.names.Spelling.TheVariants.{Long}
@@ -15,19 +15,20 @@ use Rattle.ic_expand.specs.declared.spot.Spot.{Spot}
 use Rattle.ic_expand.specs.declared.spot.Spot.TheVariants.{Elsewhere, Opening, Asked, Given}
 use Rattle.ic_expand.specs.declared.spot.Kind.TheVariants.{Copier, Eraser}
 use Rattle.ic_expand.specs.declared.limits.TheConstants.{MAX_RICH_TEXT}
+use Rattle.ic_expand.specs.Begins.{blanks_before, is_begun}
 use Rattle.ic_expand.specs.Comments.{kept_behind, uncommented}
 use Rattle.ic_expand.specs.Pieces.{first_byte, pieces}
 use Rattle.ic_expand.specs.Spots.{after, behind, behind_first, opens_rule}
 use Rattle.ic_expand.specs.Names.{is_named, is_spelt, names, told_word, with_word}
-use Rattle.ic_expand.specs.Expanding.{Sheet, before_text, expanded, kept_word, piece_text, refusal, sheet_of, unless_refused, with_generic, written, written_pieces}
+use Rattle.ic_expand.specs.Expanding.{Sheet, before_text, body_expanded, expanded, kept_word, piece_text, refusal, sheet_of, unless_refused, with_generic, written, written_pieces}
 use Rattle.ic_expand.proofs.Cutting.{concat-pieces}
 
 le-true : (m n : ℕ) → m ≤ n → nat_le m n ≡ true
 le-true m n less = grind (arith, nat_tests)
 
 -- a text that isn't too long
-fits : (text : List ℕ) → length text ≤ MAX_RICH_TEXT → expanded text ≡ written_pieces (pieces (uncommented text))
-fits text short = ap (λ (b : Bool). cond b (written_pieces (pieces (uncommented text))) (Err (Refused TextBytes MAX_RICH_TEXT))) (le-true (length text) MAX_RICH_TEXT short)
+fits : (text : List ℕ) → length text ≤ MAX_RICH_TEXT → expanded text ≡ body_expanded (uncommented text)
+fits text short = ap (λ (b : Bool). cond b (body_expanded (uncommented text)) (Err (Refused TextBytes MAX_RICH_TEXT))) (le-true (length text) MAX_RICH_TEXT short)
 
 -- ---- comments
 
@@ -77,7 +78,7 @@ last-commented a c none line =
 
 -- texts that differ in their comments alone mean the same
 pub same-expanded : (v w : List ℕ) → uncommented v ≡ uncommented w → length v ≤ MAX_RICH_TEXT → length w ≤ MAX_RICH_TEXT → expanded v ≡ expanded w
-same-expanded v w same short also = fits v short ∙ ap (λ (body : List ℕ). written_pieces (pieces body)) same ∙ sym (fits w also)
+same-expanded v w same short also = fits v short ∙ ap body_expanded same ∙ sym (fits w also)
 
 -- ---- plain texts
 
@@ -149,9 +150,14 @@ no_names spot (p ∷ ps) plain =
     unnamed (Asked kind) isnt = isnt
     unnamed Given isnt = isnt
 
-pub plain-expanded : (text : List ℕ) → length text ≤ MAX_RICH_TEXT → list_any (λ b. b == 35) text ≡ false → list_any (is_spelt Long) (pieces text) ≡ false → expanded text ≡ Ok text
-plain-expanded text short none plain =
+begun-expanded : (body : List ℕ) → is_begun body ≡ true → body_expanded body ≡ written_pieces (pieces body)
+begun-expanded body begun = ap (λ (b : Bool). cond b (written_pieces (pieces body)) (Err (Refused NoText (blanks_before body)))) begun
+
+pub plain-expanded : (text : List ℕ) → length text ≤ MAX_RICH_TEXT → is_begun text ≡ true → list_any (λ b. b == 35) text ≡ false → list_any (is_spelt Long) (pieces text) ≡ false
+    → expanded text ≡ Ok text
+plain-expanded text short begun none plain =
     fits text short
-    ∙ ap (λ (body : List ℕ). written_pieces (pieces body)) (none-commented text none)
+    ∙ ap body_expanded (none-commented text none)
+    ∙ begun-expanded text begun
     ∙ written_plain (sheet_of (pieces text)) [] Elsewhere 0 (pieces text) (ap (fold with_word []) (no_names Elsewhere (pieces text) plain)) tt plain
     ∙ ap (λ (t : List ℕ). Ok t) (concat-pieces text)

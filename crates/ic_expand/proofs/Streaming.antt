@@ -15,8 +15,7 @@ use Rattle.ic_expand.specs.declared.fault.Reason.TheVariants.{TextBytes}
 use Rattle.ic_expand.specs.declared.fault.ExpandFault.TheVariants.{Refused}
 use Rattle.ic_expand.specs.declared.limits.TheConstants.{MAX_RICH_TEXT}
 use Rattle.ic_expand.specs.Comments.{uncommented}
-use Rattle.ic_expand.specs.Pieces.{pieces}
-use Rattle.ic_expand.specs.Expanding.{expanded, written_pieces}
+use Rattle.ic_expand.specs.Expanding.{body_expanded, expanded}
 use Rattle.ic_expand.specs.Streams.{Expands, TakesSome, TakesWhole, Told, ToldAt}
 
 -- two reads, one after the other
@@ -31,7 +30,7 @@ le-false : (m n : ℕ) → n < m → nat_le m n ≡ false
 le-false m n less = grind (arith, nat_tests)
 
 too_long : (text : List ℕ) → MAX_RICH_TEXT < length text → expanded text ≡ Err (Refused TextBytes MAX_RICH_TEXT)
-too_long text long = ap (λ (b : Bool). cond b (written_pieces (pieces (uncommented text))) (Err (Refused TextBytes MAX_RICH_TEXT))) (le-false (length text) MAX_RICH_TEXT long)
+too_long text long = ap (λ (b : Bool). cond b (body_expanded (uncommented text)) (Err (Refused TextBytes MAX_RICH_TEXT))) (le-false (length text) MAX_RICH_TEXT long)
 
 -- a text is expanded as this front of it is, where the front is too long, or the whole text
 front_expanded : (front rest : List ℕ) → (length front ≤ MAX_RICH_TEXT → rest ≡ []) → expanded (front ++ rest) ≡ expanded front

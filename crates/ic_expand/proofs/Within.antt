@@ -1,11 +1,11 @@
 -- The place of a refusal is one of the text that is told.
-use Rattle.std.proofs.Common.{◌≡◌, ◌≢◌, ℕ, ◌+◌, ◌≤◌, Bool, true, false, cond, List, [], ◌∷◌, ◌++◌, length, Option, None, Some, Result, Ok, Err, refl, sym, ap, ◌∙◌, subst, arith, length-append, nat_le}
+use Rattle.std.proofs.Common.{◌≡◌, ◌≢◌, ℕ, suc, ◌+◌, ◌≤◌, Bool, true, false, cond, List, [], ◌∷◌, ◌++◌, length, Option, None, Some, Result, Ok, Err, refl, sym, ap, ◌∙◌, subst, arith, length-append, nat_le}
 use Rattle.std.specs.List.{concat}
 use Rattle.std.proofs.lemmas.Bool.Decides.{nat_tests}
 use Rattle.ic_term.specs.Symbol.{Symbol}
 use Rattle.ic_text.specs.Token.{is_blank}
 use Rattle.ic_expand.specs.declared.fault.Reason.{Reason}
-use Rattle.ic_expand.specs.declared.fault.Reason.TheVariants.{TextBytes, NoEnd}
+use Rattle.ic_expand.specs.declared.fault.Reason.TheVariants.{TextBytes, NoText, NoEnd}
 use Rattle.ic_expand.specs.declared.fault.ExpandFault.{ExpandFault}
 use Rattle.ic_expand.specs.declared.fault.ExpandFault.TheVariants.{Refused, Memory}
 use Rattle.ic_expand.specs.declared.limits.TheConstants.{MAX_RICH_TEXT}
@@ -13,10 +13,11 @@ use Rattle.ic_expand.specs.declared.spot.Kind.{Kind}
 use Rattle.ic_expand.specs.declared.spot.Kind.TheVariants.{Copier, Eraser}
 use Rattle.ic_expand.specs.declared.spot.Spot.{Spot}
 use Rattle.ic_expand.specs.declared.spot.Spot.TheVariants.{Elsewhere, Opening, Asked, Given}
+use Rattle.ic_expand.specs.Begins.{blanks_before, is_begun}
 use Rattle.ic_expand.specs.Comments.{uncommented}
 use Rattle.ic_expand.specs.Pieces.{first_byte, pieces}
 use Rattle.ic_expand.specs.Spots.{after}
-use Rattle.ic_expand.specs.Expanding.{Sheet, arity_in, before_text, expanded, has_symbol, is_end, lack_of, piece_text, refusal, refused_at, sheet_of, unless_refused, unless_some, wanted, with_generic, written, written_pieces}
+use Rattle.ic_expand.specs.Expanding.{Sheet, arity_in, before_text, body_expanded, expanded, has_symbol, is_end, lack_of, piece_text, refusal, refused_at, sheet_of, unless_refused, unless_some, wanted, with_generic, written, written_pieces}
 use Rattle.ic_expand.specs.Streams.{told_text}
 use Rattle.ic_expand.proofs.Cutting.{concat-pieces}
 
@@ -81,6 +82,14 @@ written_within text sheet earlier spot at (p ∷ ps) reason a is =
         let rest = later (still_refused (piece_text sheet earlier spot p) (written sheet (with_generic earlier spot p) (after spot p) (at + length p) ps) (Refused reason a) e) in
         (omega (arith, rest.0, length-append p (concat ps)), rest.1)
 
+blanks_within : (text : List ℕ) → blanks_before text ≤ length text
+blanks_within [] = omega arith
+blanks_within (b ∷ bs) = below (is_blank b) (blanks_before bs) (length bs) (blanks_within bs)
+  where
+    below : (t : Bool) (m n : ℕ) → m ≤ n → cond t (m + 1) 0 ≤ suc n
+    below true m n h = omega arith
+    below false m n h = omega arith
+
 longer : (m n : ℕ) → nat_le m n ≡ false → n ≤ m
 longer m n isnt = grind (arith, nat_tests)
 
@@ -88,13 +97,23 @@ longer m n isnt = grind (arith, nat_tests)
 pub place_within : (text : List ℕ) (reason : Reason) (a : ℕ) → expanded text ≡ Err (Refused reason a) → a ≤ length (told_text reason text)
 place_within text reason a is = by_length (nat_le (length text) MAX_RICH_TEXT) refl is
   where
-    by_length : (b : Bool) → nat_le (length text) MAX_RICH_TEXT ≡ b → cond b (written_pieces (pieces (uncommented text))) (Err (Refused TextBytes MAX_RICH_TEXT)) ≡ Err (Refused reason a)
+    -- by whether the text begins as texts do
+    by_begin : (b : Bool) → cond b (written_pieces (pieces (uncommented text))) (Err (Refused NoText (blanks_before (uncommented text)))) ≡ Err (Refused reason a)
         → a ≤ length (told_text reason text)
-    by_length true short e =
+    by_begin false e =
+        let less : blanks_before (uncommented text) ≤ length (uncommented text) = blanks_within (uncommented text) in
+        let told : length (told_text reason text) ≡ length (uncommented text) =
+        ap (λ (s : Reason). length (told_text s text)) (sym (reason_is NoText reason (blanks_before (uncommented text)) a e)) in
+        omega (arith, less, place_is NoText reason (blanks_before (uncommented text)) a e, told)
+    by_begin true e =
         let within = written_within text (sheet_of (pieces (uncommented text))) [] Elsewhere 0 (pieces (uncommented text)) reason a e in
         let whole : length (concat (pieces (uncommented text))) ≡ length (uncommented text) = ap (λ (l : List ℕ). length l) (concat-pieces (uncommented text)) in
         let told : length (told_text reason text) ≡ length (uncommented text) = ap (λ (l : List ℕ). length l) within.1 in
         omega (arith, within.0, whole, told)
+
+    by_length : (b : Bool) → nat_le (length text) MAX_RICH_TEXT ≡ b → cond b (body_expanded (uncommented text)) (Err (Refused TextBytes MAX_RICH_TEXT)) ≡ Err (Refused reason a)
+        → a ≤ length (told_text reason text)
+    by_length true short e = by_begin (is_begun (uncommented text)) e
     by_length false long e =
         let less : MAX_RICH_TEXT ≤ length text = longer (length text) MAX_RICH_TEXT long in
         let told : length (told_text reason text) ≡ length text = ap (λ (s : Reason). length (told_text s text)) (sym (reason_is TextBytes reason MAX_RICH_TEXT a e)) in

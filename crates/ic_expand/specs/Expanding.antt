@@ -5,7 +5,7 @@ use Rattle.std.specs.Str.{bytes_eq}
 use Rattle.ic_text.specs.Token.{is_blank}
 use Rattle.ic_term.specs.Symbol.{Symbol}
 use Rattle.ic_expand.specs.declared.fault.Reason.{Reason}
-use Rattle.ic_expand.specs.declared.fault.Reason.TheVariants.{TextBytes, NoSymbol, NoCopier, NoEraser, NoRules, NoEnd}
+use Rattle.ic_expand.specs.declared.fault.Reason.TheVariants.{TextBytes, NoText, NoSymbol, NoCopier, NoEraser, NoRules, NoEnd}
 use Rattle.ic_expand.specs.declared.fault.ExpandFault.{ExpandFault}
 use Rattle.ic_expand.specs.declared.fault.ExpandFault.TheVariants.{Refused}
 use Rattle.ic_expand.specs.declared.limits.TheConstants.{MAX_RICH_TEXT}
@@ -14,6 +14,7 @@ use Rattle.ic_expand.specs.declared.spot.Kind.{Kind}
 use Rattle.ic_expand.specs.declared.spot.Kind.TheVariants.{Copier, Eraser}
 use Rattle.ic_expand.specs.declared.spot.Spot.{Spot}
 use Rattle.ic_expand.specs.declared.spot.Spot.TheVariants.{Elsewhere, Opening, Asked, Given}
+use Rattle.ic_expand.specs.Begins.{blanks_before, is_begun}
 use Rattle.ic_expand.specs.Comments.{uncommented}
 use Rattle.ic_expand.specs.Pieces.{first_byte, pieces}
 use Rattle.ic_expand.specs.Spots.{after, behind_first}
@@ -120,8 +121,13 @@ written sheet earlier spot at (p ∷ ps) =
 abbrev pub written_pieces : List (List ℕ) → Result (List ℕ) ExpandFault
 written_pieces ps = written (sheet_of ps) [] Elsewhere 0 ps
 
+-- the same of a text without comments, unless it begins otherwise than texts do
+abbrev pub body_expanded : List ℕ → Result (List ℕ) ExpandFault
+body_expanded body = if is_begun body then written_pieces (pieces body)
+    else Err (Refused NoText (blanks_before body))
+
 -- The text of the calculus for which a text stands, or the first refusal. Its place is one of the text
 -- without its comments.
 abbrev pub expanded : List ℕ → Result (List ℕ) ExpandFault
-expanded text = if nat_le (length text) MAX_RICH_TEXT then written_pieces (pieces (uncommented text))
+expanded text = if nat_le (length text) MAX_RICH_TEXT then body_expanded (uncommented text)
     else Err (Refused TextBytes MAX_RICH_TEXT)

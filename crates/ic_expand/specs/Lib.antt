@@ -1,5 +1,6 @@
 -- What a reader of the public contracts must believe, and `inner`, which is for private functions.
 pub mod Comments
+pub mod Begins
 pub mod Pieces
 pub mod Spots
 pub mod Reading

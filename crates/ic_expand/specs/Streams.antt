@@ -11,13 +11,14 @@ use Rattle.ic_diagnostics.specs.Lines.{place_lines}
 use Rattle.ic_expand.specs.Comments.{uncommented}
 use Rattle.ic_expand.specs.Expanding.{expanded}
 use Rattle.ic_expand.specs.declared.fault.Reason.{Reason}
-use Rattle.ic_expand.specs.declared.fault.Reason.TheVariants.{TextBytes, NoSymbol, NoCopier, NoEraser, NoRules, NoEnd}
+use Rattle.ic_expand.specs.declared.fault.Reason.TheVariants.{TextBytes, NoText, NoSymbol, NoCopier, NoEraser, NoRules, NoEnd}
 use Rattle.ic_expand.specs.declared.fault.ExpandFault.TheVariants.{Refused}
 use Rattle.ic_expand.specs.declared.limits.TheConstants.{MAX_RICH_TEXT}
 
 -- the fault of a text that is refused
 abbrev pub text_fault : Reason → TextFault
 text_fault TextBytes = Limit
+text_fault NoText = Syntax
 text_fault NoSymbol = Syntax
 text_fault (NoCopier n) = Syntax
 text_fault (NoEraser n) = Syntax
@@ -31,17 +32,20 @@ counted words n = words ++ decimal n ++ codes " where it stands first"
 -- what is amiss at the place of a refusal
 abbrev pub reason_sentence : Reason → List ℕ
 reason_sentence TextBytes = codes "a text has at most 16777216 bytes"
-reason_sentence NoSymbol = codes "copy and erase are of symbols, and no term of the text has this one"
+reason_sentence NoText = codes "a text begins with { or <; lines for serve aren't expanded"
+reason_sentence NoSymbol =
+    codes "copy and erase need a symbol that stands in a term, and this one stands in none"
 reason_sentence (NoCopier n) =
-    counted (codes "copy is of a symbol with two arguments, and this one has ") n
+    counted (codes "copy needs a symbol with two arguments, and this one has ") n
 reason_sentence (NoEraser n) =
-    counted (codes "erase is of a symbol without arguments, and this one has ") n
+    counted (codes "erase needs a symbol without arguments, and this one has ") n
 reason_sentence NoRules = codes "no rule is left for which this stands: each is given before"
 reason_sentence NoEnd = codes "; or } is looked for here"
 
 -- the text in which the place of a refusal is: that without comments, but for one that is too long
 abbrev pub told_text : Reason → List ℕ → List ℕ
 told_text TextBytes text = text
+told_text NoText text = uncommented text
 told_text NoSymbol text = uncommented text
 told_text (NoCopier n) text = uncommented text
 told_text (NoEraser n) text = uncommented text

@@ -10,6 +10,8 @@ use std::alloc::{AllocError, AllocFailed};
 pub enum Reason {
     /// It has too many bytes.
     TextBytes,
+    /// It begins neither with `{` nor with `<`.
+    NoText,
     /// After `copy` or `erase` no symbol stands that a term of the text has.
     NoSymbol,
     /// The symbol after `copy` has not two, but so many arguments where it stands first.

@@ -6,6 +6,7 @@ ghost use Rattle.ic_expand.specs.declared.limits.TheConstants.{MAX_RICH_TEXT};
 ghost use Rattle.ic_expand.specs.declared.names.Spelling.{Spelling};
 ghost use Rattle.ic_expand.specs.declared.names.Spelling.TheVariants.{Short, Long};
 ghost use Rattle.ic_expand.specs.declared.spot.Spot.TheVariants.{Elsewhere};
+ghost use Rattle.ic_expand.specs.Begins.{is_begun};
 ghost use Rattle.ic_expand.specs.Comments.{uncommented};
 ghost use Rattle.ic_expand.specs.Pieces.{pieces};
 ghost use Rattle.ic_expand.specs.Names.{IsRenaming, is_among, is_spelt, names, names_of, spare_of, told_word};
@@ -26,11 +27,11 @@ pub fn comments_mean_nothing()
         → length w ≤ MAX_RICH_TEXT → expanded v ≡ expanded w }
 {}
 
-/// The pieces of a text are the text. One without comments and long names, and so without `copy` and `erase`, is written
-/// as it is.
+/// The pieces of a text are the text. One that begins as texts do, without comments and long names, and so without `copy`
+/// and `erase`, is written as it is.
 pub fn plain_texts_stay()
     ensures whole { (text : List ℕ) → concat (pieces text) ≡ text }
-    ensures plain { (text : List ℕ) → length text ≤ MAX_RICH_TEXT
+    ensures plain { (text : List ℕ) → length text ≤ MAX_RICH_TEXT → is_begun text ≡ true
         → list_any (λ b. b == 35) text ≡ false → list_any (is_spelt Long) (pieces text) ≡ false
         → expanded text ≡ Ok text }
 {}

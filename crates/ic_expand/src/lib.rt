@@ -7,6 +7,7 @@
 #![tactic(auto)]
 
 mod agents;
+mod begin;
 mod comments;
 mod fault;
 pub mod laws;

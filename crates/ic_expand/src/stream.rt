@@ -119,7 +119,8 @@ fn refusal_lines(
     let sentence = reason_sentence(alloc, reason)?;
     match reason {
         Reason::TextBytes => place_lines(alloc, text, at, &sentence),
-        Reason::NoSymbol
+        Reason::NoText
+        | Reason::NoSymbol
         | Reason::NoCopier(_)
         | Reason::NoEraser(_)
         | Reason::NoRules
@@ -131,10 +132,10 @@ fn refusal_lines(
 }
 
 /// What is said before the number of arguments of a symbol that is no copier.
-const COPIERS: &[u8] = b"copy is of a symbol with two arguments, and this one has ";
+const COPIERS: &[u8] = b"copy needs a symbol with two arguments, and this one has ";
 
 /// What is said before that of a symbol that is no eraser.
-const ERASERS: &[u8] = b"erase is of a symbol without arguments, and this one has ";
+const ERASERS: &[u8] = b"erase needs a symbol without arguments, and this one has ";
 
 /// What is said after that number.
 const FIRST: &[u8] = b" where it stands first";
@@ -145,13 +146,25 @@ fn reason_sentence(alloc: Global, reason: Reason) -> Result<Vec<u8>, AllocError>
 {
     match reason {
         Reason::TextBytes => Vec::from_slice(alloc, b"a text has at most 16777216 bytes"),
+        Reason::NoText => {
+            Vec::from_slice(
+                alloc,
+                b"a text begins with { or <; lines for serve aren't expanded",
+            )
+        }
         Reason::NoSymbol => {
-            Vec::from_slice(alloc, b"copy and erase are of symbols, and no term of the text has this one")
+            Vec::from_slice(
+                alloc,
+                b"copy and erase need a symbol that stands in a term, and this one stands in none",
+            )
         }
         Reason::NoCopier(count) => counted(alloc, COPIERS, count),
         Reason::NoEraser(count) => counted(alloc, ERASERS, count),
         Reason::NoRules => {
-            Vec::from_slice(alloc, b"no rule is left for which this stands: each is given before")
+            Vec::from_slice(
+                alloc,
+                b"no rule is left for which this stands: each is given before",
+            )
         }
         Reason::NoEnd => Vec::from_slice(alloc, b"; or } is looked for here"),
     }
@@ -173,7 +186,8 @@ fn text_fault(reason: Reason) -> TextFault
 {
     match reason {
         Reason::TextBytes => TextFault::Limit,
-        Reason::NoSymbol
+        Reason::NoText
+        | Reason::NoSymbol
         | Reason::NoCopier(_)
         | Reason::NoEraser(_)
         | Reason::NoRules

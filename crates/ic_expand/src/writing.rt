@@ -8,6 +8,7 @@ ghost use Rattle.ic_expand.specs.Pieces.{pieces};
 ghost use Rattle.ic_expand.specs.inner.Sheets.{sheet_in, symbol_in};
 
 use crate::agents::put_in_row;
+use crate::begin::{begins, blanks_before};
 use crate::comments::without_comments;
 use crate::fault::{ExpandFault, Reason};
 use crate::limits::MAX_RICH_TEXT;
@@ -222,5 +223,9 @@ pub fn expand(alloc: Global, text: &[u8]) -> Result<Vec<u8>, ExpandFault>
         return Err(ExpandFault::Refused(Reason::TextBytes, MAX_RICH_TEXT));
     }
     let body = without_comments(alloc, text)?;
+    let at = blanks_before(&body);
+    if !begins(&body[at..]) {
+        return Err(ExpandFault::Refused(Reason::NoText, at));
+    }
     written_pieces(alloc, &body)
 }
