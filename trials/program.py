@@ -52,9 +52,17 @@ OF_NETS = [b"icserve: overgrown", b"icserve: table full", b"icserve: memory"]
 OF_ROUNDS = [b"icserve: overgrown", b"icserve: names out"]
 
 
+# The line of standard error that a serving without `--explain` has at the first line that is answered by `bad`.
+OF_BAD = b"icserve: a line was answered `bad`: serve --explain tells what is wrong in such lines\n"
+
+
 def ran_with(command, status, out, err):
     """A run, what it wrote on standard error parted: a line that tells of the disk's file, of standard input, of a net,
-    of a round, of a script or of a history stands by itself, and so do the four lines of a place in a text."""
+    of a round, of a script, of a history or of a line with a fault stands by itself, and so do the four lines of a
+    place in a text."""
+    if OF_BAD in err:
+        ran = ran_with(command, status, out, err.replace(OF_BAD, b"", 1))
+        return ran._replace(behind=OF_BAD + ran.behind)
     line, feed, behind = err.partition(b"\n")
     of_disk = (line + feed in OF_DISKS or line.startswith(b"icserve: taken ")) and behind.count(b"\n") == 1
     of_input = line == b"icserve: read" and behind.startswith(b"standard input: ") and behind.count(b"\n") == 1

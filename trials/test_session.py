@@ -9,14 +9,14 @@ import threading
 from checked import lines_of, seen_of_line, spot
 from known import LOOP, TWO
 from places import told_at
-from program import IN_MEMORY, TOP, Server, Trial, as_bytes, as_lines, run
+from program import IN_MEMORY, OF_BAD, TOP, Server, Trial, as_bytes, as_lines, run
 from test_drawn_serving import job_names, session, small_systems
 from test_progress import Terminal
 from worked_rows import expanded, rows
 
 LINES = (
     "the lines are submit NAME [BUDGET] {RULES} <CONFIG>, copy OLD NEW, pause NAME, resume NAME, cancel NAME, fetch NAME, "
-    "list and run K; Ctrl-D ends the session"
+    "list and run K (K up to 1000); `icserve help serve` tells more, and Ctrl-D ends the session"
 )
 END = "the end of the input ends a session: at a terminal, Ctrl-D"
 REFUSED = ["lists", f"submit two {TWO.text}", "fetch one two", "", "run 1001", "list", "submit a {A(x,x)><A} <|>", " run 007"]
@@ -55,6 +55,12 @@ class Session(Trial):
         self.runs("create", "--disk", self.jobs, "--overwrite")
         self.serves(self.jobs, REFUSED, ANSWERS, "--explain", err=TOLD)
         self.serves(self.jobs, b"pause two\nlists", ["ok", "bad syntax"], "--explain", err=[TOLD[0].replace("1", "2", 1)])
+
+    def test_without_the_option_it_is_told_once_that_there_is_one(self):
+        self.serves(self.jobs, f"submit bad {TWO.text}", ["accepted"])
+        for lines, is_told in ((["list", "fetch bad", "fetch b", "run 3", "fetch bad"], False), (["lists", "lists"], True), (["run 1001"], True)):
+            ran = run("serve", "--disk", self.jobs, given=lines)
+            self.equals(ran.command, "what is told", (b"", OF_BAD if is_told else b""), (ran.err, ran.behind))
 
     def test_help_is_told_the_lines_there_are(self):
         told = [f"line {number}, column {column}: bad syntax: {LINES}" for number, column in ((1, 1), (2, 3), (4, 1))]

@@ -33,8 +33,8 @@ end_sentence = codes "the end of the input ends a session: at a terminal, Ctrl-D
 -- the lines that there are, and how a session ends at a terminal
 abbrev pub lines_sentence : List ℕ
 lines_sentence = codes "the lines are submit NAME [BUDGET] {RULES} <CONFIG>, copy OLD NEW, "
-    ++ codes "pause NAME, resume NAME, cancel NAME, fetch NAME, list and run K; "
-    ++ codes "Ctrl-D ends the session"
+    ++ codes "pause NAME, resume NAME, cancel NAME, fetch NAME, list and run K (K up to 1000); "
+    ++ codes "`icserve help serve` tells more, and Ctrl-D ends the session"
 
 -- what is amiss at the place of a line's fault, or what lines there are, or how a session ends
 abbrev pub session_sentence : List ℕ → TextFault → ℕ → LineDetail → List ℕ

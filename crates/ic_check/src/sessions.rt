@@ -15,7 +15,8 @@ use std::alloc::{AllocError, Global};
 
 /// What is told of a line that asks for help, in place of what is looked for.
 const LINES: &[u8] = b"the lines are submit NAME [BUDGET] {RULES} <CONFIG>, copy OLD NEW, \
-pause NAME, resume NAME, cancel NAME, fetch NAME, list and run K; Ctrl-D ends the session";
+pause NAME, resume NAME, cancel NAME, fetch NAME, list and run K (K up to 1000); \
+`icserve help serve` tells more, and Ctrl-D ends the session";
 
 /// What is told of a line that asks for an end.
 const END: &[u8] = b"the end of the input ends a session: at a terminal, Ctrl-D";

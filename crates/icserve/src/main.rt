@@ -1,6 +1,7 @@
 //! The program `icserve`: a job server for the interaction calculus.
 #![tactic(auto)]
 
+mod answers;
 mod batching;
 mod checking;
 mod dumping;
@@ -14,6 +15,7 @@ mod session;
 mod standing;
 mod texts;
 
+use crate::answers::Answers;
 use crate::input::{Input, open_file, told_of};
 use crate::keeping::KeptIn;
 use crate::reducing::Wanted;
@@ -158,10 +160,11 @@ fn run<T: Threads + Wait + Copy + Send + Sync + 'static, R: Read>(
             disk,
             workers,
             every,
-            ..
+            explain,
         } => {
             let book = open(rt, disk.as_str(), notes)?;
-            serve(rt, threads, book, input, [*workers, *every], notes).map_err(Failure::Serve)
+            let numbers = [*workers, *every];
+            serve(rt, threads, book, input, numbers, *explain, notes).map_err(Failure::Serve)
         }
         Task::Create { .. } | Task::Dump { .. } | Task::Inspect { .. } => on_disk(
             rt, threads, task, notes, told,
@@ -415,12 +418,14 @@ fn open<'a>(
 
 /// Serves the lines of an input over the book, and closes it. Answers to lines that were read together are
 /// written together; every answer is flushed before the input is waited for, and also where the serving ended at a fault.
+/// Standard error is told at the first line with a fault how to learn more, unless faults are explained there.
 fn serve<T: Threads + Wait + Copy + Send + 'static, R: Read>(
     rt: &HostRuntime,
     threads: &T,
     mut book: Book<NotedDisk<'_>>,
     input: &mut R,
     numbers: [u32; 2],
+    explains: bool,
     notes: &Notes,
 ) -> Result<(), ServeFault> {
     let [workers, every] = numbers;
@@ -428,6 +433,7 @@ fn serve<T: Threads + Wait + Copy + Send + 'static, R: Read>(
     let every = u64::from(every.max(1));
     let progress = Progress::new(rt);
     let output = WipedFirst::new(&progress, NotedOutput::new(io::writer(rt), notes));
+    let output = Answers::new(rt, output, explains);
     let Ok(mut output) = BufWriter::with_capacity(rt.alloc(), ANSWERS, output) else {
         book.close();
         return Err(ServeFault::Memory);
