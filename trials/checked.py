@@ -31,6 +31,8 @@ PASSED = {
     "number": "a run makes at most 1000 rounds",
 }
 JOB_NAME = "a job's name has small letters, digits and - only"
+FRONT_COMMENT = "there are no comments; `icserve expand` takes those that begin with # out of a text, and lines for serve have none"
+LINE_COMMENT = "lines have no comments: take this one out"
 READERS = {"system": model.read_system, "configuration": model.read_configuration}
 
 
@@ -109,7 +111,7 @@ def found_in_line(line, kind):
     if line.startswith(places.ORDER_MARK):
         return "syntax", 0, places.MARKED
     if not inner or not inner[1]:
-        return "syntax", end, places.NO_COMMENTS if line.startswith(places.COMMENTS, end) else SOUGHT[due]
+        return "syntax", end, LINE_COMMENT if line.startswith(places.COMMENTS, end) else SOUGHT[due]
     return "syntax", end + inner[1], places.sentence_of_syntax(line, end + inner[1], "system")
 
 
@@ -184,7 +186,7 @@ def checked(file, text, in_script=False):
     """The lines that tell of a file, and whether it has a fault."""
     form = form_of(text)
     if form == "comment" and not in_script:
-        return [fault_line(file, text, "bad syntax", ("syntax", text.index(b"#"), places.NO_COMMENTS))], True
+        return [fault_line(file, text, "bad syntax", ("syntax", text.index(b"#"), FRONT_COMMENT))], True
     if form != "lines" and not in_script:
         return of_whole(file, text, form)
     told = [of_line(file, number, line, in_script) for number, line in enumerate(lines_of(text), 1)]

@@ -25,7 +25,7 @@ use Rattle.ic_text.specs.declared.misread.Limit.TheVariants as bound
 use Rattle.ic_causes.specs.Causes.{is_printable, shown_byte, shown_path}
 use Rattle.ic_diagnostics.specs.Lines.{column, last_line, line_number, told_at}
 use Rattle.ic_diagnostics.specs.Sights.{first_word, is_again, is_joined, opens_comment, opens_order_mark, sight_at}
-use Rattle.ic_diagnostics.specs.Telling.{argument_sentence, behind_in_config, behind_in_system, behind_mark, comment_sentence, config_sentence, count_words, limit_sentence, namecount_sentence, of_rule, opened, order_mark_sentence, plain_sentence, sentence, sight_sentence, stand_sentence, syntax_sentence, system_sentence, wants_term}
+use Rattle.ic_diagnostics.specs.Telling.{argument_sentence, behind_in_config, behind_in_system, behind_mark, config_sentence, count_words, limit_sentence, namecount_sentence, of_rule, opened, order_mark_sentence, plain_sentence, sentence, sight_sentence, stand_sentence, syntax_sentence, system_sentence, wants_term}
 use Rattle.ic_diagnostics.specs.declared.sights.Sight.{Sight}
 use Rattle.ic_diagnostics.specs.declared.sights.Sight.TheVariants.{Blank, End, SystemMark, ConfigMark, CommandWord, Comment, OrderMark, NoName, NoSymbol, Small, Expanded, Applied, Empty, Ended, Trailing, Listed, Equated, Late, Argument, After, Crossing, Crossed, Front, Behind}
 use Rattle.ic_diagnostics.specs.declared.stands.Stand.{Stand}
@@ -35,7 +35,7 @@ use Rattle.ic_diagnostics.specs.declared.telling.Kind.TheVariants.{Config, Syste
 use Rattle.ic_check.specs.Checking.{before, told_fault, told_line_fault}
 use Rattle.ic_check.specs.Meanings.{IsOneLine}
 use Rattle.ic_check.specs.Sessions.{asks_end, asks_help, column_text, end_sentence, lines_sentence, refusal_line, session_sentence}
-use Rattle.ic_check.specs.Telling.{colon, follows_name, job_name_sentence, line_limit_sentence, line_sentence, place_text, placed_line, sought_sentence, spot_text}
+use Rattle.ic_check.specs.Telling.{colon, follows_name, job_name_sentence, line_comment_sentence, line_limit_sentence, line_sentence, place_text, placed_line, sought_sentence, spot_text}
 use Rattle.ic_check.specs.declared.due.Due.{Due}
 use Rattle.ic_check.specs.declared.due.Due.TheVariants as due
 use Rattle.ic_check.specs.declared.due.LineLimit.{LineLimit}
@@ -322,7 +322,7 @@ line_words_free line fault at (Sought due) =
     let is_named = follows_name due && is_joined (take at line) (drop at line) in
     let last = if is_named then job_name_sentence else sought_sentence due in
     let marked = if opens_order_mark line then order_mark_sentence else last in
-    either_free (opens_comment (drop at line)) comment_sentence marked refl
+    either_free (opens_comment (drop at line)) line_comment_sentence marked refl
     (either_free (opens_order_mark line) order_mark_sentence last refl (either_free is_named job_name_sentence (sought_sentence due) refl (sought_free due)))
 line_words_free line fault at (Beyond limit) = line_limit_free limit
 line_words_free line fault at (Within detail) = sight_free System fault detail (drop at line) (is_again line at) (sight_at line at)

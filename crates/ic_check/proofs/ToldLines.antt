@@ -31,8 +31,7 @@ use Rattle.ic_diagnostics.specs.declared.telling.Kind.TheVariants.{Config, Syste
 use Rattle.ic_check.specs.Checking.{Tells, TellsConfig, TellsEach, TellsForm, TellsLine, TellsSystem, WarnsOf, before, form_of}
 use Rattle.ic_check.specs.Scripts.{TellsByRun, TellsScript, TellsScriptLine, run_place, run_sentence}
 use Rattle.ic_check.specs.Meanings.{AreLines, IsOneLine}
-use Rattle.ic_check.specs.Telling.{blanks_before, place_text}
-use Rattle.ic_diagnostics.specs.Telling.{comment_sentence}
+use Rattle.ic_check.specs.Telling.{blanks_before, front_comment_sentence, place_text}
 use Rattle.ic_check.specs.Warnings.{Warns, warning_line}
 use Rattle.ic_check.specs.declared.checking.Form.{Form}
 use Rattle.ic_check.specs.declared.checking.Form.TheVariants as form
@@ -259,7 +258,7 @@ module _ (no_submit : (verb : _) (w name : List ℕ) (s : SystemParts) (budget :
   form_lines : (f : Form) (text told : List ℕ) (faulty : Bool) → TellsForm f file text told faulty → AreLines told
   form_lines form.System text told faulty is = system_lines text told faulty is
   form_lines form.Config text told faulty is = config_lines text told faulty is
-  form_lines form.Commented text told faulty is = subst AreLines (sym is.0) (one_line _ (placed_free file 0 text (blanks_before text) Syntax comment_sentence free refl))
+  form_lines form.Commented text told faulty is = subst AreLines (sym is.0) (one_line _ (placed_free file 0 text (blanks_before text) Syntax front_comment_sentence free refl))
   form_lines form.Lines text told faulty is = all_lines (TellsLine file) line_lines 1 (lines text) told faulty is
 
   pub told_lines : (text told : List ℕ) (faulty : Bool) → Tells file text told faulty → AreLines told

@@ -20,9 +20,9 @@ use Rattle.ic_text.specs.declared.fault.TextFault.TheVariants.{Syntax}
 use Rattle.ic_text.specs.declared.misread.Detail.{Detail}
 use Rattle.ic_diagnostics.specs.declared.telling.Kind.{Kind}
 use Rattle.ic_diagnostics.specs.declared.telling.Kind.TheVariants.{Config, System}
-use Rattle.ic_diagnostics.specs.Telling.{comment_sentence, sentence}
+use Rattle.ic_diagnostics.specs.Telling.{sentence}
 use Rattle.ic_check.specs.LinePlaces.{IsLinePlace}
-use Rattle.ic_check.specs.Telling.{blanks_before, fault_line, line_sentence, place_text, placed_line}
+use Rattle.ic_check.specs.Telling.{blanks_before, fault_line, front_comment_sentence, line_sentence, place_text, placed_line}
 use Rattle.ic_check.specs.Warnings.{Warns}
 use Rattle.ic_check.specs.declared.line_places.LineDetail.{LineDetail}
 use Rattle.ic_check.specs.declared.checking.Form.{Form}
@@ -96,7 +96,7 @@ TellsLines file number ls told faulty = TellsEach (TellsLine file) number ls tol
 -- a file that begins with a comment: this alone
 abbrev pub TellsComment : (file text told : List ℕ) → Bool → Type 0
 TellsComment file text told faulty =
-    (told ≡ placed_line file 0 text (blanks_before text) Syntax comment_sentence)
+    (told ≡ placed_line file 0 text (blanks_before text) Syntax front_comment_sentence)
     × (faulty ≡ true)
 
 -- the form of a file by its first byte that is no blank: `{` begins a system, `<` a configuration,

@@ -8,7 +8,7 @@ use Rattle.ic_text.specs.Token.{is_blank}
 use Rattle.ic_diagnostics.specs.declared.telling.Kind.TheVariants.{System}
 use Rattle.ic_diagnostics.specs.Lines.{column, last_line, line_number, told_at}
 use Rattle.ic_diagnostics.specs.Sights.{is_joined, opens_comment, opens_order_mark}
-use Rattle.ic_diagnostics.specs.Telling.{comment_sentence, order_mark_sentence, sentence}
+use Rattle.ic_diagnostics.specs.Telling.{order_mark_sentence, sentence}
 use Rattle.ic_check.specs.declared.due.Due.{Due}
 use Rattle.ic_check.specs.declared.due.Due.TheVariants.{Command, SubmitName, Budget, System as Opened, OldName, NewName, VerbName, Number, Nothing}
 use Rattle.ic_check.specs.declared.due.LineLimit.{LineLimit}
@@ -83,11 +83,19 @@ follows_name OldName = false
 follows_name VerbName = false
 follows_name Number = false
 follows_name Nothing = false
+-- of a comment with which a file begins, be it a text or lines
+abbrev pub front_comment_sentence : List ℕ
+front_comment_sentence = codes "there are no comments; `icserve expand` takes those that begin with # "
+    ++ codes "out of a text, and lines for serve have none"
+
+-- of a comment in a line
+abbrev pub line_comment_sentence : List ℕ
+line_comment_sentence = codes "lines have no comments: take this one out"
 
 -- what is amiss at the place of a line's fault
 abbrev pub line_sentence : List ℕ → TextFault → ℕ → LineDetail → List ℕ
 line_sentence line fault at (Sought due) =
-    if opens_comment (drop at line) then comment_sentence
+    if opens_comment (drop at line) then line_comment_sentence
     else (if opens_order_mark line then order_mark_sentence
     else (if follows_name due && is_joined (take at line) (drop at line) then job_name_sentence
     else sought_sentence due))

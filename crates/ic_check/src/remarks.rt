@@ -13,9 +13,12 @@ use ic_diagnostics::{
 use ic_text::{Misread, TextFault, print_fault, put_decimal};
 use std::alloc::{AllocError, Global};
 
-/// What is told of a comment.
-pub(crate) const NO_COMMENTS: &[u8] =
-    b"there are no comments; `icserve expand` takes out those that begin with #";
+/// What is told of a comment with which a file begins, be it a text or lines.
+pub(crate) const NO_COMMENTS: &[u8] = b"there are no comments; `icserve expand` takes those that begin with # \
+out of a text, and lines for serve have none";
+
+/// What is told of a comment in a line.
+const NO_LINE_COMMENTS: &[u8] = b"lines have no comments: take this one out";
 
 /// Where a text stands, in words: in a whole file of this name, or in this line of it.
 pub(crate) fn place_text(
@@ -203,7 +206,7 @@ pub(crate) fn line_sentence(
         LineDetail::Sought(due) => {
             let (front, rest) = line.split_at(place.at);
             if opens_comment(rest) {
-                Vec::from_slice(alloc, NO_COMMENTS)
+                Vec::from_slice(alloc, NO_LINE_COMMENTS)
             } else if opens_order_mark(line) {
                 Vec::from_slice(alloc, ORDER_MARK)
             } else if follows_name(due) && is_joined(front, rest) {
