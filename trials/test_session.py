@@ -36,8 +36,8 @@ def told_of(text):
         fault, found, _ = seen_of_line(line)
         if fault:
             _, at, sentence = found
-            word = re.match(rb"[A-Za-z0-9-]*", line[at:])[0] if sentence.startswith("a command ") else b""
-            sentence = {b"help": LINES, b"quit": END, b"exit": END}.get(word, sentence)
+            word = re.match(rb"[A-Za-z0-9-]+|\??", line[at:])[0] if sentence.startswith("a command ") else b""
+            sentence = {b"help": LINES, b"?": LINES, b"quit": END, b"exit": END}.get(word, sentence)
             yield f"line {number}, column {spot(line, told_at(line, at))[1]}: {fault}: {sentence}"
 
 
@@ -64,9 +64,10 @@ class Session(Trial):
 
     def test_help_is_told_the_lines_there_are(self):
         told = [f"line {number}, column {column}: bad syntax: {LINES}" for number, column in ((1, 1), (2, 3), (4, 1))]
-        given = ["help", "\t help run", "list", "help", "helps", "fetch help"]
+        given = ["help", "\t help run", "list", "help", "helps", "fetch help", "?"]
         told.append(TOLD[0].replace("line 1", "line 5"))
-        answers = ["bad syntax", "bad syntax", "jobs", "bad syntax", "bad syntax", "refused nojob"]
+        told.append(f"line 7, column 1: bad syntax: {LINES}")
+        answers = ["bad syntax", "bad syntax", "jobs", "bad syntax", "bad syntax", "refused nojob", "bad syntax"]
         self.serves(self.jobs, given, answers, "--explain", err=told)
         helped = run("help", "serve").out.decode()
         words = re.findall(r"\w+", LINES.partition("are ")[2].partition(";")[0])

@@ -1,7 +1,7 @@
 -- To be believed: what a session is told of its lines that are refused (this project's choice).
-use Rattle.std.specs.Prelude.{◌≡◌, ℕ, ◌+◌, List, [], ◌∷◌, ◌++◌, Bool, false, ◌||◌, Result, Ok, Err, codes, take, drop, if◌then◌else◌}
+use Rattle.std.specs.Prelude.{◌≡◌, ℕ, ◌+◌, List, [], ◌∷◌, ◌++◌, Bool, false, ◌||◌, Result, Ok, Err, codes, nat_eq, take, drop, if◌then◌else◌}
 use Rattle.std.specs.Fmt.{decimal}
-use Rattle.std.specs.List.{concat}
+use Rattle.std.specs.List.{concat, starts_with}
 use Rattle.std.specs.Str.{bytes_eq}
 use Rattle.ic_commands.specs.LineText.{ReadsLine}
 use Rattle.ic_commands.specs.declared.line.Line.{Line}
@@ -15,9 +15,10 @@ use Rattle.ic_check.specs.declared.due.Due.TheVariants.{Command}
 use Rattle.ic_check.specs.declared.line_places.LineDetail.{LineDetail}
 use Rattle.ic_check.specs.declared.line_places.LineDetail.TheVariants.{Sought}
 
--- a line asks for help: where a command is looked for, the word `help` stands
+-- a line asks for help: where a command is looked for, the word `help` stands, or `?`
 abbrev pub asks_help : List ℕ → ℕ → LineDetail → Bool
 asks_help line at (Sought Command) = bytes_eq (first_word (drop at line)) (codes "help")
+    || starts_with nat_eq (drop at line) (codes "?")
 asks_help line at detail = false
 
 -- a line asks for an end: `quit` or `exit` stands there

@@ -14,7 +14,8 @@ use ic_text::{Misread, TextFault, print_fault, put_decimal};
 use std::alloc::{AllocError, Global};
 
 /// What is told of a comment with which a file begins, be it a text or lines.
-pub(crate) const NO_COMMENTS: &[u8] = b"there are no comments; `icserve expand` takes those that begin with # \
+pub(crate) const NO_COMMENTS: &[u8] =
+    b"there are no comments; `icserve expand` takes those that begin with # \
 out of a text, and lines for serve have none";
 
 /// What is told of a comment in a line.

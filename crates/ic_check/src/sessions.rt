@@ -27,7 +27,10 @@ fn asks_help(line: &[u8], place: LinePlace) -> bool
     ensures { result ≡ asks_help line.now place.at place.detail }
 {
     match place.detail {
-        LineDetail::Sought(Due::Command) => first_word(&line[place.at..]) == b"help".as_slice(),
+        LineDetail::Sought(Due::Command) => {
+            let rest = &line[place.at..];
+            first_word(rest) == b"help".as_slice() || rest.starts_with(b"?".as_slice())
+        }
         LineDetail::Sought(_) | LineDetail::Passed(_) | LineDetail::Within(_) => false,
     }
 }
@@ -113,8 +116,8 @@ fn tell_line(alloc: Global, number: u64, line: &[u8], out: &mut Vec<u8>) -> Resu
 }
 
 /// Appends for each line of a text that a server refuses, the first of which has this number, where it is refused and
-/// what is amiss there. Where `help` stands in place of a command, the lines that there are are told, and where `quit` or
-/// `exit` does, how a session ends. Answers the number of the line after them.
+/// what is amiss there. Where `help` or `?` stands in place of a command, the lines that there are are told, and where
+/// `quit` or `exit` does, how a session ends. Answers the number of the line after them.
 pub fn tell_refusals(
     alloc: Global,
     number: u64,
