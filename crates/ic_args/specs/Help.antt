@@ -16,7 +16,7 @@ program_help = text_of (codes "A job server for the interaction calculus"
     ∷ codes "To look at a system, which is read from a file or from standard input:"
     ∷ codes "  reduce   Reduces it until no step is possible, and prints the configuration"
     ∷ codes "  trace    Tells what each round of it does, as a table or a picture"
-    ∷ codes "  draw     Draws the net of a configuration as a graph, with its rules or without"
+    ∷ codes "  draw     Draws the net of a configuration as a graph: icserve draw FILE | dot -Tsvg"
     ∷ codes "  once     Makes one round, and prints the configuration"
     ∷ codes "  settle   Settles a configuration that has no rules, and prints it"
     ∷ codes "  check    Prints the faults of texts in files, and warns of what is mostly a mistake"
@@ -34,6 +34,8 @@ program_help = text_of (codes "A job server for the interaction calculus"
     ∷ []
     ∷ codes "To read on:"
     ∷ codes "  help     Shows this help, or that of a command: icserve help reduce tells the language"
+    ∷ (codes "The pages in docs/ of the repository say more. ./film beside them shows a net"
+    ++ codes " round by round.")
     ∷ []
     ∷ codes "Options:"
     ∷ codes "  -h, --help     Print help"
@@ -118,7 +120,14 @@ serve_help = text_of (codes "Serves the lines of standard input over the disk in
     ∷ codes "  list                                 jobs NAME:STATE:ROUNDS .."
     ∷ codes "  pause NAME, resume NAME              ok"
     ∷ codes "  cancel NAME                          ok: the job is removed"
-    ∷ codes "A line with a fault is answered by bad, one that can't be done by refused."
+    ∷ codes "A NAME is a small letter, and then small letters, digits and -, 16 in all at most."
+    ∷ codes "A BUDGET is 1 to 4294967295, and K is at most 1000. A disk has at most 32 jobs."
+    ∷ (codes "A STATE is running, paused, done where no step is possible, halted where the"
+    ++ codes " next round can't be")
+    ∷ codes "made, or spent where the budget is used up. icserve inspect tells which pair is stuck."
+    ∷ (codes "A line with a fault is answered by bad. One that can't be done is answered by"
+    ++ codes " refused and taken")
+    ∷ codes "(a job has the name), full (there are 32 jobs), nojob, notrunning or notpaused."
     ∷ (codes "Where standard error is a terminal, faults are told without --explain; if"
     ++ codes " standard input is one")
     ∷ codes "too, a prompt stands there. The end of the input ends it: at a terminal, Ctrl-D."
@@ -191,9 +200,21 @@ reduce_help = text_of (codes "Reduces a system until no step is possible, and pr
     ++ codes " to 64 [default: 2]")
     ∷ codes "  -h, --help             Print help"
     ∷ []
-    ∷ codes "The exit status is 5 where a step is still possible after the last interaction or round."
+    ∷ codes "A round fires all active pairs at once, and then removes names that only join two terms."
+    ∷ (codes "Beside --rounds only --workers and --partial may stand, and beside --keep and"
+    ++ codes " --resume no --limits.")
     ∷ codes "Without --stats, --format changes nothing."
     ∷ codes "What --nodes bounds is looked at every 4096 interactions, so there may be more by then."
+    ∷ codes "If two agents are left that have no rule, the first pair is told: icserve: stuck A><B"
+    ∷ []
+    ∷ codes "Exit statuses:"
+    ∷ codes "  0  no step is possible"
+    ∷ codes "  1  the text is refused, or the net or a round is too large"
+    ∷ codes "  2  the arguments are refused"
+    ∷ codes "  3  the files of --keep or --resume can't be begun or opened"
+    ∷ codes "  4  memory ran out, or something can't be read, written or kept"
+    ∷ codes "  5  a step is still possible after the last interaction or round"
+    ∷ codes "  6  another process has the files of --keep or --resume"
     ∷ []
     ∷ codes "The language:"
     ∷ codes "  {Add(x,x)><Z; Add(S(x),y)><S(Add(x,y))}  rules, separated by ;"
@@ -211,9 +232,9 @@ reduce_help = text_of (codes "Reduces a system until no step is possible, and pr
     ++ codes " stands once is free")
     ∷ codes "A text has at most 65536 symbols, 2147483648 rules and nodes, 8589934592 bytes, and no"
     ∷ codes "comments, which icserve expand takes out."
-    ∷ (codes "That of a job or of another command has at most 64 symbols, 256 rules, 8192"
-    ++ codes " nodes, 262144 bytes,")
-    ∷ codes "and 64 terms before |."
+    ∷ (codes "With --rounds it has what that of a job or of another command has: at most 64"
+    ++ codes " symbols, 256 rules,")
+    ∷ codes "8192 nodes, 262144 bytes, and 64 terms before |."
     ∷ []
     ∷ codes "Example:"
     ∷ codes "  $ echo '{Add(x,x)><Z; Add(S(x),y)><S(Add(x,y))} <r|Add(r,S(Z))=S(Z)>' > sum.ic"
@@ -235,6 +256,10 @@ trace_help = text_of (codes "Tells what the rounds of a system do, until no step
     ∷ (codes "      --format <FORMAT>  A table with tabs (tsv), a picture (svg) or JSON"
     ++ codes " objects (json) [default: tsv]")
     ∷ codes "  -h, --help             Print help"
+    ∷ []
+    ∷ codes "A round fires all active pairs at once, and then removes names that only join two terms."
+    ∷ (codes "Only reduce tells which pair is stuck, and whether --rounds ended it while a"
+    ++ codes " step was possible.")
     ∷ []
     ∷ codes "Example:"
     ∷ (codes "  $ echo '{Add(x,x)><Z; Add(S(x),y)><S(Add(x,y))} <r|Add(r,S(Z))=S(Z)>' |"
@@ -338,6 +363,12 @@ check_help = text_of (codes "Prints the faults of texts with their places, and w
     ++ codes " [default: text]")
     ∷ codes "      --script           The files are scripts of attend, in which no run may stand"
     ∷ codes "  -h, --help             Print help"
+    ∷ []
+    ∷ (codes "A file begins with { if it is a system, and with < if it is a configuration;"
+    ++ codes " else it has lines.")
+    ∷ (codes "A text is read as that of a job, with its limits. icserve reduce --steps 0"
+    ++ codes " --quiet-answer FILE tells")
+    ∷ codes "the fault of a text with wide limits."
     ∷ []
     ∷ codes "Example:"
     ∷ codes "  $ echo '{A><B} <x|A=C>' > net.ic"

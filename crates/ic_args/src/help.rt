@@ -13,7 +13,7 @@ Usage: icserve <COMMAND>
 To look at a system, which is read from a file or from standard input:
   reduce   Reduces it until no step is possible, and prints the configuration
   trace    Tells what each round of it does, as a table or a picture
-  draw     Draws the net of a configuration as a graph, with its rules or without
+  draw     Draws the net of a configuration as a graph: icserve draw FILE | dot -Tsvg
   once     Makes one round, and prints the configuration
   settle   Settles a configuration that has no rules, and prints it
   check    Prints the faults of texts in files, and warns of what is mostly a mistake
@@ -29,6 +29,7 @@ To run jobs, which outlive a crash:
 
 To read on:
   help     Shows this help, or that of a command: icserve help reduce tells the language
+The pages in docs/ of the repository say more. ./film beside them shows a net round by round.
 
 Options:
   -h, --help     Print help
@@ -113,7 +114,12 @@ Lines, and what is answered where they aren't refused:
   list                                 jobs NAME:STATE:ROUNDS ..
   pause NAME, resume NAME              ok
   cancel NAME                          ok: the job is removed
-A line with a fault is answered by bad, one that can't be done by refused.
+A NAME is a small letter, and then small letters, digits and -, 16 in all at most.
+A BUDGET is 1 to 4294967295, and K is at most 1000. A disk has at most 32 jobs.
+A STATE is running, paused, done where no step is possible, halted where the next round can't be
+made, or spent where the budget is used up. icserve inspect tells which pair is stuck.
+A line with a fault is answered by bad. One that can't be done is answered by refused and taken
+(a job has the name), full (there are 32 jobs), nojob, notrunning or notpaused.
 Where standard error is a terminal, faults are told without --explain; if standard input is one
 too, a prompt stands there. The end of the input ends it: at a terminal, Ctrl-D.
 
@@ -176,9 +182,20 @@ Options:
       --workers <N>      Threads for a round of 4000 equations or more, from 1 to 64 [default: 2]
   -h, --help             Print help
 
-The exit status is 5 where a step is still possible after the last interaction or round.
+A round fires all active pairs at once, and then removes names that only join two terms.
+Beside --rounds only --workers and --partial may stand, and beside --keep and --resume no --limits.
 Without --stats, --format changes nothing.
 What --nodes bounds is looked at every 4096 interactions, so there may be more by then.
+If two agents are left that have no rule, the first pair is told: icserve: stuck A><B
+
+Exit statuses:
+  0  no step is possible
+  1  the text is refused, or the net or a round is too large
+  2  the arguments are refused
+  3  the files of --keep or --resume can't be begun or opened
+  4  memory ran out, or something can't be read, written or kept
+  5  a step is still possible after the last interaction or round
+  6  another process has the files of --keep or --resume
 
 The language:
   {Add(x,x)><Z; Add(S(x),y)><S(Add(x,y))}  rules, separated by ;
@@ -191,8 +208,8 @@ The language:
   x=t                       t takes the place of the other x; a name that stands once is free
 A text has at most 65536 symbols, 2147483648 rules and nodes, 8589934592 bytes, and no
 comments, which icserve expand takes out.
-That of a job or of another command has at most 64 symbols, 256 rules, 8192 nodes, 262144 bytes,
-and 64 terms before |.
+With --rounds it has what that of a job or of another command has: at most 64 symbols, 256 rules,
+8192 nodes, 262144 bytes, and 64 terms before |.
 
 Example:
   $ echo '{Add(x,x)><Z; Add(S(x),y)><S(Add(x,y))} <r|Add(r,S(Z))=S(Z)>' > sum.ic
@@ -213,6 +230,9 @@ Options:
       --rounds <N>       How many rounds are made at most, from 0 to 4611686018427387904 [default: 1000000]
       --format <FORMAT>  A table with tabs (tsv), a picture (svg) or JSON objects (json) [default: tsv]
   -h, --help             Print help
+
+A round fires all active pairs at once, and then removes names that only join two terms.
+Only reduce tells which pair is stuck, and whether --rounds ended it while a step was possible.
 
 Example:
   $ echo '{Add(x,x)><Z; Add(S(x),y)><S(Add(x,y))} <r|Add(r,S(Z))=S(Z)>' | icserve trace | /usr/bin/expand
@@ -315,6 +335,10 @@ Options:
       --format <FORMAT>  Lines (text), or JSON objects, one a line (json) [default: text]
       --script           The files are scripts of attend, in which no run may stand
   -h, --help             Print help
+
+A file begins with { if it is a system, and with < if it is a configuration; else it has lines.
+A text is read as that of a job, with its limits. icserve reduce --steps 0 --quiet-answer FILE tells
+the fault of a text with wide limits.
 
 Example:
   $ echo '{A><B} <x|A=C>' > net.ic

@@ -49,7 +49,7 @@ pub returns-clause-program : goal.returns-clause-program
 returns-clause-program c = λ word words others. ap (λ o. unwrap_or o program_help) (no_help_named word others)
 
 pub returns-clause-commands : goal.returns-clause-commands
-returns-clause-commands c = ((426, refl), ((369, refl), ((699, refl), ((741, refl), ((815, refl), ((140, refl), ((218, refl), ((287, refl), ((998, refl), ((1074, refl), ((494, refl), ((906, refl), ((580, refl), ((1156, refl), ((1257, refl), ((1285, refl), tt))))))))))))))))
+returns-clause-commands c = ((430, refl), ((373, refl), ((703, refl), ((745, refl), ((819, refl), ((140, refl), ((218, refl), ((287, refl), ((1002, refl), ((1078, refl), ((498, refl), ((910, refl), ((584, refl), ((1160, refl), ((1355, refl), ((1383, refl), tt))))))))))))))))
 
 pub returns-clause-streams : goal.returns-clause-streams
 returns-clause-streams c = ((90, refl), (65, refl), (70, refl), (100, refl), (106, refl), (96, refl), (55, refl))
@@ -58,7 +58,7 @@ pub returns-clause-rounds : goal.returns-clause-rounds
 returns-clause-rounds c = ((81, refl), ((1246, refl), ((1299, refl), ((1335, refl), ((1401, refl), tt)))))
 
 pub returns-clause-in_place : goal.returns-clause-in_place
-returns-clause-in_place c = ((223, refl), ((282, refl), ((349, refl), ((432, refl), ((593, refl), ((785, refl), ((489, refl), ((542, refl), ((564, refl), ((571, refl), ((861, refl), ((908, refl), ((933, refl), ((1553, refl), ((940, refl), ((687, refl), ((963, refl), ((1065, refl), ((1146, refl), ((1210, refl), tt))))))))))))))))))))
+returns-clause-in_place c = ((223, refl), ((282, refl), ((349, refl), ((432, refl), ((593, refl), ((785, refl), ((489, refl), ((542, refl), ((564, refl), ((571, refl), ((861, refl), ((908, refl), ((933, refl), ((1653, refl), ((940, refl), ((687, refl), ((963, refl), ((1065, refl), ((1146, refl), ((1210, refl), tt))))))))))))))))))))
 
 pub returns-clause-formats : goal.returns-clause-formats
 returns-clause-formats c = ((72, refl), ((213, refl), ((266, refl), ((321, refl), ((358, refl), ((375, refl), ((397, refl), ((404, refl), tt))))))))
