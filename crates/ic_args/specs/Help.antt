@@ -33,9 +33,9 @@ program_help = text_of (codes "A job server for the interaction calculus"
     ∷ codes "  inspect  Tells what the file F holds, which a server may have open"
     ∷ []
     ∷ codes "To read on:"
-    ∷ codes "  help     Shows this help, or that of a command: icserve help reduce tells the language"
-    ∷ (codes "The pages in docs/ of the repository say more. ./film beside them shows a net"
-    ++ codes " round by round.")
+    ∷ (codes "  help     Shows this help, or that of a command: icserve help language tells"
+    ++ codes " the language")
+    ∷ codes "The repository's docs/ say more, and its film shows a net round by round."
     ∷ []
     ∷ codes "Options:"
     ∷ codes "  -h, --help     Print help"
@@ -125,9 +125,9 @@ serve_help = text_of (codes "Serves the lines of standard input over the disk in
     ∷ (codes "A STATE is running, paused, done where no step is possible, halted where the"
     ++ codes " next round can't be")
     ∷ codes "made, or spent where the budget is used up. icserve inspect tells which pair is stuck."
-    ∷ (codes "A line with a fault is answered by bad. One that can't be done is answered by"
-    ++ codes " refused and taken")
-    ∷ codes "(a job has the name), full (there are 32 jobs), nojob, notrunning or notpaused."
+    ∷ (codes "A line with a fault is answered by bad, and one that can't be done by refused"
+    ++ codes " and why: taken (a")
+    ∷ codes "job has the name), full (there are 32 jobs), nojob, notrunning or notpaused."
     ∷ (codes "Where standard error is a terminal, faults are told without --explain; if"
     ++ codes " standard input is one")
     ∷ codes "too, a prompt stands there. The end of the input ends it: at a terminal, Ctrl-D."
@@ -232,9 +232,9 @@ reduce_help = text_of (codes "Reduces a system until no step is possible, and pr
     ++ codes " stands once is free")
     ∷ codes "A text has at most 65536 symbols, 2147483648 rules and nodes, 8589934592 bytes, and no"
     ∷ codes "comments, which icserve expand takes out."
-    ∷ (codes "With --rounds it has what that of a job or of another command has: at most 64"
-    ++ codes " symbols, 256 rules,")
-    ∷ codes "8192 nodes, 262144 bytes, and 64 terms before |."
+    ∷ (codes "With --rounds, as in jobs and other commands, it has at most 64 symbols, 256"
+    ++ codes " rules, 8192 nodes,")
+    ∷ codes "262144 bytes, and 64 terms before |."
     ∷ []
     ∷ codes "Example:"
     ∷ codes "  $ echo '{Add(x,x)><Z; Add(S(x),y)><S(Add(x,y))} <r|Add(r,S(Z))=S(Z)>' > sum.ic"
@@ -258,8 +258,8 @@ trace_help = text_of (codes "Tells what the rounds of a system do, until no step
     ∷ codes "  -h, --help             Print help"
     ∷ []
     ∷ codes "A round fires all active pairs at once, and then removes names that only join two terms."
-    ∷ (codes "Only reduce tells which pair is stuck, and whether --rounds ended it while a"
-    ++ codes " step was possible.")
+    ∷ (codes "Only reduce tells which pair is stuck, and whether a step is possible after the"
+    ++ codes " last round.")
     ∷ []
     ∷ codes "Example:"
     ∷ (codes "  $ echo '{Add(x,x)><Z; Add(S(x),y)><S(Add(x,y))} <r|Add(r,S(Z))=S(Z)>' |"
@@ -366,9 +366,8 @@ check_help = text_of (codes "Prints the faults of texts with their places, and w
     ∷ []
     ∷ (codes "A file begins with { if it is a system, and with < if it is a configuration;"
     ++ codes " else it has lines.")
-    ∷ (codes "A text is read as that of a job, with its limits. icserve reduce --steps 0"
-    ++ codes " --quiet-answer FILE tells")
-    ∷ codes "the fault of a text with wide limits."
+    ∷ codes "Each text is held to the limits of a job's text. The fault of a larger text is told by"
+    ∷ codes "icserve reduce --steps 0 --quiet-answer FILE"
     ∷ []
     ∷ codes "Example:"
     ∷ codes "  $ echo '{A><B} <x|A=C>' > net.ic"
@@ -413,7 +412,7 @@ help_help = text_of (codes "Shows the help of a command, or of the program"
     ∷ codes "Usage: icserve help [WORD]"
     ∷ []
     ∷ codes "Arguments:"
-    ∷ codes "  [WORD]  The command; where there is none, the program's help is shown"
+    ∷ codes "  [WORD]  The command, or language; where there is none, the program's help is shown"
     ∷ []
     ∷ codes "Options:"
     ∷ codes "  -h, --help  Print help"
@@ -423,14 +422,14 @@ help_help = text_of (codes "Shows the help of a command, or of the program"
     ∷ codes "  (what icserve settle --help prints)"
     ∷ [])
 
--- the help of each command
+-- the help of each command; that of `reduce` tells the language
 abbrev pub helps : List (Text × Text)
 helps = (codes "settle", settle_help) ∷ (codes "once", once_help) ∷ (codes "create", create_help)
     ∷ (codes "serve", serve_help) ∷ (codes "attend", attend_help) ∷ (codes "reduce", reduce_help)
     ∷ (codes "trace", trace_help) ∷ (codes "draw", draw_help) ∷ (codes "dump", dump_help)
     ∷ (codes "inspect", inspect_help) ∷ (codes "check", check_help) ∷ (codes "batch", batch_help)
     ∷ (codes "expand", expand_help)
-    ∷ (codes "help", help_help) ∷ []
+    ∷ (codes "help", help_help) ∷ (codes "language", reduce_help) ∷ []
 
 -- the help of the command of this name, none where it names none
 abbrev pub named_help : Text → Option Text

@@ -28,8 +28,8 @@ To run jobs, which outlive a crash:
   inspect  Tells what the file F holds, which a server may have open
 
 To read on:
-  help     Shows this help, or that of a command: icserve help reduce tells the language
-The pages in docs/ of the repository say more. ./film beside them shows a net round by round.
+  help     Shows this help, or that of a command: icserve help language tells the language
+The repository's docs/ say more, and its film shows a net round by round.
 
 Options:
   -h, --help     Print help
@@ -118,8 +118,8 @@ A NAME is a small letter, and then small letters, digits and -, 16 in all at mos
 A BUDGET is 1 to 4294967295, and K is at most 1000. A disk has at most 32 jobs.
 A STATE is running, paused, done where no step is possible, halted where the next round can't be
 made, or spent where the budget is used up. icserve inspect tells which pair is stuck.
-A line with a fault is answered by bad. One that can't be done is answered by refused and taken
-(a job has the name), full (there are 32 jobs), nojob, notrunning or notpaused.
+A line with a fault is answered by bad, and one that can't be done by refused and why: taken (a
+job has the name), full (there are 32 jobs), nojob, notrunning or notpaused.
 Where standard error is a terminal, faults are told without --explain; if standard input is one
 too, a prompt stands there. The end of the input ends it: at a terminal, Ctrl-D.
 
@@ -208,8 +208,8 @@ The language:
   x=t                       t takes the place of the other x; a name that stands once is free
 A text has at most 65536 symbols, 2147483648 rules and nodes, 8589934592 bytes, and no
 comments, which icserve expand takes out.
-With --rounds it has what that of a job or of another command has: at most 64 symbols, 256 rules,
-8192 nodes, 262144 bytes, and 64 terms before |.
+With --rounds, as in jobs and other commands, it has at most 64 symbols, 256 rules, 8192 nodes,
+262144 bytes, and 64 terms before |.
 
 Example:
   $ echo '{Add(x,x)><Z; Add(S(x),y)><S(Add(x,y))} <r|Add(r,S(Z))=S(Z)>' > sum.ic
@@ -232,7 +232,7 @@ Options:
   -h, --help             Print help
 
 A round fires all active pairs at once, and then removes names that only join two terms.
-Only reduce tells which pair is stuck, and whether --rounds ended it while a step was possible.
+Only reduce tells which pair is stuck, and whether a step is possible after the last round.
 
 Example:
   $ echo '{Add(x,x)><Z; Add(S(x),y)><S(Add(x,y))} <r|Add(r,S(Z))=S(Z)>' | icserve trace | /usr/bin/expand
@@ -337,8 +337,8 @@ Options:
   -h, --help             Print help
 
 A file begins with { if it is a system, and with < if it is a configuration; else it has lines.
-A text is read as that of a job, with its limits. icserve reduce --steps 0 --quiet-answer FILE tells
-the fault of a text with wide limits.
+Each text is held to the limits of a job's text. The fault of a larger text is told by
+icserve reduce --steps 0 --quiet-answer FILE
 
 Example:
   $ echo '{A><B} <x|A=C>' > net.ic
@@ -381,7 +381,7 @@ Shows the help of a command, or of the program
 Usage: icserve help [WORD]
 
 Arguments:
-  [WORD]  The command; where there is none, the program's help is shown
+  [WORD]  The command, or language; where there is none, the program's help is shown
 
 Options:
   -h, --help  Print help
@@ -428,7 +428,7 @@ pub(crate) fn has_help(word: Option<&str>) -> bool
     }
 }
 
-/// The help of the command of this name, none where it names none.
+/// The help of the command of this name, none where it names none. That of `reduce` tells the language.
 fn named_help(word: &str) -> Option<&'static str>
     ensures { option_map (λ text. text.now) result ≡ named_help word.now }
 {
@@ -447,6 +447,7 @@ fn named_help(word: &str) -> Option<&'static str>
         "batch" => Some(BATCH),
         "expand" => Some(EXPAND),
         "help" => Some(HELP),
+        "language" => Some(REDUCE),
         _ => None,
     }
 }

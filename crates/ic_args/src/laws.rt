@@ -123,10 +123,12 @@ pub fn each_command_has_its_help()
     ensures batch { (words : List Text) → help_of (codes "batch" ∷ words) ≡ batch_help }
     ensures expand { (words : List Text) → help_of (codes "expand" ∷ words) ≡ expand_help }
     ensures help { (words : List Text) → help_of (codes "help" ∷ words) ≡ help_help }
+    ensures language { (words : List Text) → help_of (codes "language" ∷ words) ≡ reduce_help }
     ensures program { (word : Text) (words : List Text) → AllByRecursion (λ name. word ≢ name)
         (codes "settle" ∷ codes "once" ∷ codes "create" ∷ codes "serve" ∷ codes "attend"
         ∷ codes "reduce" ∷ codes "trace" ∷ codes "draw" ∷ codes "dump"
-        ∷ codes "inspect" ∷ codes "check" ∷ codes "batch" ∷ codes "expand" ∷ codes "help" ∷ []) → help_of (word ∷ words) ≡ program_help }
+        ∷ codes "inspect" ∷ codes "check" ∷ codes "batch" ∷ codes "expand" ∷ codes "help"
+        ∷ codes "language" ∷ []) → help_of (word ∷ words) ≡ program_help }
     ensures commands { AllByRecursion (Says program_help) (codes "  settle  " ∷ codes "  once  "
         ∷ codes "  create  " ∷ codes "  serve  " ∷ codes "  attend  "
         ∷ codes "  reduce  " ∷ codes "  trace  " ∷ codes "  draw  " ∷ codes "  dump  "

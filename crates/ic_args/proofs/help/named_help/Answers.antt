@@ -6,7 +6,7 @@ use Rattle.ic_args.proofs.help.named_help.Goals as goal
 pub returns-in_default : goal.returns-in_default
 returns-in_default c =
     let other = c.in_default in
-    sym (no_help_named c.args.word.now (other.not-settle, (other.not-once, (other.not-create, (other.not-serve, (other.not-attend, (other.not-reduce, (other.not-trace, (other.not-draw, (other.not-dump, (other.not-inspect, (other.not-check, (other.not-batch, (other.not-expand, (other.not-help, tt)))))))))))))))
+    sym (no_help_named c.args.word.now (other.not-settle, (other.not-once, (other.not-create, (other.not-serve, (other.not-attend, (other.not-reduce, (other.not-trace, (other.not-draw, (other.not-dump, (other.not-inspect, (other.not-check, (other.not-batch, (other.not-expand, (other.not-help, (other.not-language, tt))))))))))))))))
 
 pub returns-in-settle : goal.returns-in-settle
 returns-in-settle c = sym (ap named_help c.in-settle.is)
@@ -49,3 +49,6 @@ returns-in-expand c = sym (ap named_help c.in-expand.is)
 
 pub returns-in-help : goal.returns-in-help
 returns-in-help c = sym (ap named_help c.in-help.is)
+
+pub returns-in-language : goal.returns-in-language
+returns-in-language c = sym (ap named_help c.in-language.is)

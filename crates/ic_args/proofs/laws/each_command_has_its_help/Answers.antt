@@ -45,11 +45,14 @@ returns-clause-expand c = λ words. refl
 pub returns-clause-help : goal.returns-clause-help
 returns-clause-help c = λ words. refl
 
+pub returns-clause-language : goal.returns-clause-language
+returns-clause-language c = λ words. refl
+
 pub returns-clause-program : goal.returns-clause-program
 returns-clause-program c = λ word words others. ap (λ o. unwrap_or o program_help) (no_help_named word others)
 
 pub returns-clause-commands : goal.returns-clause-commands
-returns-clause-commands c = ((430, refl), ((373, refl), ((703, refl), ((745, refl), ((819, refl), ((140, refl), ((218, refl), ((287, refl), ((1002, refl), ((1078, refl), ((498, refl), ((910, refl), ((584, refl), ((1160, refl), ((1355, refl), ((1383, refl), tt))))))))))))))))
+returns-clause-commands c = ((430, refl), ((373, refl), ((703, refl), ((745, refl), ((819, refl), ((140, refl), ((218, refl), ((287, refl), ((1002, refl), ((1078, refl), ((498, refl), ((910, refl), ((584, refl), ((1160, refl), ((1337, refl), ((1365, refl), tt))))))))))))))))
 
 pub returns-clause-streams : goal.returns-clause-streams
 returns-clause-streams c = ((90, refl), (65, refl), (70, refl), (100, refl), (106, refl), (96, refl), (55, refl))
