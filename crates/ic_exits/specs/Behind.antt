@@ -53,11 +53,16 @@ not_as_left = codes "something else has changed the file, or it was copied in pa
 -- of files of which one isn't empty
 abbrev pub not_both_empty : List ℕ
 not_both_empty =
-    codes "it or its second file, F.2, holds something; `--resume F` goes on with what is kept there"
+    codes "it or its second file, F.2, holds something; `--resume F` goes on if a reduction is kept there"
 
 -- of files in which no reduction is kept
 abbrev pub nothing_kept : List ℕ
-nothing_kept = codes "no reduction is kept in it and in its second file, F.2"
+nothing_kept =
+    codes "no reduction is kept yet, as after a stop in the first keep: remove F and F.2, and begin again"
+
+-- of files that no reduction has left so which goes on
+abbrev pub not_as_kept : List ℕ
+not_as_kept = codes "something else has changed it or F.2, or they were copied in part; after a stop in the first keep, remove both and begin again"
 
 -- the line that says this of the file of a path
 abbrev pub shown_of : (path words : List ℕ) → List ℕ
@@ -185,8 +190,8 @@ keep_lines keep.Device path cause = cause_line path cause
 abbrev pub found_lines : OpenCause → List ℕ → Option Cause → List ℕ
 found_lines opening.Device path cause = cause_line path cause
 found_lines opening.NoSlot path cause = shown_of path nothing_kept
-found_lines opening.TwoAlike path cause = shown_of path not_as_left
-found_lines opening.Damaged path cause = shown_of path not_as_left
+found_lines opening.TwoAlike path cause = shown_of path not_as_kept
+found_lines opening.Damaged path cause = shown_of path not_as_kept
 found_lines opening.Memory path cause = []
 
 -- where a reduction that is kept doesn't go on
@@ -194,7 +199,7 @@ abbrev pub kept_lines : KeepingFault → List ℕ → Option Cause → List ℕ
 kept_lines keeping.NotEmpty path cause = shown_of path not_both_empty
 kept_lines keeping.Device path cause = cause_line path cause
 kept_lines (keeping.Open fault) path cause = found_lines fault path cause
-kept_lines keeping.Unsound path cause = shown_of path not_as_left
+kept_lines keeping.Unsound path cause = shown_of path not_as_kept
 kept_lines keeping.Limit path cause = []
 kept_lines keeping.Memory path cause = []
 kept_lines (keeping.Keep fault) path cause = keep_lines fault path cause

@@ -39,10 +39,15 @@ const NO_ROOM: &[u8] = b"it has jobs of other names, and no disk has more than 3
 
 /// What is said of files of which one isn't empty.
 const NOT_BOTH_EMPTY: &[u8] =
-    b"it or its second file, F.2, holds something; `--resume F` goes on with what is kept there";
+    b"it or its second file, F.2, holds something; `--resume F` goes on if a reduction is kept there";
 
 /// What is said of files in which no reduction is kept.
-const NOTHING_KEPT: &[u8] = b"no reduction is kept in it and in its second file, F.2";
+const NOTHING_KEPT: &[u8] =
+    b"no reduction is kept yet, as after a stop in the first keep: remove F and F.2, and begin again";
+
+/// What is said of files that no reduction has left so which goes on.
+const NOT_AS_KEPT: &[u8] = b"something else has changed it or F.2, or they were copied in part; \
+after a stop in the first keep, remove both and begin again";
 
 impl Failure {
     /// Whether nothing is told of the failure, where this call has failed last: nobody reads the answers
@@ -229,7 +234,7 @@ fn kept_lines(
         KeepingFault::NotEmpty => said_of(alloc, path, NOT_BOTH_EMPTY),
         KeepingFault::Device => cause_line(alloc, path, cause),
         KeepingFault::Open(refused) => found_lines(alloc, refused, path, cause),
-        KeepingFault::Unsound => said_of(alloc, path, NOT_AS_LEFT),
+        KeepingFault::Unsound => said_of(alloc, path, NOT_AS_KEPT),
         KeepingFault::Limit | KeepingFault::Memory => Ok(Vec::new(alloc)),
         KeepingFault::Keep(refused) => keep_lines(alloc, refused, path, cause),
     }
@@ -246,7 +251,7 @@ fn found_lines(
     match fault {
         OpenCause::Device => cause_line(alloc, path, cause),
         OpenCause::NoSlot => said_of(alloc, path, NOTHING_KEPT),
-        OpenCause::TwoAlike | OpenCause::Damaged => said_of(alloc, path, NOT_AS_LEFT),
+        OpenCause::TwoAlike | OpenCause::Damaged => said_of(alloc, path, NOT_AS_KEPT),
         OpenCause::Memory => Ok(Vec::new(alloc)),
     }
 }

@@ -278,15 +278,21 @@ pub fn endings_of_kept_reductions_are()
         ∷ codes "no slot" ∷ codes "damaged" ∷ codes "limit" ∷ codes "memory" ∷ codes "device" ∷ []) }
     ensures not_empty { (path : List ℕ) (cause : Option Cause)
         → lines_behind (Kept keeping.NotEmpty) path cause ≡ shown_path path ++ codes ": "
-        ++ codes "it or its second file, F.2, holds something; `--resume F` goes on with what is kept there"
+        ++ codes "it or its second file, F.2, holds something; `--resume F` goes on if a reduction is kept there"
         ++ 10 ∷ [] }
     ensures nothing_kept { (path : List ℕ) (cause : Option Cause)
         → lines_behind (Kept (keeping.Open opening.NoSlot)) path cause ≡ shown_path path
-        ++ codes ": " ++ codes "no reduction is kept in it and in its second file, F.2" ++ 10 ∷ [] }
+        ++ codes ": "
+        ++ codes "no reduction is kept yet, as after a stop in the first keep: remove F and F.2, and begin again"
+        ++ 10 ∷ [] }
+    ensures unsound { (path : List ℕ) (cause : Option Cause)
+        → lines_behind (Kept keeping.Unsound) path cause ≡ shown_path path ++ codes ": "
+        ++ codes "something else has changed it or F.2, or they were copied in part; after a stop in the first keep, remove both and begin again"
+        ++ 10 ∷ [] }
     ensures damaged { (path : List ℕ) (cause : Option Cause)
-        → (lines_behind (Kept keeping.Unsound) path cause ≡ lines_behind (Open opening.Damaged) path cause)
-        × (lines_behind (Kept (keeping.Open opening.Damaged)) path cause
-        ≡ lines_behind (Open opening.Damaged) path cause) }
+        → map (λ why. lines_behind (Kept (keeping.Open why)) path cause)
+        (opening.Damaged ∷ opening.TwoAlike ∷ [])
+        ≡ map (λ failure. lines_behind failure path cause) (Kept keeping.Unsound ∷ Kept keeping.Unsound ∷ []) }
     ensures calls { (path : List ℕ) (cause : Option Cause)
         → (lines_behind (Kept (keeping.Keep keep.Device)) path cause ≡ cause_line path cause)
         × (lines_behind (Kept keeping.Device) path cause ≡ cause_line path cause)
