@@ -64,7 +64,7 @@ def ran_with(command, status, out, err):
         ran = ran_with(command, status, out, err.replace(OF_BAD, b"", 1))
         return ran._replace(behind=OF_BAD + ran.behind)
     line, feed, behind = err.partition(b"\n")
-    of_disk = (line + feed in OF_DISKS or line.startswith(b"icserve: taken ")) and behind.count(b"\n") == 1
+    of_disk = (line + feed in OF_DISKS or line.startswith(b"icserve: taken ")) and behind.count(b"\n") in (1, 2)
     of_input = line == b"icserve: read" and behind.startswith(b"standard input: ") and behind.count(b"\n") == 1
     of_text = line.startswith(b"icserve: bad ") and behind.startswith(b"line ") and behind.count(b"\n") == 4
     of_net = line in OF_NETS and behind.startswith(b"interactions ") and behind.count(b"\n") == 1

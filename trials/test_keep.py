@@ -152,7 +152,8 @@ class Keep(Stops):
         disk = self.disk("net.keep")
         ran = run("reduce", "--resume", disk)
         self.equals(ran.command, "the end", (3, b"icserve: device\n"), (ran.status, ran.err))
-        self.equals(ran.command, "whether the second file is told of", True, b"net.keep.2" in ran.behind)
+        told = f"{disk}.2: open: no such file or folder\n{disk}: no reduction is kept in it, since its second file isn't there; "
+        self.equals(ran.command, "what is told of the second file", f"{told}--resume takes F, and not F.2\n", ran.behind.decode())
         for contents in ((b"", b""), (bytes(HEAD), bytes(HEAD)), (b"\1" * 40, b""), (b"\1" * 40, bytes(HEAD)), (b"text", b"text")):
             self.put(contents)
             ran = run("reduce", "--resume", self.file)

@@ -1,5 +1,5 @@
 -- What is told behind the line of a failure, by cases over all of them (this project's choice).
-use Rattle.std.specs.Prelude.{ℕ, List, [], ◌∷◌, ◌++◌, codes, Option, None, Some, Bool, true, false, ◌&&◌}
+use Rattle.std.specs.Prelude.{ℕ, List, [], ◌∷◌, ◌++◌, codes, Option, None, Some, Bool, true, false, ◌&&◌, if◌then◌else◌}
 use Rattle.std.specs.Fmt.{decimal}
 use Rattle.ic_causes.specs.declared.cause.Cause.{Cause}
 use Rattle.ic_causes.specs.declared.cause.Reason.{Reason}
@@ -58,11 +58,13 @@ not_both_empty =
 -- of files in which no reduction is kept
 abbrev pub nothing_kept : List ℕ
 nothing_kept =
-    codes "no reduction is kept yet, as after a stop in the first keep: remove F and F.2, and begin again"
+    codes "no reduction is kept in it and in its second file, F.2, as after a stop in the first keep: "
+    ++ codes "remove both, and begin again"
 
 -- of files that no reduction has left so which goes on
 abbrev pub not_as_kept : List ℕ
-not_as_kept = codes "something else has changed it or F.2, or they were copied in part; after a stop in the first keep, remove both and begin again"
+not_as_kept = codes "something else has changed it or its second file, F.2, or they were copied in part; "
+    ++ codes "after a stop in the first keep, remove both, and begin again"
 
 -- the line that says this of the file of a path
 abbrev pub shown_of : (path words : List ℕ) → List ℕ
@@ -208,6 +210,27 @@ kept_lines (keeping.Keep fault) path cause = keep_lines fault path cause
 abbrev pub second_path : List ℕ → List ℕ
 second_path path = path ++ codes ".2"
 
+-- of a file without the second one
+abbrev pub no_second : List ℕ
+no_second = codes "no reduction is kept in it, since its second file isn't there; "
+    ++ codes "--resume takes F, and not F.2"
+
+-- whether a call found no file
+abbrev pub is_missing : Reason → Bool
+is_missing reason.Missing = true
+is_missing _ = false
+
+-- whether it is that call which has failed last
+abbrev pub finds_none : Option Cause → Bool
+finds_none None = false
+finds_none (Some cause) = is_missing cause.reason
+
+-- where the second file can't be opened
+abbrev pub second_lines : List ℕ → Option Cause → List ℕ
+second_lines path cause = if finds_none cause
+    then cause_line (second_path path) cause ++ shown_of path no_second
+    else cause_line (second_path path) cause
+
 -- how far a net has come that is reduced in place
 abbrev pub reached_text : Reached → List ℕ
 reached_text reached = codes "interactions " ++ decimal reached.interactions
@@ -256,4 +279,4 @@ lines_behind (Overgrown reached nodes) path cause = overgrown_lines reached node
 lines_behind (TableFull reached) path cause = reached_lines reached
 lines_behind (OutOfMemory reached) path cause = reached_lines reached
 lines_behind (Kept fault) path cause = kept_lines fault path cause
-lines_behind (SecondFile fault) path cause = cause_line (second_path path) cause
+lines_behind (SecondFile fault) path cause = second_lines path cause

@@ -4,8 +4,7 @@
 ghost use Rattle.std.specs.Prelude.{◌≡◌, IfOk};
 ghost use Rattle.ic_exits.specs.Behind.{book_lines, create_lines, ends_without_reader, is_of_writing, is_silent, lines_behind, open_lines, scripts_lines};
 ghost use Rattle.ic_exits.specs.Behind.{batch_lines, input_lines, inspect_lines, limit_text, overgrown_lines, reached_lines, reached_text, round_lines};
-ghost use Rattle.ic_exits.specs.Behind.{found_lines, keep_lines, kept_lines, second_path};
-ghost use Rattle.ic_causes.specs.Causes.{cause_line};
+ghost use Rattle.ic_exits.specs.Behind.{finds_none, found_lines, keep_lines, kept_lines, second_lines};
 ghost use Rattle.ic_exits.specs.Behind.{serve_lines, shown_of, stream_lines, taken_words};
 
 use crate::{Failure, Reached};
@@ -43,11 +42,17 @@ const NOT_BOTH_EMPTY: &[u8] =
 
 /// What is said of files in which no reduction is kept.
 const NOTHING_KEPT: &[u8] =
-    b"no reduction is kept yet, as after a stop in the first keep: remove F and F.2, and begin again";
+    b"no reduction is kept in it and in its second file, F.2, as after a stop in the first keep: \
+remove both, and begin again";
+
+/// What is said of a file without the second one.
+const NO_SECOND: &[u8] =
+    b"no reduction is kept in it, since its second file isn't there; --resume takes F, and not F.2";
 
 /// What is said of files that no reduction has left so which goes on.
-const NOT_AS_KEPT: &[u8] = b"something else has changed it or F.2, or they were copied in part; \
-after a stop in the first keep, remove both and begin again";
+const NOT_AS_KEPT: &[u8] =
+    b"something else has changed it or its second file, F.2, or they were copied in part; \
+after a stop in the first keep, remove both, and begin again";
 
 impl Failure {
     /// Whether nothing is told of the failure, where this call has failed last: nobody reads the answers
@@ -215,11 +220,26 @@ fn open_lines(
 
 /// What is said where the second file of a path can't be opened.
 fn second_lines(alloc: Global, path: &[u8], cause: Option<Cause>) -> Result<Vec<u8>, AllocError>
-    ensures { IfOk result (λ lines. lines.items ≡ cause_line (second_path path.now) cause) }
+    ensures { IfOk result (λ lines. lines.items ≡ second_lines path.now cause) }
 {
     let mut second = path.to_vec(alloc)?;
     second.extend_from_slice(b".2")?;
-    cause_line(alloc, &second, cause)
+    let mut lines = cause_line(alloc, &second, cause)?;
+    if finds_none(cause) {
+        let more = said_of(alloc, path, NO_SECOND)?;
+        lines.extend_from_slice(&more)?;
+    }
+    Ok(lines)
+}
+
+/// Whether this call, which has failed last, found no file.
+fn finds_none(cause: Option<Cause>) -> bool
+    ensures { result ≡ finds_none cause }
+{
+    match cause {
+        Some(cause) => cause.reason == Reason::Missing,
+        None => false,
+    }
 }
 
 fn kept_lines(

@@ -283,11 +283,13 @@ pub fn endings_of_kept_reductions_are()
     ensures nothing_kept { (path : List ℕ) (cause : Option Cause)
         → lines_behind (Kept (keeping.Open opening.NoSlot)) path cause ≡ shown_path path
         ++ codes ": "
-        ++ codes "no reduction is kept yet, as after a stop in the first keep: remove F and F.2, and begin again"
+        ++ codes "no reduction is kept in it and in its second file, F.2, "
+        ++ codes "as after a stop in the first keep: remove both, and begin again"
         ++ 10 ∷ [] }
     ensures unsound { (path : List ℕ) (cause : Option Cause)
         → lines_behind (Kept keeping.Unsound) path cause ≡ shown_path path ++ codes ": "
-        ++ codes "something else has changed it or F.2, or they were copied in part; after a stop in the first keep, remove both and begin again"
+        ++ codes "something else has changed it or its second file, F.2, or they were copied in part; "
+        ++ codes "after a stop in the first keep, remove both, and begin again"
         ++ 10 ∷ [] }
     ensures damaged { (path : List ℕ) (cause : Option Cause)
         → map (λ why. lines_behind (Kept (keeping.Open why)) path cause)
@@ -297,8 +299,24 @@ pub fn endings_of_kept_reductions_are()
         → (lines_behind (Kept (keeping.Keep keep.Device)) path cause ≡ cause_line path cause)
         × (lines_behind (Kept keeping.Device) path cause ≡ cause_line path cause)
         × (lines_behind (Kept (keeping.Open opening.Device)) path cause ≡ cause_line path cause) }
-    ensures second_file { (fault : DiskFault) (path : List ℕ) (cause : Option Cause)
-        → lines_behind (SecondFile fault) path cause ≡ cause_line (path ++ codes ".2") cause }
+    ensures second_file { (fault : DiskFault) (path : List ℕ) (cause : Cause)
+        → cause.reason ≢ reason.Missing → lines_behind (SecondFile fault) path (Some cause)
+        ≡ cause_line (path ++ codes ".2") (Some cause) }
+    ensures untold { (fault : DiskFault) (path : List ℕ)
+        → lines_behind (SecondFile fault) path None ≡ cause_line (path ++ codes ".2") None }
+    ensures no_second_file { (fault : DiskFault) (path : List ℕ) (t : Target) (c : FileCall)
+        → lines_behind (SecondFile fault) path (Some (record {
+          target = t;
+          call = c;
+          reason = reason.Missing;
+        })) ≡ cause_line (path ++ codes ".2") (Some (record {
+          target = t;
+          call = c;
+          reason = reason.Missing;
+        })) ++ shown_path path ++ codes ": "
+        ++ codes "no reduction is kept in it, since its second file isn't there; "
+        ++ codes "--resume takes F, and not F.2"
+        ++ 10 ∷ [] }
 {}
 
 /// Nothing is told where answers can't be written since nobody reads standard output any more. Of all else something is.
