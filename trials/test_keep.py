@@ -178,6 +178,8 @@ class Keep(Stops):
             for path in (self.file, self.second):
                 ran = run(*words, path)
                 self.equals(ran.command, f"status; it said {ran.err}", 3, ran.status)
+                is_told = path.read_bytes()[HEAD : HEAD + 8] == b"ICKEPT01"
+                self.equals(ran.command, "whether --resume is told of", is_told, b"`icserve reduce --resume F`" in ran.behind)
         self.equals(self.file, "what the files hold", before, self.contents())
 
     def test_one_process_at_a_time(self):

@@ -1,20 +1,21 @@
 //! The program's word `inspect`: what a disk's file holds, on standard output.
 
+use crate::others::{other_at, other_line};
 use crate::standing::stand_ins;
 use ic_args::ReportFormat;
 use ic_causes::{NotedFile, NotedFiles, NotedOutput, Notes};
 use ic_disk::{DiskFault, open_plain};
 use ic_exits::Failure;
-use ic_frames::SECOND_AT;
+use ic_frames::{HEAD, SECOND_AT};
 use ic_inspect::{InspectFault, Layout, read_slots};
 use std::fs::OpenOptions;
-use std::io;
+use std::io::{self, Write};
 
 /// How often a file is looked at, at most, that is written meanwhile.
 const LOOKS: u32 = 200;
 
 /// Prints what the file of this path holds, which stays as it is, in this format. No lock is taken, so a server may
-/// have it open.
+/// have it open. Standard error is told where it is known to be no disk.
 pub(crate) fn inspect(
     rt: &HostRuntime,
     path: &str,
@@ -48,9 +49,24 @@ fn look(rt: &HostRuntime, path: &str, layout: Layout, notes: &Notes) -> Result<b
         &mut second,
         &mut output,
     ) {
-        Ok(()) => Ok(true),
+        Ok(()) => {
+            // Where the first slot has a body, the file isn't another one.
+            if slots.first.len() <= HEAD {
+                tell_other(rt, path);
+            }
+            Ok(true)
+        }
         Err(InspectFault::Changed) => Ok(false),
         Err(fault) => Err(Failure::Inspect(fault)),
+    }
+}
+
+/// Tells on standard error what the file of this path is, where that is known and it is no disk.
+fn tell_other(rt: &HostRuntime, path: &str) {
+    if let Some(other) = other_at(rt, path) {
+        if let Ok(line) = other_line(rt.alloc(), path, other) {
+            let _ = rt.stderr().write_all(&line);
+        }
     }
 }
 

@@ -9,6 +9,7 @@ mod input;
 mod inspecting;
 mod keeping;
 mod looking;
+mod others;
 mod reducing;
 mod scripts;
 mod session;
@@ -18,6 +19,7 @@ mod texts;
 use crate::answers::Answers;
 use crate::input::{Input, open_file, told_of};
 use crate::keeping::KeptIn;
+use crate::others::{Other, other_at, other_line};
 use crate::reducing::Wanted;
 use crate::session::Session;
 use crate::standing::stand_ins;
@@ -72,12 +74,28 @@ fn begin<T: Threads + Wait + Copy + Send + Sync + 'static>(
         return Err(Failure::Words(WordsFault::Memory));
     }
     let done = answer(rt, threads, &task, notes, told);
+    if let Err(failure) = &done {
+        tell_of_reduction(rt, failure, path_of(&task), told);
+    }
     if let (Err(failure), Some(file)) = (&done, file_of(&task)) {
         if let Ok(lines) = told_of(rt.alloc(), file, failure, notes, told) {
             *told = lines;
         }
     }
     done
+}
+
+/// Appends of a file that was taken for a disk, and isn't opened, that it is of a reduction which is kept.
+fn tell_of_reduction(rt: &HostRuntime, failure: &Failure, path: &str, told: &mut Vec<u8>) {
+    let is_of_disk = matches!(
+        failure,
+        Failure::Open(_) | Failure::NotEmpty | Failure::Attend(ScriptsFault::Open(_))
+    );
+    if is_of_disk && matches!(other_at(rt, path), Some(Other::Reduction)) {
+        if let Ok(line) = other_line(rt.alloc(), path, Other::Reduction) {
+            let _ = told.extend_from_slice(&line);
+        }
+    }
 }
 
 /// Opens what a task reads, and does it.
