@@ -41,6 +41,16 @@ def told_of(text):
             yield f"line {number}, column {spot(line, told_at(line, at))[1]}: {fault}: {sentence}"
 
 
+def still_of(held):
+    """What a session is told at its end of jobs that go no further without a result, by the lines that `inspect` has of them."""
+    for line in held:
+        name, state = re.match(r"(\S+): (\w+),", line).groups()
+        if ", stuck " in line:
+            yield f"job {name} is done, but stuck: there is no rule for {line.partition(', stuck ')[2]}"
+        elif state == "halted":
+            yield f"job {name} is halted: no further round of it can be made; `icserve inspect` tells why"
+
+
 class Session(Trial):
     seconds = 8
     rooms = IN_MEMORY
@@ -55,6 +65,15 @@ class Session(Trial):
         self.runs("create", "--disk", self.jobs, "--overwrite")
         self.serves(self.jobs, REFUSED, ANSWERS, "--explain", err=TOLD)
         self.serves(self.jobs, b"pause two\nlists", ["ok", "bad syntax"], "--explain", err=[TOLD[0].replace("1", "2", 1)])
+
+    def test_jobs_without_a_result_are_told_at_the_end(self):
+        over = "submit over {A><B(C(C(D)))} <|A=B(P)," + "C(" * 8187 + "D" + ")" * 8187 + "=Q>"
+        lines = ["submit sum {Add(x,x)><Z} <r|Ad(r,Z)=Z>", f"submit two {TWO.text}", over, "run 10"]
+        told = ["job sum is done, but stuck: there is no rule for Ad><Z"]
+        told += ["job over is halted: no further round of it can be made; `icserve inspect` tells why"]
+        ran = run("serve", "--disk", self.jobs, "--explain", given=lines)
+        self.equals(ran.command, "what is told", (0, as_lines(told)), (ran.status, ran.err))
+        self.serves(self.jobs, "list", ["jobs sum:done:0 two:done:2 over:halted:0"])
 
     def test_without_the_option_it_is_told_once_that_there_is_one(self):
         self.serves(self.jobs, f"submit bad {TWO.text}", ["accepted"])
@@ -88,7 +107,10 @@ class Session(Trial):
         text = b"\n".join(it for it in given if len(it) < 50_000)
         ran = run("serve", "--disk", self.jobs, "--explain", given=text)
         self.equals(ran.command, "status", 0, ran.status)
-        self.agrees(ran.command, "what is told", "".join(f"{it}\n" for it in told_of(text)), ran.err)
+        held = run("inspect", "--disk", self.jobs).out.decode().partition("\nheld: ")[2].splitlines()[1:]
+        wanted = [*still_of(held), *told_of(text)]
+        self.equals(ran.command, "lines of standard error", sorted(wanted), sorted(ran.err.decode().splitlines()))
+        self.agrees(ran.command, "what is told of lines", as_lines(told_of(text)), as_lines(it for it in ran.err.decode().splitlines() if it.startswith("line ")))
         silent = run("serve", "--disk", self.disk("other.disk"), given=text)
         self.agrees(silent.command, "the answers without the option", silent.out, ran.out)
         self.equals(silent.command, "what is told without the option", b"", silent.err)

@@ -14,6 +14,7 @@ mod reducing;
 mod scripts;
 mod session;
 mod standing;
+mod standstill;
 mod texts;
 
 use crate::answers::Answers;
@@ -23,6 +24,7 @@ use crate::others::{Other, other_at, other_line};
 use crate::reducing::Wanted;
 use crate::session::Session;
 use crate::standing::stand_ins;
+use crate::standstill::tell_of_jobs;
 use ic_args::{Task, TextLimits, WordsFault, read_words};
 use ic_book::{Book, BookFault, OpenCause, OpenFault};
 use ic_causes::{NotedFile, NotedFiles, NotedInput, NotedOutput, Notes};
@@ -38,7 +40,7 @@ use ic_slots::is_unused;
 use ic_streams::StreamFault;
 use ic_text::Limits;
 use std::env;
-use std::io::{self, BufWriter, ErrorKind, Read, Write};
+use std::io::{self, BufWriter, ErrorKind, IsTerminal, Read, Write};
 use std::process::ExitCode;
 use std::sync::Wait;
 use std::thread::Threads;
@@ -436,7 +438,8 @@ fn open<'a>(
 
 /// Serves the lines of an input over the book, and closes it. Answers to lines that were read together are
 /// written together; every answer is flushed before the input is waited for, and also where the serving ended at a fault.
-/// Standard error is told at the first line with a fault how to learn more, unless faults are explained there.
+/// Standard error is told at the first line with a fault how to learn more, unless faults are explained there. If they
+/// are, it is told at the end of jobs that go no further and have come to no result.
 fn serve<T: Threads + Wait + Copy + Send + 'static, R: Read>(
     rt: &HostRuntime,
     threads: &T,
@@ -468,6 +471,9 @@ fn serve<T: Threads + Wait + Copy + Send + 'static, R: Read>(
     );
     let flushed = output.flush().map_err(|_| ServeFault::Write);
     progress.wipe();
+    if explains || rt.stderr().is_terminal() {
+        tell_of_jobs(rt, book.table().jobs());
+    }
     book.close();
     served.and(flushed)
 }
