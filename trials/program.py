@@ -67,7 +67,7 @@ def ran_with(command, status, out, err):
     of_disk = (line + feed in OF_DISKS or line.startswith(b"icserve: taken ")) and behind.count(b"\n") in (1, 2)
     of_input = line == b"icserve: read" and behind.startswith(b"standard input: ") and behind.count(b"\n") == 1
     of_text = line.startswith(b"icserve: bad ") and behind.startswith(b"line ") and behind.count(b"\n") == 4
-    of_net = line in OF_NETS and behind.startswith(b"interactions ") and behind.count(b"\n") == 1
+    of_net = line in OF_NETS and behind.startswith(b"interactions ") and behind.count(b"\n") in (1, 2)
     of_round = line in OF_ROUNDS and behind.startswith(b"round ") and behind.count(b"\n") == 1
     of_script = line.startswith(b"icserve: script ") and behind.count(b"\n") == 1
     of_history = line == b"icserve: log full" and behind.startswith(b"the history holds ") and behind.count(b"\n") == 1

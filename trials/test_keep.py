@@ -109,6 +109,8 @@ class Keep(Stops):
             self.clear()
             ran = run("reduce", "--keep", self.file, *words, given=church(14))
             self.equals(ran.command, "the end", (1, b"icserve: overgrown\n"), (ran.status, ran.err))
+            told = b"the net is kept: `icserve reduce --resume F` goes on with it, given a greater --nodes\n"
+            self.equals(ran.command, "whether it is told that the net is kept", True, ran.behind.endswith(b"\n" + told))
             self.equals(ran.command, "whether a line is printed", "--partial" in words, ran.out.count(b"\n") == 1)
         self.agree(run("reduce", "--resume", self.file, *FIGURES), self.whole(church(14)))
 

@@ -15,6 +15,10 @@ use ic_text::Limits;
 use std::io::{self, Read};
 use std::time::{Duration, Instant};
 
+/// What is told of a net that is kept and has too many places.
+const KEPT: &[u8] =
+    b"the net is kept: `icserve reduce --resume F` goes on with it, given a greater --nodes\n";
+
 /// Where a reduction is kept, and how often.
 #[derive(Clone, Copy, Debug)]
 pub(crate) struct KeptIn<'a> {
@@ -79,7 +83,11 @@ pub(crate) fn reduce<R: Read>(
         &watching,
     );
     watching.wipe();
-    tell(rt, ended.map_err(Failure::Kept)?, bounds, wanted, notes)
+    let done = tell(rt, ended.map_err(Failure::Kept)?, bounds, wanted, notes);
+    if matches!(done, Err(Failure::Overgrown(_, _))) {
+        let _ = told.extend_from_slice(KEPT);
+    }
+    done
 }
 
 /// The state with which the reduction of a text begins.
