@@ -110,6 +110,10 @@ class Helps(Trial):
             self.equals(f"help {word}", "what is shown", text, run("help", word).out.decode())
             self.equals(f"{word} --help", "its usage", True, f"Usage: icserve {word}" in text)
 
+    def test_without_words_the_help_is_told_with_status_2(self):
+        ran = run()
+        self.equals(ran.command, "how it ends", (2, b"", help_of().encode()), (ran.status, ran.out, ran.err))
+
     def test_lines_of_helps_fit_a_terminal_but_for_those_with_great_numbers(self):
         for words in ((), *((word,) for word in WORDS)):
             long = [line for line in help_of(*words).split("\n") if len(line) > 105 and "46116860184273879" not in line]

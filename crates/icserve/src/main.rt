@@ -381,7 +381,23 @@ fn task(rt: &HostRuntime) -> Result<Task, WordsFault> {
             return Err(WordsFault::Words(text));
         }
     };
+    if words.is_empty() {
+        return no_words(rt);
+    }
     read_words(alloc, &words)
+}
+
+/// Where no word stands after the program's name, its help is the refusal.
+fn no_words(rt: &HostRuntime) -> Result<Task, WordsFault> {
+    let alloc = rt.alloc();
+    let mut words = Vec::new(alloc);
+    if words.push(format!(in alloc; "--help")?).is_err() {
+        return Err(WordsFault::Memory);
+    }
+    match read_words(alloc, &words)? {
+        Task::Help(text) => Err(WordsFault::Words(text)),
+        task => Ok(task),
+    }
 }
 
 /// Opens the disk in the file of this path, which with `create` is made where it is missing.
