@@ -156,6 +156,23 @@ class Session(Trial):
         prompted = f"> line 1, column 1: bad syntax: {LINES}\n> > > > \n"
         self.agrees(command, "the terminal", prompted, shown)
 
+    def test_a_terminal_from_which_a_text_is_read_is_told_so(self):
+        told = "icserve: a text is read from here; Ctrl-D on an empty line ends it\n"
+        for words in (["reduce"], ["reduce", "--keep", self.room / "net.keep"], ["settle"], ["reduce", "-"]):
+            ours, theirs = os.openpty()
+            mode = termios.tcgetattr(theirs)
+            mode[3] &= ~termios.ECHO
+            termios.tcsetattr(theirs, termios.TCSANOW, mode)
+            os.write(ours, (b"<|>\n" if words == ["settle"] else b"{} <|>\n") + b"\x04")
+            with Terminal() as shown:
+                ran = run(*words, stdin=theirs, stderr=shown.theirs)
+            os.close(theirs)
+            os.close(ours)
+            self.equals(ran.command, "status and standard output", (0, b"<|>\n"), (ran.status, ran.out))
+            self.agrees(ran.command, "the terminal", told, bytes(shown.came))
+        ran = run("reduce", given="{} <|>")
+        self.equals(ran.command, "standard error that is no terminal", b"", ran.err)
+
     def test_with_a_terminal_on_one_side_there_is_no_prompt(self):
         command, out, err = self.typed(["list", "lists"], err=False)
         self.equals(command, "standard output and error", (as_lines(["jobs", "bad syntax"]), b""), (out, err))

@@ -6,7 +6,7 @@ use ic_exits::Failure;
 use ic_streams::StreamFault;
 use std::alloc::{AllocError, Global};
 use std::fs::OpenOptions;
-use std::io::{self, ErrorKind, Read};
+use std::io::{self, ErrorKind, IsTerminal, Read, Write};
 
 /// What a word reads, of which each read that fails is noted.
 #[derive(Drop)]
@@ -32,6 +32,16 @@ impl<R: Read> Read for Input<'_, R> {
             Input::Session(session) => session.read(buf),
             Input::File(file) => file.read(buf),
         }
+    }
+}
+
+/// What a terminal is told from which a text is read.
+const AWAITED: &[u8] = b"icserve: a text is read from here; Ctrl-D on an empty line ends it\n";
+
+/// Tells a terminal that a text is read from it.
+pub(crate) fn tell_terminal(rt: &HostRuntime) {
+    if rt.stdin().is_terminal() && rt.stderr().is_terminal() {
+        let _ = rt.stderr().write_all(AWAITED);
     }
 }
 

@@ -113,7 +113,12 @@ fn answer<T: Threads + Wait + Copy + Send + Sync + 'static>(
             let input = NotedInput::new(rt.reader(), notes);
             Input::Session(Session::new(rt, input, *explain))
         }
-        (_, None) => Input::Standard(NotedInput::new(rt.reader(), notes)),
+        (_, None) => {
+            if awaits_text(task) {
+                input::tell_terminal(rt);
+            }
+            Input::Standard(NotedInput::new(rt.reader(), notes))
+        }
         (_, Some(path)) => Input::File(open_file(rt, path, notes).map_err(Failure::Stream)?),
     };
     run(rt, threads, task, &mut input, notes, told)?;
@@ -133,6 +138,17 @@ fn file_of(task: &Task) -> Option<&str> {
     match file {
         Some(path) => Some(path.as_str()),
         None => None,
+    }
+}
+
+/// Whether a task reads a text from standard input, where it names no file.
+fn awaits_text(task: &Task) -> bool {
+    match task {
+        Task::Help(_) | Task::Version(_) | Task::Check { .. } | Task::Create { .. } => false,
+        Task::Serve { .. } | Task::Attend { .. } | Task::Batch { .. } => false,
+        Task::Dump { .. } | Task::Inspect { .. } => false,
+        Task::ReduceKept { begins, .. } => *begins,
+        _ => true,
     }
 }
 
