@@ -23,13 +23,16 @@ STATS = re.compile(
     rb"icserve: interactions (\d+)(?:, name steps (\d+))?, places (\d+), seconds (?:0\.000|\d+\.\d{3}, interactions a second \d+)\n"
     rb"icserve: (no interactions|rule \d+ \S+><\S+: \d+ interactions?(?:, rule \d+ \S+><\S+: \d+ interactions?)*)\n"
 )
-REACHED = re.compile(rb"interactions (\d+), places (\d+)(?:, --nodes (\d+))?\n")
+REACHED = re.compile(rb"interactions (\d+), places (\d+), equations (\d+)(?:, --nodes (\d+))?\n")
 
 # How many interactions a net makes between two looks at its size.
 PIECE = 4_096
 
 # Each pair of it becomes two, of agents that are larger by one each time.
 DOUBLES = "{D(D(x,y),D(z,w))><E(E(x,y),E(z,w))} <|D(a,b)=E(a,b)>"
+
+# Each interaction of it leaves two equations of agents without arguments, for which there is no rule, and a pair as before.
+PILES = "{A(Q,B(P,x))><B(R,A(S,x))} <|A(S,n)=B(P,n)>"
 
 # Two to the power of a number: some twice as many interactions.
 POWER = "{Exp(S(Z))><Z;Exp(r)><S(Exp(Dbl(r)));Dbl(Z)><Z;Dbl(S(S(x)))><S(Dbl(x))}"
@@ -167,18 +170,31 @@ class Bounds(InPlace):
             self.equals(ran.command, f"the range is told: {ran.err}", True, f"0..={MOST}".encode() in ran.err)
 
     def grows(self, *words, most, **how):
-        """A net that grows without end is cut by its bound of places. Hands on what was printed."""
+        """A net that grows without end is cut by its bound of what it holds. Hands on what was printed."""
         ran = run("reduce", "--nodes", most, *words, given=DOUBLES, **how)
         self.equals(ran.command, "status and line", (1, b"icserve: overgrown\n"), (ran.status, ran.err))
         told = REACHED.fullmatch(ran.behind)
-        made, places, bound = map(int, told.groups())
+        made, places, left, bound = map(int, told.groups())
         self.equals(ran.command, f"it is cut at the first look that finds too much: {ran.behind}", (0, most), (made % PIECE, bound))
-        self.equals(ran.command, f"there are more places, but no more than a piece of a run adds: {ran.behind}", True, most < places <= most + 8 * PIECE + 8)
+        self.equals(ran.command, f"there is more, but no more than a piece of a run adds: {ran.behind}", True, most < places + left <= most + 9 * PIECE + 8)
         return ran
 
-    def test_a_net_that_grows_without_end_is_cut_by_its_bound_of_places(self):
+    def test_a_net_that_grows_without_end_is_cut_by_its_bound(self):
         for most in (0, 5_000, 300_000):
             self.equals("reduce", "standard output", b"", self.grows(most=most).out)
+
+    def test_equations_that_pile_up_are_bounded(self):
+        """Equations without a rule count, though the net keeps few places. A bound that they don't meet changes nothing."""
+        for most in (0, 20_000, 200_000):
+            ran = run("reduce", "--nodes", most, given=PILES)
+            self.equals(ran.command, "how it ends", (1, b"", b"icserve: overgrown\n"), (ran.status, ran.out, ran.err))
+            made, places, left, bound = map(int, REACHED.fullmatch(ran.behind).groups())
+            self.equals(ran.command, f"few places, and all equations: {ran.behind}", (True, 2 * made + 1, most), (places < 10, left, bound))
+            before = places + 2 * (made - PIECE) + 1
+            is_first = made % PIECE == 0 and most < places + left and (made == PIECE or before <= most)
+            self.equals(ran.command, f"it is cut at the first look that finds too much: {ran.behind}", True, is_first)
+        whole = run("reduce", "--quiet-answer", "--steps", 30_000, given=PILES)
+        self.equals(whole.command, "how it ends", (5, b"icserve: not done\n"), (whole.status, whole.err))
 
     def test_what_is_reached_is_printed_where_it_is_asked_for(self):
         ran = self.grows("--partial", most=20_000)

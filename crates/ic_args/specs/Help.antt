@@ -179,8 +179,8 @@ reduce_help = text_of (codes "Reduces a system until no step is possible, and pr
     ∷ codes "Options:"
     ∷ (codes "      --steps <N>        How many interactions are made at most, from 0 to"
     ++ codes " 4611686018427387903 [default: 4611686018427387903]")
-    ∷ (codes "      --nodes <N>        End it where the net has more names, and agents with"
-    ++ codes " arguments, from 0 to 4611686018427387903 [default: 134217728]")
+    ∷ (codes "      --nodes <N>        End it where the net has more names, agents with"
+    ++ codes " arguments and equations left, from 0 to 4611686018427387903 [default: 134217728]")
     ∷ (codes "      --limits <L>       The text's limits: those of a job (served) or wide"
     ++ codes " ones (wide) [default: wide]")
     ∷ (codes "      --partial          Print the configuration too where the net, a round or"

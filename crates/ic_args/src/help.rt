@@ -169,7 +169,7 @@ Arguments:
 
 Options:
       --steps <N>        How many interactions are made at most, from 0 to 4611686018427387903 [default: 4611686018427387903]
-      --nodes <N>        End it where the net has more names, and agents with arguments, from 0 to 4611686018427387903 [default: 134217728]
+      --nodes <N>        End it where the net has more names, agents with arguments and equations left, from 0 to 4611686018427387903 [default: 134217728]
       --limits <L>       The text's limits: those of a job (served) or wide ones (wide) [default: wide]
       --partial          Print the configuration too where the net, a round or memory ends it
       --quiet-answer     Print no configuration, where only figures or the exit status are wanted

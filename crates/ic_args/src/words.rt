@@ -40,10 +40,10 @@ const MAX_TURNS: u32 = 1_000_000;
 /// The most rounds of `reduce` and `trace`: 2^62.
 const MAX_ROUNDS: u64 = 4_611_686_018_427_387_904;
 
-/// The most interactions of `reduce`, and the most places of its net: 2^62 - 1.
+/// The most interactions of `reduce`, and the most places and equations of its net: 2^62 - 1.
 const MAX_STEPS: u64 = 4_611_686_018_427_387_903;
 
-/// How many places the net of `reduce` has at most, where nothing else is said: 2^27.
+/// How many places and equations the net of `reduce` has at most, where nothing else is said: 2^27.
 const NODES: u64 = 134_217_728;
 
 /// The most seconds between two keeps of `reduce`: a day.
@@ -152,7 +152,7 @@ pub enum Task {
     Reduce {
         /// How many interactions are made at most, from 0 to 2^62 - 1.
         steps: u64,
-        /// How many places the net has at most, from 0 to 2^62 - 1.
+        /// How many places and equations the net has at most, from 0 to 2^62 - 1.
         nodes: u64,
         /// Whether the configuration is printed where the net is too large or memory ran out.
         partial: bool,
@@ -177,7 +177,7 @@ pub enum Task {
         seconds: u64,
         /// How many interactions are made at most, in all runs, from 0 to 2^62 - 1.
         steps: u64,
-        /// How many places the net has at most, from 0 to 2^62 - 1.
+        /// How many places and equations the net has at most, from 0 to 2^62 - 1.
         nodes: u64,
         /// Whether the configuration is printed where the net is too large or memory ran out.
         partial: bool,
@@ -1028,7 +1028,7 @@ fn rounds<'a>() -> ValueParser<'a>
     value_parser!(u64).range(0..4_611_686_018_427_387_905)
 }
 
-/// Reads how many interactions are made at most, or how many places there are.
+/// Reads how many interactions are made at most, or how many places and equations there are.
 fn steps<'a>() -> ValueParser<'a>
     ensures { result ≡ Unsigned 0 most_steps }
 {

@@ -234,13 +234,13 @@ second_lines path cause = if finds_none cause
 -- how far a net has come that is reduced in place
 abbrev pub reached_text : Reached → List ℕ
 reached_text reached = codes "interactions " ++ decimal reached.interactions
-    ++ codes ", places " ++ decimal reached.places
+    ++ codes ", places " ++ decimal reached.places ++ codes ", equations " ++ decimal reached.left
 
 -- where memory ran out, or a table is full
 abbrev pub reached_lines : Reached → List ℕ
 reached_lines reached = reached_text reached ++ 10 ∷ []
 
--- where it has more than so many places
+-- where it has more places and equations that are left than so many
 abbrev pub overgrown_lines : Reached → ℕ → List ℕ
 overgrown_lines reached nodes =
     reached_text reached ++ codes ", --nodes " ++ decimal nodes ++ 10 ∷ []

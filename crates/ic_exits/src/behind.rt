@@ -143,7 +143,7 @@ fn limit_text(fault: RoundFault) -> &'static [u8]
     }
 }
 
-/// How far a net has come that has more than so many places.
+/// How far a net has come that has more places and equations that are left than so many.
 fn overgrown_lines(alloc: Global, reached: Reached, nodes: u64) -> Result<Vec<u8>, AllocError>
     ensures { IfOk result (λ line. line.items ≡ overgrown_lines reached nodes) }
 {
@@ -171,6 +171,8 @@ fn reached_text(alloc: Global, reached: Reached) -> Result<Vec<u8>, AllocError>
     text.extend_from_slice(reached.interactions.to_string(alloc)?.as_bytes())?;
     text.extend_from_slice(b", places ")?;
     text.extend_from_slice(reached.places.to_string(alloc)?.as_bytes())?;
+    text.extend_from_slice(b", equations ")?;
+    text.extend_from_slice(reached.left.to_string(alloc)?.as_bytes())?;
     Ok(text)
 }
 

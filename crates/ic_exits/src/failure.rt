@@ -37,6 +37,8 @@ pub struct Reached {
     pub interactions: u64,
     /// How many places the net has.
     pub places: u64,
+    /// How many equations of it are left: those that are pending, and those that were set aside.
+    pub left: u64,
 }
 
 /// Why the program doesn't do what it is asked, or not all of it.
@@ -74,7 +76,7 @@ pub enum Failure {
     NotDone,
     /// A round is refused, after those that were made before it.
     Round(Refusal),
-    /// A net that is reduced in place has more than so many places.
+    /// A net that is reduced in place has more places and equations that are left than so many.
     Overgrown(Reached, u64),
     /// A table of a net that is reduced in place is full.
     TableFull(Reached),

@@ -351,13 +351,14 @@ pub fn lines_behind_are(text: &String)
     ensures names_out { (r nodes : ℕ) (path : List ℕ) (cause : Option Cause)
         → lines_behind
         (Round (record { fault = round.NamesOut; round = r; nodes = nodes })) path cause ≡ codes "round " ++ decimal r ++ codes ", nodes " ++ decimal nodes ++ 10 ∷ [] }
-    ensures overgrown { (i p nodes : ℕ) (path : List ℕ) (cause : Option Cause)
-        → lines_behind (Overgrown (record { interactions = i; places = p }) nodes) path cause
+    ensures overgrown { (i p e nodes : ℕ) (path : List ℕ) (cause : Option Cause)
+        → lines_behind (Overgrown (record { interactions = i; places = p; left = e }) nodes)
+        path cause ≡ codes "interactions " ++ decimal i ++ codes ", places " ++ decimal p
+        ++ codes ", equations " ++ decimal e ++ codes ", --nodes " ++ decimal nodes ++ 10 ∷ [] }
+    ensures table_full { (i p e : ℕ) (path : List ℕ) (cause : Option Cause)
+        → lines_behind (TableFull (record { interactions = i; places = p; left = e })) path cause
         ≡ codes "interactions " ++ decimal i ++ codes ", places " ++ decimal p
-        ++ codes ", --nodes " ++ decimal nodes ++ 10 ∷ [] }
-    ensures table_full { (i p : ℕ) (path : List ℕ) (cause : Option Cause)
-        → lines_behind (TableFull (record { interactions = i; places = p })) path cause
-        ≡ codes "interactions " ++ decimal i ++ codes ", places " ++ decimal p ++ 10 ∷ [] }
+        ++ codes ", equations " ++ decimal e ++ 10 ∷ [] }
     ensures no_memory { (reached : Reached) (path : List ℕ) (cause : Option Cause)
         → lines_behind (OutOfMemory reached) path cause
         ≡ lines_behind (TableFull reached) path cause }

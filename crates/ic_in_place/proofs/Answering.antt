@@ -21,7 +21,7 @@ use Rattle.ic_round.specs.Naming.{HasNames}
 use Rattle.ic_round.specs.Rounds.{IsQuiet}
 use Rattle.ic_reaching.specs.OneNet.{OneNet}
 use Rattle.ic_reaching.specs.Reaching.{Reaches}
-use Rattle.ic_machine.specs.Net.{Net, pieces, HasNext, IsPair}
+use Rattle.ic_machine.specs.Net.{Net, all_entries, equations_left, pieces, HasNext, IsPair}
 use Rattle.ic_machine.specs.Plan.{Plans}
 use Rattle.ic_meaning.specs.Words.{Numbers}
 use Rattle.ic_meaning.specs.Nets.{net_of}
@@ -72,49 +72,57 @@ pub record AnswerLaws : Type 0 where
   pub forgets : (f : ℕ → ℕ) (ws : List FlatWord) → RenamesUntold f (flat_map word_names ws) → renumbered_words (map (renamed_word f) ws) ≡ renumbered_words ws
 
 -- what the stop says is what the end does
-ends_alike : (s : SystemParts) (bounds : Bounds) (p : Plans) (d : Configuration) (m : Net) (places : ℕ) (end : End)
+ends_alike : (s : SystemParts) (bounds : Bounds) (p : Plans) (d : Configuration) (m : Net) (end : End)
     → (HasNext p m.pending → CanInteract s.rules.rules d) → (m.pending ≡ [] → IsQuiet s.rules.rules d) → IsPutTogether d
-    → StopsBy bounds p m places end → EndsBy s.rules.rules bounds d m.interactions places end
-ends_alike s bounds p d m places Quiet next quiet together is = (quiet is, together)
-ends_alike s bounds p d m places Steps next quiet together is = (is.0, next is.1, together)
-ends_alike s bounds p d m places Nodes next quiet together is = (is.0, is.1, is.2)
-ends_alike s bounds p d m places Limit next quiet together is = tt
-ends_alike s bounds p d m places end.Memory next quiet together is = tt
+    → StopsBy bounds p m end → EndsBy s.rules.rules bounds d m.interactions end
+ends_alike s bounds p d m Quiet next quiet together is = (quiet is, together)
+ends_alike s bounds p d m Steps next quiet together is = (is.0, next is.1, together)
+ends_alike s bounds p d m Nodes next quiet together is = (is.1, is.2)
+ends_alike s bounds p d m Limit next quiet together is = tt
+ends_alike s bounds p d m end.Memory next quiet together is = tt
 
 -- a quiet end is that of a quiet configuration
-pub quiet_at : (rs : List Rule) (bounds : Bounds) (d : Configuration) (interactions places : ℕ) (end : End)
-    → EndsBy rs bounds d interactions places end → end ≡ Quiet → IsQuiet rs d
-quiet_at rs bounds d interactions places Quiet is e = is.0
-quiet_at rs bounds d interactions places Steps is e = cc
-quiet_at rs bounds d interactions places Nodes is e = cc
-quiet_at rs bounds d interactions places Limit is e = cc
-quiet_at rs bounds d interactions places end.Memory is e = cc
+pub quiet_at : (rs : List Rule) (bounds : Bounds) (d : Configuration) (interactions : ℕ) (end : End)
+    → EndsBy rs bounds d interactions end → end ≡ Quiet → IsQuiet rs d
+quiet_at rs bounds d interactions Quiet is e = is.0
+quiet_at rs bounds d interactions Steps is e = cc
+quiet_at rs bounds d interactions Nodes is e = cc
+quiet_at rs bounds d interactions Limit is e = cc
+quiet_at rs bounds d interactions end.Memory is e = cc
 
--- a pair was left where it stopped for its places
-left_over : (bounds : Bounds) (p : Plans) (m : Net) (places : ℕ) (end : End) → StopsBy bounds p m places end → end ≡ Nodes
+-- it held too much where it stopped for that
+over_at : (bounds : Bounds) (p : Plans) (m : Net) (end : End) → StopsBy bounds p m end → end ≡ Nodes → bounds.nodes < all_entries m
+over_at bounds p m Nodes is e = is.0
+over_at bounds p m Quiet is e = cc
+over_at bounds p m Steps is e = cc
+over_at bounds p m Limit is e = cc
+over_at bounds p m end.Memory is e = cc
+
+-- and a pair was left
+left_over : (bounds : Bounds) (p : Plans) (m : Net) (end : End) → StopsBy bounds p m end → end ≡ Nodes
     → HasNext p m.pending
-left_over bounds p m places Nodes is e = is.3
-left_over bounds p m places Quiet is e = cc
-left_over bounds p m places Steps is e = cc
-left_over bounds p m places Limit is e = cc
-left_over bounds p m places end.Memory is e = cc
+left_over bounds p m Nodes is e = is.3
+left_over bounds p m Quiet is e = cc
+left_over bounds p m Steps is e = cc
+left_over bounds p m Limit is e = cc
+left_over bounds p m end.Memory is e = cc
 
 -- a table was full where it stopped at a limit
-full_at : (bounds : Bounds) (p : Plans) (m : Net) (places : ℕ) (end : End) → StopsBy bounds p m places end → end ≡ Limit → IsFullNext p m
-full_at bounds p m places Limit is e = is
-full_at bounds p m places Quiet is e = cc
-full_at bounds p m places Steps is e = cc
-full_at bounds p m places Nodes is e = cc
-full_at bounds p m places end.Memory is e = cc
+full_at : (bounds : Bounds) (p : Plans) (m : Net) (end : End) → StopsBy bounds p m end → end ≡ Limit → IsFullNext p m
+full_at bounds p m Limit is e = is
+full_at bounds p m Quiet is e = cc
+full_at bounds p m Steps is e = cc
+full_at bounds p m Nodes is e = cc
+full_at bounds p m end.Memory is e = cc
 
 -- equations were left where memory ran out, and each is a pair
-left_at : (bounds : Bounds) (p : Plans) (m : Net) (places : ℕ) (stop : End) → AllByRecursion IsPair m.pending
-    → StopsBy bounds p m places stop → stop ≡ end.Memory → HasPairs m.pending
-left_at bounds p m places end.Memory pairs is e = record { some = is; pairs = pairs }
-left_at bounds p m places Quiet pairs is e = cc
-left_at bounds p m places Steps pairs is e = cc
-left_at bounds p m places Nodes pairs is e = cc
-left_at bounds p m places Limit pairs is e = cc
+left_at : (bounds : Bounds) (p : Plans) (m : Net) (stop : End) → AllByRecursion IsPair m.pending
+    → StopsBy bounds p m stop → stop ≡ end.Memory → HasPairs m.pending
+left_at bounds p m end.Memory pairs is e = record { some = is; pairs = pairs }
+left_at bounds p m Quiet pairs is e = cc
+left_at bounds p m Steps pairs is e = cc
+left_at bounds p m Nodes pairs is e = cc
+left_at bounds p m Limit pairs is e = cc
 
 numbered_names : (given : List ℕ) (ts : List Token) → AllByRecursion (IsNumbered given) ts → AllByRecursion (HasNumber given) (names_of ts)
 numbered_names given [] all = tt
@@ -154,7 +162,7 @@ pub answered_so : AnswerLaws → (s : SystemParts) (bounds : Bounds) (given : Li
     → (m.pending ≡ [] → IsQuiet s.rules.rules (configuration_read stopped.held.numbers ts terms)) × IsPutTogether (configuration_read stopped.held.numbers ts terms))
     → IsWhole (flat_words stopped.held.numbers ts) → length (forest (flat_words stopped.held.numbers ts)) ≡ terms + 2 * equations
     → AllByRecursion (IsNumbered given) ts → words ≡ flat_words (written_numbers (arities_of s) given) ts
-    → (answer : Configuration) × IsReachedBy s bounds answer end m.interactions places by_rule × IsPutTogether answer
+    → (answer : Configuration) × IsReachedBy s bounds answer end m.interactions places (equations_left m) by_rule × IsPutTogether answer
     × (length answer.equations ≡ equations) × WritesAlike s.rules.symbols words terms equations answer
 answered_so laws s bounds given m end places by_rule stopped ts terms equations words net next quiet whole counted numbered written =
     let held = stopped.held in
@@ -188,11 +196,13 @@ answered_so laws s bounds given m end places by_rule stopped ts terms equations 
           counted = stopped.counted;
           within = stopped.within;
           held = held_at s bounds given m end places by_rule answer stopped net;
-          ended = ends_alike s bounds stopped.plans answer m places end next (quiet net.names_too are).0 (quiet net.names_too are).1 stopped.ended;
-          next = left_over bounds stopped.plans m places end stopped.ended;
-          full = full_at bounds stopped.plans m places end stopped.ended;
-          left = left_at bounds stopped.plans m places end stopped.pairs stopped.ended;
+          ended = ends_alike s bounds stopped.plans answer m end next (quiet net.names_too are).0 (quiet net.names_too are).1 stopped.ended;
+          over = over_at bounds stopped.plans m end stopped.ended;
+          next = left_over bounds stopped.plans m end stopped.ended;
+          full = full_at bounds stopped.plans m end stopped.ended;
+          left = left_at bounds stopped.plans m end stopped.pairs stopped.ended;
         };
+        equations = refl;
         counts = stopped.counts;
       }),
       (quiet net.names_too are).1,
@@ -203,21 +213,22 @@ answered_so laws s bounds given m end places by_rule stopped ts terms equations 
 
 -- ---- what isn't written
 
--- a machine that stopped at a bound of places or a limit, or for want of memory, holds what was reached
-pub record IsUnread (s : SystemParts) (bounds : Bounds) (end : End) (interactions places : ℕ) (by_rule : List ℕ) : Type 0 where
+-- a machine that stopped for what it held or at a limit, or for want of memory, holds what was reached
+pub record IsUnread (s : SystemParts) (bounds : Bounds) (end : End) (interactions places left : ℕ) (by_rule : List ℕ) : Type 0 where
   pub answer : Configuration
-  pub reached : IsReachedBy s bounds answer end interactions places by_rule
+  pub reached : IsReachedBy s bounds answer end interactions places left by_rule
   pub name_steps : TellsNameSteps s.rules.rules s.config interactions (length answer.equations) end None
   pub stuck : None ≡ stuck_at end s.rules.symbols answer
 
 pub unread_so : ((c : Configuration) → HasNames c → OneNet c c) → (s : SystemParts) (bounds : Bounds) (given : List ℕ) (m : Net) (end : End) (places : ℕ) (by_rule : List ℕ) → HasStopped s bounds given by_rule m end places
-    → is_written asked.Answer end ≡ false → IsUnread s bounds end m.interactions places by_rule
+    → is_written asked.Answer end ≡ false → IsUnread s bounds end m.interactions places (equations_left m) by_rule
 unread_so itself s bounds given m Quiet places by_rule stopped none = absurd (false≢true (sym none))
 unread_so itself s bounds given m Steps places by_rule stopped none = absurd (false≢true (sym none))
 unread_so itself s bounds given m Nodes places by_rule stopped none = record {
   answer = net_of stopped.held.numbers m.interface (pieces m);
   reached = record {
-    reached = record { fired = stopped.fired; reached = stopped.held.reached; counted = stopped.counted; within = stopped.within; held = held_at s bounds given m Nodes places by_rule _ stopped (itself _ stopped.held.has_names); ended = (stopped.ended.0, stopped.ended.1, stopped.ended.2); next = left_over bounds stopped.plans m places Nodes stopped.ended; full = full_at bounds stopped.plans m places Nodes stopped.ended; left = left_at bounds stopped.plans m places Nodes stopped.pairs stopped.ended };
+    reached = record { fired = stopped.fired; reached = stopped.held.reached; counted = stopped.counted; within = stopped.within; held = held_at s bounds given m Nodes places by_rule _ stopped (itself _ stopped.held.has_names); ended = (stopped.ended.1, stopped.ended.2); over = over_at bounds stopped.plans m Nodes stopped.ended; next = left_over bounds stopped.plans m Nodes stopped.ended; full = full_at bounds stopped.plans m Nodes stopped.ended; left = left_at bounds stopped.plans m Nodes stopped.pairs stopped.ended };
+    equations = refl;
     counts = stopped.counts;
   };
   name_steps = refl;
@@ -226,7 +237,8 @@ unread_so itself s bounds given m Nodes places by_rule stopped none = record {
 unread_so itself s bounds given m Limit places by_rule stopped none = record {
   answer = net_of stopped.held.numbers m.interface (pieces m);
   reached = record {
-    reached = record { fired = stopped.fired; reached = stopped.held.reached; counted = stopped.counted; within = stopped.within; held = held_at s bounds given m Limit places by_rule _ stopped (itself _ stopped.held.has_names); ended = tt; next = left_over bounds stopped.plans m places Limit stopped.ended; full = full_at bounds stopped.plans m places Limit stopped.ended; left = left_at bounds stopped.plans m places Limit stopped.pairs stopped.ended };
+    reached = record { fired = stopped.fired; reached = stopped.held.reached; counted = stopped.counted; within = stopped.within; held = held_at s bounds given m Limit places by_rule _ stopped (itself _ stopped.held.has_names); ended = tt; over = over_at bounds stopped.plans m Limit stopped.ended; next = left_over bounds stopped.plans m Limit stopped.ended; full = full_at bounds stopped.plans m Limit stopped.ended; left = left_at bounds stopped.plans m Limit stopped.pairs stopped.ended };
+    equations = refl;
     counts = stopped.counts;
   };
   name_steps = refl;
@@ -235,7 +247,8 @@ unread_so itself s bounds given m Limit places by_rule stopped none = record {
 unread_so itself s bounds given m end.Memory places by_rule stopped none = record {
   answer = net_of stopped.held.numbers m.interface (pieces m);
   reached = record {
-    reached = record { fired = stopped.fired; reached = stopped.held.reached; counted = stopped.counted; within = stopped.within; held = held_at s bounds given m end.Memory places by_rule _ stopped (itself _ stopped.held.has_names); ended = tt; next = left_over bounds stopped.plans m places end.Memory stopped.ended; full = full_at bounds stopped.plans m places end.Memory stopped.ended; left = left_at bounds stopped.plans m places end.Memory stopped.pairs stopped.ended };
+    reached = record { fired = stopped.fired; reached = stopped.held.reached; counted = stopped.counted; within = stopped.within; held = held_at s bounds given m end.Memory places by_rule _ stopped (itself _ stopped.held.has_names); ended = tt; over = over_at bounds stopped.plans m end.Memory stopped.ended; next = left_over bounds stopped.plans m end.Memory stopped.ended; full = full_at bounds stopped.plans m end.Memory stopped.ended; left = left_at bounds stopped.plans m end.Memory stopped.pairs stopped.ended };
+    equations = refl;
     counts = stopped.counts;
   };
   name_steps = refl;

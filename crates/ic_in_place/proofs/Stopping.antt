@@ -8,7 +8,7 @@ use Rattle.ic_term.specs.Symbol.{is_over}
 use Rattle.ic_rules.specs.RuleSet.{Rules, IsRuleSet}
 use Rattle.ic_rules.specs.System.{SystemParts}
 use Rattle.ic_round.specs.Naming.{HasNames}
-use Rattle.ic_machine.specs.Net.{Net, pieces, IsPair, IsStuck}
+use Rattle.ic_machine.specs.Net.{Net, all_entries, pieces, IsPair, IsStuck}
 use Rattle.ic_machine.specs.Plan.{Planned, Plans, ArePlans, IsPlan}
 use Rattle.ic_machine.specs.Runs.{IsStart, Ran}
 use Rattle.ic_meaning.specs.Plans.{ArePlansOf, StandsForNet, rule_number}
@@ -57,16 +57,16 @@ pub record StopLaws : Type 0 where
       → IsRuleSet rs → IsTrue (is_over rs.symbols c) → HasNames c → AreCompiled rs numbers p c given plan operands
       → (run : HasRun p (length given) plan operands m) → Holds rs p c given (map (rule_number numbers) run.ran.fired) m
 
-by_end : (bounds : Bounds) (p : Plans) (old m : Net) (places : ℕ) (end : End) → old.interactions ≡ 0
-    → RunsOn p bounds.steps end old m → (end ≡ Nodes → bounds.nodes < places) → (end ≡ Nodes → IsLookedAt p old m)
-    → StopsBy bounds p m places end
-by_end bounds p old m places Quiet none runs nodes looked = runs.quiet refl
-by_end bounds p old m places Steps none runs nodes looked = let all = runs.all refl in (omega (arith, all, none), runs.more refl)
-by_end bounds p old m places Nodes none runs nodes looked =
+by_end : (bounds : Bounds) (p : Plans) (old m : Net) (end : End) → old.interactions ≡ 0
+    → RunsOn p bounds.steps end old m → (end ≡ Nodes → bounds.nodes < all_entries m) → (end ≡ Nodes → IsLookedAt p old m)
+    → StopsBy bounds p m end
+by_end bounds p old m Quiet none runs nodes looked = runs.quiet refl
+by_end bounds p old m Steps none runs nodes looked = let all = runs.all refl in (omega (arith, all, none), runs.more refl)
+by_end bounds p old m Nodes none runs nodes looked =
     let at : IsLookedAt p old m = looked refl in
     (nodes refl, omega (arith, none, runs.early refl), (at.looks, omega (arith, at.whole, none)), at.more)
-by_end bounds p old m places Limit none runs nodes looked = runs.full refl
-by_end bounds p old m places Memory none runs nodes looked = runs.left refl
+by_end bounds p old m Limit none runs nodes looked = runs.full refl
+by_end bounds p old m Memory none runs nodes looked = runs.left refl
 
 -- each plan that fired is there
 known_step : (p : Plans) (xs ys : List Piece) (fired : List ℕ) → Step p fired xs ys → AllByRecursion (λ i. i < length p.plans) fired
@@ -94,7 +94,7 @@ pub stopped_so : StopLaws → (s : SystemParts) (bounds : Bounds) (numbers : Lis
     → IsStart (arities_of s) (length given) plan operands → StandsForNet (arities_of s) given s.config plan operands
     → ((x : ℕ) → (occurrences x (configuration_names s.config) ≡ 1) ↔ Contains given x)
     → IsBegun p (length given) plan operands old → RunsOn p bounds.steps end old m
-    → (end ≡ Nodes → bounds.nodes < places) → (end ≡ Nodes → IsLookedAt p old m) → places ≡ m.names + sum m.agents
+    → (end ≡ Nodes → bounds.nodes < all_entries m) → (end ≡ Nodes → IsLookedAt p old m) → places ≡ m.names + sum m.agents
     → length m.places ≤ places → AllByRecursion IsPair m.pending → IsWatched p bounds.nodes old m
     → (by_rule : List ℕ) → IsSummed (length s.rules.rules) numbers m.counts by_rule → length numbers ≡ length p.plans → m.interactions < 2 ^ 64
     → HasStopped s bounds given by_rule m end places
@@ -156,5 +156,5 @@ stopped_so laws s bounds numbers p given plan operands old m end places sound ar
       none = begun.none;
       watched = watched;
       aside = transport (AllByRecursion (IsStuck p)) (sym (ran.aside ∙ ap (λ es. es ++ ran.more) begun.aside)) ran.stuck;
-      ended = by_end bounds p old m places end begun.none runs nodes looked;
+      ended = by_end bounds p old m end begun.none runs nodes looked;
     }

@@ -14,7 +14,7 @@ use Rattle.ic_round.specs.Rounds.{IsQuiet}
 use Rattle.ic_round.specs.Steps.{Interaction}
 use Rattle.ic_reaching.specs.Reaching.{Reaches}
 use Rattle.ic_text.specs.declared.limits.TheConstants.{MAX_NAME}
-use Rattle.ic_machine.specs.Net.{HasNext}
+use Rattle.ic_machine.specs.Net.{all_entries, equations_left, HasNext}
 use Rattle.ic_in_place.specs.declared.running.TheConstants.{PIECE}
 use Rattle.ic_in_place.specs.declared.running.Bounds.{Bounds}
 use Rattle.ic_in_place.specs.declared.running.End.{End}
@@ -45,22 +45,21 @@ pub record IsPutTogether (c : Configuration) : Type 0 where
 abbrev pub CanInteract : List Rule → Configuration → Type 0
 CanInteract rs c = (d : Configuration) × (place : ℕ) × Interaction rs c d place
 
--- What an end says of the configuration that was reached, and of how many interactions were made and places there are. Places
--- are looked at after each piece of a run.
-abbrev pub EndsBy : List Rule → Bounds → Configuration → ℕ → ℕ → End → Type 0
-EndsBy rs bounds c interactions places Quiet = IsQuiet rs c × IsPutTogether c
-EndsBy rs bounds c interactions places Steps =
+-- What an end says of the configuration that was reached, and of how many interactions were made. Places and equations are
+-- looked at after each piece of a run.
+abbrev pub EndsBy : List Rule → Bounds → Configuration → ℕ → End → Type 0
+EndsBy rs bounds c interactions Quiet = IsQuiet rs c × IsPutTogether c
+EndsBy rs bounds c interactions Steps =
     (interactions ≡ bounds.steps) × CanInteract rs c × IsPutTogether c
-EndsBy rs bounds c interactions places Nodes =
-    (bounds.nodes < places) × (interactions < bounds.steps)
-    × ((looks : ℕ) × (interactions ≡ suc looks * PIECE))
-EndsBy rs bounds c interactions places Limit = Unit {0}
-EndsBy rs bounds c interactions places Memory = Unit {0}
+EndsBy rs bounds c interactions Nodes =
+    (interactions < bounds.steps) × ((looks : ℕ) × (interactions ≡ suc looks * PIECE))
+EndsBy rs bounds c interactions Limit = Unit {0}
+EndsBy rs bounds c interactions Memory = Unit {0}
 
 -- A configuration is reached from that of a system by so many interactions, at most as many as may be made, and this is
--- why no more were made. The machine that held it had so many places. Where it stopped for these, a pair that can fire was
--- left. Where it stopped at a limit, a table would be full. Where memory ran out, equations were left, and no side of one is
--- a name of the net.
+-- why no more were made. The machine that held it had so many places. Where it stopped for what it held, places and
+-- equations that are left were together more than the bound, and a pair that can fire was left. Where it stopped at a limit,
+-- a table would be full. Where memory ran out, equations were left, and no side of one is a name of the net.
 pub record IsReached (s : SystemParts) (bounds : Bounds) (answer : Configuration) (end : End)
     (interactions places : ℕ) : Type 0 where
   pub fired : List ℕ
@@ -68,15 +67,17 @@ pub record IsReached (s : SystemParts) (bounds : Bounds) (answer : Configuration
   pub counted : interactions ≡ length fired
   pub within : interactions ≤ bounds.steps
   pub held : IsHeldAt s.rules s.config answer fired places bounds.nodes
-  pub ended : EndsBy s.rules.rules bounds answer interactions places end
+  pub ended : EndsBy s.rules.rules bounds answer interactions end
+  pub over : end ≡ Nodes → bounds.nodes < all_entries held.machine
   pub next : end ≡ Nodes → HasNext held.plans held.machine.pending
   pub full : end ≡ Limit → IsFullNext held.plans held.machine
   pub left : end ≡ Memory → HasPairs held.machine.pending
 
--- The same, and how many of these interactions were made by each rule.
+-- The same, and how many equations the machine had left, and how many of these interactions were made by each rule.
 pub record IsReachedBy (s : SystemParts) (bounds : Bounds) (answer : Configuration) (end : End)
-    (interactions places : ℕ) (by_rule : List ℕ) : Type 0 where
+    (interactions places left : ℕ) (by_rule : List ℕ) : Type 0 where
   pub reached : IsReached s bounds answer end interactions places
+  pub equations : left ≡ equations_left reached.held.machine
   pub counts : AreCounts (length s.rules.rules) reached.fired by_rule
 
 -- Words write a configuration with its names numbered anew, so many of their terms in its interface, and so many equations.

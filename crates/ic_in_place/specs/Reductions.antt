@@ -24,7 +24,7 @@ use Rattle.ic_in_place.specs.declared.stream.Outcome.{Outcome}
 use Rattle.ic_in_place.specs.declared.stream.Asked.{Asked}
 use Rattle.ic_in_place.specs.declared.stream.Asked.TheVariants.{Answer, AlsoPart, Nothing}
 
--- whether what was reached is written: where a bound of places or a limit was met, or memory ran out, only if a part is
+-- whether what was reached is written: where it held too much, a limit was met or memory ran out, only if a part is
 -- asked for, too
 abbrev pub is_written : Asked → End → Bool
 is_written Nothing e = false
@@ -59,7 +59,7 @@ pub record EndsAs (limits : Limits) (bounds : Bounds) (asked : Asked) (input : L
   pub over : IsTrue (is_over system.rules.symbols system.config)
   pub names : HasNames system.config
   pub reached : IsReachedBy system bounds answer outcome.end outcome.interactions outcome.places
-      outcome.by_rule.items
+      outcome.left outcome.by_rule.items
   pub name_steps : TellsNameSteps system.rules.rules system.config outcome.interactions
       (length answer.equations) outcome.end outcome.name_steps
   pub together : is_written asked outcome.end ≡ true → IsPutTogether answer

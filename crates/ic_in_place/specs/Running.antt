@@ -1,9 +1,9 @@
 -- How a run of a machine ended.
-use Rattle.std.specs.Prelude.{◌≡◌, ◌≢◌, ◌⊎◌, ℕ, suc, ◌+◌, ◌*◌, ◌/◌, ◌<◌, ◌≤◌, List, [], ◌++◌, length, max, sum}
+use Rattle.std.specs.Prelude.{◌≡◌, ◌≢◌, ◌⊎◌, ℕ, suc, ◌+◌, ◌*◌, ◌/◌, ◌<◌, ◌≤◌, List, [], ◌++◌, max}
 use Rattle.std.specs.List.{AllByRecursion}
 use Rattle.ic_arena.specs.declared.word.TheConstants.{NAME}
 use Rattle.ic_machine.specs.declared.equation.Equation.{Equation}
-use Rattle.ic_machine.specs.Net.{Net, in_use, ArePutThrough, HasNext, IsFull, IsPair}
+use Rattle.ic_machine.specs.Net.{Net, all_entries, in_use, ArePutThrough, HasNext, IsFull, IsPair}
 use Rattle.ic_machine.specs.Plan.{Plans}
 use Rattle.ic_machine.specs.Runs.{Ran}
 use Rattle.ic_in_place.specs.declared.running.TheConstants.{PIECE}
@@ -20,7 +20,7 @@ pub record HasPairs (es : List Equation) : Type 0 where
   pub pairs : AllByRecursion IsPair es
 
 -- A run of at most so many interactions came to this end. Where that is quiet, no equation is left, and where it has made
--- all, the last one that is left can fire. Where it stopped for its places, it hasn't made all. Where it stopped at a limit,
+-- all, the last one that is left can fire. Where it stopped for what it held, it hasn't made all. Where it stopped at a limit,
 -- a table would be full, and where memory ran out, an equation is left.
 pub record RunsOn (p : Plans) (steps : ℕ) (end : End) (old new : Net) : Type 0 where
   pub within : new.interactions ≤ old.interactions + steps
@@ -37,11 +37,6 @@ pub record IsLookedAt (p : Plans) (old new : Net) : Type 0 where
   pub whole : new.interactions ≡ old.interactions + suc looks * PIECE
   pub more : HasNext p new.pending
 
--- There are at most so many places, and no more pieces at them.
-pub record IsWithin (nodes : ℕ) (m : Net) : Type 0 where
-  pub places : m.names + sum m.agents ≤ nodes
-  pub pieces : length m.places ≤ nodes
-
 -- how many names may be in use before they are put through again
 abbrev pub names_allowed : Net → ℕ
 names_allowed m = max (2 * in_use NAME m.places) (m.names / 2) + PIECE
@@ -52,24 +47,24 @@ abbrev pub IsTidy : ℕ → ℕ → Net → Type 0
 IsTidy before allowed m = ((in_use NAME m.places < before) × (allowed ≡ before))
     ⊎ (ArePutThrough m.places × (allowed ≡ names_allowed m))
 
--- One more whole piece of a run was made, and then there were at most so many places. Fewer names are in use than were
--- allowed before, or all are put through.
+-- One more whole piece of a run was made, and then places and equations that are left were together at most so many. Fewer
+-- names are in use than were allowed before, or all are put through.
 pub record IsNextLook (p : Plans) (nodes before allowed : ℕ) (old new : Net) : Type 0 where
   pub ran : Ran p old new
   pub whole : new.interactions ≡ old.interactions + PIECE
-  pub within : IsWithin nodes new
+  pub within : all_entries new ≤ nodes
   pub tidy : IsTidy before allowed new
 
--- The places were looked at after each whole piece of a run, up to the last look. Since then so many names are allowed. Pairs
--- fired by these plans by then.
+-- Places and equations were looked at after each whole piece of a run, up to the last look. Since then so many names are
+-- allowed. Pairs fired by these plans by then.
 pub data Looked (p : Plans) (nodes : ℕ) : ℕ → (fired : List ℕ) → (first last : Net) → Type 0 where
   no_look : (m : Net) → Looked p nodes (names_allowed m) [] m m
   one_more_look : (before allowed : ℕ) (fired : List ℕ) (first m last : Net)
       → Looked p nodes before fired first m → (next : IsNextLook p nodes before allowed m last)
       → Looked p nodes allowed (fired ++ next.ran.fired) first last
 
--- The places were looked at on the way, and each look found at most so many. So many names are allowed since. No more than a
--- piece of the run was made after the last of these looks, or after the beginning.
+-- Places and equations were looked at on the way, and each look found at most so many together. So many names are allowed
+-- since. No more than a piece of the run was made after the last of these looks, or after the beginning.
 pub record IsWatched (p : Plans) (nodes : ℕ) (old new : Net) : Type 0 where
   pub mark : Net
   pub allowed : ℕ

@@ -15,7 +15,7 @@ ghost use Rattle.ic_round.specs.Rounds.{IsQuiet, iterate};
 ghost use Rattle.ic_confluence.specs.Kinds.{Kind, Chain};
 ghost use Rattle.ic_reaching.specs.OneNet.{OneNet, SameButNext};
 ghost use Rattle.ic_reaching.specs.Reaching.{Reaches, rules_fired};
-ghost use Rattle.ic_machine.specs.Net.{Net, pieces};
+ghost use Rattle.ic_machine.specs.Net.{Net, equations_left, pieces};
 ghost use Rattle.ic_machine.specs.Plan.{Planned, Plans};
 ghost use Rattle.ic_machine.specs.Runs.{Ran};
 ghost use Rattle.ic_meaning.specs.Nets.{net_of};
@@ -136,13 +136,14 @@ pub fn a_reduction_that_was_cut_goes_on()
 /// every order that does.
 pub fn interactions_by_rule_are_all()
     ensures all { (s : SystemParts) (bounds : Bounds) (answer : Configuration) (end : End)
-        (interactions places : ℕ) (by_rule : List ℕ)
+        (interactions places left : ℕ) (by_rule : List ℕ)
         → IsRuleSet s.rules → IsTrue (is_over s.rules.symbols s.config) → HasNames s.config
-        → IsReachedBy s bounds answer end interactions places by_rule → sum by_rule ≡ interactions }
+        → IsReachedBy s bounds answer end interactions places left by_rule
+        → sum by_rule ≡ interactions }
     ensures every_order { (s : SystemParts) (bounds : Bounds) (answer e : Configuration)
-        (interactions places : ℕ) (by_rule : List ℕ) (kinds : List Kind)
+        (interactions places left : ℕ) (by_rule : List ℕ) (kinds : List Kind)
         → IsRuleSet s.rules → IsTrue (is_over s.rules.symbols s.config) → HasNames s.config
-        → IsReachedBy s bounds answer Quiet interactions places by_rule
+        → IsReachedBy s bounds answer Quiet interactions places left by_rule
         → Chain s.rules.rules kinds s.config e → IsQuiet s.rules.rules e
         → AreCounts (length s.rules.rules) (rules_fired kinds) by_rule }
 {
@@ -179,8 +180,8 @@ pub fn what_is_put_together_has_no_name_step()
     ensures { (c d : Configuration) → HasNames c → IsPutTogether c → ¬ NameStep c d }
 {}
 
-/// What a stop says. Where as many interactions were made as may be, one more is possible. Where there were too many places,
-/// fewer interactions were made than may be, and their number is a multiple of 4,096.
+/// What a stop says. Where as many interactions were made as may be, one more is possible. Where places and equations that
+/// are left were too many, fewer interactions were made than may be, and their number is a multiple of 4,096.
 pub fn what_a_stop_says()
     ensures steps { (s : SystemParts) (bounds : Bounds) (answer : Configuration)
         (interactions places : ℕ)
@@ -189,8 +190,8 @@ pub fn what_a_stop_says()
         → (d : Configuration) × (fired : List ℕ) × Reaches s.rules.rules s.config d fired
         × (length fired ≡ bounds.steps + 1) }
     ensures nodes { (s : SystemParts) (bounds : Bounds) (answer : Configuration)
-        (interactions places : ℕ) → IsReached s bounds answer Nodes interactions places
-        → (bounds.nodes < places) × (interactions < bounds.steps)
+        (interactions places : ℕ) → (is : IsReached s bounds answer Nodes interactions places)
+        → (bounds.nodes < places + equations_left is.held.machine) × (interactions < bounds.steps)
         × ((looks : ℕ) × (interactions ≡ suc looks * 4096)) }
     ensures piece { PIECE ≡ 4096 }
 {

@@ -37,6 +37,8 @@ pub struct Reduced {
     pub name_steps: Option<u64>,
     /// How many places the machine had at the end, the free ones too.
     pub places: u64,
+    /// How many equations it had left then: those that were pending, and those that were set aside.
+    pub left: u64,
     /// Why the reduction ended.
     pub end: End,
 }
@@ -61,7 +63,7 @@ pub fn reduce_in_place<V: Watch>(
 ) -> Result<Reduced, AllocError>
     ensures { IfOk result (λ reduced. (answer : Configuration)
         × IsReachedBy system.now bounds answer reduced.end reduced.interactions reduced.places
-        reduced.by_rule.items
+        reduced.left reduced.by_rule.items
         × IsPutTogether answer
         × TellsNameSteps system.now.rules.rules system.now.config reduced.interactions
         (length answer.equations) reduced.end reduced.name_steps
@@ -83,7 +85,7 @@ pub(crate) fn read_stopped(
         stopped.machine stopped.end stopped.places
         → (answer : Configuration)
         × IsReachedBy system.now bounds answer reduced.end reduced.interactions reduced.places
-        reduced.by_rule.items
+        reduced.left reduced.by_rule.items
         × IsPutTogether answer
         × TellsNameSteps system.now.rules.rules system.now.config reduced.interactions
         (length answer.equations) reduced.end reduced.name_steps
@@ -99,6 +101,7 @@ pub(crate) fn read_stopped(
         by_rule: reached.by_rule,
         name_steps: reached.name_steps,
         places: reached.places,
+        left: reached.left,
         end: reached.end,
     })
 }
@@ -114,7 +117,7 @@ pub(crate) fn read_words(
         stopped.machine stopped.end stopped.places
         → (answer : Configuration)
         × IsReachedBy system.now bounds answer read.end read.interactions read.places
-        read.by_rule.items
+        read.left read.by_rule.items
         × IsPutTogether answer
         × TellsNameSteps system.now.rules.rules system.now.config read.interactions
         (length answer.equations) read.end read.name_steps
@@ -131,6 +134,7 @@ pub(crate) fn read_words(
     ic_reaching::laws::what_is_reached_quiet_is_the_end_of_every_order();
     ic_reaching::laws::where_names_begin_is_all_that_differs();
     let interactions = stopped.machine.interactions();
+    let left = stopped.machine.equations_left();
     let (places, end) = (stopped.places, stopped.end);
     let read = read_back(alloc, stopped.machine)?;
     let symbols = system.rules().symbols();
@@ -151,6 +155,7 @@ pub(crate) fn read_words(
         by_rule: stopped.by_rule,
         name_steps,
         places,
+        left,
         end,
     })
 }

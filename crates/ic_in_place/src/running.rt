@@ -1,8 +1,8 @@
 //! How a reduction runs, in pieces, and why it ends.
 
-ghost use Rattle.std.specs.Prelude.{◌≡◌, ◌≢◌, ◌+◌, ◌<◌, ◌≤◌, ◌^◌, length, sum, IfSome, IfNone};
+ghost use Rattle.std.specs.Prelude.{◌≡◌, ◌≢◌, ◌+◌, ◌<◌, ◌≤◌, ◌^◌, true, false, length, sum, IfSome, IfNone};
 ghost use Rattle.std.specs.List.{AllByRecursion};
-ghost use Rattle.ic_machine.specs.Net.{IsAtPlace, IsPair};
+ghost use Rattle.ic_machine.specs.Net.{all_entries, equations_left, IsAtPlace, IsPair};
 ghost use Rattle.ic_machine.specs.Plan.{Plans};
 ghost use Rattle.ic_machine.specs.Runs.{Ran};
 ghost use Rattle.ic_in_place.specs.Running.{names_allowed, RunsOn, IsLookedAt, IsTidy, IsWatched};
@@ -17,7 +17,7 @@ pub const PIECE: u64 = 4_096;
 pub struct Bounds {
     /// Interactions at most.
     pub steps: u64,
-    /// Places at most, looked at after each piece of a run.
+    /// Places and equations that are left, at most so many together, looked at after each piece of a run.
     pub nodes: u64,
 }
 
@@ -28,7 +28,7 @@ pub enum End {
     Quiet,
     /// As many interactions were made as may be, and one is possible.
     Steps,
-    /// There are more places than there may be.
+    /// There are more places and equations that are left than there may be.
     Nodes,
     /// A table would have 2^32 entries or more.
     Limit,
@@ -54,7 +54,7 @@ pub(crate) fn run_in_pieces<V: Watch>(
     ensures ends { RunsOn program.now bounds.steps result.0 machine.old machine.new }
     ensures places { AllByRecursion IsAtPlace machine.new.places }
     ensures pairs { AllByRecursion IsPair machine.new.pending }
-    ensures nodes { result.0 ≡ End.Nodes → bounds.nodes < result.1 }
+    ensures nodes { result.0 ≡ End.Nodes → bounds.nodes < all_entries machine.new }
     ensures looked { result.0 ≡ End.Nodes → IsLookedAt program.now machine.old machine.new }
     ensures count { result.1 ≡ machine.new.names + sum machine.new.agents }
     ensures watched { IsWatched program.now bounds.nodes machine.old machine.new }
@@ -74,10 +74,21 @@ pub(crate) fn run_in_pieces<V: Watch>(
             return (End::Steps, places);
         }
         watch.saw(machine.interactions(), places);
-        if places > bounds.nodes {
+        if is_over(machine, places, bounds.nodes) {
             return (End::Nodes, places);
         }
         due = sweep_if_due(machine, due);
+    }
+}
+
+/// Whether these places, and the equations that a machine has left, are together more than so many.
+fn is_over(machine: &Machine, places: u64, nodes: u64) -> bool
+    ensures over { result ≡ true → nodes < places + equations_left machine.now }
+    ensures within { result ≡ false → places + equations_left machine.now ≤ nodes }
+{
+    match nodes.checked_sub(places) {
+        Some(room) => machine.equations_left() > room,
+        None => true,
     }
 }
 
@@ -85,7 +96,6 @@ pub(crate) fn run_in_pieces<V: Watch>(
 fn sweep_if_due(machine: &mut Machine, due: u64) -> u64
     ensures ran { (p : Plans) → Ran p machine.old machine.new }
     ensures same { machine.new ≡ record machine.old { places = machine.new.places } }
-    ensures fewer { length machine.new.places ≤ length machine.old.places }
     ensures tidy { IsTidy due result machine.new }
 {
     if machine.names_in_use() < due {

@@ -30,7 +30,7 @@ use std::sync::Arc;
 /// What of a reduction is asked for, as a line.
 #[derive(Clone, Copy, Debug)]
 pub enum Asked {
-    /// What is reached, unless a bound of places or a limit is met, or memory runs out.
+    /// What is reached, unless the bound of what is held or a limit is met, or memory runs out.
     Answer,
     /// What is reached then, too.
     AlsoPart,
@@ -53,6 +53,8 @@ pub struct Outcome {
     pub name_steps: Option<u64>,
     /// How many places there were at the end, the free ones too.
     pub places: u64,
+    /// How many equations the machine had left then: those that were pending, and those that were set aside.
+    pub left: u64,
     /// The symbols of the first equation of two agents, where the end is quiet.
     pub stuck: Option<Vec<u8>>,
 }
@@ -139,6 +141,7 @@ fn reached_line<V: Watch>(
         by_rule: reduced.by_rule,
         name_steps: reduced.name_steps,
         places: reduced.places,
+        left: reduced.left,
         stuck,
     };
     Ok((line, outcome))
@@ -174,6 +177,7 @@ fn unwritten(alloc: Global, system: WideSystem, stopped: Stopped) -> Result<Outc
     if is_written(Asked::Answer, stopped.end) {
         return read_unwritten(alloc, system, stopped);
     }
+    let left = stopped.machine.equations_left();
     let (shared, _) = system.into_parts();
     Ok(Outcome {
         end: stopped.end,
@@ -182,6 +186,7 @@ fn unwritten(alloc: Global, system: WideSystem, stopped: Stopped) -> Result<Outc
         by_rule: stopped.by_rule,
         name_steps: None,
         places: stopped.places,
+        left,
         stuck: None,
     })
 }
@@ -211,6 +216,7 @@ fn read_unwritten(
         by_rule: read.by_rule,
         name_steps: read.name_steps,
         places: read.places,
+        left: read.left,
         stuck,
     })
 }

@@ -6,7 +6,7 @@ use Rattle.std.proofs.lemmas.List.Sums.{sum_by-append, sum_by-cons}
 use Rattle.ic_term.specs.Configuration.{Configuration, configuration_nodes}
 use Rattle.ic_rules.specs.RuleSet.{Rules, IsRuleSet}
 use Rattle.ic_rules.specs.System.{SystemParts}
-use Rattle.ic_machine.specs.Net.{Net, all_places, in_use, pieces, places_of}
+use Rattle.ic_machine.specs.Net.{Net, all_entries, all_places, in_use, pieces, places_of}
 use Rattle.ic_machine.specs.Plan.{Planned, Plans, places_made, places_made_by}
 use Rattle.ic_machine.specs.Runs.{Ran, Starts}
 use Rattle.ic_machine.specs.lemmas.FiringKeeps.{all_append}
@@ -64,7 +64,7 @@ looked_grown laws p nodes allowed fired first last (one_more_look low high befor
     let then = looked_grown laws p nodes low before a m looked uses in
     let more = laws.fired p m b next.ran then.uses in
     let grown = then.grown in
-    let within : all_places b ≤ nodes = next.within.places in
+    let within : all_entries b ≤ nodes = next.within in
     record {
       grown = omega (arith, more, grown, sum_by-append (places_made_by p) before next.ran.fired);
       uses = λ kind. laws.still p m b kind next.ran (then.uses kind);

@@ -28,7 +28,7 @@ ghost use Rattle.ic_in_place.specs.declared.stream.Asked.{Asked};
 ghost use Rattle.ic_in_place.specs.declared.stream.Asked.TheVariants.{Nothing};
 ghost use Rattle.ic_in_place.specs.declared.stream.Outcome.{Outcome};
 ghost use Rattle.ic_in_place.specs.Counting.{TellsNameSteps};
-ghost use Rattle.ic_in_place.specs.Reducing.{IsPutTogether, IsReached};
+ghost use Rattle.ic_in_place.specs.Reducing.{IsPutTogether, IsReached, IsReachedBy};
 ghost use Rattle.ic_in_place.specs.Reductions.{EndsAs, ReducesInPlace, Tells, is_written};
 
 /// What stands in an empty output after a reduction to a quiet end is the line of the net of every order, and the outcome
@@ -91,7 +91,7 @@ pub fn a_stuck_pair_is_of_a_quiet_end()
         ≡ stuck_text s.rules.symbols (renumbered answer)) }
 {}
 
-/// Where there were too many places, or a table would be full, one more interaction is possible. Where memory ran out,
+/// Where it held too much, or a table would be full, one more interaction is possible. Where memory ran out,
 /// equations were left, each between agents or free names.
 pub fn a_stop_comes_before_an_interaction()
     ensures nodes { (s : SystemParts) (bounds : Bounds) (answer : Configuration)
@@ -112,6 +112,14 @@ pub fn a_stop_comes_before_an_interaction()
 {
     ic_meaning::laws::steps_of_pieces_are_steps_of_the_net();
 }
+
+/// The equations that are told to be left are those that the machine held, pending or set aside.
+pub fn equations_told_are_those_that_are_left()
+    ensures { (s : SystemParts) (bounds : Bounds) (answer : Configuration) (end : End)
+        (interactions places left : ℕ) (by_rule : List ℕ)
+        → (is : IsReachedBy s bounds answer end interactions places left by_rule)
+        → left ≡ length is.reached.held.machine.pending + length is.reached.held.machine.aside }
+{}
 
 /// The machine that held what was reached has fired as many pairs as interactions are told.
 pub fn interactions_are_pairs_that_fired()

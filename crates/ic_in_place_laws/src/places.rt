@@ -1,6 +1,6 @@
 //! Laws of the places that a reduction in place takes.
 
-ghost use Rattle.std.specs.Prelude.{◌≡◌, ◌⊎◌, ℕ, ◌+◌, ◌*◌, ◌/◌, ◌^◌, ◌<◌, ◌≤◌, Bool, List, [], ◌∷◌, Contains, length, max, sum_by};
+ghost use Rattle.std.specs.Prelude.{◌≡◌, ◌⊎◌, ℕ, ◌+◌, ◌*◌, ◌/◌, ◌^◌, ◌<◌, ◌≤◌, Bool, List, [], ◌∷◌, Contains, length, max, sum, sum_by};
 ghost use Rattle.ic_term.specs.Configuration.{Configuration, configuration_names, configuration_nodes};
 ghost use Rattle.ic_rules.specs.Rule.{Rule, IsRule, rule_nodes};
 ghost use Rattle.ic_rules.specs.RuleSet.{Rules, IsRuleSet};
@@ -63,8 +63,8 @@ pub fn places_are_bounded()
         → (is : IsReached s bounds answer end interactions places)
         → places ≤ configuration_nodes s.config + sum_by (nodes_at s.rules.rules) is.fired }
     ensures told { (s : SystemParts) (bounds : Bounds) (answer : Configuration) (end : End)
-        (interactions places : ℕ) (by_rule : List ℕ) → IsRuleSet s.rules
-        → IsReachedBy s bounds answer end interactions places by_rule
+        (interactions places left : ℕ) (by_rule : List ℕ) → IsRuleSet s.rules
+        → IsReachedBy s bounds answer end interactions places left by_rule
         → places ≤ configuration_nodes s.config + nodes_fired s.rules.rules by_rule }
     ensures near { (s : SystemParts) (bounds : Bounds) (answer : Configuration) (end : End)
         (interactions places : ℕ) → IsRuleSet s.rules
@@ -88,6 +88,13 @@ pub fn a_pair_fires_after_all_is_linked()
         → (before : List Piece) × Steps p [] xs before × Fires p i before m
         × ((l r : Word) → Contains before (equated l r)
         → (¬ (l.tag ≡ NAME)) × (¬ (r.tag ≡ NAME))) }
+{}
+
+/// A look finds no more places and equations that are left, together, than the bound says.
+pub fn a_look_finds_no_more_than_the_bound()
+    ensures { (p : Plans) (nodes before allowed : ℕ) (old new : Net)
+        → IsNextLook p nodes before allowed old new
+        → new.names + sum new.agents + length new.pending + length new.aside ≤ nodes }
 {}
 
 /// What a look at the places finds of names. Fewer are in use than were allowed before, and as many are allowed from then

@@ -63,7 +63,7 @@ module _ (naming : NamingLaws) (laws : ReachingLaws) (s t : SystemParts) (sound 
       (subst (λ (e : Configuration). OneNet c e) begun_as
       (naming.next c t.config.next (laws.names s.rules.rules s.config c way.fired way.reached) (subst (λ (e : Configuration). HasNames e) (sym begun_as) names)))
 
-  module _ (bounds : Bounds) (answer : Configuration) (end : End) (j places : ℕ) (more sums : List ℕ) (r : IsReachedBy t bounds answer end j places more) (adds : AreSums by more sums) where
+  module _ (bounds : Bounds) (answer : Configuration) (end : End) (j places left : ℕ) (more sums : List ℕ) (r : IsReachedBy t bounds answer end j places left more) (adds : AreSums by more sums) where
     onward : Reaches s.rules.rules t.config answer r.reached.fired
     onward = subst (λ (rs : Rules). Reaches rs.rules t.config answer r.reached.fired) rules r.reached.reached
 
@@ -104,8 +104,8 @@ module _ (naming : NamingLaws) (laws : ReachingLaws) (s t : SystemParts) (sound 
 -- A state, a system that has its configuration, and the state after a piece.
 module _ (naming : NamingLaws) (laws : ReachingLaws) (s t : SystemParts) (sound : IsSound s) (k new : Kept) (is : IsStateOf s k)
     (rules : t.rules ≡ s.rules) (interface : t.config.interface ≡ (configuration_of k.words k.terms 0).interface) (equations : t.config.equations ≡ (configuration_of k.words k.terms 0).equations)
-    (names : HasNames t.config) (low : t.config.next ≤ MAX_NAME + 1) (bounds : Bounds) (answer : Configuration) (end : End) (j places : ℕ) (more : List ℕ)
-    (r : IsReachedBy t bounds answer end j places more) (together : IsPutTogether answer) (words : List Word) (terms : ℕ)
+    (names : HasNames t.config) (low : t.config.next ≤ MAX_NAME + 1) (bounds : Bounds) (answer : Configuration) (end : End) (j places left : ℕ) (more : List ℕ)
+    (r : IsReachedBy t bounds answer end j places left more) (together : IsPutTogether answer) (words : List Word) (terms : ℕ)
     (written : configuration_of words terms (MAX_NAME + 1) ≡ renumbered answer)
     (same_text : new.text ≡ k.text) (same_words : new.words ≡ words) (same_terms : new.terms ≡ terms) (sum : new.interactions ≡ k.interactions + j) (adds : AreSums k.by_rule more new.by_rule) where
   new_written : configuration_of new.words new.terms (MAX_NAME + 1) ≡ renumbered answer
@@ -116,14 +116,14 @@ module _ (naming : NamingLaws) (laws : ReachingLaws) (s t : SystemParts) (sound 
 
   on_way : IsOnWay s answer new.interactions new.by_rule
   on_way = subst (λ (n : ℕ). IsOnWay s answer n new.by_rule) (sym sum)
-      (further naming laws s t sound (configuration_of k.words k.terms is.next) k.interactions k.by_rule is.way rules interface equations names bounds answer end j places more new.by_rule r adds)
+      (further naming laws s t sound (configuration_of k.words k.terms is.next) k.interactions k.by_rule is.way rules interface equations names bounds answer end j places left more new.by_rule r adds)
 
   pub answer_of : IsAnswer s end new
   answer_of = record {
     answer = answer;
     way = on_way;
     quiet = λ ended.
-        let quiet = subst (λ (e : End). EndsBy t.rules.rules bounds answer j places e) ended r.reached.ended in
+        let quiet = subst (λ (e : End). EndsBy t.rules.rules bounds answer j e) ended r.reached.ended in
         subst (λ (rs : Rules). IsQuiet rs.rules answer) rules quiet.0;
     together = together;
     written = new_written;
@@ -134,7 +134,7 @@ module _ (naming : NamingLaws) (laws : ReachingLaws) (s t : SystemParts) (sound 
     reads = subst (λ (text : List ℕ). ReadsSystemWithin Wide text (Ok s)) (sym same_text) is.reads;
     next = one_above (configuration_names (configuration_of new.words new.terms 0));
     way = subst (λ (n : ℕ). IsOnWay s (configuration_of new.words new.terms (one_above (configuration_names (configuration_of new.words new.terms 0)))) n new.by_rule) (sym sum)
-        (kept_on_way naming laws s t sound (configuration_of k.words k.terms is.next) k.interactions k.by_rule is.way rules interface equations names bounds answer end j places more new.by_rule r adds
+        (kept_on_way naming laws s t sound (configuration_of k.words k.terms is.next) k.interactions k.by_rule is.way rules interface equations names bounds answer end j places left more new.by_rule r adds
         low new.words new.terms new_written);
   }
 

@@ -40,6 +40,8 @@ pub struct Ended {
     pub end: End,
     /// How many places the last piece had at its end.
     pub places: u64,
+    /// How many equations it had left then: those that were pending, and those that were set aside.
+    pub left: u64,
     /// The rules of the text, and its symbols.
     pub rules: Arc<RuleSet>,
     /// What was reached, as it was kept.
@@ -80,6 +82,7 @@ fn unread(fault: TextFault) -> KeepingFault {
 struct Piece {
     end: End,
     places: u64,
+    left: u64,
     // How many equations were reached.
     equations: usize,
     // For how many milliseconds it made interactions.
@@ -151,6 +154,7 @@ fn take_in(
     Ok(Piece {
         end: reduced.end,
         places: reduced.places,
+        left: reduced.left,
         equations: reduced.equations,
         millis,
     })
@@ -320,6 +324,7 @@ pub fn go_on<D: Disk, C: Clock, V: Watch>(
             return Ok(Ended {
                 end: run.end,
                 places: run.places,
+                left: run.left,
                 rules,
                 state,
                 line: told.line,

@@ -90,6 +90,14 @@ places_of (suc s) n = slice_index_or n.agents s 0
 abbrev pub all_places : Net → ℕ
 all_places n = n.names + sum n.agents
 
+-- how many equations are left: those that are pending, and those that were set aside
+abbrev pub equations_left : Net → ℕ
+equations_left n = length n.pending + length n.aside
+
+-- how many places there are, and equations that are left
+abbrev pub all_entries : Net → ℕ
+all_entries n = all_places n + equations_left n
+
 -- A word for which another one waits itself waits for none but itself.
 abbrev pub ArePutThrough : List Piece → Type 0
 ArePutThrough ps = (x y u : Word) → Contains ps (waits x y) → Contains ps (waits y u) → x ≡ y

@@ -10,7 +10,7 @@ ghost use Rattle.ic_arena.specs.Tables.{register};
 ghost use Rattle.ic_machine.specs.Plan.{Plans, planned};
 ghost use Rattle.ic_machine.specs.Separate.{IsSeparate};
 ghost use Rattle.ic_machine.specs.Runs.{IsStart, Starts, Counted, Ran};
-ghost use Rattle.ic_machine.specs.Net.{pieces, in_use, ArePutThrough, HasNext, IsAtPlace, IsFull, IsPair};
+ghost use Rattle.ic_machine.specs.Net.{pieces, equations_left, in_use, ArePutThrough, HasNext, IsAtPlace, IsFull, IsPair};
 ghost use Rattle.ic_machine.specs.inner.Pairs.{HasNumber, IsLast, Passed};
 
 use crate::equation::Equation;
@@ -275,6 +275,15 @@ impl Machine {
         ensures pieces { length self.now.places ≤ result }
     {
         count_places(&self.tables.names, &self.tables.heaps)
+    }
+
+    /// How many equations are left: those that are pending, and those that were set aside.
+    pub fn equations_left(&self) -> u64
+        ensures { result ≡ equations_left self.now }
+    {
+        let pending = self.tables.pending.len() as u64;
+        let aside = self.aside.len() as u64;
+        pending + aside
     }
 
     /// Takes the machine apart.

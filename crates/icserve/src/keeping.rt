@@ -165,6 +165,7 @@ fn tell(
     let Ended {
         end,
         places,
+        left,
         rules,
         state,
         line,
@@ -180,6 +181,7 @@ fn tell(
         by_rule: state.by_rule,
         name_steps: None,
         places,
+        left,
         stuck,
     };
     tell_end(rt, &outcome, time, wanted, bounds.nodes)

@@ -67,6 +67,7 @@ pub(crate) fn tell_end(
     let reached = Reached {
         interactions: outcome.interactions,
         places: outcome.places,
+        left: outcome.left,
     };
     reduce_ending(outcome.end, reached, nodes)
 }

@@ -8,7 +8,7 @@ use Rattle.ic_rules.specs.RuleSet.{IsRuleSet}
 use Rattle.ic_rules.specs.System.{SystemParts}
 use Rattle.ic_round.specs.Naming.{HasNames}
 use Rattle.ic_arena.specs.declared.word.TheConstants.{GIVEN}
-use Rattle.ic_machine.specs.Net.{Net, pieces, HasNext, IsPair, IsStuck}
+use Rattle.ic_machine.specs.Net.{Net, all_entries, pieces, HasNext, IsPair, IsStuck}
 use Rattle.ic_machine.specs.Plan.{Planned, Plans}
 use Rattle.ic_machine.specs.Runs.{Starts}
 use Rattle.ic_machine.specs.Separate.{IsSeparate}
@@ -44,14 +44,14 @@ pub record IsBegun (p : Plans) (given : ℕ) (plan : Planned) (operands : List �
   pub separate : IsSeparate p.arities m.interface (pieces m)
 
 -- what a stop says of the net that a machine holds, and of the pairs that are left
-abbrev pub StopsBy : Bounds → Plans → Net → ℕ → End → Type 0
-StopsBy bounds p m places Quiet = m.pending ≡ []
-StopsBy bounds p m places Steps = (m.interactions ≡ bounds.steps) × HasNext p m.pending
-StopsBy bounds p m places Nodes =
-    (bounds.nodes < places) × (m.interactions < bounds.steps)
+abbrev pub StopsBy : Bounds → Plans → Net → End → Type 0
+StopsBy bounds p m Quiet = m.pending ≡ []
+StopsBy bounds p m Steps = (m.interactions ≡ bounds.steps) × HasNext p m.pending
+StopsBy bounds p m Nodes =
+    (bounds.nodes < all_entries m) × (m.interactions < bounds.steps)
     × ((looks : ℕ) × (m.interactions ≡ suc looks * PIECE)) × HasNext p m.pending
-StopsBy bounds p m places Limit = IsFullNext p m
-StopsBy bounds p m places Memory = m.pending ≢ []
+StopsBy bounds p m Limit = IsFullNext p m
+StopsBy bounds p m Memory = m.pending ≢ []
 
 -- A machine began with the configuration of a system, whose names that occur once are given, and has stopped.
 pub record HasStopped (s : SystemParts) (bounds : Bounds) (given by_rule : List ℕ) (m : Net)
@@ -80,4 +80,4 @@ pub record HasStopped (s : SystemParts) (bounds : Bounds) (given by_rule : List 
   pub enough : length m.places ≤ places
   pub pairs : AllByRecursion IsPair m.pending
   pub aside : AllByRecursion (IsStuck plans) m.aside
-  pub ended : StopsBy bounds plans m places end
+  pub ended : StopsBy bounds plans m end

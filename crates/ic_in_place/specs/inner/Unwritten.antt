@@ -29,7 +29,7 @@ pub record WritesAlike (symbols : List Symbol) (words : List Word) (terms equati
 pub record IsTold (s : SystemParts) (bounds : Bounds) (outcome : Outcome) : Type 0 where
   pub answer : Configuration
   pub reached : IsReachedBy s bounds answer outcome.end outcome.interactions outcome.places
-      outcome.by_rule.items
+      outcome.left outcome.by_rule.items
   pub name_steps : TellsNameSteps s.rules.rules s.config outcome.interactions
       (length answer.equations) outcome.end outcome.name_steps
   pub stuck : option_map (λ text. text.items) outcome.stuck

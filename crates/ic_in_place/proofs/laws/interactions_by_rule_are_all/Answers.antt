@@ -3,7 +3,7 @@ use Rattle.ic_in_place.proofs.NameSteps.{CountLaws, counts_are_all, counts_moved
 use Rattle.ic_in_place.proofs.laws.interactions_by_rule_are_all.Goals as goal
 
 pub returns-clause-all : goal.returns-clause-all
-returns-clause-all c = λ s bounds answer end interactions places by_rule set over named is.
+returns-clause-all c = λ s bounds answer end interactions places left by_rule set over named is.
     let laws : CountLaws = record {
       itself = c.what_is_reached_is_one_net.ensures.itself;
       names = c.what_is_reached_is_one_net.ensures.names;
@@ -15,7 +15,7 @@ returns-clause-all c = λ s bounds answer end interactions places by_rule set ov
     ∙ sym is.reached.counted
 
 pub returns-clause-every_order : goal.returns-clause-every_order
-returns-clause-every_order c = λ s bounds answer e interactions places by_rule kinds set over named is chain still.
+returns-clause-every_order c = λ s bounds answer e interactions places left by_rule kinds set over named is chain still.
     counts_moved _ is.reached.fired _ by_rule
     (c.what_is_reached_quiet_is_the_end_of_every_order.ensures.every_order s.rules s.config answer e is.reached.fired kinds set over named
     is.reached.reached is.reached.ended.0 chain still).1 is.counts

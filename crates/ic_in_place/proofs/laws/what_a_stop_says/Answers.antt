@@ -1,4 +1,4 @@
-use Rattle.std.proofs.Common.{List, [], ◌∷◌, ◌++◌, arith}
+use Rattle.std.proofs.Common.{List, [], ◌∷◌, ◌++◌, refl, arith}
 use Rattle.std.proofs.lemmas.List.{length-append}
 use Rattle.ic_in_place.proofs.laws.what_a_stop_says.Goals as goal
 
@@ -14,4 +14,5 @@ returns-clause-steps c = λ s bounds answer interactions places set over named i
     )
 
 pub returns-clause-nodes : goal.returns-clause-nodes
-returns-clause-nodes c = λ s bounds answer interactions places is. is.ended
+returns-clause-nodes c = λ s bounds answer interactions places is.
+    let over = is.over refl in (omega (arith, over, is.held.all), is.ended.0, is.ended.1)

@@ -8,7 +8,7 @@ use Rattle.ic_term.specs.Symbol.{is_over}
 use Rattle.ic_rules.specs.RuleSet.{Rules}
 use Rattle.ic_round.specs.Naming.{HasNames}
 use Rattle.ic_round.specs.Rounds.{IsQuiet}
-use Rattle.ic_machine.specs.Net.{pieces, HasNext, IsPair}
+use Rattle.ic_machine.specs.Net.{equations_left, pieces, HasNext, IsPair}
 use Rattle.ic_meaning.specs.Nets.{net_of, AreNetPieces}
 use Rattle.ic_readback.specs.declared.token.Token.{Token}
 use Rattle.ic_readback.specs.Reading.{flat_words, configuration_read}
@@ -93,7 +93,7 @@ returns-clause-reached c = λ bounds stopped.
     let told : end ≡ Quiet → (n : ℕ) × AreNameSteps rs.rules s.config n
     × (n + c.interactions-interactions.result + length answer.0.equations < 2 ^ 64 → c.name_steps_at-name_steps.result ≡ Some n) =
     (λ at.
-    let still : IsQuiet rs.rules answer.0 = quiet_at rs.rules bounds answer.0 m.interactions places end answer.1.reached.ended at in
+    let still : IsQuiet rs.rules answer.0 = quiet_at rs.rules bounds answer.0 m.interactions end answer.1.reached.ended at in
     let steps = name_steps_so counting c.where_names_begin_is_all_that_differs.ensures.equations rs s.config answer.0 fired by_rule
     sound.rules sound.over sound.names
     (c.what_is_reached_quiet_is_the_end_of_every_order.ensures.end rs s.config answer.0 fired sound.rules sound.over sound.names reached still)
@@ -107,7 +107,8 @@ returns-clause-reached c = λ bounds stopped.
           (omega (arith, steps.2, interactions, left, given_equations, made)) (omega (arith, small, left)),
     )) in (
       answer.0,
-      subst (λ (k : ℕ). IsReachedBy s bounds answer.0 end k places by_rule) (sym c.interactions-interactions.ensures) answer.1,
+      subst (λ (l : ℕ). IsReachedBy s bounds answer.0 end c.interactions-interactions.result places l by_rule) (sym c.equations_left-left.ensures)
+          (subst (λ (k : ℕ). IsReachedBy s bounds answer.0 end k places (equations_left m) by_rule) (sym c.interactions-interactions.ensures) answer.1),
       answer.2,
       tells_so rs.rules s.config c.interactions-interactions.result (length answer.0.equations) end c.name_steps_at-name_steps.result told
           c.name_steps_at-name_steps.ensures.other,

@@ -1,5 +1,5 @@
-use Rattle.std.proofs.Common.{◌≡◌, ℕ, [], ◌++◌, sum, ap, sym, subst, ◌∙◌, arith, refl}
-use Rattle.ic_machine.specs.Net.{Net}
+use Rattle.std.proofs.Common.{◌≡◌, ℕ, ◌+◌, ◌≤◌, [], ◌++◌, true, false, length, sum, ap, sym, subst, ◌∙◌, arith, refl}
+use Rattle.ic_machine.specs.Net.{Net, equations_left}
 use Rattle.ic_machine.specs.Runs.{Ran}
 use Rattle.ic_in_place.specs.Running.{Looked, no_look, one_more_look}
 use Rattle.ic_in_place.proofs.Onward.{ran_nothing, ran_through}
@@ -42,14 +42,18 @@ pieces-preserved g c =
           whole = same ∙ next_look c.args.program.now c.min-steps.result c.pieces.machine c.run_piece-ended.new.machine c.in_default.ensures.none
               (omega (arith, c.min-steps.ensures, c.if-left-eq0.false));
           tidy = c.sweep_if_due-due.ensures.tidy;
-          within = record {
-            places = (let names : c.sweep_if_due-due.new.machine.names ≡ c.run_piece-ended.new.machine.names =
-                ap (λ (n : Net). n.names) c.sweep_if_due-due.ensures.same in
-                let agents : sum c.sweep_if_due-due.new.machine.agents ≡ sum c.run_piece-ended.new.machine.agents =
-                ap (λ (n : Net). sum n.agents) c.sweep_if_due-due.ensures.same in
-                omega (arith, c.places-places.ensures.count, c.if-places-bounds.false, names, agents));
-            pieces = omega (arith, c.places-places.ensures.pieces, c.if-places-bounds.false, c.sweep_if_due-due.ensures.fewer);
-          };
+          within =
+              -- putting names through changes neither how many places there are nor which equations are left
+              let names : c.sweep_if_due-due.new.machine.names ≡ c.run_piece-ended.new.machine.names =
+              ap (λ (n : Net). n.names) c.sweep_if_due-due.ensures.same in
+              let agents : sum c.sweep_if_due-due.new.machine.agents ≡ sum c.run_piece-ended.new.machine.agents =
+              ap (λ (n : Net). sum n.agents) c.sweep_if_due-due.ensures.same in
+              let pending : length c.sweep_if_due-due.new.machine.pending ≡ length c.run_piece-ended.new.machine.pending =
+              ap (λ (n : Net). length n.pending) c.sweep_if_due-due.ensures.same in
+              let aside : length c.sweep_if_due-due.new.machine.aside ≡ length c.run_piece-ended.new.machine.aside =
+              ap (λ (n : Net). length n.aside) c.sweep_if_due-due.ensures.same in
+              let few : c.is_over.result ≡ false = cc c.if-is_over.false in
+              omega (arith, c.places-places.ensures.count, c.is_over.ensures.within few, names, agents, pending, aside);
         }),
       );
     }
@@ -62,14 +66,19 @@ pub returns-then-left-eq0-clause-ran : goal.returns-then-left-eq0-clause-ran
 returns-then-left-eq0-clause-ran g c =
     ran_through c.args.program.now c.args.machine.now c.pieces.machine c.run_piece-ended.new.machine c.pieces.invariant.ran c.run_piece-ended.ensures.ran
 
-pub returns-then-places-bounds-clause-ran : goal.returns-then-places-bounds-clause-ran
-returns-then-places-bounds-clause-ran g c =
+pub returns-then-is_over-clause-ran : goal.returns-then-is_over-clause-ran
+returns-then-is_over-clause-ran g c =
     ran_through c.args.program.now c.args.machine.now c.pieces.machine c.run_piece-ended.new.machine c.pieces.invariant.ran c.run_piece-ended.ensures.ran
 
-pub returns-then-places-bounds-clause-ends : goal.returns-then-places-bounds-clause-ends
-returns-then-places-bounds-clause-ends g c =
+pub returns-then-is_over-clause-ends : goal.returns-then-is_over-clause-ends
+returns-then-is_over-clause-ends g c =
     too_many c.args.program.now c.args.bounds.steps c.pieces.left c.min-steps.result c.args.machine.now c.pieces.machine c.run_piece-ended.new.machine
     c.pieces.invariant.counted (omega (arith, c.min-steps.ensures)) (omega (arith, c.if-left-eq0.false)) c.in_default.ensures.none
+
+pub returns-then-is_over-clause-nodes : goal.returns-then-is_over-clause-nodes
+returns-then-is_over-clause-nodes g c = λ e.
+    let many : c.is_over.result ≡ true = cc c.if-is_over.true in
+    omega (arith, c.places-places.ensures.count, c.is_over.ensures.over many)
 
 pub returns-in-Some-clause-watched : goal.returns-in-Some-clause-watched
 returns-in-Some-clause-watched g c = record {
@@ -91,8 +100,8 @@ returns-then-left-eq0-clause-watched g c = record {
   near = omega (arith, c.run_piece-ended.ensures.within, c.min-steps.ensures);
 }
 
-pub returns-then-places-bounds-clause-watched : goal.returns-then-places-bounds-clause-watched
-returns-then-places-bounds-clause-watched g c = record {
+pub returns-then-is_over-clause-watched : goal.returns-then-is_over-clause-watched
+returns-then-is_over-clause-watched g c = record {
   mark = c.pieces.machine;
   allowed = c.pieces.due;
   before = c.pieces.invariant.looked.0;
@@ -101,7 +110,7 @@ returns-then-places-bounds-clause-watched g c = record {
   near = omega (arith, c.run_piece-ended.ensures.within, c.min-steps.ensures);
 }
 
-pub returns-then-places-bounds-clause-looked : goal.returns-then-places-bounds-clause-looked
-returns-then-places-bounds-clause-looked g c = λ e.
+pub returns-then-is_over-clause-looked : goal.returns-then-is_over-clause-looked
+returns-then-is_over-clause-looked g c = λ e.
     looked_at c.args.program.now c.min-steps.result c.args.machine.now c.pieces.machine c.run_piece-ended.new.machine
     c.pieces.invariant.whole c.in_default.ensures.none (omega (arith, c.min-steps.ensures, c.if-left-eq0.false))

@@ -14,7 +14,7 @@ asked_for Nothing some line = absurd (some refl)
 
 pub returns-clause-cut : goal.returns-clause-cut
 returns-clause-cut c = λ limits bounds asked input line outcome is cut some.
-    let ended = subst (λ (x : End). EndsBy is.system.rules.rules bounds is.answer outcome.interactions outcome.places x) cut is.reached.reached.ended in (
+    let ended = subst (λ (x : End). EndsBy is.system.rules.rules bounds is.answer outcome.interactions x) cut is.reached.reached.ended in (
       is.system,
       is.answer,
       is.reached.reached.fired,

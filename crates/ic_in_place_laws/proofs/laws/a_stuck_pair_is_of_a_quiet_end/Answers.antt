@@ -6,7 +6,7 @@ use Rattle.ic_in_place_laws.proofs.laws.a_stuck_pair_is_of_a_quiet_end.Goals as 
 
 pub returns : goal.returns
 returns c = λ limits bounds asked input line outcome is quiet.
-    let ended = subst (λ (x : End). EndsBy is.system.rules.rules bounds is.answer outcome.interactions outcome.places x) quiet is.reached.reached.ended in (
+    let ended = subst (λ (x : End). EndsBy is.system.rules.rules bounds is.answer outcome.interactions x) quiet is.reached.reached.ended in (
       is.system,
       is.answer,
       is.reached.reached.fired,

@@ -16,7 +16,7 @@ returns-clause-by_rules c = λ s bounds answer end interactions places set is.
     places_by_rules laws s bounds answer end interactions places set is
 
 pub returns-clause-told : goal.returns-clause-told
-returns-clause-told c = λ s bounds answer end interactions places by_rule set is.
+returns-clause-told c = λ s bounds answer end interactions places left by_rule set is.
     let laws : PlaceLaws = record {
       begun = c.places_are_those_that_were_in_use.ensures.begun;
       still = c.places_are_those_that_were_in_use.ensures.still;

@@ -39,7 +39,7 @@ returns-clause-goes_on g c s sound rules is =
     let equations = c.in_ok-system.ensures.equations ∙ ap (λ (ws : List Word). (configuration_of ws old.terms 0).equations) words in
     let piece = c.in_ok-piece.ensures in
     state_of naming laws s t sound (kept_by old) (kept_by c.take_in.new.state) is (c.in_ok-system.ensures.rules ∙ rules) interface equations c.in_ok-system.ensures.names c.in_ok-system.ensures.low
-    c.args.bounds answer.0 reduced.end reduced.interactions reduced.places reduced.by_rule.items answer.1 answer.2 reduced.words.items reduced.terms answer.4.written
+    c.args.bounds answer.0 reduced.end reduced.interactions reduced.places reduced.left reduced.by_rule.items answer.1 answer.2 reduced.words.items reduced.terms answer.4.written
     piece.text piece.words piece.terms piece.interactions piece.by_rule
 
 pub returns-clause-answer : goal.returns-clause-answer
@@ -68,7 +68,7 @@ returns-clause-answer g c s sound rules is =
     let equations = c.in_ok-system.ensures.equations ∙ ap (λ (ws : List Word). (configuration_of ws old.terms 0).equations) words in
     let piece = c.in_ok-piece.ensures in
     subst (λ (e : End). IsAnswer s e (kept_by c.take_in.new.state)) (sym piece.end) (answer_of naming laws s t sound (kept_by old) (kept_by c.take_in.new.state) is (c.in_ok-system.ensures.rules ∙ rules) interface equations c.in_ok-system.ensures.names c.in_ok-system.ensures.low
-    c.args.bounds answer.0 reduced.end reduced.interactions reduced.places reduced.by_rule.items answer.1 answer.2 reduced.words.items reduced.terms answer.4.written
+    c.args.bounds answer.0 reduced.end reduced.interactions reduced.places reduced.left reduced.by_rule.items answer.1 answer.2 reduced.words.items reduced.terms answer.4.written
     piece.text piece.words piece.terms piece.interactions piece.by_rule)
 
 pub returns-clause-whole : goal.returns-clause-whole
