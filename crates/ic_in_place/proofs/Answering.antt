@@ -78,7 +78,7 @@ ends_alike : (s : SystemParts) (bounds : Bounds) (p : Plans) (d : Configuration)
 ends_alike s bounds p d m Quiet next quiet together is = (quiet is, together)
 ends_alike s bounds p d m Steps next quiet together is = (is.0, next is.1, together)
 ends_alike s bounds p d m Nodes next quiet together is = (is.1, is.2)
-ends_alike s bounds p d m Limit next quiet together is = tt
+ends_alike s bounds p d m Limit next quiet together is = is.0
 ends_alike s bounds p d m end.Memory next quiet together is = tt
 
 -- a quiet end is that of a quiet configuration
@@ -109,7 +109,7 @@ left_over bounds p m end.Memory is e = cc
 
 -- a table was full where it stopped at a limit
 full_at : (bounds : Bounds) (p : Plans) (m : Net) (end : End) → StopsBy bounds p m end → end ≡ Limit → IsFullNext p m
-full_at bounds p m Limit is e = is
+full_at bounds p m Limit is e = is.1
 full_at bounds p m Quiet is e = cc
 full_at bounds p m Steps is e = cc
 full_at bounds p m Nodes is e = cc
@@ -237,7 +237,7 @@ unread_so itself s bounds given m Nodes places by_rule stopped none = record {
 unread_so itself s bounds given m Limit places by_rule stopped none = record {
   answer = net_of stopped.held.numbers m.interface (pieces m);
   reached = record {
-    reached = record { fired = stopped.fired; reached = stopped.held.reached; counted = stopped.counted; within = stopped.within; held = held_at s bounds given m Limit places by_rule _ stopped (itself _ stopped.held.has_names); ended = tt; over = over_at bounds stopped.plans m Limit stopped.ended; next = left_over bounds stopped.plans m Limit stopped.ended; full = full_at bounds stopped.plans m Limit stopped.ended; left = left_at bounds stopped.plans m Limit stopped.pairs stopped.ended };
+    reached = record { fired = stopped.fired; reached = stopped.held.reached; counted = stopped.counted; within = stopped.within; held = held_at s bounds given m Limit places by_rule _ stopped (itself _ stopped.held.has_names); ended = stopped.ended.0; over = over_at bounds stopped.plans m Limit stopped.ended; next = left_over bounds stopped.plans m Limit stopped.ended; full = full_at bounds stopped.plans m Limit stopped.ended; left = left_at bounds stopped.plans m Limit stopped.pairs stopped.ended };
     equations = refl;
     counts = stopped.counts;
   };

@@ -16,6 +16,7 @@ ended_before p all left steps end first old new counted low other others runs = 
   all = λ is. absurd (other is);
   more = λ is. absurd (other is);
   early = λ is. absurd (others is);
+  limited = λ is. omega (arith, counted, low, runs.limited is);
   full = runs.full;
   left = runs.left;
 }
@@ -29,6 +30,7 @@ all_made p all left steps first old new counted low none runs = record {
   all = λ is. omega (arith, counted, low, none, runs.all is);
   more = runs.more;
   early = λ is. cc;
+  limited = λ is. cc;
   full = λ is. cc;
   left = λ is. cc;
 }
@@ -42,6 +44,7 @@ too_many p all left steps first old new counted low some runs = record {
   all = λ is. cc;
   more = λ is. cc;
   early = λ is. omega (arith, counted, low, some, runs.all refl);
+  limited = λ is. cc;
   full = λ is. cc;
   left = λ is. cc;
 }

@@ -65,7 +65,7 @@ by_end bounds p old m Steps none runs nodes looked = let all = runs.all refl in 
 by_end bounds p old m Nodes none runs nodes looked =
     let at : IsLookedAt p old m = looked refl in
     (nodes refl, omega (arith, none, runs.early refl), (at.looks, omega (arith, at.whole, none)), at.more)
-by_end bounds p old m Limit none runs nodes looked = runs.full refl
+by_end bounds p old m Limit none runs nodes looked = (omega (arith, none, runs.limited refl), runs.full refl)
 by_end bounds p old m Memory none runs nodes looked = runs.left refl
 
 -- each plan that fired is there

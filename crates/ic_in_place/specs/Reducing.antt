@@ -53,7 +53,7 @@ EndsBy rs bounds c interactions Steps =
     (interactions ≡ bounds.steps) × CanInteract rs c × IsPutTogether c
 EndsBy rs bounds c interactions Nodes =
     (interactions < bounds.steps) × ((looks : ℕ) × (interactions ≡ suc looks * PIECE))
-EndsBy rs bounds c interactions Limit = Unit {0}
+EndsBy rs bounds c interactions Limit = interactions < bounds.steps
 EndsBy rs bounds c interactions Memory = Unit {0}
 
 -- A configuration is reached from that of a system by so many interactions, at most as many as may be made, and this is

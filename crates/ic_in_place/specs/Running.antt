@@ -20,14 +20,15 @@ pub record HasPairs (es : List Equation) : Type 0 where
   pub pairs : AllByRecursion IsPair es
 
 -- A run of at most so many interactions came to this end. Where that is quiet, no equation is left, and where it has made
--- all, the last one that is left can fire. Where it stopped for what it held, it hasn't made all. Where it stopped at a limit,
--- a table would be full, and where memory ran out, an equation is left.
+-- all, the last one that is left can fire. Where it stopped for what it held or at a limit, it hasn't made all. At a limit a
+-- table would be full, and where memory ran out, an equation is left.
 pub record RunsOn (p : Plans) (steps : ℕ) (end : End) (old new : Net) : Type 0 where
   pub within : new.interactions ≤ old.interactions + steps
   pub quiet : end ≡ Quiet → new.pending ≡ []
   pub all : end ≡ Steps → new.interactions ≡ old.interactions + steps
   pub more : end ≡ Steps → HasNext p new.pending
   pub early : end ≡ Nodes → new.interactions < old.interactions + steps
+  pub limited : end ≡ Limit → new.interactions < old.interactions + steps
   pub full : end ≡ Limit → IsFullNext p new
   pub left : end ≡ Memory → new.pending ≢ []
 

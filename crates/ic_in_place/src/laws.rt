@@ -22,7 +22,7 @@ ghost use Rattle.ic_meaning.specs.Nets.{net_of};
 ghost use Rattle.ic_meaning.specs.Plans.{rule_number};
 ghost use Rattle.ic_in_place.specs.declared.running.Bounds.{Bounds};
 ghost use Rattle.ic_in_place.specs.declared.running.End.{End};
-ghost use Rattle.ic_in_place.specs.declared.running.End.TheVariants.{Quiet, Steps, Nodes};
+ghost use Rattle.ic_in_place.specs.declared.running.End.TheVariants.{Quiet, Steps, Nodes, Limit};
 ghost use Rattle.ic_in_place.specs.declared.running.TheConstants.{PIECE};
 ghost use Rattle.ic_in_place.specs.declared.stream.Asked.{Asked};
 ghost use Rattle.ic_in_place.specs.declared.stream.Asked.TheVariants.{Nothing};
@@ -181,7 +181,8 @@ pub fn what_is_put_together_has_no_name_step()
 {}
 
 /// What a stop says. Where as many interactions were made as may be, one more is possible. Where places and equations that
-/// are left were too many, fewer interactions were made than may be, and their number is a multiple of 4,096.
+/// are left were too many, fewer interactions were made than may be, and their number is a multiple of 4,096. Where a table
+/// would be full, fewer were made, too.
 pub fn what_a_stop_says()
     ensures steps { (s : SystemParts) (bounds : Bounds) (answer : Configuration)
         (interactions places : ℕ)
@@ -193,6 +194,9 @@ pub fn what_a_stop_says()
         (interactions places : ℕ) → (is : IsReached s bounds answer Nodes interactions places)
         → (bounds.nodes < places + equations_left is.held.machine) × (interactions < bounds.steps)
         × ((looks : ℕ) × (interactions ≡ suc looks * 4096)) }
+    ensures limit { (s : SystemParts) (bounds : Bounds) (answer : Configuration)
+        (interactions places : ℕ) → IsReached s bounds answer Limit interactions places
+        → interactions < bounds.steps }
     ensures piece { PIECE ≡ 4096 }
 {
     ic_reaching::laws::what_is_reached_goes_on();

@@ -124,6 +124,8 @@ impl Machine {
         ensures pairs { AllByRecursion IsPair self.new.pending }
         ensures limit { result ≡ Err MachineFault.Limit
             → (next : HasNext program.now self.new.pending) × IsFull next.active.plan self.new }
+        ensures early { result ≡ Err MachineFault.Limit
+            → self.new.interactions < self.old.interactions + steps }
         ensures broken { OnErr result (self.new.pending ≢ []) }
     {
         for step in 0..steps {

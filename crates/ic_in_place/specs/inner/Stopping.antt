@@ -50,7 +50,7 @@ StopsBy bounds p m Steps = (m.interactions ≡ bounds.steps) × HasNext p m.pend
 StopsBy bounds p m Nodes =
     (bounds.nodes < all_entries m) × (m.interactions < bounds.steps)
     × ((looks : ℕ) × (m.interactions ≡ suc looks * PIECE)) × HasNext p m.pending
-StopsBy bounds p m Limit = IsFullNext p m
+StopsBy bounds p m Limit = (m.interactions < bounds.steps) × IsFullNext p m
 StopsBy bounds p m Memory = m.pending ≢ []
 
 -- A machine began with the configuration of a system, whose names that occur once are given, and has stopped.

@@ -16,3 +16,6 @@ returns-clause-steps c = λ s bounds answer interactions places set over named i
 pub returns-clause-nodes : goal.returns-clause-nodes
 returns-clause-nodes c = λ s bounds answer interactions places is.
     let over = is.over refl in (omega (arith, over, is.held.all), is.ended.0, is.ended.1)
+
+pub returns-clause-limit : goal.returns-clause-limit
+returns-clause-limit c = λ s bounds answer interactions places is. is.ended
