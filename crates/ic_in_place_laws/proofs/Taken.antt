@@ -1,5 +1,5 @@
 -- Lemmas: how many places a reduction takes.
-use Rattle.std.proofs.Common.{◌≡◌, ℕ, zero, suc, ◌+◌, ◌*◌, ◌^◌, ◌≤◌, inl, inr, List, [], ◌∷◌, ◌++◌, length, map, max, slice_index_or, sum, sum_by, refl, ap, arith, subst as transport}
+use Rattle.std.proofs.Common.{◌≡◌, ℕ, zero, suc, ◌+◌, ◌*◌, ◌^◌, ◌≤◌, ◌⊎◌, inl, inr, List, [], ◌∷◌, ◌++◌, length, map, max, slice_index_or, sum, sum_by, refl, ap, arith, subst as transport}
 use Rattle.std.specs.List.{AllByRecursion}
 use Rattle.std.proofs.Math.Nat.{le-max_left, le-max_right, max-le}
 use Rattle.std.proofs.lemmas.List.Sums.{sum_by-append, sum_by-cons}
@@ -125,16 +125,25 @@ item_few [] i = omega arith
 item_few (x ∷ xs) zero = omega (arith, sum_by-cons (λ n. n) x xs)
 item_few (x ∷ xs) (suc i) = omega (arith, item_few xs i, sum_by-cons (λ n. n) x xs)
 
--- a table is told to be full only where there are that many places
-pub places_full : (s : SystemParts) (bounds : Bounds) (answer : Configuration) (interactions places : ℕ) → IsRuleSet s.rules
-    → IsReached s bounds answer Limit interactions places → 2 ^ 32 ≤ places + 2048
-places_full s bounds answer interactions places set is =
+-- a table is told to be full only where one has that many entries
+pub table_full : (s : SystemParts) (bounds : Bounds) (answer : Configuration) (interactions places : ℕ) → IsRuleSet s.rules
+    → (is : IsReached s bounds answer Limit interactions places)
+    → (2 ^ 32 ≤ is.held.machine.names + 2048) ⊎ ((symbol : ℕ) × (2 ^ 32 ≤ slice_index_or is.held.machine.agents symbol 0 + 2048))
+table_full s bounds answer interactions places set is =
     let full = is.full refl in
     let p : Plans = is.held.plans in
     let fired = active_fired p full.0.pair full.0.active in
     let few = (fired_few s.rules is.held.rule_numbers p fired.0 fired.1 set is.held.compiled.plans is.held.compiled.of_rules).1 in
     let plan : places_made full.0.active.plan ≤ 2048 = transport (λ (q : Planned). places_made q ≤ 2048) fired.2 few in
     elim full.1 [
-      | inl names ↦ omega (arith, is.held.all, plan, names)
-      | inr agents ↦ (let many = agents.2 in omega (arith, is.held.all, plan, many, item_few is.held.machine.agents agents.0.symbol))
+      | inl names ↦ inl (omega (arith, plan, names))
+      | inr agents ↦ (let many = agents.2 in inr (agents.0.symbol, omega (arith, plan, many)))
     ]
+
+-- so there are that many places
+pub places_full : (s : SystemParts) (bounds : Bounds) (answer : Configuration) (interactions places : ℕ) → IsRuleSet s.rules
+    → IsReached s bounds answer Limit interactions places → 2 ^ 32 ≤ places + 2048
+places_full s bounds answer interactions places set is = elim (table_full s bounds answer interactions places set is) [
+  | inl names ↦ omega (arith, is.held.all, names)
+  | inr agents ↦ (let many = agents.1 in omega (arith, is.held.all, many, item_few is.held.machine.agents agents.0))
+]

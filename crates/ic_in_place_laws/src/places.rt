@@ -1,6 +1,6 @@
 //! Laws of the places that a reduction in place takes.
 
-ghost use Rattle.std.specs.Prelude.{◌≡◌, ◌⊎◌, ℕ, ◌+◌, ◌*◌, ◌/◌, ◌^◌, ◌<◌, ◌≤◌, Bool, List, [], ◌∷◌, Contains, length, max, sum, sum_by};
+ghost use Rattle.std.specs.Prelude.{◌≡◌, ◌⊎◌, ℕ, ◌+◌, ◌*◌, ◌/◌, ◌^◌, ◌<◌, ◌≤◌, Bool, List, [], ◌∷◌, Contains, length, max, slice_index_or, sum, sum_by};
 ghost use Rattle.ic_term.specs.Configuration.{Configuration, configuration_names, configuration_nodes};
 ghost use Rattle.ic_rules.specs.Rule.{Rule, IsRule, rule_nodes};
 ghost use Rattle.ic_rules.specs.RuleSet.{Rules, IsRuleSet};
@@ -55,8 +55,8 @@ pub fn a_machine_begins_with_what_its_configuration_has()
 
 /// How many places a reduction takes. There are at most as many as the nodes that were given and those of each rule that
 /// fired, each time. They are looked at after each 4,096 interactions, so they pass the bound of places, or the nodes that
-/// were given, by no more than so many interactions may make. A table is told to be full only where there are 2^32 places,
-/// less those of one rule.
+/// were given, by no more than so many interactions may make. A table is told to be full only where one has 2^32 entries,
+/// that of names or that of a symbol's agents, less those of one rule.
 pub fn places_are_bounded()
     ensures by_rules { (s : SystemParts) (bounds : Bounds) (answer : Configuration) (end : End)
         (interactions places : ℕ) → IsRuleSet s.rules
@@ -76,6 +76,11 @@ pub fn places_are_bounded()
     ensures full { (s : SystemParts) (bounds : Bounds) (answer : Configuration)
         (interactions places : ℕ) → IsRuleSet s.rules
         → IsReached s bounds answer Limit interactions places → 2 ^ 32 ≤ places + 2048 }
+    ensures one_table { (s : SystemParts) (bounds : Bounds) (answer : Configuration)
+        (interactions places : ℕ) → IsRuleSet s.rules
+        → (is : IsReached s bounds answer Limit interactions places)
+        → (2 ^ 32 ≤ is.held.machine.names + 2048)
+        ⊎ ((symbol : ℕ) × (2 ^ 32 ≤ slice_index_or is.held.machine.agents symbol 0 + 2048)) }
 {
     ic_machine::laws::places_are_those_that_were_in_use();
     ic_machine::laws::places_are_made_by_plans();

@@ -1,7 +1,7 @@
 use Rattle.std.proofs.Common.{arith}
 use Rattle.ic_in_place_laws.proofs.Onward.{mark_whole}
 use Rattle.ic_in_place_laws.proofs.Told.{nodes_told}
-use Rattle.ic_in_place_laws.proofs.Taken.{PlaceLaws, places_by_rules, places_full, places_near}
+use Rattle.ic_in_place_laws.proofs.Taken.{PlaceLaws, places_by_rules, places_full, places_near, table_full}
 use Rattle.ic_in_place_laws.proofs.places.places_are_bounded.Goals as goal
 
 pub returns-clause-by_rules : goal.returns-clause-by_rules
@@ -42,3 +42,6 @@ returns-clause-full c = λ s bounds answer interactions places set is. places_fu
 
 pub returns-clause-looked : goal.returns-clause-looked
 returns-clause-looked c = λ s bounds answer end interactions places is. mark_whole s bounds answer end interactions places is
+
+pub returns-clause-one_table : goal.returns-clause-one_table
+returns-clause-one_table c = λ s bounds answer interactions places set is. table_full s bounds answer interactions places set is
