@@ -1,5 +1,5 @@
 -- Lemmas: how many names and agents a plan makes, and how many nodes there are.
-use Rattle.std.proofs.Common.{◌≡◌, ℕ, zero, suc, ◌+◌, ◌*◌, ◌<◌, ◌≤◌, ◌==◌, inl, inr, List, [], ◌∷◌, ◌++◌, Bool, true, false, Some, cond, length, slice_get, sum_by, refl, sym, ap, ◌∙◌, arith}
+use Rattle.std.proofs.Common.{◌≡◌, ℕ, zero, suc, ◌+◌, ◌*◌, ◌<◌, ◌≤◌, ◌==◌, inl, inr, List, [], ◌∷◌, ◌++◌, Bool, true, false, not, ◌||◌, Some, Contains, cond, length, slice_get, sum_by, refl, sym, ap, ◌∙◌, arith}
 use Rattle.std.specs.List.{flat_map, list_any, range_with_len, AllByRecursion}
 use Rattle.std.proofs.lemmas.Bool.Decides.{eqb_tells}
 use Rattle.std.proofs.lemmas.List.{length-append}
@@ -11,10 +11,11 @@ use Rattle.ic_rules.specs.Rule.{Rule, IsRule, rule_names, rule_nodes}
 use Rattle.ic_rules.specs.Renaming.{first_behind, first_occurrences}
 use Rattle.ic_machine.specs.Plan.{Planned, IsPlan, places_made}
 use Rattle.ic_machine.specs.lemmas.Counting.{sum_by_both, sum_by_same}
-use Rattle.ic_machine.specs.lemmas.Upto.{bit, bit_same, bit_other, hits, upto, upto_few, upto_one, upto_some, upto_swap}
+use Rattle.ic_machine.specs.lemmas.Upto.{bit, bit_same, bit_other, hits, upto, upto_few, upto_le, upto_none, upto_one, upto_same, upto_some, upto_swap}
 use Rattle.ic_meaning.specs.Plans.{StandsFor, StandsForNet, met_as, rule_arguments}
 use Rattle.ic_in_place.specs.Agents.{with_arguments, with_arguments_in, with_arguments_of}
 use Rattle.ic_in_place.specs.Holding.{AreGiven}
+use Rattle.ic_in_place_laws.specs.Nodes.{inner_names, is_argument, is_this}
 use Rattle.ic_in_place_laws.proofs.Weights.{rule_weighs, net_weighs}
 
 -- ---- names and agents among nodes
@@ -67,6 +68,62 @@ rule_names_few arities r p stands =
         let found = stands.fresh k lt in
         let here : bit (stands.registers found.0) (base + k) ≡ 1 = bit_same (stands.registers found.0) (base + k) found.2 in
         let one = upto_one r.names found.0 (λ x. bit (stands.registers x) (base + k)) found.1 in
+        omega (arith, here, one)
+
+-- what is no argument of a list isn't found there
+not_this : (ts : List Tree) (x : ℕ) → ¬ Contains ts (name x) → list_any (is_this x) ts ≡ false
+not_this [] x none = refl
+not_this (name y ∷ ts) x none = elim (eqb_tells x y) [
+  | inl t ↦ (let e : x ≡ y = t.1 in absurd (none (0, omega arith, ap (λ n. name n) (sym e))))
+  | inr t ↦ (let miss : (x == y) ≡ false = t.0 in
+      ap (λ b. b || list_any (is_this x) ts) miss ∙ not_this ts x (λ there. none (suc there.0, omega (arith, there.1), there.2)))
+]
+not_this (agent s us ∷ ts) x none = not_this ts x (λ there. none (suc there.0, omega (arith, there.1), there.2))
+
+-- a sum over numbers in order
+over_range : (n b : ℕ) (f : ℕ → ℕ) → sum_by f (range_with_len b n) ≡ upto n (λ s. f (b + s))
+over_range zero b f = refl
+over_range (suc n) b f =
+    let first : b ≡ b + 0 = omega arith in
+    let here : f b ≡ f (b + 0) = ap f first in
+    let moved = upto_same n (λ s. f ((b + 1) + s)) (λ s. f (b + suc s)) (λ s. let e : (b + 1) + s ≡ b + suc s = omega arith in ap f e) in
+    omega (arith, here, moved, over_range n (b + 1) f, sum_by-cons f b (range_with_len (b + 1) n))
+
+-- one for a name that is no argument by itself
+abbrev own : Rule → ℕ → ℕ
+own r x = cond (not (is_argument r x)) 1 0
+
+-- one for such a name that is read from this fresh name
+abbrev read_own : Rule → (ℕ → ℕ) → ℕ → ℕ → ℕ → ℕ
+read_own r registers base k x = cond (not (is_argument r x)) (bit (registers x) (base + k)) 0
+
+own_once : (r : Rule) (registers : ℕ → ℕ) (base n x : ℕ) → upto n (λ k. read_own r registers base k x) ≤ own r x
+own_once r registers base n x = elim (is_argument r x) as (λ b. upto n (λ k. cond (not b) (bit (registers x) (base + k)) 0) ≤ cond (not b) 1 0) [
+  | true ↦ (let none = upto_none n in omega (arith, none))
+  | false ↦ (hits n (registers x) base).0
+]
+
+-- it makes no more names than the rule has that are no argument by themselves
+pub rule_inner_few : (arities : List ℕ) (r : Rule) (p : Planned) → StandsFor arities r p → p.names ≤ inner_names r
+rule_inner_few arities r p stands =
+    let all = upto_some p.names (λ k. upto r.names (λ x. read_own r stands.registers base k x)) some in
+    let swapped = upto_swap p.names r.names (λ k x. read_own r stands.registers base k x) in
+    let few = upto_le r.names (λ x. upto p.names (λ k. read_own r stands.registers base k x)) (own r) (λ x. own_once r stands.registers base p.names x) in
+    let counted : inner_names r ≡ upto r.names (λ x. own r (0 + x)) = over_range r.names 0 (own r) in
+    let same = upto_same r.names (λ x. own r (0 + x)) (own r) (λ x. let e : 0 + x ≡ x = omega arith in ap (own r) e) in
+    omega (arith, all, swapped, few, counted, same)
+  where
+    base : ℕ
+    base = length arities + length (rule_arguments r)
+
+    some : (k : ℕ) → k < p.names → 1 ≤ upto r.names (λ x. read_own r stands.registers base k x)
+    some k lt =
+        let found = stands.fresh k lt in
+        let free : is_argument r found.0 ≡ false = not_this (rule_arguments r) found.0 found.3 in
+        let hit : bit (stands.registers found.0) (base + k) ≡ 1 = bit_same (stands.registers found.0) (base + k) found.2 in
+        let here : read_own r stands.registers base k found.0 ≡ 1 =
+        ap (λ b. cond (not b) (bit (stands.registers found.0) (base + k)) 0) free ∙ hit in
+        let one = upto_one r.names found.0 (λ x. read_own r stands.registers base k x) found.1 in
         omega (arith, here, one)
 
 first_few : (seen ns : List ℕ) → length (first_behind seen ns) ≤ length seen + length ns

@@ -20,13 +20,15 @@ ghost use Rattle.ic_in_place.specs.Agents.{agents_with_arguments, with_arguments
 ghost use Rattle.ic_in_place.specs.Holding.{AreCompiled, AreGiven};
 ghost use Rattle.ic_in_place.specs.Reducing.{IsReached, IsReachedBy};
 ghost use Rattle.ic_in_place.specs.Running.{IsNextLook};
-ghost use Rattle.ic_in_place_laws.specs.Nodes.{nodes_at, nodes_fired};
+ghost use Rattle.ic_in_place_laws.specs.Nodes.{inner_names, nodes_at, nodes_fired};
 
-/// A plan that stands for a rule makes no more names than the rule has, and as many agents as its arguments have with
-/// arguments of their own. So it takes no more places than the rule's arguments have nodes.
+/// A plan that stands for a rule makes no more names than the rule has that are no argument by themselves, and as many agents
+/// as its arguments have with arguments of their own. So it takes no more places than the rule's arguments have nodes.
 pub fn a_plan_takes_what_its_rule_has()
     ensures names { (arities : List ℕ) (r : Rule) (p : Planned) → StandsFor arities r p
         → p.names ≤ r.names }
+    ensures inner { (arities : List ℕ) (r : Rule) (p : Planned) → StandsFor arities r p
+        → p.names ≤ inner_names r }
     ensures agents { (arities : List ℕ) (r : Rule) (p : Planned)
         → IsPlan arities (length (rule_arguments r)) p → StandsFor arities r p
         → length p.made ≡ sum_by with_arguments (rule_arguments r) }
