@@ -26,7 +26,8 @@ use std::marker::Model;
 /// How a run has ended.
 #[derive(Clone, Copy, Debug, PartialEq, Eq)]
 pub enum Ended {
-    /// No pair is left that could fire.
+    /// No pair is left that could fire by the program of the call. Those that were set aside before had no plan in the
+    /// program of an earlier call: it is the same if all calls had one program.
     Quiet,
     /// As many pairs have fired as were asked for, and there is one that could fire next.
     Steps,
