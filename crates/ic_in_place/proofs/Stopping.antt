@@ -16,7 +16,8 @@ use Rattle.ic_in_place.specs.declared.running.Bounds.{Bounds}
 use Rattle.ic_in_place.specs.declared.running.End.{End}
 use Rattle.ic_in_place.specs.declared.running.End.TheVariants.{Quiet, Steps, Nodes, Limit, Memory}
 use Rattle.ic_in_place.specs.Holding.{AreGiven, AreCompiled, HasRun, Holds}
-use Rattle.ic_in_place.specs.Running.{RunsOn, IsLookedAt, IsWatched}
+use Rattle.ic_in_place.specs.Running.{IsWatched}
+use Rattle.ic_in_place.specs.inner.Running.{RunsOn, IsLookedAt}
 use Rattle.ic_in_place.proofs.Counted.{summed_told}
 use Rattle.ic_in_place.specs.inner.Summing.{IsSummed}
 use Rattle.ic_in_place.proofs.Onward.{all_of_both, looked_ran, ran_nothing, ran_nothing-fired, ran_through, ran_through-fired}

@@ -5,7 +5,8 @@ ghost use Rattle.std.specs.List.{AllByRecursion};
 ghost use Rattle.ic_machine.specs.Net.{all_entries, equations_left, IsAtPlace, IsPair};
 ghost use Rattle.ic_machine.specs.Plan.{Plans};
 ghost use Rattle.ic_machine.specs.Runs.{Ran};
-ghost use Rattle.ic_in_place.specs.Running.{names_allowed, RunsOn, IsLookedAt, IsTidy, IsWatched};
+ghost use Rattle.ic_in_place.specs.Running.{names_allowed, IsTidy, IsWatched};
+ghost use Rattle.ic_in_place.specs.inner.Running.{RunsOn, IsLookedAt};
 
 use ic_machine::{Ended, Machine, MachineFault, Program};
 
