@@ -26,8 +26,9 @@ abbrev pub steps_figure : Outcome → List ℕ
 steps_figure o =
     codes "icserve: interactions " ++ decimal o.interactions ++ name_steps_figure o.name_steps
 
+-- how many places there were, and equations that were left
 abbrev pub places_figure : Outcome → List ℕ
-places_figure o = codes ", places " ++ decimal o.places
+places_figure o = codes ", places " ++ decimal o.places ++ codes ", equations " ++ decimal o.left
 
 abbrev pub seconds_figure : (millis : ℕ) → List ℕ
 seconds_figure millis = codes ", seconds " ++ seconds_text millis
@@ -37,7 +38,7 @@ abbrev pub pace_figure : (interactions millis : ℕ) → List ℕ
 pace_figure n zero = []
 pace_figure n (suc m) = codes ", interactions a second " ++ decimal (a_second n (suc m))
 
--- the line of how many steps were made, of places, and how fast it was
+-- the line of how many steps were made, of places and equations, and how fast it was
 abbrev pub figures_line : Outcome → (millis : ℕ) → List ℕ
 figures_line o millis = concat (steps_figure o ∷ places_figure o ∷ seconds_figure millis
     ∷ pace_figure o.interactions millis ∷ (10 ∷ []) ∷ [])
@@ -135,7 +136,8 @@ step_fields o =
     codes ",\"interactions\":" ++ decimal o.interactions ++ name_steps_field o.name_steps
 
 abbrev pub places_field : Outcome → List ℕ
-places_field o = codes ",\"places\":" ++ decimal o.places
+places_field o =
+    codes ",\"places\":" ++ decimal o.places ++ codes ",\"equations\":" ++ decimal o.left
 
 abbrev pub millis_field : ℕ → List ℕ
 millis_field millis = codes ",\"milliseconds\":" ++ decimal millis
@@ -148,7 +150,7 @@ pace_text n (suc m) = decimal (a_second n (suc m))
 abbrev pub pace_field : (interactions millis : ℕ) → List ℕ
 pace_field n millis = codes ",\"interactions_a_second\":" ++ pace_text n millis
 
--- how many steps were made, of places, how long it took, and how fast it was
+-- how many steps were made, of places and equations, how long it took, and how fast it was
 abbrev pub count_fields : Outcome → (millis : ℕ) → List ℕ
 count_fields o millis = concat (step_fields o ∷ places_field o ∷ millis_field millis
     ∷ pace_field o.interactions millis ∷ [])

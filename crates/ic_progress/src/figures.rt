@@ -14,7 +14,7 @@ use ic_text::put_decimal;
 use std::alloc::{AllocError, Global};
 
 /// The lines that tell the figures of a reduction that took so many milliseconds: how many steps were made, how many
-/// places there were and how fast it was, and how often each rule fired.
+/// places there were and equations were left, how fast it was, and how often each rule fired.
 pub fn figures_lines(alloc: Global, outcome: &Outcome, millis: u64) -> Result<Vec<u8>, AllocError>
     ensures { IfOk result (λ lines. lines.items ≡ figures_lines outcome.now millis) }
 {
@@ -38,7 +38,7 @@ pub fn figures_object(alloc: Global, outcome: &Outcome, millis: u64) -> Result<V
     Ok(out)
 }
 
-/// Appends the line of steps, places and pace.
+/// Appends the line of steps, places, equations and pace.
 fn put_figures_line(outcome: &Outcome, millis: u64, out: &mut Vec<u8>) -> Result<(), AllocError>
     ensures { OnOk result (out.new.items ≡ out.old.items ++ figures_line outcome.now millis) }
 {
@@ -60,12 +60,14 @@ fn put_steps(outcome: &Outcome, out: &mut Vec<u8>) -> Result<(), AllocError>
     Ok(())
 }
 
-/// Appends how many places there were.
+/// Appends how many places there were, and equations that were left.
 fn put_places(outcome: &Outcome, out: &mut Vec<u8>) -> Result<(), AllocError>
     ensures { OnOk result (out.new.items ≡ out.old.items ++ places_figure outcome.now) }
 {
     out.extend_from_slice(b", places ")?;
     put_decimal(outcome.places, out)?;
+    out.extend_from_slice(b", equations ")?;
+    put_decimal(outcome.left, out)?;
     Ok(())
 }
 
@@ -277,7 +279,7 @@ fn put_stuck_field(stuck: &Option<Vec<u8>>, out: &mut Vec<u8>) -> Result<(), All
     }
 }
 
-/// Appends the fields of steps, places, time and pace.
+/// Appends the fields of steps, places, equations, time and pace.
 fn put_counts(outcome: &Outcome, millis: u64, out: &mut Vec<u8>) -> Result<(), AllocError>
     ensures { OnOk result (out.new.items ≡ out.old.items ++ count_fields outcome.now millis) }
 {
@@ -298,12 +300,14 @@ fn put_step_fields(outcome: &Outcome, out: &mut Vec<u8>) -> Result<(), AllocErro
     Ok(())
 }
 
-/// Appends the field of places.
+/// Appends the fields of places and of equations that were left.
 fn put_places_field(outcome: &Outcome, out: &mut Vec<u8>) -> Result<(), AllocError>
     ensures { OnOk result (out.new.items ≡ out.old.items ++ places_field outcome.now) }
 {
     out.extend_from_slice(b",\"places\":")?;
     put_decimal(outcome.places, out)?;
+    out.extend_from_slice(b",\"equations\":")?;
+    put_decimal(outcome.left, out)?;
     Ok(())
 }
 
