@@ -1,6 +1,6 @@
 -- Lemmas: how many steps put a term for a name, by the equations that there are.
 use Rattle.std.proofs.Common.{◌≡◌, ◌≢◌, ℕ, zero, suc, ◌+◌, ◌*◌, ◌^◌, ◌<◌, ◌≤◌, ◌==◌, ◌&&◌, List, [], ◌∷◌, ◌++◌, Bool, true, false, cond, Option, None, Some, IsTrue, drop, length, map, sum_by, count_by, slice_get, slice_index_or, refl, sym, ap, ◌∙◌, arith, zero-add, subst as transport}
-use Rattle.std.specs.Prelude.{IsPermutation}
+use Rattle.std.specs.Prelude.{IsPermutation, SomeIff}
 use Rattle.std.specs.List.{AllByRecursion, list_all}
 use Rattle.std.specs.Option.{option_map_or}
 use Rattle.std.specs.Cmp.{unsigned_Decides}
@@ -296,7 +296,7 @@ name_steps_so laws same rs c answer fired by_rule set over named reached counts 
 
 -- what is told at each end
 pub tells_so : (rs : List Rule) (c : Configuration) (interactions left : ℕ) (end : End) (told : Option ℕ)
-    → (end ≡ Quiet → (n : ℕ) × AreNameSteps rs c n × (n + interactions + left < 2 ^ 64 → told ≡ Some n))
+    → (end ≡ Quiet → (n : ℕ) × AreNameSteps rs c n × SomeIff told (n + interactions + left < 2 ^ 64) n)
     → (end ≢ Quiet → told ≡ None) → TellsNameSteps rs c interactions left end told
 tells_so rs c interactions left Quiet told quiet other = quiet refl
 tells_so rs c interactions left Steps told quiet other = other (λ e. cc)

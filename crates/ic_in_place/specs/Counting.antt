@@ -1,5 +1,5 @@
 -- How often each rule fired, and how many steps put a term for a name.
-use Rattle.std.specs.Prelude.{◌≡◌, ℕ, suc, ◌+◌, ◌^◌, ◌<◌, ◌==◌, List, [], ◌∷◌, ◌++◌, Option, None, Some, length, map, count_by, slice_index_or}
+use Rattle.std.specs.Prelude.{◌≡◌, ℕ, suc, ◌+◌, ◌^◌, ◌<◌, ◌==◌, List, [], ◌∷◌, ◌++◌, Option, None, SomeIff, length, map, count_by, slice_index_or}
 use Rattle.ic_term.specs.Configuration.{Configuration}
 use Rattle.ic_rules.specs.Rule.{Rule}
 use Rattle.ic_round.specs.Rounds.{IsQuiet}
@@ -30,10 +30,10 @@ pub record AreNameSteps (rs : List Rule) (c : Configuration) (n : ℕ) : Type 0 
   pub quiet : IsQuiet rs end
   pub count : name_steps kinds ≡ n
 
--- At a quiet end that is told, if it and the interactions and the equations that are left are together below 2^64.
+-- At a quiet end that is told exactly if it and the interactions and the equations of the answer are together below 2^64.
 abbrev pub TellsNameSteps : List Rule → Configuration → (interactions left : ℕ) → End → Option ℕ → Type 0
 TellsNameSteps rs c interactions left Quiet told =
-    (n : ℕ) × AreNameSteps rs c n × (n + interactions + left < 2 ^ 64 → told ≡ Some n)
+    (n : ℕ) × AreNameSteps rs c n × SomeIff told (n + interactions + left < 2 ^ 64) n
 TellsNameSteps rs c interactions left Steps told = told ≡ None
 TellsNameSteps rs c interactions left Nodes told = told ≡ None
 TellsNameSteps rs c interactions left Limit told = told ≡ None

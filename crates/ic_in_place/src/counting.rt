@@ -1,6 +1,6 @@
 //! How often each rule fired, by how often its plans did, and how many steps put a term for a name.
 
-ghost use Rattle.std.specs.Prelude.{◌≡◌, ◌+◌, ◌*◌, ◌^◌, ◌<◌, ◌==◌, ◌≢◌, ℕ, None, Some, SomeIff, IfOk, length, min, slice_index_or, if◌then◌else◌};
+ghost use Rattle.std.specs.Prelude.{◌≡◌, ◌+◌, ◌*◌, ◌^◌, ◌<◌, ◌==◌, ◌≢◌, ℕ, None, SomeIff, IfOk, length, min, slice_index_or, if◌then◌else◌};
 ghost use Rattle.ic_in_place.specs.inner.Summing.{IsSummed, made_from};
 
 use crate::running::End;
@@ -64,7 +64,7 @@ pub(crate) fn name_steps_at(
 ) -> Option<u64>
     ensures quiet { end ≡ End.Quiet → (n : ℕ)
         → n + interactions + left ≡ equations + made_from rules.now by_rule.now 0
-        → n + interactions + left < 2 ^ 64 → result ≡ Some n }
+        → SomeIff result (n + interactions + left < 2 ^ 64) n }
     ensures other { end ≢ End.Quiet → result ≡ None }
 {
     match end {
@@ -83,7 +83,7 @@ fn name_steps(
     left: usize,
 ) -> Option<u64>
     ensures { (n : ℕ) → n + interactions + left ≡ equations + made_from rules.now by_rule.now 0
-        → n + interactions + left < 2 ^ 64 → result ≡ Some n }
+        → SomeIff result (n + interactions + left < 2 ^ 64) n }
 {
     let mut made = equations as u64;
     for (place, rule) in rules.iter().enumerate() {

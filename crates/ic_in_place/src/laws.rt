@@ -1,6 +1,6 @@
 //! Laws of what a machine holds, and of what is answered.
 
-ghost use Rattle.std.specs.Prelude.{◌≡◌, ◌≢◌, ℕ, suc, ◌+◌, ◌*◌, ◌^◌, ◌<◌, ◌≤◌, List, [], ◌∷◌, Option, Some, Ok, IsTrue, length, map, sum, sum_by};
+ghost use Rattle.std.specs.Prelude.{◌≡◌, ◌≢◌, ℕ, suc, ◌+◌, ◌*◌, ◌^◌, ◌<◌, ◌≤◌, List, [], ◌∷◌, Option, SomeIff, Ok, IsTrue, length, map, sum, sum_by};
 ghost use Rattle.ic_term.specs.Configuration.{Configuration};
 ghost use Rattle.ic_term.specs.Symbol.{is_over};
 ghost use Rattle.ic_rules.specs.RuleSet.{Rules, IsRuleSet};
@@ -163,7 +163,7 @@ pub fn name_steps_are_those_of_every_order()
         (kinds : List Kind) → IsRuleSet rs → IsTrue (is_over rs.symbols c) → HasNames c
         → TellsNameSteps rs.rules c interactions left Quiet told
         → Chain rs.rules kinds c e → IsQuiet rs.rules e
-        → name_steps kinds + interactions + left < 2 ^ 64 → told ≡ Some (name_steps kinds) }
+        → SomeIff told (name_steps kinds + interactions + left < 2 ^ 64) (name_steps kinds) }
     ensures equations { (rs : Rules) (c e : Configuration) (kinds : List Kind)
         → IsRuleSet rs → IsTrue (is_over rs.symbols c) → HasNames c
         → Chain rs.rules kinds c e

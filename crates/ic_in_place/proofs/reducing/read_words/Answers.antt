@@ -1,8 +1,9 @@
-use Rattle.std.proofs.Common.{◌≡◌, ℕ, ◌+◌, ◌^◌, ◌<◌, List, [], IsTrue, ◌++◌, Some, length, map, drop, sym, ap, ◌∙◌, subst, arith}
+use Rattle.std.proofs.Common.{◌≡◌, ℕ, ◌+◌, ◌^◌, ◌<◌, List, [], IsTrue, ◌++◌, length, map, drop, sym, ap, ◌∙◌, subst, arith}
 use Rattle.ic_arena.specs.declared.word.TheConstants.{GIVEN}
 use Rattle.ic_flat.specs.Words.{forest}
 use Rattle.ic_flat.specs.Flat.{pairs_of}
 use Rattle.std.specs.List.{AllByRecursion}
+use Rattle.std.specs.Prelude.{SomeIff}
 use Rattle.ic_term.specs.Configuration.{Configuration}
 use Rattle.ic_term.specs.Symbol.{is_over}
 use Rattle.ic_rules.specs.RuleSet.{Rules}
@@ -91,7 +92,7 @@ returns-clause-reached c = λ bounds stopped.
       chain = c.what_is_reached_goes_on.ensures.chain;
     } in
     let told : end ≡ Quiet → (n : ℕ) × AreNameSteps rs.rules s.config n
-    × (n + c.interactions-interactions.result + length answer.0.equations < 2 ^ 64 → c.name_steps_at-name_steps.result ≡ Some n) =
+    × SomeIff c.name_steps_at-name_steps.result (n + c.interactions-interactions.result + length answer.0.equations < 2 ^ 64) n =
     (λ at.
     let still : IsQuiet rs.rules answer.0 = quiet_at rs.rules bounds answer.0 m.interactions end answer.1.reached.ended at in
     let steps = name_steps_so counting c.where_names_begin_is_all_that_differs.ensures.equations rs s.config answer.0 fired by_rule
@@ -103,8 +104,8 @@ returns-clause-reached c = λ bounds stopped.
     let left = answer.3 in (
       steps.0,
       steps.1,
-      λ small. c.name_steps_at-name_steps.ensures.quiet at steps.0
-          (omega (arith, steps.2, interactions, left, given_equations, made)) (omega (arith, small, left)),
+      subst (λ (k : ℕ). SomeIff c.name_steps_at-name_steps.result (steps.0 + c.interactions-interactions.result + k < 2 ^ 64) steps.0) (sym left)
+          (c.name_steps_at-name_steps.ensures.quiet at steps.0 (omega (arith, steps.2, interactions, left, given_equations, made))),
     )) in (
       answer.0,
       subst (λ (l : ℕ). IsReachedBy s bounds answer.0 end c.interactions-interactions.result places l by_rule) (sym c.equations_left-left.ensures)
