@@ -3,7 +3,7 @@ use Rattle.std.specs.Prelude.{◌≡◌, ◌≢◌, ◌⊎◌, ℕ, ◌+◌, ◌
 use Rattle.std.specs.List.{AllByRecursion}
 use Rattle.ic_arena.specs.declared.word.TheConstants.{NAME}
 use Rattle.ic_machine.specs.declared.equation.Equation.{Equation}
-use Rattle.ic_machine.specs.Net.{Net, all_entries, in_use, ArePutThrough, HasNext, IsFull, IsPair}
+use Rattle.ic_machine.specs.Net.{Net, all_entries, in_use, ArePutThrough, HasNext, IsAtPlace, IsFull, IsPair}
 use Rattle.ic_machine.specs.Plan.{Plans}
 use Rattle.ic_machine.specs.Runs.{Ran}
 use Rattle.ic_in_place.specs.declared.running.TheConstants.{PIECE}
@@ -27,12 +27,13 @@ abbrev pub IsTidy : ℕ → ℕ → Net → Type 0
 IsTidy before allowed m = ((in_use NAME m.places < before) × (allowed ≡ before))
     ⊎ (ArePutThrough m.places × (allowed ≡ names_allowed m))
 
--- One more whole piece of a run was made, and then places and equations that are left were together at most so many. Fewer
--- names are in use than were allowed before, or all are put through.
+-- One more whole piece of a run was made, and then places and equations that are left were together at most so many, and no
+-- equation is at a place. Fewer names are in use than were allowed before, or all are put through.
 pub record IsNextLook (p : Plans) (nodes before allowed : ℕ) (old new : Net) : Type 0 where
   pub ran : Ran p old new
   pub whole : new.interactions ≡ old.interactions + PIECE
   pub within : all_entries new ≤ nodes
+  pub places : AllByRecursion IsAtPlace new.places
   pub tidy : IsTidy before allowed new
 
 -- Places and equations were looked at after each whole piece of a run, up to the last look. Since then so many names are

@@ -97,6 +97,8 @@ fn is_over(machine: &Machine, places: u64, nodes: u64) -> bool
 fn sweep_if_due(machine: &mut Machine, due: u64) -> u64
     ensures ran { (p : Plans) → Ran p machine.old machine.new }
     ensures same { machine.new ≡ record machine.old { places = machine.new.places } }
+    ensures places { AllByRecursion IsAtPlace machine.old.places
+        → AllByRecursion IsAtPlace machine.new.places }
     ensures tidy { IsTidy due result machine.new }
 {
     if machine.names_in_use() < due {

@@ -15,11 +15,12 @@ use Rattle.ic_rules.specs.lemmas.FitLaws.{rule_over_at}
 use Rattle.ic_arena.specs.Piece.{Piece}
 use Rattle.ic_machine.specs.declared.equation.Equation.{Equation}
 use Rattle.ic_machine.specs.Net.{IsActive}
-use Rattle.ic_machine.specs.Plan.{Planned, Plans, ArePlans, IsPlan, number_of, plan_at, plan_of, places_made, places_made_by}
+use Rattle.ic_machine.specs.Plan.{Planned, Plans, ArePlans, IsPlan, links_made, links_made_by, number_of, plan_at, plan_of, places_made, places_made_by}
 use Rattle.ic_machine.specs.Runs.{Way}
 use Rattle.ic_machine.specs.Steps.{Fires}
 use Rattle.ic_meaning.specs.Plans.{ArePlansOf, IsOfRule, StandsFor, met_as, rule_arguments, rule_number}
 use Rattle.ic_in_place_laws.specs.Nodes.{nodes_at}
+use Rattle.ic_in_place_laws.proofs.Linked.{links_few}
 use Rattle.ic_in_place_laws.proofs.Sizes.{rule_few}
 
 -- the plan with this number is that of two symbols with arguments
@@ -221,3 +222,24 @@ fired_most rs numbers p [] set plans of_rules all = omega arith
 fired_most rs numbers p (i ∷ is) set plans of_rules all =
     let few = (fired_few rs numbers p i all.0 set plans of_rules).1 in
     omega (arith, few, taken_by p i all.0, fired_most rs numbers p is set plans of_rules all.1, sum_by-cons (places_made_by p) i is)
+
+-- and what they link
+fired_links : (rs : Rules) (numbers : List ℕ) (p : Plans) (i : ℕ) (f : IsFired p i) → IsRuleSet rs → ArePlans p → ArePlansOf rs numbers p
+    → length f.plan.links ≤ 2048
+fired_links rs numbers p i f set plans of_rules =
+    let of = has_rule rs numbers p i f set plans of_rules in
+    let few : length f.plan.links ≤ rule_nodes of.rule = links_few p.arities of.rule of.turned f.plan of.stands in
+    let many : rule_nodes of.rule ≤ 2048 =
+    rule_there rs.rules (rule_number numbers i) of.rule (λ r. rule_nodes r ≤ 2048)
+    (few_nodes rs.rules (and_parts (nat_le (length rs.rules) MAX_WIDE_RULES) (list_all (λ r. nat_le (rule_nodes r) MAX_RULE_NODES) rs.rules) set.few).1) of.there in
+    omega (arith, few, many)
+
+linked_by : (p : Plans) (i : ℕ) (f : IsFired p i) → links_made_by p i ≡ links_made f.plan
+linked_by p i f = ap (λ o. option_map_or links_made o 0) f.has_plan
+
+pub fired_links_most : (rs : Rules) (numbers : List ℕ) (p : Plans) (is : List ℕ) → IsRuleSet rs → ArePlans p → ArePlansOf rs numbers p → AllByRecursion (IsFired p) is
+    → sum_by (links_made_by p) is ≤ 2048 * length is
+fired_links_most rs numbers p [] set plans of_rules all = omega arith
+fired_links_most rs numbers p (i ∷ is) set plans of_rules all =
+    let few = fired_links rs numbers p i all.0 set plans of_rules in
+    omega (arith, few, linked_by p i all.0, fired_links_most rs numbers p is set plans of_rules all.1, sum_by-cons (links_made_by p) i is)

@@ -1,5 +1,6 @@
 pub mod Weights
 pub mod Sizes
+pub mod Linked
 pub mod Fired
 pub mod Taken
 pub mod Told

@@ -6,8 +6,8 @@ use Rattle.std.proofs.lemmas.List.Sums.{sum_by-append, sum_by-cons}
 use Rattle.ic_term.specs.Configuration.{Configuration, configuration_nodes}
 use Rattle.ic_rules.specs.RuleSet.{Rules, IsRuleSet}
 use Rattle.ic_rules.specs.System.{SystemParts}
-use Rattle.ic_machine.specs.Net.{Net, all_entries, all_places, in_use, pieces, places_of}
-use Rattle.ic_machine.specs.Plan.{Planned, Plans, places_made, places_made_by}
+use Rattle.ic_machine.specs.Net.{Net, all_entries, all_places, equations_in, equations_left, in_use, pieces, places_of, IsAtPlace}
+use Rattle.ic_machine.specs.Plan.{Planned, Plans, links_made_by, places_made, places_made_by}
 use Rattle.ic_machine.specs.Runs.{Ran, Starts}
 use Rattle.ic_machine.specs.lemmas.FiringKeeps.{all_append}
 use Rattle.ic_meaning.specs.Plans.{rule_number}
@@ -18,8 +18,9 @@ use Rattle.ic_in_place.specs.Running.{Looked, no_look, one_more_look}
 use Rattle.ic_in_place.specs.Holding.{AreCompiled}
 use Rattle.ic_in_place.specs.Reducing.{IsReached}
 use Rattle.ic_in_place_laws.specs.Nodes.{nodes_at}
+use Rattle.ic_in_place_laws.proofs.Linked.{net_links}
 use Rattle.ic_in_place_laws.proofs.Sizes.{net_few}
-use Rattle.ic_in_place_laws.proofs.Fired.{IsFired, active_fired, fired_few, fired_most, fired_nodes, way_fired}
+use Rattle.ic_in_place_laws.proofs.Fired.{IsFired, active_fired, fired_few, fired_links_most, fired_most, fired_nodes, way_fired}
 
 -- what the laws say that these build on
 pub record PlaceLaws : Type 0 where
@@ -31,6 +32,12 @@ pub record PlaceLaws : Type 0 where
   pub agents : (p : Plans) (given : ℕ) (plan : Planned) (operands : List ℕ) (n : Net) → Starts p given plan operands n → sum n.agents ≡ length plan.made
   pub fired : (p : Plans) (old new : Net) (run : Ran p old new) → ((kind : ℕ) → in_use kind (pieces old) ≤ places_of kind old)
       → all_places new ≤ all_places old + sum_by (places_made_by p) run.fired
+  pub links : (p : Plans) (given : ℕ) (plan : Planned) (operands : List ℕ) (n : Net) → Starts p given plan operands n
+      → equations_in (pieces n) ≤ length plan.links
+  pub linked : (p : Plans) (old new : Net) (run : Ran p old new)
+      → equations_in (pieces new) + length run.fired ≤ equations_in (pieces old) + sum_by (links_made_by p) run.fired
+  pub all : (n : Net) → AllByRecursion IsAtPlace n.places → equations_left n ≡ equations_in (pieces n)
+  pub least : (n : Net) → equations_left n ≤ equations_in (pieces n)
 
 -- a machine begins with no more places than the configuration has nodes
 pub begins_few : PlaceLaws → (rs : Rules) (numbers : List ℕ) (p : Plans) (c : Configuration) (given : List ℕ) (plan : Planned) (operands : List ℕ) (n : Net)
@@ -50,6 +57,7 @@ record IsGrown (p : Plans) (nodes : ℕ) (fired : List ℕ) (first last : Net) :
   pub grown : all_places last ≤ all_places first + sum_by (places_made_by p) fired
   pub uses : (kind : ℕ) → in_use kind (pieces last) ≤ places_of kind last
   pub few : all_places last ≤ max nodes (all_places first)
+  pub held : all_places last + equations_in (pieces last) ≤ max nodes (all_places first + equations_in (pieces first))
   pub plans : AllByRecursion (IsFired p) fired
 
 looked_grown : PlaceLaws → (p : Plans) (nodes allowed : ℕ) (fired : List ℕ) (first last : Net) → Looked p nodes allowed fired first last
@@ -58,6 +66,7 @@ looked_grown laws p nodes allowed fired first last (no_look m) uses = record {
   grown = omega arith;
   uses = uses;
   few = le-max_right nodes (all_places m);
+  held = le-max_right nodes (all_places m + equations_in (pieces m));
   plans = tt;
 }
 looked_grown laws p nodes allowed fired first last (one_more_look low high before a m b looked next) uses =
@@ -69,8 +78,20 @@ looked_grown laws p nodes allowed fired first last (one_more_look low high befor
       grown = omega (arith, more, grown, sum_by-append (places_made_by p) before next.ran.fired);
       uses = λ kind. laws.still p m b kind next.ran (then.uses kind);
       few = let most = le-max_left nodes (all_places a) in omega (arith, within, most);
+      held =
+          let most = le-max_left nodes (all_places a + equations_in (pieces a)) in
+          let left : equations_left b ≡ equations_in (pieces b) = laws.all b next.places in
+          omega (arith, within, most, left);
       plans = all_append (IsFired p) before next.ran.fired then.plans (way_fired p next.ran.fired next.ran.moments (pieces m) (pieces b) next.ran.way);
     }
+
+-- no more than the greater of two numbers, one of which grows
+grown_most : (nodes n x y : ℕ) → n ≤ x → y ≤ max nodes n → y ≤ max nodes x
+grown_most nodes n x y low few =
+    let a = le-max_left nodes x in
+    let b = le-max_right nodes x in
+    let most : max nodes n ≤ max nodes x = max-le a (omega (arith, low, b)) in
+    omega (arith, few, most)
 
 -- ---- the laws
 
@@ -106,19 +127,31 @@ module _ (laws : PlaceLaws) (s : SystemParts) (bounds : Bounds) (answer : Config
   pub places_near : places ≤ max bounds.nodes (configuration_nodes s.config) + 4096 * 2048
   places_near =
       let p : Plans = is.held.plans in
-      let few : all_places is.held.watched.mark ≤ max bounds.nodes (configuration_nodes s.config) = by_most (all_places is.held.first) begun marked.few in
+      let few : all_places is.held.watched.mark ≤ max bounds.nodes (configuration_nodes s.config) =
+      grown_most bounds.nodes (all_places is.held.first) (configuration_nodes s.config) (all_places is.held.watched.mark) begun marked.few in
       let most = fired_most s.rules is.held.rule_numbers p is.held.watched.after.fired set is.held.compiled.plans is.held.compiled.of_rules after_fired in
       let counted = is.held.watched.after.counted in
       let near = is.held.watched.near in
       omega (arith, is.held.all, few, later, most, counted, near)
-    where
-      by_most : (n : ℕ) → n ≤ configuration_nodes s.config → all_places is.held.watched.mark ≤ max bounds.nodes n
-          → all_places is.held.watched.mark ≤ max bounds.nodes (configuration_nodes s.config)
-      by_most n low few =
-          let a = le-max_left bounds.nodes (configuration_nodes s.config) in
-          let b = le-max_right bounds.nodes (configuration_nodes s.config) in
-          let most : max bounds.nodes n ≤ max bounds.nodes (configuration_nodes s.config) = max-le a (omega (arith, low, b)) in
-          omega (arith, few, most)
+
+  -- places and equations that are left, together
+  pub entries_near : places + equations_left is.held.machine ≤ max bounds.nodes (configuration_nodes s.config + length s.config.equations) + 4096 * 4096
+  entries_near =
+      let p : Plans = is.held.plans in
+      let mark : Net = is.held.watched.mark in
+      let first : Net = is.held.first in
+      let links = laws.links p (length is.held.given) is.held.plan is.held.operands first is.held.starts in
+      let given = net_links p.arities is.held.given s.config is.held.plan is.held.operands is.held.compiled.stands in
+      let few : all_places mark + equations_in (pieces mark) ≤ max bounds.nodes (configuration_nodes s.config + length s.config.equations) =
+      grown_most bounds.nodes (all_places first + equations_in (pieces first)) (configuration_nodes s.config + length s.config.equations)
+      (all_places mark + equations_in (pieces mark)) (omega (arith, begun, links, given)) marked.held in
+      let most = fired_most s.rules is.held.rule_numbers p is.held.watched.after.fired set is.held.compiled.plans is.held.compiled.of_rules after_fired in
+      let links_most = fired_links_most s.rules is.held.rule_numbers p is.held.watched.after.fired set is.held.compiled.plans is.held.compiled.of_rules after_fired in
+      let linked = laws.linked p mark is.held.machine is.held.watched.after in
+      let least = laws.least is.held.machine in
+      let counted = is.held.watched.after.counted in
+      let near = is.held.watched.near in
+      omega (arith, is.held.all, few, later, most, linked, links_most, least, counted, near)
 
 item_few : (xs : List ℕ) (i : ℕ) → slice_index_or xs i 0 ≤ sum xs
 item_few [] i = omega arith

@@ -8,7 +8,7 @@ ghost use Rattle.ic_rules.specs.System.{SystemParts};
 ghost use Rattle.ic_arena.specs.declared.word.Word.{Word};
 ghost use Rattle.ic_arena.specs.declared.word.TheConstants.{NAME};
 ghost use Rattle.ic_arena.specs.Piece.{Piece, equated, waits};
-ghost use Rattle.ic_machine.specs.Net.{Net, all_places, in_use};
+ghost use Rattle.ic_machine.specs.Net.{Net, all_places, equations_left, in_use};
 ghost use Rattle.ic_machine.specs.Plan.{Planned, Plans, IsPlan, places_made};
 ghost use Rattle.ic_machine.specs.Runs.{Starts, Way};
 ghost use Rattle.ic_machine.specs.Steps.{Fires, Steps};
@@ -23,10 +23,13 @@ ghost use Rattle.ic_in_place.specs.Running.{IsNextLook};
 ghost use Rattle.ic_in_place_laws.specs.Nodes.{inner_names, nodes_at, nodes_fired};
 
 /// A plan that stands for a rule makes no more names than the rule has that are no argument by themselves, and as many agents
-/// as its arguments have with arguments of their own. So it takes no more places than the rule's arguments have nodes.
+/// as its arguments have with arguments of their own. So it takes no more places than the rule's arguments have nodes. It links
+/// no more equations than the rule has arguments.
 pub fn a_plan_takes_what_its_rule_has()
     ensures names { (arities : List ℕ) (r : Rule) (p : Planned) → StandsFor arities r p
         → p.names ≤ r.names }
+    ensures links { (arities : List ℕ) (r : Rule) (p : Planned) → StandsFor arities r p
+        → length p.links ≤ length (rule_arguments r) }
     ensures inner { (arities : List ℕ) (r : Rule) (p : Planned) → StandsFor arities r p
         → p.names ≤ inner_names r }
     ensures agents { (arities : List ℕ) (r : Rule) (p : Planned)
@@ -37,9 +40,9 @@ pub fn a_plan_takes_what_its_rule_has()
         → StandsFor arities (met_as turned r) p → places_made p ≤ rule_nodes r }
 {}
 
-/// A plan that stands for a configuration makes as many agents as that has with arguments. It makes a name for two or more
-/// of those that occur, beside those that are given. So a machine begins with no more places than the configuration has
-/// nodes.
+/// A plan that stands for a configuration makes as many agents as that has with arguments, and links as many equations. It
+/// makes a name for two or more of those that occur, beside those that are given. So a machine begins with no more places
+/// than the configuration has nodes.
 pub fn a_machine_begins_with_what_its_configuration_has()
     ensures names { (arities given : List ℕ) (c : Configuration) (p : Planned)
         (interface : List ℕ) → AreGiven given c → StandsForNet arities given c p interface
@@ -47,6 +50,9 @@ pub fn a_machine_begins_with_what_its_configuration_has()
     ensures agents { (arities given : List ℕ) (c : Configuration) (p : Planned)
         (interface : List ℕ) → IsPlan arities (length given) p
         → StandsForNet arities given c p interface → length p.made ≡ agents_with_arguments c }
+    ensures links { (arities given : List ℕ) (c : Configuration) (p : Planned)
+        (interface : List ℕ) → StandsForNet arities given c p interface
+        → length p.links ≡ length c.equations }
     ensures places { (rs : Rules) (numbers : List ℕ) (p : Plans) (c : Configuration)
         (given : List ℕ) (plan : Planned) (operands : List ℕ) (n : Net)
         → AreCompiled rs numbers p c given plan operands
@@ -57,8 +63,8 @@ pub fn a_machine_begins_with_what_its_configuration_has()
 
 /// How many places a reduction takes. There are at most as many as the nodes that were given and those of each rule that
 /// fired, each time. They are looked at after each 4,096 interactions, so they pass the bound of places, or the nodes that
-/// were given, by no more than so many interactions may make. A table is told to be full only where one has 2^32 entries,
-/// that of names or that of a symbol's agents, less those of one rule.
+/// were given, by no more than so many interactions may make; so do places and equations that are left, together. A table is
+/// told to be full only where one has 2^32 entries, that of names or that of a symbol's agents, less those of one rule.
 pub fn places_are_bounded()
     ensures by_rules { (s : SystemParts) (bounds : Bounds) (answer : Configuration) (end : End)
         (interactions places : ℕ) → IsRuleSet s.rules
@@ -72,6 +78,12 @@ pub fn places_are_bounded()
         (interactions places : ℕ) → IsRuleSet s.rules
         → IsReached s bounds answer end interactions places
         → places ≤ max bounds.nodes (configuration_nodes s.config) + 4096 * 2048 }
+    ensures held { (s : SystemParts) (bounds : Bounds) (answer : Configuration) (end : End)
+        (interactions places : ℕ) → IsRuleSet s.rules
+        → (is : IsReached s bounds answer end interactions places)
+        → places + equations_left is.held.machine
+        ≤ max bounds.nodes (configuration_nodes s.config + length s.config.equations)
+        + 4096 * 4096 }
     ensures looked { (s : SystemParts) (bounds : Bounds) (answer : Configuration) (end : End)
         (interactions places : ℕ) → (is : IsReached s bounds answer end interactions places)
         → (looks : ℕ) × (is.held.watched.mark.interactions ≡ looks * 4096) }
@@ -86,6 +98,7 @@ pub fn places_are_bounded()
 {
     ic_machine::laws::places_are_those_that_were_in_use();
     ic_machine::laws::places_are_made_by_plans();
+    ic_machine::laws::equations_are_made_by_plans();
 }
 
 /// A pair fires only after all has been linked: by then no side of an equation is a name of the net.

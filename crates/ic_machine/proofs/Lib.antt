@@ -20,3 +20,4 @@ pub mod Limits
 pub mod InUse
 pub mod PlaceLaws
 pub mod Growth
+pub mod Equations

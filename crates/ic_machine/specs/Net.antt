@@ -1,5 +1,5 @@
 -- The net that a machine holds.
-use Rattle.std.specs.Prelude.{◌≡◌, ℕ, zero, suc, ◌+◌, ◌^◌, ◌<◌, ◌≤◌, ◌==◌, ◌⊎◌, [], ◌∷◌, ◌++◌, Bool, false, List, length, map, None, Some, Contains, count_by, slice_index_or, sum}
+use Rattle.std.specs.Prelude.{◌≡◌, ℕ, zero, suc, ◌+◌, ◌^◌, ◌<◌, ◌≤◌, ◌==◌, ◌⊎◌, [], ◌∷◌, ◌++◌, Bool, true, false, List, length, map, None, Some, Contains, count_by, slice_index_or, sum}
 use Rattle.ic_arena.specs.declared.word.Word.{Word}
 use Rattle.ic_arena.specs.declared.word.TheConstants.{NAME}
 use Rattle.ic_arena.specs.Piece.{Piece, equated, idle, waits, agent_of}
@@ -89,6 +89,17 @@ places_of (suc s) n = slice_index_or n.agents s 0
 -- how many places there are in all, the free ones too
 abbrev pub all_places : Net → ℕ
 all_places n = n.names + sum n.agents
+
+-- whether a piece is an equation
+abbrev pub is_equation : Piece → Bool
+is_equation (equated l r) = true
+is_equation (idle x) = false
+is_equation (waits x u) = false
+is_equation (agent_of a ws) = false
+
+-- how many equations are among pieces
+abbrev pub equations_in : List Piece → ℕ
+equations_in ps = count_by is_equation ps
 
 -- how many equations are left: those that are pending, and those that were set aside
 abbrev pub equations_left : Net → ℕ

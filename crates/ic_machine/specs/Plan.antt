@@ -114,6 +114,14 @@ places_made p = p.names + length p.made
 abbrev pub places_made_by : Plans → ℕ → ℕ
 places_made_by p i = option_map_or places_made (slice_get p.plans i) 0
 
+-- how many equations a plan links
+abbrev pub links_made : Planned → ℕ
+links_made p = length p.links
+
+-- the same of the plan with this number, if there is one
+abbrev pub links_made_by : Plans → ℕ → ℕ
+links_made_by p i = option_map_or links_made (slice_get p.plans i) 0
+
 -- What plans keep: each has a pair of known symbols, and the plan of a pair is one for their arguments.
 pub record ArePlans (p : Plans) : Type 0 where
   pub counted : length p.pairs ≡ length p.plans

@@ -1,10 +1,11 @@
 //! Laws of steps.
 
 ghost use Rattle.std.specs.Prelude.{◌≡◌, ◌⊎◌, ◌+◌, ◌≤◌, ℕ, List, Contains, length, sum, sum_by};
+ghost use Rattle.std.specs.List.{AllByRecursion};
 ghost use Rattle.ic_arena.specs.declared.word.Word.{Word};
 ghost use Rattle.ic_arena.specs.Piece.{Piece};
-ghost use Rattle.ic_machine.specs.Net.{Net, all_places, in_use, pieces, places_of};
-ghost use Rattle.ic_machine.specs.Plan.{Planned, Plans, ArePlans, places_made_by};
+ghost use Rattle.ic_machine.specs.Net.{Net, all_places, equations_in, equations_left, in_use, pieces, places_of, IsAtPlace};
+ghost use Rattle.ic_machine.specs.Plan.{Planned, Plans, ArePlans, links_made_by, places_made_by};
 ghost use Rattle.ic_machine.specs.Runs.{Ran, Starts};
 ghost use Rattle.ic_machine.specs.Separate.{IsSeparate};
 ghost use Rattle.ic_machine.specs.Steps.{Steps};
@@ -44,4 +45,17 @@ pub fn places_are_made_by_plans()
     ensures fired { (p : Plans) (old new : Net) (run : Ran p old new)
         → ((kind : ℕ) → in_use kind (pieces old) ≤ places_of kind old)
         → all_places new ≤ all_places old + sum_by (places_made_by p) run.fired }
+{}
+
+/// A machine begins with at most the equations that its plan links. Each pair that fires is one less, and makes at most those
+/// that its plan links. All equations are left, pending or set aside, if none is at a place.
+pub fn equations_are_made_by_plans()
+    ensures begun { (p : Plans) (given : ℕ) (plan : Planned) (operands : List ℕ) (n : Net)
+        → Starts p given plan operands n → equations_in (pieces n) ≤ length plan.links }
+    ensures fired { (p : Plans) (old new : Net) (run : Ran p old new)
+        → equations_in (pieces new) + length run.fired
+        ≤ equations_in (pieces old) + sum_by (links_made_by p) run.fired }
+    ensures all { (n : Net) → AllByRecursion IsAtPlace n.places
+        → equations_left n ≡ equations_in (pieces n) }
+    ensures least { (n : Net) → equations_left n ≤ equations_in (pieces n) }
 {}

@@ -42,6 +42,7 @@ pieces-preserved g c =
           whole = same ∙ next_look c.args.program.now c.min-steps.result c.pieces.machine c.run_piece-ended.new.machine c.in_default.ensures.none
               (omega (arith, c.min-steps.ensures, c.if-left-eq0.false));
           tidy = c.sweep_if_due-due.ensures.tidy;
+          places = c.sweep_if_due-due.ensures.places c.run_piece-ended.ensures.places;
           within =
               -- putting names through changes neither how many places there are nor which equations are left
               let names : c.sweep_if_due-due.new.machine.names ≡ c.run_piece-ended.new.machine.names =

@@ -13,3 +13,9 @@ returns-then-names_in_use-due-clause-tidy c = inl (omega (arith, c.names_in_use.
 
 pub returns-clause-tidy : goal.returns-clause-tidy
 returns-clause-tidy c = inr (c.sweep.ensures.through, c.names_until_sweep.ensures)
+
+pub returns-then-names_in_use-due-clause-places : goal.returns-then-names_in_use-due-clause-places
+returns-then-names_in_use-due-clause-places c = λ all. all
+
+pub returns-clause-places : goal.returns-clause-places
+returns-clause-places c = λ all. c.sweep.ensures.places

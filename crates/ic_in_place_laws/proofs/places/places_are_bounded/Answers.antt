@@ -1,7 +1,7 @@
 use Rattle.std.proofs.Common.{arith}
 use Rattle.ic_in_place_laws.proofs.Onward.{mark_whole}
 use Rattle.ic_in_place_laws.proofs.Told.{nodes_told}
-use Rattle.ic_in_place_laws.proofs.Taken.{PlaceLaws, places_by_rules, places_full, places_near, table_full}
+use Rattle.ic_in_place_laws.proofs.Taken.{PlaceLaws, entries_near, places_by_rules, places_full, places_near, table_full}
 use Rattle.ic_in_place_laws.proofs.places.places_are_bounded.Goals as goal
 
 pub returns-clause-by_rules : goal.returns-clause-by_rules
@@ -12,6 +12,10 @@ returns-clause-by_rules c = λ s bounds answer end interactions places set is.
       names = c.places_are_made_by_plans.ensures.names;
       agents = c.places_are_made_by_plans.ensures.agents;
       fired = c.places_are_made_by_plans.ensures.fired;
+      links = c.equations_are_made_by_plans.ensures.begun;
+      linked = c.equations_are_made_by_plans.ensures.fired;
+      all = c.equations_are_made_by_plans.ensures.all;
+      least = c.equations_are_made_by_plans.ensures.least;
     } in
     places_by_rules laws s bounds answer end interactions places set is
 
@@ -23,6 +27,10 @@ returns-clause-told c = λ s bounds answer end interactions places left by_rule 
       names = c.places_are_made_by_plans.ensures.names;
       agents = c.places_are_made_by_plans.ensures.agents;
       fired = c.places_are_made_by_plans.ensures.fired;
+      links = c.equations_are_made_by_plans.ensures.begun;
+      linked = c.equations_are_made_by_plans.ensures.fired;
+      all = c.equations_are_made_by_plans.ensures.all;
+      least = c.equations_are_made_by_plans.ensures.least;
     } in
     omega (arith, places_by_rules laws s bounds answer end interactions places set is.reached, nodes_told s.rules.rules is.reached.fired by_rule is.counts)
 
@@ -34,6 +42,10 @@ returns-clause-near c = λ s bounds answer end interactions places set is.
       names = c.places_are_made_by_plans.ensures.names;
       agents = c.places_are_made_by_plans.ensures.agents;
       fired = c.places_are_made_by_plans.ensures.fired;
+      links = c.equations_are_made_by_plans.ensures.begun;
+      linked = c.equations_are_made_by_plans.ensures.fired;
+      all = c.equations_are_made_by_plans.ensures.all;
+      least = c.equations_are_made_by_plans.ensures.least;
     } in
     places_near laws s bounds answer end interactions places set is
 
@@ -45,3 +57,18 @@ returns-clause-looked c = λ s bounds answer end interactions places is. mark_wh
 
 pub returns-clause-one_table : goal.returns-clause-one_table
 returns-clause-one_table c = λ s bounds answer interactions places set is. table_full s bounds answer interactions places set is
+
+pub returns-clause-held : goal.returns-clause-held
+returns-clause-held c = λ s bounds answer end interactions places set is.
+    let laws : PlaceLaws = record {
+      begun = c.places_are_those_that_were_in_use.ensures.begun;
+      still = c.places_are_those_that_were_in_use.ensures.still;
+      names = c.places_are_made_by_plans.ensures.names;
+      agents = c.places_are_made_by_plans.ensures.agents;
+      fired = c.places_are_made_by_plans.ensures.fired;
+      links = c.equations_are_made_by_plans.ensures.begun;
+      linked = c.equations_are_made_by_plans.ensures.fired;
+      all = c.equations_are_made_by_plans.ensures.all;
+      least = c.equations_are_made_by_plans.ensures.least;
+    } in
+    entries_near laws s bounds answer end interactions places set is
