@@ -1,5 +1,5 @@
 -- Arguments that stand at the one place after the options.
-use Rattle.std.proofs.Common.{◌≡◌, ◌⊎◌, ◌<◌, ◌^◌, ℕ, List, [], ◌∷◌, ◌++◌, Bool, true, false, ◌&&◌, ◌||◌, cond, fold, ne_eqb, option_map, slice_get, true≢false, unwrap_or, Option, None, Some, codes, length, refl, sym, ◌∙◌, ap, ap₂, inl, inr, subst, append-nil, append_assoc, arith}
+use Rattle.std.proofs.Common.{◌≡◌, ◌⊎◌, ◌<◌, ◌^◌, ℕ, List, [], ◌∷◌, ◌++◌, Bool, true, false, ◌&&◌, ◌||◌, cond, fold, ne_eqb, option_map, slice_get, true≢false, Option, None, Some, codes, length, refl, sym, ◌∙◌, ap, ap₂, inl, inr, subst, append-nil, append_assoc, arith}
 use Rattle.std.specs.List.{AllByRecursion}
 use Rattle.std.specs.Prelude.{option_and_then}
 use Rattle.std.specs.Option.{option_map_or}
@@ -18,12 +18,12 @@ use Rattle.clap.specs.declared.builder.value_parser.ValueParser.{ValueParser}
 use Rattle.clap.specs.declared.builder.value_parser.ValueParser.TheVariants as vp
 use Rattle.clap.specs.declared.error.ErrorKind.TheVariants as kind
 use Rattle.clap.specs.declared.parser.matches.ValueSource.TheVariants.{CommandLine}
-use Rattle.ic_args.specs.Lines.{HasNoHyphen, IsFileWord}
+use Rattle.ic_args.specs.Lines.{HasNoHyphen}
 use Rattle.ic_args.specs.Words.{file_named}
 use Rattle.ic_args.proofs.LineRows.{IsFoundRow, found_in, found_last, found_more, row_behind}
 use Rattle.ic_args.proofs.OneValue.{Each, Good, Passes, at_end}
 use Rattle.ic_args.proofs.Options.{Fits, no_default, other_values}
-use Rattle.ic_args.proofs.OptionLines.{Stands, found_all, is_held, none_stays, stands_more}
+use Rattle.ic_args.proofs.OptionLines.{found_all, is_held, none_stays}
 use Rattle.ic_args.proofs.Steps.{Leads, at, dashes, leads_more, leads_none, level, no_dashes, no_long, no_short, one_turn}
 
 -- an argument that may have one value, as it is built
@@ -102,13 +102,6 @@ found_after id before rows (inr grew) name value found =
     subst (IsFoundRow name value) (sym grew.2)
     (record { row = found.row; found = found_more name before (grew.0 ∷ []) found.row found.found; values = found.values; source = found.source })
 
-pub stands_after : (id : Text) (before rows : List Row) → Grew id before rows → (name default value : Text) → bytes_eq id name ≡ false → Stands name default value before
-    → Stands name default value rows
-stands_after id before rows (inl same) name default value other is = subst (Stands name default value) (sym same) is
-stands_after id before rows (inr grew) name default value other is =
-    subst (Stands name default value) (sym grew.2)
-    (stands_more name default value before grew.0 (ap (λ (t : Text). bytes_eq t name) grew.1 ∙ other) is)
-
 pub none_after : (id : Text) (before rows : List Row) → Grew id before rows → (name : Text) → bytes_eq id name ≡ false → has_row name before ≡ false → has_row name rows ≡ false
 none_after id before rows (inl same) name other none = ap (has_row name) same ∙ none
 none_after id before rows (inr grew) name other none =
@@ -165,13 +158,6 @@ first_of_all id rows = go (found_in id rows)
 
 pub first_shown : (id : Text) (rows : List Row) (vs : List Text) → all_of id rows ≡ shown_of vs → first_of id rows ≡ option_and_then (λ (ws : List Text). slice_get ws 0) (shown_of vs)
 first_shown id rows vs is = first_of_all id rows ∙ ap (option_and_then (λ (ws : List Text). slice_get ws 0)) is
-
-pub shown_values : (id : Text) (rows : List Row) (vs : List Text) → all_of id rows ≡ shown_of vs → unwrap_or (all_of id rows) [] ≡ vs
-shown_values id rows vs is = ap (λ (o : Option (List Text)). unwrap_or o []) is ∙ same vs
-  where
-    same : (ws : List Text) → unwrap_or (shown_of ws) [] ≡ ws
-    same [] = refl
-    same (w ∷ ws) = refl
 
 -- the row of values that are given
 abbrev pub IsGivenBy : Text → List Text → List Row → Type 0
@@ -323,39 +309,9 @@ module _ (base : Shape) (c : List Rule) where
 
 -- ---- a FILE
 
-abbrev one_file : Rule
-one_file = one_argument (codes "file") false
-
-abbrev pub file_of : Option Text → Option Text
-file_of o = option_and_then file_named o
-
-no_hyphen : (path : Text) → HasNoHyphen path → file_named path ≡ Some path
+pub no_hyphen : (path : Text) → HasNoHyphen path → file_named path ≡ Some path
 no_hyphen path bare = go path bare
   where
     go : (t : Text) → HasNoHyphen t → file_named t ≡ Some t
     go [] bare = refl
     go (x ∷ xs) bare = ap (λ (b : Bool). cond (b && bytes_eq xs []) None (Some (x ∷ xs))) (ne_eqb x 45 bare)
-
-module _ (base : Shape) (c : List Rule) (by_index : arg_by_index c 1 ≡ Some one_file) (by_id : arg_by_id c (codes "file") ≡ Some one_file)
-    (plain : HaveNoDefault (codes "file") c) where
-  -- the FILE of a line was read
-  pub record ReadsFile (file : Option Text) (before : List Row) (h : Held) (words : List Text) : Type 0 where
-    pub argument : ReadsArgument base c (codes "file") before h words
-    pub file_is : file_of (first_of (codes "file") (fold with_default argument.rows c)) ≡ file
-
-  one_word : (file : Option Text) (v : Text) (before : List Row) (h : Held) → IsPlainWord v → file_named v ≡ file → is_held (codes "file") h ≡ false → settle_fault c false h ≡ []
-      → (settled c h).rows ≡ before → has_row (codes "file") before ≡ false → ReadsFile file before h (v ∷ [])
-  one_word file v before h word is aside settles are none =
-      let argument = one_read base c (codes "file") false by_index by_id v before h word aside settles are none in
-      record { argument = argument; file_is = ap file_of (first_shown (codes "file") (fold with_default argument.rows c) (v ∷ []) argument.shows) ∙ is }
-
-  pub file_read : (file : Option Text) (words : List Text) → IsFileWord file words → (before : List Row) (h : Held) → is_held (codes "file") h ≡ false → settle_fault c false h ≡ []
-      → (settled c h).rows ≡ before → has_row (codes "file") before ≡ false → ReadsFile file before h words
-  file_read None words (inl empty) before h aside settles are none =
-      let argument = none_read base c (codes "file") plain before h settles are none in
-      subst (ReadsFile None before h) (sym empty)
-      (record { argument = argument; file_is = ap file_of (first_shown (codes "file") (fold with_default argument.rows c) [] argument.shows) })
-  file_read None words (inr hyphen) before h aside settles are none =
-      subst (ReadsFile None before h) (sym hyphen) (one_word None (codes "-") before h hyphen_alone refl aside settles are none)
-  file_read (Some path) words is before h aside settles are none =
-      subst (ReadsFile (Some path) before h) (sym is.0) (one_word (Some path) path before h (plain_word path is.1) (no_hyphen path is.1) aside settles are none)

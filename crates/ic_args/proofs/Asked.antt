@@ -1,18 +1,18 @@
 -- What is answered to the command that was met is what the words name.
-use Rattle.std.proofs.Common.{◌≡◌, ◌≢◌, ◌∙◌, List, [], ◌∷◌, Bool, true, false, ◌&&◌, cond, ne_eqb, arith, length, Option, None, Some, codes, option_map, refl, sym, ap, ap₂, inl, inr, subst}
+use Rattle.std.proofs.Common.{◌≡◌, ◌≢◌, ◌∙◌, List, [], ◌∷◌, Bool, true, false, ◌&&◌, cond, ne_eqb, arith, length, Option, None, Some, codes, option_map, refl, sym, ap, ap₂, inl, inr, subst, true≢false}
 use Rattle.std.specs.Prelude.{Result, Ok, Err, IfOk, string_bytes}
-use Rattle.std.specs.Str.{bytes_eq}
 use Rattle.clap.specs.Words.{IsAmong, Text, fault_of, subcommand_of}
 use Rattle.clap.specs.Walk.{is_empty}
 use Rattle.clap.specs.Kinds.{Kinds, or_else}
-use Rattle.clap.proofs.OnLiterals.{clap_on_literals}
 use Rattle.clap.specs.declared.error.ErrorKind.{ErrorKind}
 use Rattle.clap.specs.declared.error.ErrorKind.TheVariants.{DisplayHelp, DisplayVersion, InvalidSubcommand, InvalidValue, OutOfMemory}
 use Rattle.ic_args.specs.Help.{help_by, help_of}
-use Rattle.ic_args.specs.Words.{AnswersWords, GivesHelp, GivesTask, GivesVersion, Names, command_line, file_met, format_word, help_mistakes, figures_word, is_figures, is_format, is_limits, limits_word, mistakes_of, most_rounds, most_seconds, most_steps, reduce_mistakes, value_if_met, is_report_format, report_mistakes, report_word}
+use Rattle.ic_args.specs.Words.{is_text_word, text_word, AnswersWords, GivesHelp, GivesTask, GivesVersion, Names, command_line, file_met, format_word, figures_word, is_figures, is_format, is_limits, limits_word, mistakes_of, most_rounds, most_seconds, most_steps, value_if_met, is_report_format, report_word}
 use Rattle.ic_args.specs.inner.Asking.{AnswersRefused, Asks, IsMet, TellsReport}
 use Rattle.ic_args.specs.declared.words.Task.{Task}
-use Rattle.ic_args.specs.declared.words.Task.TheVariants.{Settle, Once, Create, Serve, Attend, Reduce, ReduceKept, ReduceByRounds, Trace, Draw, Dump, Inspect, Check, Batch, Help, Version, Expand}
+use Rattle.ic_args.specs.declared.words.Task.TheVariants.{Create, Serve, Attend, Reduce, ReduceKept, ReduceByRounds, Trace, Dump, Inspect, Check, Batch, Help, Version}
+use Rattle.ic_args.specs.declared.words.Task.TheVariants as task
+use Rattle.ic_args.specs.declared.words.TextWord.{TextWord}
 use Rattle.ic_args.specs.declared.words.ReportFormat.{ReportFormat}
 use Rattle.ic_args.specs.declared.words.ReportFormat.TheVariants as check
 use Rattle.ic_args.specs.declared.words.TraceFormat.{TraceFormat}
@@ -25,14 +25,14 @@ use Rattle.ic_args.specs.declared.words.WordsFault.{WordsFault}
 use Rattle.ic_args.specs.declared.words.WordsFault.TheVariants.{Words, Memory}
 use Rattle.ic_args.proofs.OptionNumbers.{attend_numbers, batch_numbers, reduce_numbers, serve_numbers, trace_numbers}
 use Rattle.ic_args.proofs.Spelt.{number_named}
+use Rattle.ic_args.proofs.TextWords.{alone_taken, is_command, is_one, no_own, same_word}
 use Rattle.ic_args.proofs.WordsExact.{IsCalled}
-use Rattle.ic_args.proofs.WordsLaws.{among_all, another_format, asked_alone, called_as, check_free, help_asked, in_place_free, inspect_free, is_help, kept_free, no_other_alone, no_own, of_reduce, once_met, once_taken, reduce_wrong, report_wrong, rounds_free, settle_met, settle_taken, taken_alone, trace_free, version_asked}
+use Rattle.ic_args.proofs.WordsLaws.{alone_met, among_all, asked_alone, called_as, help_asked, help_is, in_place_free, kept_free, own_of, reduce_wrong, report_is, rounds_free, taken_alone, trace_is, version_asked}
 
 pub record IsAnswer (words : List Text) (r : Result Task WordsFault) : Type 0 where
   pub answers : AnswersWords (mistakes_of words) r
   pub named : IfOk r (Names words)
-  pub settle : words ≡ codes "settle" ∷ [] → GivesTask (Settle None) r
-  pub once : words ≡ codes "once" ∷ [] → GivesTask (Once None) r
+  pub alone : (word : TextWord) → words ≡ text_word word ∷ [] → GivesTask (task.Text word None) r
 
 format_is : (format : TraceFormat) → is_format (format_word format) ≡ true
 format_is Tsv = refl
@@ -47,30 +47,18 @@ figures_is : (format : FiguresFormat) → is_figures (figures_word format) ≡ t
 figures_is Lines = refl
 figures_is Objects = refl
 
-report_is : (format : ReportFormat) → is_report_format (report_word format) ≡ true
-report_is check.Text = refl
-report_is check.Json = refl
+report_text : (format : ReportFormat) → is_report_format (report_word format) ≡ true
+report_text check.Text = refl
+report_text check.Json = refl
 
--- words of which a command was met aren't another one alone
-not_settle : (words : List Text) (name : Text) → IsMet name (subcommand_of command_line words) → bytes_eq name (codes "settle") ≡ false → words ≡ codes "settle" ∷ [] → ⊥
-not_settle words name met other is = no_other_alone name (codes "settle") words met settle_met other is
-
-not_once : (words : List Text) (name : Text) → IsMet name (subcommand_of command_line words) → bytes_eq name (codes "once") ≡ false → words ≡ codes "once" ∷ [] → ⊥
-not_once words name met other is = no_other_alone name (codes "once") words met once_met other is
+-- words of which a command was met that has options aren't one that has none
+no_text : (words : List Text) (name : Text) → IsMet name (subcommand_of command_line words) → is_text_word name ≡ false → (word : TextWord) → words ≡ text_word word ∷ [] → ⊥
+no_text words name met other word is = true≢false (sym (is_one word) ∙ ap is_text_word (sym (alone_met name (text_word word) words (is_command word) met is)) ∙ other)
 
 -- one mistake, which asks for nothing
 wrong : (words : List Text) (kind : ErrorKind) → mistakes_of words ≡ kind ∷ [] → kind ≢ DisplayHelp → kind ≢ DisplayVersion
     → (mistake : ErrorKind) × IsAmong mistake (mistakes_of words) × (mistake ≢ DisplayHelp) × (mistake ≢ DisplayVersion)
 wrong words kind is help version = (kind, subst (IsAmong kind) (sym is) (inl refl), help, version)
-
--- a command alone names no file
-settle_alone : file_met (subcommand_of command_line (codes "settle" ∷ [])) ≡ None
-unfolding clap_on_literals
-settle_alone = refl
-
-once_alone : file_met (subcommand_of command_line (codes "once" ∷ [])) ≡ None
-unfolding clap_on_literals
-once_alone = refl
 
 none_named : {S : Type 0} (f : S → Text) (o : Option S) → option_map f o ≡ None → o ≡ None
 none_named f None is = refl
@@ -82,29 +70,22 @@ helped words free = cond free (help_by (value_if_met (codes "word") (subcommand_
 
 pub asked : (words : List Text) → fault_of command_line words ≡ [] → (name : Text) × IsCalled name words → (r : Result Task WordsFault)
     → Asks (subcommand_of command_line words) r → IsAnswer words r
-asked words none called (Ok (Settle file)) asks = record {
-  answers = ap₂ or_else none (no_own (codes "settle") _ asks.0 refl refl refl refl refl);
-  named = (called_as called.0 (codes "settle") words called.1 asks.0, asks.1);
-  settle = λ is. ap Settle (none_named string_bytes file (asks.1 ∙ ap file_met (ap (subcommand_of command_line) is) ∙ settle_alone));
-  once = λ is. absurd (not_once words (codes "settle") asks.0 refl is);
-}
-asked words none called (Ok (Once file)) asks = record {
-  answers = ap₂ or_else none (no_own (codes "once") _ asks.0 refl refl refl refl refl);
-  named = (called_as called.0 (codes "once") words called.1 asks.0, asks.1);
-  settle = λ is. absurd (not_settle words (codes "once") asks.0 refl is);
-  once = λ is. ap Once (none_named string_bytes file (asks.1 ∙ ap file_met (ap (subcommand_of command_line) is) ∙ once_alone));
+asked words none called (Ok (task.Text word file)) asks = record {
+  answers = ap₂ or_else none (no_own word _ asks.0);
+  named = (called_as called.0 (text_word word) words called.1 asks.0, asks.1);
+  alone = λ other is. ap₂ task.Text (same_word word other (alone_met (text_word word) (text_word other) words (is_command other) asks.0 is))
+      (none_named string_bytes file (asks.1 ∙ ap file_met (ap (subcommand_of command_line) is) ∙ (alone_taken other).file_is));
 }
 asked words none called (Ok (Create disk overwrite)) asks = record {
-  answers = ap₂ or_else none (no_own (codes "create") _ asks.0 refl refl refl refl refl);
+  answers = ap₂ or_else none (own_of (codes "create") _ asks.0);
   named = (called_as called.0 (codes "create") words called.1 asks.0, asks.1, asks.2);
-  settle = λ is. absurd (not_settle words (codes "create") asks.0 refl is);
-  once = λ is. absurd (not_once words (codes "create") asks.0 refl is);
+  alone = λ word is. absurd (no_text words (codes "create") asks.0 refl word is);
 }
 asked words none called (Ok (Serve disk workers every explain)) asks =
     let begins = called_as called.0 (codes "serve") words called.1 asks.0 in
     let spelt = serve_numbers words none begins in
     record {
-      answers = ap₂ or_else none (no_own (codes "serve") _ asks.0 refl refl refl refl refl);
+      answers = ap₂ or_else none (own_of (codes "serve") _ asks.0);
       named = (
         begins,
         asks.1,
@@ -112,14 +93,13 @@ asked words none called (Ok (Serve disk workers every explain)) asks =
         number_named (codes "every") 1 1000000 every words _ spelt.1 refl asks.3,
         asks.4,
       );
-      settle = λ is. absurd (not_settle words (codes "serve") asks.0 refl is);
-      once = λ is. absurd (not_once words (codes "serve") asks.0 refl is);
+      alone = λ word is. absurd (no_text words (codes "serve") asks.0 refl word is);
     }
 asked words none called (Ok (Attend disk runners turns workers scripts)) asks =
     let begins = called_as called.0 (codes "attend") words called.1 asks.0 in
     let spelt = attend_numbers words none begins in
     record {
-      answers = ap₂ or_else none (no_own (codes "attend") _ asks.0 refl refl refl refl refl);
+      answers = ap₂ or_else none (own_of (codes "attend") _ asks.0);
       named = record {
         begins = begins;
         disk = asks.1;
@@ -128,14 +108,13 @@ asked words none called (Ok (Attend disk runners turns workers scripts)) asks =
         workers = number_named (codes "workers") 1 64 workers words _ spelt.2 refl asks.4;
         scripts = asks.5;
       };
-      settle = λ is. absurd (not_settle words (codes "attend") asks.0 refl is);
-      once = λ is. absurd (not_once words (codes "attend") asks.0 refl is);
+      alone = λ word is. absurd (no_text words (codes "attend") asks.0 refl word is);
     }
 asked words none called (Ok (Reduce steps nodes partial stats limits format quiet file)) asks =
     let begins = called_as called.0 (codes "reduce") words called.1 asks.0.0 in
     let spelt = reduce_numbers words none begins in
     record {
-      answers = ap₂ or_else none (of_reduce (subcommand_of command_line words) asks.0.0 ∙ in_place_free (subcommand_of command_line words) asks.1 asks.10 asks.9 asks.11
+      answers = ap₂ or_else none (own_of (codes "reduce") _ asks.0.0 ∙ in_place_free (subcommand_of command_line words) asks.1 asks.10 asks.9 asks.11
           (ap₂ (λ (a b : Bool). a && b) (ap is_limits asks.6 ∙ limits_is limits) (ap is_figures asks.7 ∙ figures_is format)));
       named = record {
         begins = begins;
@@ -150,14 +129,13 @@ asked words none called (Ok (Reduce steps nodes partial stats limits format quie
         quiet = asks.8;
         file = asks.0.1;
       };
-      settle = λ is. absurd (not_settle words (codes "reduce") asks.0.0 refl is);
-      once = λ is. absurd (not_once words (codes "reduce") asks.0.0 refl is);
+      alone = λ word is. absurd (no_text words (codes "reduce") asks.0.0 refl word is);
     }
 asked words none called (Ok (ReduceKept disk begins seconds steps nodes partial stats format quiet file)) asks =
     let first = called_as called.0 (codes "reduce") words called.1 asks.0.0 in
     let spelt = reduce_numbers words none first in
     record {
-      answers = ap₂ or_else none (of_reduce (subcommand_of command_line words) asks.0.0
+      answers = ap₂ or_else none (own_of (codes "reduce") _ asks.0.0
           ∙ kept_free (subcommand_of command_line words) asks.1 asks.2 asks.3 (ap is_figures asks.11 ∙ figures_is format));
       named = record {
         begins = first;
@@ -175,14 +153,13 @@ asked words none called (Ok (ReduceKept disk begins seconds steps nodes partial 
         quiet = asks.12;
         file = asks.0.1;
       };
-      settle = λ is. absurd (not_settle words (codes "reduce") asks.0.0 refl is);
-      once = λ is. absurd (not_once words (codes "reduce") asks.0.0 refl is);
+      alone = λ word is. absurd (no_text words (codes "reduce") asks.0.0 refl word is);
     }
 asked words none called (Ok (ReduceByRounds rounds workers partial file)) asks =
     let begins = called_as called.0 (codes "reduce") words called.1 asks.0.0 in
     let spelt = reduce_numbers words none begins in
     record {
-      answers = ap₂ or_else none (of_reduce (subcommand_of command_line words) asks.0.0 ∙ rounds_free (subcommand_of command_line words) asks.1 asks.2);
+      answers = ap₂ or_else none (own_of (codes "reduce") _ asks.0.0 ∙ rounds_free (subcommand_of command_line words) asks.1 asks.2);
       named = (
         (begins, asks.0.1),
         asks.2,
@@ -190,46 +167,35 @@ asked words none called (Ok (ReduceByRounds rounds workers partial file)) asks =
         ((λ given. number_named (codes "workers") 1 64 workers words _ (spelt.1 given) refl (asks.4.0 given)), asks.4.1),
         asks.5,
       );
-      settle = λ is. absurd (not_settle words (codes "reduce") asks.0.0 refl is);
-      once = λ is. absurd (not_once words (codes "reduce") asks.0.0 refl is);
+      alone = λ word is. absurd (no_text words (codes "reduce") asks.0.0 refl word is);
     }
 asked words none called (Ok (Trace rounds format file)) asks =
     let begins = called_as called.0 (codes "trace") words called.1 asks.0.0 in
     record {
-      answers = ap₂ or_else none (trace_free (subcommand_of command_line words) asks.0.0 (ap is_format asks.2 ∙ format_is format));
+      answers = ap₂ or_else none (trace_is _ true asks.0.0 (ap is_format asks.2 ∙ format_is format));
       named = ((begins, asks.0.1), number_named (codes "rounds") 0 most_rounds rounds words _ (trace_numbers words none begins) refl asks.1, asks.2);
-      settle = λ is. absurd (not_settle words (codes "trace") asks.0.0 refl is);
-      once = λ is. absurd (not_once words (codes "trace") asks.0.0 refl is);
+      alone = λ word is. absurd (no_text words (codes "trace") asks.0.0 refl word is);
     }
-asked words none called (Ok (Draw file)) asks = record {
-  answers = ap₂ or_else none (no_own (codes "draw") _ asks.0 refl refl refl refl refl);
-  named = (called_as called.0 (codes "draw") words called.1 asks.0, asks.1);
-  settle = λ is. absurd (not_settle words (codes "draw") asks.0 refl is);
-  once = λ is. absurd (not_once words (codes "draw") asks.0 refl is);
-}
 asked words none called (Ok (Dump disk names)) asks = record {
-  answers = ap₂ or_else none (no_own (codes "dump") _ asks.0 refl refl refl refl refl);
+  answers = ap₂ or_else none (own_of (codes "dump") _ asks.0);
   named = (called_as called.0 (codes "dump") words called.1 asks.0, asks.1, asks.2);
-  settle = λ is. absurd (not_settle words (codes "dump") asks.0 refl is);
-  once = λ is. absurd (not_once words (codes "dump") asks.0 refl is);
+  alone = λ word is. absurd (no_text words (codes "dump") asks.0 refl word is);
 }
 asked words none called (Ok (Inspect disk format)) asks = record {
-  answers = ap₂ or_else none (inspect_free (subcommand_of command_line words) asks.0 (ap is_report_format asks.2 ∙ report_is format));
+  answers = ap₂ or_else none (report_is _ true (inr asks.0) (ap is_report_format asks.2 ∙ report_text format));
   named = (called_as called.0 (codes "inspect") words called.1 asks.0, asks.1, asks.2);
-  settle = λ is. absurd (not_settle words (codes "inspect") asks.0 refl is);
-  once = λ is. absurd (not_once words (codes "inspect") asks.0 refl is);
+  alone = λ word is. absurd (no_text words (codes "inspect") asks.0 refl word is);
 }
 asked words none called (Ok (Check files format script)) asks = record {
-  answers = ap₂ or_else none (check_free (subcommand_of command_line words) asks.0 (ap is_report_format asks.2 ∙ report_is format));
+  answers = ap₂ or_else none (report_is _ true (inl asks.0) (ap is_report_format asks.2 ∙ report_text format));
   named = (called_as called.0 (codes "check") words called.1 asks.0, asks.1, asks.2, asks.3);
-  settle = λ is. absurd (not_settle words (codes "check") asks.0 refl is);
-  once = λ is. absurd (not_once words (codes "check") asks.0 refl is);
+  alone = λ word is. absurd (no_text words (codes "check") asks.0 refl word is);
 }
 asked words none called (Ok (Batch disk rounds every workers lines)) asks =
     let begins = called_as called.0 (codes "batch") words called.1 asks.0 in
     let spelt = batch_numbers words none begins in
     record {
-      answers = ap₂ or_else none (no_own (codes "batch") _ asks.0 refl refl refl refl refl);
+      answers = ap₂ or_else none (own_of (codes "batch") _ asks.0);
       named = record {
         begins = begins;
         disk = asks.1;
@@ -238,66 +204,48 @@ asked words none called (Ok (Batch disk rounds every workers lines)) asks =
         workers = number_named (codes "workers") 1 64 workers words _ spelt.2 refl asks.4;
         lines = asks.5;
       };
-      settle = λ is. absurd (not_settle words (codes "batch") asks.0 refl is);
-      once = λ is. absurd (not_once words (codes "batch") asks.0 refl is);
+      alone = λ word is. absurd (no_text words (codes "batch") asks.0 refl word is);
     }
-asked words none called (Ok (Expand file)) asks = record {
-  answers = ap₂ or_else none (no_own (codes "expand") _ asks.0 refl refl refl refl refl);
-  named = (called_as called.0 (codes "expand") words called.1 asks.0, asks.1);
-  settle = λ is. absurd (not_settle words (codes "expand") asks.0 refl is);
-  once = λ is. absurd (not_once words (codes "expand") asks.0 refl is);
-}
 asked words none called (Ok (Help text)) asks = record {
-  answers = subst (IsAmong DisplayHelp) (sym (ap₂ or_else none (is_help (subcommand_of command_line words) true asks.0 asks.1))) (inl refl);
+  answers = subst (IsAmong DisplayHelp) (sym (ap₂ or_else none (help_is _ true asks.0 asks.1))) (inl refl);
   named = asks.2 ∙ sym (ap (λ (kinds : Kinds). helped words (is_empty kinds)) none);
-  settle = λ is. absurd (not_settle words (codes "help") asks.0 refl is);
-  once = λ is. absurd (not_once words (codes "help") asks.0 refl is);
+  alone = λ word is. absurd (no_text words (codes "help") asks.0 refl word is);
 }
 asked words none called (Ok (Version text)) asks = absurd asks
 asked words none called (Err (Words text)) (inl asks) = record {
-  answers = wrong words InvalidValue (ap₂ or_else none (ap (λ (ks : Kinds). or_else ks (or_else (report_mistakes (subcommand_of command_line words)) (or_else (reduce_mistakes (subcommand_of command_line words)) (help_mistakes (subcommand_of command_line words))))) (another_format _ asks.0 asks.1)))
-      (λ e. cc) (λ e. cc);
+  answers = wrong words InvalidValue (ap₂ or_else none (trace_is _ false asks.0 asks.1)) (λ e. cc) (λ e. cc);
   named = tt;
-  settle = λ is. not_settle words (codes "trace") asks.0 refl is;
-  once = λ is. not_once words (codes "trace") asks.0 refl is;
+  alone = λ word alone. no_text words (codes "trace") asks.0 refl word alone;
 }
 asked words none called (Err (Words text)) (inr (inl asks)) =
     let is = reduce_wrong (subcommand_of command_line words) asks.1 in
     record {
-      answers = wrong words is.0 (ap₂ or_else none (of_reduce (subcommand_of command_line words) asks.0 ∙ is.1)) is.2.0 is.2.1;
+      answers = wrong words is.0 (ap₂ or_else none (own_of (codes "reduce") _ asks.0 ∙ is.1)) is.2.0 is.2.1;
       named = tt;
-      settle = λ alone. not_settle words (codes "reduce") asks.0 refl alone;
-      once = λ alone. not_once words (codes "reduce") asks.0 refl alone;
+      alone = λ word alone. no_text words (codes "reduce") asks.0 refl word alone;
     }
 asked words none called (Err (Words text)) (inr (inr (inl asks))) = record {
-  answers = wrong words InvalidSubcommand (ap₂ or_else none (is_help (subcommand_of command_line words) false asks.0 asks.1)) (λ e. cc) (λ e. cc);
+  answers = wrong words InvalidSubcommand (ap₂ or_else none (help_is _ false asks.0 asks.1)) (λ e. cc) (λ e. cc);
   named = tt;
-  settle = λ is. not_settle words (codes "help") asks.0 refl is;
-  once = λ is. not_once words (codes "help") asks.0 refl is;
+  alone = λ word alone. no_text words (codes "help") asks.0 refl word alone;
 }
 asked words none called (Err (Words text)) (inr (inr (inr asks))) = record {
-  answers = wrong words InvalidValue (ap₂ or_else none (report_wrong (subcommand_of command_line words) asks.0 asks.1)) (λ e. cc) (λ e. cc);
+  answers = wrong words InvalidValue (ap₂ or_else none (report_is _ false asks.0 asks.1)) (λ e. cc) (λ e. cc);
   named = tt;
-  settle = by_settle asks.0;
-  once = by_once asks.0;
+  alone = by_report asks.0;
 }
   where
-    by_settle : TellsReport (subcommand_of command_line words) → words ≡ codes "settle" ∷ [] → GivesTask (Settle None) (Err (Words text))
-    by_settle (inl met) is = not_settle words (codes "check") met refl is
-    by_settle (inr met) is = not_settle words (codes "inspect") met refl is
-
-    by_once : TellsReport (subcommand_of command_line words) → words ≡ codes "once" ∷ [] → GivesTask (Once None) (Err (Words text))
-    by_once (inl met) is = not_once words (codes "check") met refl is
-    by_once (inr met) is = not_once words (codes "inspect") met refl is
-asked words none called (Err Memory) asks = record { answers = tt; named = tt; settle = λ is. tt; once = λ is. tt }
+    by_report : TellsReport (subcommand_of command_line words) → (word : TextWord) → words ≡ text_word word ∷ [] → GivesTask (task.Text word None) (Err (Words text))
+    by_report (inl met) word is = no_text words (codes "check") met refl word is
+    by_report (inr met) word is = no_text words (codes "inspect") met refl word is
+asked words none called (Err Memory) asks = record { answers = tt; named = tt; alone = λ word is. tt }
 
 -- ---- words that the parser refuses
 
 pub record IsNotTaken (words : List Text) (r : Result Task WordsFault) : Type 0 where
   pub answers : AnswersWords (mistakes_of words) r
   pub named : IfOk r (Names words)
-  pub settle : words ≡ codes "settle" ∷ [] → GivesTask (Settle None) r
-  pub once : words ≡ codes "once" ∷ [] → GivesTask (Once None) r
+  pub alone : (word : TextWord) → words ≡ text_word word ∷ [] → GivesTask (task.Text word None) r
   pub help : words ≡ codes "--help" ∷ [] → GivesHelp r
   pub version : words ≡ codes "--version" ∷ [] → GivesVersion r
 
@@ -320,9 +268,8 @@ not_taken words kind (Ok (Help text)) made is =
     record {
       answers = among_all _ _ _ mistake;
       named = is.1 ∙ sym (ap (helped words) (some_kind _ _ mistake));
-      settle = λ alone. absurd (taken_alone _ _ _ settle_taken alone mistake);
-      once = λ alone. absurd (taken_alone _ _ _ once_taken alone mistake);
-      help = λ alone. is.1 ∙ ap help_of alone;
+      alone = λ word is. absurd (taken_alone _ _ _ (alone_taken word).free is mistake);
+      help = λ alone. (text, refl, is.1 ∙ ap help_of alone);
       version = λ alone. absurd (help_or_version (asked_alone _ _ _ _ version_asked alone mistake));
     }
 not_taken words kind (Ok (Version text)) made is =
@@ -330,13 +277,11 @@ not_taken words kind (Ok (Version text)) made is =
     record {
       answers = (among_all _ _ _ mistake, is.1);
       named = is.1;
-      settle = λ alone. absurd (taken_alone _ _ _ settle_taken alone mistake);
-      once = λ alone. absurd (taken_alone _ _ _ once_taken alone mistake);
+      alone = λ word is. absurd (taken_alone _ _ _ (alone_taken word).free is mistake);
       help = λ alone. absurd (help_or_version (sym (asked_alone _ _ _ _ help_asked alone mistake)));
-      version = λ alone. is.1;
+      version = λ alone. (text, refl, is.1);
     }
-not_taken words kind (Ok (Settle file)) made is = absurd is
-not_taken words kind (Ok (Once file)) made is = absurd is
+not_taken words kind (Ok (task.Text word file)) made is = absurd is
 not_taken words kind (Ok (Create disk overwrite)) made is = absurd is
 not_taken words kind (Ok (Serve disk workers every explain)) made is = absurd is
 not_taken words kind (Ok (Attend disk runners turns workers scripts)) made is = absurd is
@@ -344,20 +289,17 @@ not_taken words kind (Ok (Reduce steps nodes partial stats limits format quiet f
 not_taken words kind (Ok (ReduceKept disk begins seconds steps nodes partial stats format quiet file)) made is = absurd is
 not_taken words kind (Ok (ReduceByRounds rounds workers partial file)) made is = absurd is
 not_taken words kind (Ok (Trace rounds format file)) made is = absurd is
-not_taken words kind (Ok (Draw file)) made is = absurd is
 not_taken words kind (Ok (Dump disk names)) made is = absurd is
 not_taken words kind (Ok (Inspect disk format)) made is = absurd is
 not_taken words kind (Ok (Check files format script)) made is = absurd is
 not_taken words kind (Ok (Batch disk rounds every workers lines)) made is = absurd is
-not_taken words kind (Ok (Expand file)) made is = absurd is
 not_taken words kind (Err (Words text)) made is =
     let mistake = made is.0 in
     record {
       answers = (kind, among_all _ _ _ mistake, is.1, is.2);
       named = tt;
-      settle = λ alone. taken_alone _ _ _ settle_taken alone mistake;
-      once = λ alone. taken_alone _ _ _ once_taken alone mistake;
+      alone = λ word is. taken_alone _ _ _ (alone_taken word).free is mistake;
       help = λ alone. absurd (is.1 (asked_alone _ _ _ _ help_asked alone mistake));
       version = λ alone. absurd (is.2 (asked_alone _ _ _ _ version_asked alone mistake));
     }
-not_taken words kind (Err Memory) made is = record { answers = tt; named = tt; settle = λ alone. tt; once = λ alone. tt; help = λ alone. tt; version = λ alone. tt }
+not_taken words kind (Err Memory) made is = record { answers = tt; named = tt; alone = λ word is. tt; help = λ alone. tt; version = λ alone. tt }

@@ -12,14 +12,14 @@ use Rattle.clap.specs.declared.error.ErrorKind.TheVariants as kind
 use Rattle.clap.specs.declared.builder.value_parser.ValueParser.{ValueParser}
 use Rattle.clap.specs.declared.builder.value_parser.ValueParser.TheVariants as vp
 use Rattle.clap.specs.declared.parser.matches.ValueSource.TheVariants.{CommandLine, DefaultValue}
-use Rattle.ic_args.specs.Words.{flag}
+use Rattle.ic_args.specs.Words.{a_flag, rule_for}
 use Rattle.ic_args.proofs.LineRows.{found_in, found_last}
 use Rattle.ic_args.proofs.OneValue.{Each, Good, Passes, at_end}
 use Rattle.ic_args.proofs.Options.{Fits, other_values}
 
 -- a flag as it is built
 abbrev pub built_flag : Text → Rule
-built_flag name = with_index 1 (filled (flag name))
+built_flag name = with_index 1 (filled (rule_for (a_flag name)))
 
 -- the row of a flag that is given, and the one of its default
 abbrev pub flag_row : Text → Row

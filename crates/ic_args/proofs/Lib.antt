@@ -10,20 +10,15 @@ pub mod OptionLines
 pub mod OptionNumbers
 pub mod Accepted
 pub mod Arguments
+pub mod Entries
+pub mod EntryLines
 pub mod Commands
+pub mod Formats
 pub mod LineEnds
-pub mod TextLines
-pub mod TraceLines
-pub mod CheckLines
-pub mod InspectLines
+pub mod TextWords
 pub mod ReduceLines
-pub mod ServeLines
-pub mod BatchLines
 pub mod Flags
 pub mod Steps
 pub mod LineRows
-pub mod CreateLines
-pub mod DumpLines
 mod NoCommand
 mod HelpLemmas
-pub mod AttendLines

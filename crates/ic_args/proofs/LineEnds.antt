@@ -1,19 +1,19 @@
 -- Lines of words that are read to their end: nothing is wrong with them, and these are their rows.
-use Rattle.std.proofs.Common.{◌≡◌, List, [], ◌∷◌, ◌++◌, Bool, true, false, not, ◌||◌, cond, Option, Some, fold, refl, sym, ◌∙◌, ap, ap₂, append-nil, unwrap_or}
+use Rattle.std.proofs.Common.{◌≡◌, List, [], ◌∷◌, ◌++◌, Bool, true, false, ◌||◌, cond, Option, Some, fold, refl, sym, ◌∙◌, ap, ap₂, append-nil, unwrap_or}
 use Rattle.std.specs.List.{AllByRecursion}
 use Rattle.std.specs.Option.{option_map_or}
 use Rattle.clap.specs.Words.{Kinds, Row, Rule, Text, fault_of, subcommand_of}
 use Rattle.clap.specs.Facts.{explicit_source}
 use Rattle.clap.specs.Takes.{is_given}
-use Rattle.clap.specs.Kinds.{check_kinds, or_else}
+use Rattle.clap.specs.Kinds.{or_else}
 use Rattle.clap.specs.Simple.{Shape}
-use Rattle.clap.specs.Walk.{Held, Walk, finished, first_of, nothing_held, settled, walk, walk_from, walked, with_default}
+use Rattle.clap.specs.Walk.{Held, Walk, finished, nothing_held, settled, walk, walk_from, walked, with_default}
 use Rattle.clap.specs.Faults.{check_fault, default_fault, defaults_fault, level_fault, settle_fault, walk_fault}
 use Rattle.ic_args.specs.Words.{command_line}
 use Rattle.ic_args.specs.inner.Asking.{IsMet}
 use Rattle.ic_args.proofs.Arguments.{ReadsArgument}
 use Rattle.clap.specs.declared.parser.matches.ValueSource.TheVariants.{CommandLine}
-use Rattle.ic_args.proofs.LineRows.{IsFoundRow, first_value, found_in}
+use Rattle.ic_args.proofs.LineRows.{IsFoundRow, found_in}
 use Rattle.ic_args.proofs.OptionLines.{found_all}
 use Rattle.ic_args.proofs.Steps.{Leads, at, leads_more, level}
 use Rattle.ic_args.proofs.WordsExact.{IsCommand, free_by, met_by, name_met}
@@ -51,13 +51,6 @@ given_there name value rows found = given_row name rows found.row found.found fo
 
 abbrev pub text : Option Text → Text
 text o = unwrap_or o []
-
-pub value_there : (name value : Text) (rows : List Row) → IsFoundRow name value rows → text (first_of name rows) ≡ value
-value_there name value rows found = ap text (first_value name value rows found.row found.found found.values)
-
--- the checks at the end, where one argument has to be given
-abbrev pub checks : Bool → Kinds
-checks given = check_kinds false false (not given || false)
 
 -- ---- the line
 

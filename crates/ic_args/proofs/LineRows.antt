@@ -120,32 +120,6 @@ module _ (id : Text) (parser : ValueParser) (required : Bool) where
   abbrev default_row : Text → Row
   default_row v = record { id = id; values = v ∷ []; count = None; source = Some DefaultValue; reading = reading_of parser }
 
-  pub still_found : (default : Option Text) (other : Text) (rows : List Row) (r : Row) → found_in other rows ≡ Some r
-      → found_in other (with_default rows (one_value id id default parser required)) ≡ Some r
-  still_found None other rows r is = go (has_row id rows)
-    where
-      go : (b : Bool) → found_in other (cond b rows rows) ≡ Some r
-      go true = is
-      go false = is
-  still_found (Some v) other rows r is = go (has_row id rows) refl
-    where
-      go : (b : Bool) → has_row id rows ≡ b → found_in other (cond b rows (with_values id (reading_of parser) DefaultValue (v ∷ []) rows)) ≡ Some r
-      go true has = is
-      go false has = ap (found_in other) (at_end id (more_values DefaultValue (v ∷ [])) (default_row v ∷ []) rows has) ∙ found_more other rows (default_row v ∷ []) r is
-
-  pub still_none : (default : Option Text) (other : Text) (rows : List Row) → bytes_eq id other ≡ false → has_row other rows ≡ false
-      → has_row other (with_default rows (one_value id id default parser required)) ≡ false
-  still_none None other rows differs is = go (has_row id rows)
-    where
-      go : (b : Bool) → has_row other (cond b rows rows) ≡ false
-      go true = is
-      go false = is
-  still_none (Some v) other rows differs is = go (has_row id rows) refl
-    where
-      go : (b : Bool) → has_row id rows ≡ b → has_row other (cond b rows (with_values id (reading_of parser) DefaultValue (v ∷ []) rows)) ≡ false
-      go true has = is
-      go false has = ap (has_row other) (at_end id (more_values DefaultValue (v ∷ [])) (default_row v ∷ []) rows has) ∙ row_behind other rows (default_row v) is differs
-
   pub default_found : (v : Text) (rows : List Row) → bytes_eq id id ≡ true → has_row id rows ≡ false
       → found_in id (with_default rows (one_value id id (Some v) parser required)) ≡ Some (default_row v)
   default_found v rows same none =

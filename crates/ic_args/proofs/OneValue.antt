@@ -173,16 +173,3 @@ module _ (target : Text) (q : ValueParser) where
       go : (b : Bool) → has_row id rows ≡ b → has_row target (cond b rows (with_values id (reading_of parser) DefaultValue (v ∷ []) rows)) ≡ true
       go true has = ap (λ t. has_row t rows) same ∙ has
       go false has = ap (has_row target) (at_end id (more_values DefaultValue (v ∷ [])) _ rows has) ∙ has_last rows _ is
-
-  pub default_keeps : (id long : Text) (default : Option Text) (parser : ValueParser) (required : Bool) (rows : List Row) → has_row target rows ≡ true
-      → has_row target (with_default rows (one_value id long default parser required)) ≡ true
-  default_keeps id long None parser required rows there = go (has_row id rows)
-    where
-      go : (b : Bool) → has_row target (cond b rows rows) ≡ true
-      go true = there
-      go false = there
-  default_keeps id long (Some v) parser required rows there = go (has_row id rows) refl
-    where
-      go : (b : Bool) → has_row id rows ≡ b → has_row target (cond b rows (with_values id (reading_of parser) DefaultValue (v ∷ []) rows)) ≡ true
-      go true has = there
-      go false has = ap (has_row target) (at_end id (more_values DefaultValue (v ∷ [])) _ rows has) ∙ has_append rows _ there

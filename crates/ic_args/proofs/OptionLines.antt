@@ -1,20 +1,20 @@
 -- Options that are written one behind the other, in any order: what they leave behind, whichever command has them.
-use Rattle.std.proofs.Common.{◌≡◌, inl, inr, ◌⊎◌, List, [], ◌∷◌, ◌++◌, Bool, true, false, cond, Option, None, Some, fold, refl, sym, ◌∙◌, ap, ap₂, subst, append-nil, append_assoc}
+use Rattle.std.proofs.Common.{◌≡◌, List, [], ◌∷◌, ◌++◌, Bool, true, false, cond, Option, None, Some, fold, refl, sym, ◌∙◌, ap, subst, append-nil, append_assoc}
 use Rattle.std.specs.List.{AllByRecursion}
 use Rattle.std.specs.Option.{option_map_or}
 use Rattle.std.specs.Str.{bytes_eq}
 use Rattle.clap.specs.Words.{Rule, Row, Text}
 use Rattle.clap.specs.Simple.{Shape}
-use Rattle.clap.specs.Kinds.{or_else, value_kinds}
+use Rattle.clap.specs.Kinds.{value_kinds}
 use Rattle.clap.specs.Lexer.{long_of}
-use Rattle.clap.specs.Walk.{Held, Walk, arg_by_id, arg_by_long, default_rows, finished, first_of, has_row, more_values, nothing_held, reading_by, rows_after, settled, walk, walk_from, walked, with_default}
-use Rattle.clap.specs.Faults.{check_fault, defaults_fault, level_fault, settle_fault, walk_fault}
+use Rattle.clap.specs.Walk.{Held, arg_by_id, arg_by_long, default_rows, has_row, more_values, reading_by, settled, with_default}
+use Rattle.clap.specs.Faults.{settle_fault}
 use Rattle.clap.specs.declared.builder.value_parser.ValueParser.{ValueParser}
 use Rattle.clap.specs.declared.parser.matches.ValueSource.TheVariants.{DefaultValue}
-use Rattle.ic_args.specs.Lines.{AreOnce, AreWrittenBy, Given, HasValue, IsWritten}
+use Rattle.ic_args.specs.Lines.{AreOnce, AreWrittenBy, Given, IsWritten}
 use Rattle.ic_args.proofs.OneValue.{at_end, one_value}
-use Rattle.ic_args.proofs.Steps.{Leads, at, dashes, leads_more, leads_none, level, reads_one, row_with}
-use Rattle.ic_args.proofs.LineRows.{AreFresh, AreRowsOf, IsFoundRow, IsRowOf, default_found, first_value, found_in, found_more, fresh_behind, fresh_first, given_found, not_given, row_behind}
+use Rattle.ic_args.proofs.Steps.{Leads, at, dashes, leads_more, leads_none, reads_one, row_with}
+use Rattle.ic_args.proofs.LineRows.{AreFresh, AreRowsOf, IsRowOf, found_in, found_more, fresh_behind, row_behind}
 
 -- the argument has a value that isn't settled yet
 abbrev pub is_held : Text → Held → Bool
@@ -86,50 +86,6 @@ module _ (base : Shape) (c : List Rule) (aside : Text) where
           apart = all.apart;
         }
 
-  -- ---- a line of options alone
-
-  -- it is read without a fault, and leaves these rows
-  pub record IsRead (gs : List Given) (rest : List Text) : Type 0 where
-    pub walks : walk_fault (level base c) [] (walk_from nothing_held) rest ≡ []
-    pub held : Held
-    pub ends : (walk c [] nothing_held rest).held ≡ held
-    pub settles : settle_fault c false held ≡ []
-    pub rows : List Row
-    pub are : (settled c held).rows ≡ rows
-    pub of : AreRowsOf gs rows
-
-  no_words : (w : Walk) → walk_fault (level base c) [] w [] ≡ []
-  unfolding walk_fault
-  no_words w = refl
-
-  pub line_read : (IsOption : Given → Type 0) (Writes : Given → List Text → Type 0)
-      → ((g : Given) → IsOption g → (words : List Text) → Writes g words → (h : Held) → settle_fault c false h ≡ [] → has_row g.name (settled c h).rows ≡ false → ReadsGiven g words h)
-      → (gs : List Given) → AllByRecursion IsOption gs → AreOnce gs → (rest : List Text) → AreWrittenBy Writes gs rest → IsRead gs rest
-  line_read IsOption Writes reads gs sorts once rest written =
-      let all = all_read IsOption Writes reads gs sorts once rest written nothing_held refl (fresh_first gs) refl in
-      let ends = all.leads [] in
-      let same : rest ++ [] ≡ rest = append-nil rest in
-      record {
-        walks = ap (walk_fault (level base c) [] (walk_from nothing_held)) (sym same) ∙ ends.0 ∙ no_words (at base c all.behind);
-        held = all.behind;
-        ends = ap (λ (w : Walk). w.held) (ap (fold (walked c []) (walk_from nothing_held)) (sym same) ∙ ends.1);
-        settles = all.settles;
-        rows = all.more;
-        are = all.rows;
-        of = all.of;
-      }
-
-  -- behind it nothing is wrong with the command, and its rows are these with the defaults
-  pub nothing_wrong : (gs : List Given) (rest : List Text) (line : IsRead gs rest) → defaults_fault line.rows c ≡ []
-      → check_fault (level base c) (fold with_default line.rows c) false ≡ [] → level_fault (level base c) [] nothing_held rest false [] ≡ []
-  nothing_wrong gs rest line defaults checks =
-      let at_end : or_else (settle_fault c false line.held) (or_else (defaults_fault (settled c line.held).rows c) (check_fault (level base c) (finished c line.held) false)) ≡ [] =
-      ap₂ or_else line.settles (ap (λ (rs : List Row). or_else (defaults_fault rs c) (check_fault (level base c) (fold with_default rs c) false)) line.are ∙ ap₂ or_else defaults checks) in
-      ap₂ or_else line.walks (ap (λ (h : Held). or_else (settle_fault c false h) (or_else (defaults_fault (settled c h).rows c) (check_fault (level base c) (finished c h) false))) line.ends ∙ at_end)
-
-  pub rows_behind : (gs : List Given) (rest : List Text) (line : IsRead gs rest) → rows_after c [] rest ≡ fold with_default line.rows c
-  rows_behind gs rest line = ap (finished c) line.ends ∙ ap (λ (rs : List Row). fold with_default rs c) line.are
-
 -- ---- rows behind the defaults
 
 -- a row that is found stays
@@ -161,36 +117,3 @@ none_stays a id rows other none = go (has_row a.id rows) refl (of_default a.defa
         → has_row id (cond b rows (default_rows a.id (reading_by a) a.defaults rows)) ≡ false
     go true e rest = none
     go false e rest = rest e
-
-pub none_all : (c : List Rule) (id : Text) (rows : List Row) → AllByRecursion (λ a. bytes_eq a.id id ≡ false) c → has_row id rows ≡ false
-    → has_row id (fold with_default rows c) ≡ false
-none_all [] id rows others none = none
-none_all (a ∷ c) id rows others none = none_all c id (with_default rows a) others.1 (none_stays a id rows others.0 none)
-
--- an option is found with this value, or isn't and has its default
-abbrev pub Stands : Text → Text → Text → List Row → Type 0
-Stands name default value rows = IsFoundRow name value rows ⊎ ((has_row name rows ≡ false) × (value ≡ default))
-
-pub stands_given : (gs : List Given) (rows : List Row) (name default value : Text) → AreRowsOf gs rows → AreOnce gs → HasValue gs name default value
-    → Stands name default value rows
-stands_given gs rows name default value are once (inl gives) = inl (given_found gs rows name value are once gives)
-stands_given gs rows name default value are once (inr default_is) = inr (not_given gs rows name are default_is.0, default_is.1)
-
-pub stands_more : (name default value : Text) (rows : List Row) (r : Row) → bytes_eq r.id name ≡ false → Stands name default value rows
-    → Stands name default value (rows ++ r ∷ [])
-stands_more name default value rows r other (inl found) =
-    inl (record { row = found.row; found = found_more name rows (r ∷ []) found.row found.found; values = found.values; source = found.source })
-stands_more name default value rows r other (inr none) = inr (row_behind name rows r none.0 other, none.1)
-
-pub option_value : (name default value : Text) (parser : ValueParser) (before behind : List Rule) (rows : List Row) → AllByRecursion (λ a. bytes_eq a.id name ≡ false) before
-    → bytes_eq name name ≡ true → Stands name default value rows
-    → first_of name (fold with_default (with_default (fold with_default rows before) (one_value name name (Some default) parser false)) behind) ≡ Some value
-option_value name default value parser before behind rows others same (inl found) =
-    let a = one_value name name (Some default) parser false in
-    let first = fold with_default rows before in
-    first_value name value _ found.row (found_all behind name (with_default first a) found.row (found_stays a name first found.row (found_all before name rows found.row found.found))) found.values
-option_value name default value parser before behind rows others same (inr none) =
-    let a = one_value name name (Some default) parser false in
-    let first = fold with_default rows before in
-    let found = default_found name parser false default first same (none_all before name rows others none.0) in
-    first_value name value _ _ (found_all behind name (with_default first a) _ found) (ap (λ (v : Text). v ∷ []) (sym none.1))

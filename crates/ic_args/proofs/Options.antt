@@ -106,8 +106,3 @@ module _ (target : Text) (q : ValueParser) where
         let held = walk_good base c (Good target q) (sound_all c all) words (walk_from nothing_held) parts.0 tt in
         let good : Each (Good target q) rows = settled_good base c (Good target q) (sound_all c all) end ends.0 held in
         found target q (finished c end) (defaults_all c all rows checks.0 good) there
-
-    -- an option with a default has one
-    pub option_found : (words : List Text) → level_fault level [] nothing_held words false [] ≡ []
-        → ((rows : List Row) → has_row target (fold with_default rows c) ≡ true) → IsFound target q (rows_after c [] words)
-    option_found words free there = option_if words free (there (settled c (walk c [] nothing_held words).held).rows)

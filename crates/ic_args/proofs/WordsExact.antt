@@ -1,5 +1,5 @@
 -- The words in which the parser finds no mistake: the first of them names a command.
-use Rattle.std.proofs.Common.{◌≡◌, ℕ, List, [], ◌∷◌, ◌++◌, Bool, true, false, cond, ◌&&◌, ◌||◌, Option, None, Some, length, slice_get, drop, fold, map, find, is_some, option_map, unwrap_or, append-nil, append_assoc, codes, refl, sym, ◌∙◌, ap, ap₂, true≢false, ◌⊎◌, inl, inr}
+use Rattle.std.proofs.Common.{◌≡◌, ℕ, List, [], ◌∷◌, ◌++◌, Bool, true, false, cond, ◌&&◌, ◌||◌, Option, None, Some, length, slice_get, drop, fold, map, find, is_some, option_map, append-nil, append_assoc, codes, refl, sym, ◌∙◌, ap, ap₂, true≢false, ◌⊎◌, inl, inr}
 use Rattle.std.specs.Option.{option_map_or}
 use Rattle.std.specs.Str.{bytes_eq, chars}
 use Rattle.std.proofs.lemmas.Slice.Eq.{bytes_eq-Decides}
@@ -13,8 +13,8 @@ use Rattle.clap.specs.Faults.{bundle_fault, bundle_step_fault, check_fault, defa
 use Rattle.clap.specs.declared.error.ErrorKind.TheVariants as kind
 use Rattle.clap.proofs.OnLiterals.{clap_on_literals}
 use Rattle.std.specs.List.{AllByRecursion}
-use Rattle.ic_args.specs.Words.{command_line, BeginsWith}
-use Rattle.ic_args.specs.inner.Asking.{IsIn, IsMet, commands}
+use Rattle.ic_args.specs.Words.{command_line, commands, BeginsWith}
+use Rattle.ic_args.specs.inner.Asking.{IsIn, IsMet}
 use Rattle.ic_args.proofs.Steps.{level}
 
 both_empty : (a b : Kinds) → or_else a b ≡ [] → (a ≡ []) × (b ≡ [])
@@ -34,9 +34,6 @@ rules = help ∷ version ∷ []
 
 abbrev pub top : Shape
 top = (built command_line).top
-
-abbrev pub below : ℕ → Shape
-below k = unwrap_or (slice_get (built command_line).subs k) top
 
 -- the commands below the program
 abbrev pub names_of_all : List Text → Names

@@ -1,6 +1,7 @@
 -- What the parser's contract says of the program's words.
-use Rattle.std.proofs.Common.{◌≡◌, ◌≢◌, ℕ, List, [], ◌∷◌, Bool, true, false, not, ◌&&◌, ◌||◌, cond, Option, None, Some, codes, map, refl, sym, ◌∙◌, ap, ap₂, subst, inl, inr, true≢false}
-use Rattle.std.specs.Prelude.{option_map, unwrap_or}
+use Rattle.std.proofs.Common.{◌≡◌, ◌≢◌, ℕ, List, [], ◌∷◌, Bool, true, false, not, ◌&&◌, ◌||◌, cond, Option, None, Some, codes, map, refl, sym, ◌∙◌, ap, ap₂, subst, inl, inr}
+use Rattle.std.specs.Prelude.{find, option_map, unwrap_or}
+use Rattle.std.specs.Option.{option_map_or}
 use Rattle.std.specs.Borrow.{Bor}
 use Rattle.clap.specs.Words.{App, HasKind, HasMatchesOf, IsAmong, Kinds, all_of, fault_of, first_of, matched_of, raw_values, is_simple, is_simple_and_free, kind_of, rows_of, subcommand_of, subcommand_rows_of}
 use Rattle.clap.specs.Walk.{Row, Text}
@@ -13,24 +14,14 @@ use Rattle.clap.specs.Matches.{first_value}
 use Rattle.clap.specs.declared.parser.matches.Found.{Found}
 use Rattle.clap.proofs.WalkLemmas.{first_value-rows, raw_values-rows}
 use Rattle.std.specs.Str.{bytes_eq}
-use Rattle.std.proofs.lemmas.Slice.Eq.{bytes_eq-Decides}
 use Rattle.clap.specs.Kinds.{or_else}
-use Rattle.ic_args.specs.Words.{BeginsWith, asks_in_place, asks_kept, asks_rounds, clashes, command_line, format_mistakes, has_help, help_mistakes, is_format, is_given, figures_met, is_figures, is_limits, is_met, limits_met, own_mistakes, reduce_faults, reduce_mistakes, value_if_met, value_met, values_met, is_report_format, report_mistakes, tells_report}
-use Rattle.ic_args.specs.inner.Asking.{IsIn, IsMet, commands, TellsReport}
+use Rattle.ic_args.specs.Words.{BeginsWith, commands, asks_in_place, asks_kept, asks_rounds, clashes, command_line, has_help, is_format, is_given, figures_met, is_figures, is_limits, limits_met, own_faults, own_mistakes, reduce_faults, value_if_met, value_met, values_met, is_report_format}
+use Rattle.ic_args.specs.inner.Asking.{IsIn, IsMet, TellsReport}
 use Rattle.ic_args.proofs.WordsExact.{IsCalled, first_met}
 
 command_line_simple : is_simple_and_free command_line ≡ true
 unfolding clap_on_literals
 command_line_simple = refl
-
--- a command alone has no mistake
-pub settle_taken : fault_of command_line (codes "settle" ∷ []) ≡ []
-unfolding clap_on_literals
-settle_taken = refl
-
-pub once_taken : fault_of command_line (codes "once" ∷ []) ≡ []
-unfolding clap_on_literals
-once_taken = refl
 
 -- what asks for help, and for the version, is that alone
 pub help_asked : fault_of command_line (codes "--help" ∷ []) ≡ DisplayHelp ∷ []
@@ -102,147 +93,36 @@ pub rows_met : (app : App) (words : List Text) (m : ArgMatches) → app ≡ comm
     → subcommand_rows_of m ≡ subcommand_of command_line words
 rows_met app words m is matches = (matches (ap is_simple is ∙ simple)).1 ∙ ap (λ a. subcommand_of a words) is
 
--- words of which one command was met aren't another one alone
-pub no_other_alone : (one other : Text) (words : List Text) → IsMet one (subcommand_of command_line words) → command_of (other ∷ []) ≡ Some other
-    → bytes_eq one other ≡ false → words ≡ other ∷ [] → ⊥
-no_other_alone one other words met alone differs is =
-    let same : one ≡ other = one_met one other _ met (ap command_of is ∙ alone) in
-    true≢false (sym ((bytes_eq-Decides one other).1 same) ∙ differs)
+-- where one command alone was written, that is met
+pub alone_met : (one other : Text) (words : List Text) → IsIn other commands → IsMet one (subcommand_of command_line words) → words ≡ other ∷ [] → one ≡ other
+alone_met one other words is met alone = one_met one other (subcommand_of command_line words) met (ap command_of alone ∙ first_met other [] is)
 
-pub settle_met : command_of (codes "settle" ∷ []) ≡ Some (codes "settle")
-settle_met = first_met (codes "settle") [] (inl refl)
+-- ---- mistakes of a command's own
 
-pub once_met : command_of (codes "once" ∷ []) ≡ Some (codes "once")
-once_met = first_met (codes "once") [] (inr (inl refl))
+abbrev Faults : Type 0
+Faults = Option (Text × List Row) → Kinds
 
--- ---- formats
+-- what a command of this name has
+pub own_of : (name : Text) (met : Option (Text × List Row)) → IsMet name met
+    → own_mistakes met ≡ option_map_or (λ (p : Text × Faults). p.1 met) (find (λ (p : Text × Faults). bytes_eq name p.0) own_faults) []
+own_of name None is = cc
+own_of name (Some m) is =
+    let same : m.0 ≡ name = ap (λ (o : Option Text). unwrap_or o []) is in
+    ap (λ (t : Text). option_map_or (λ (p : Text × Faults). p.1 (Some m)) (find (λ (p : Text × Faults). bytes_eq t p.0) own_faults) []) same
 
--- another command has no format, and so no mistake in it
-pub no_format : (one : Text) (met : Option (Text × List Row)) → IsMet one met → bytes_eq one (codes "trace") ≡ false → format_mistakes met ≡ []
-no_format one None is other = refl
-no_format one (Some p) is other =
-    let same : p.0 ≡ one = ap (λ (o : Option Text). unwrap_or o []) is in
-    ap (λ (b : Bool). cond (b && not (is_format (value_met (codes "format") (Some p)))) (InvalidValue ∷ []) []) (ap (λ (n : Text). bytes_eq n (codes "trace")) same ∙ other)
+-- none, where the format is one that there is
+pub trace_is : (met : Option (Text × List Row)) (known : Bool) → IsMet (codes "trace") met → is_format (value_met (codes "format") met) ≡ known → own_mistakes met ≡ cond known [] (InvalidValue ∷ [])
+trace_is met known is format = own_of (codes "trace") met is ∙ ap (λ (b : Bool). cond b [] (InvalidValue ∷ [])) format
 
--- nor has one that there is
-pub a_format : (met : Option (Text × List Row)) → is_format (value_met (codes "format") met) ≡ true → format_mistakes met ≡ []
-a_format met is = go (is_met (codes "trace") met) is
-  where
-    go : (b : Bool) → is_format (value_met (codes "format") met) ≡ true → cond (b && not (is_format (value_met (codes "format") met))) (InvalidValue ∷ []) [] ≡ []
-    go true is = ap (λ (c : Bool). cond (not c) (InvalidValue ∷ []) []) is
-    go false is = refl
+pub report_is : (met : Option (Text × List Row)) (known : Bool) → TellsReport met → is_report_format (value_met (codes "format") met) ≡ known → own_mistakes met ≡ cond known [] (InvalidValue ∷ [])
+report_is met known (inl is) format = own_of (codes "check") met is ∙ ap (λ (b : Bool). cond b [] (InvalidValue ∷ [])) format
+report_is met known (inr is) format = own_of (codes "inspect") met is ∙ ap (λ (b : Bool). cond b [] (InvalidValue ∷ [])) format
 
-pub another_format : (met : Option (Text × List Row)) → IsMet (codes "trace") met → is_format (value_met (codes "format") met) ≡ false → format_mistakes met ≡ InvalidValue ∷ []
-another_format None is other = cc
-another_format (Some p) is other =
-    let same : p.0 ≡ codes "trace" = ap (λ (o : Option Text). unwrap_or o []) is in
-    ap₂ (λ (b c : Bool). cond (b && not c) (InvalidValue ∷ []) []) (ap (λ (n : Text). bytes_eq n (codes "trace")) same) other
-
--- the same of the formats of `check` and `inspect`
-abbrev report_by : (checks inspects given : Bool) → Kinds
-report_by checks inspects given = cond ((checks || inspects) && not given) (InvalidValue ∷ []) []
-
-pub no_report : (one : Text) (met : Option (Text × List Row)) → IsMet one met → bytes_eq one (codes "check") ≡ false → bytes_eq one (codes "inspect") ≡ false
-    → report_mistakes met ≡ []
-no_report one None is check inspect = refl
-no_report one (Some p) is check inspect =
-    let same : p.0 ≡ one = ap (λ (o : Option Text). unwrap_or o []) is in
-    ap₂ (λ (c i : Bool). report_by c i (is_report_format (value_met (codes "format") (Some p))))
-    (ap (λ (n : Text). bytes_eq n (codes "check")) same ∙ check) (ap (λ (n : Text). bytes_eq n (codes "inspect")) same ∙ inspect)
-
-pub a_report : (met : Option (Text × List Row)) → is_report_format (value_met (codes "format") met) ≡ true → report_mistakes met ≡ []
-a_report met is = go (tells_report met) is
-  where
-    go : (b : Bool) → is_report_format (value_met (codes "format") met) ≡ true → cond (b && not (is_report_format (value_met (codes "format") met))) (InvalidValue ∷ []) [] ≡ []
-    go true is = ap (λ (c : Bool). cond (not c) (InvalidValue ∷ []) []) is
-    go false is = refl
-
-pub another_report : (met : Option (Text × List Row)) → tells_report met ≡ true → is_report_format (value_met (codes "format") met) ≡ false → report_mistakes met ≡ InvalidValue ∷ []
-another_report met tells other = ap₂ (λ (b c : Bool). cond (b && not c) (InvalidValue ∷ []) []) tells other
-
-check_tells : (met : Option (Text × List Row)) → IsMet (codes "check") met → tells_report met ≡ true
-check_tells None is = cc
-check_tells (Some p) is =
-    let same : p.0 ≡ codes "check" = ap (λ (o : Option Text). unwrap_or o []) is in
-    ap (λ (n : Text). bytes_eq n (codes "check") || bytes_eq n (codes "inspect")) same
-
-inspect_tells : (met : Option (Text × List Row)) → IsMet (codes "inspect") met → tells_report met ≡ true
-inspect_tells None is = cc
-inspect_tells (Some p) is =
-    let same : p.0 ≡ codes "inspect" = ap (λ (o : Option Text). unwrap_or o []) is in
-    ap (λ (n : Text). bytes_eq n (codes "check") || bytes_eq n (codes "inspect")) same
-
--- what `help` comes to, by two tests
-abbrev pub help_by_test : Bool → Bool → Kinds
-help_by_test is has = cond (not is) [] (cond has (DisplayHelp ∷ []) (InvalidSubcommand ∷ []))
-
--- a command that isn't `reduce` has no mistake of it
-pub no_reduce : (one : Text) (met : Option (Text × List Row)) → IsMet one met → bytes_eq one (codes "reduce") ≡ false → reduce_mistakes met ≡ []
-no_reduce one None is other = refl
-no_reduce one (Some p) is other =
-    let same : p.0 ≡ one = ap (λ (o : Option Text). unwrap_or o []) is in
-    ap (λ (b : Bool). cond b (reduce_faults (Some p)) []) (ap (λ (n : Text). bytes_eq n (codes "reduce")) same ∙ other)
-
--- a command that isn't `help` asks for none by itself
-pub no_help : (one : Text) (met : Option (Text × List Row)) → IsMet one met → bytes_eq one (codes "help") ≡ false → help_mistakes met ≡ []
-no_help one None is other = refl
-no_help one (Some p) is other =
-    let same : p.0 ≡ one = ap (λ (o : Option Text). unwrap_or o []) is in
-    ap (λ (b : Bool). help_by_test b (has_help (value_if_met (codes "word") (Some p)))) (ap (λ (n : Text). bytes_eq n (codes "help")) same ∙ other)
-
--- and what `help` comes to, by whether its word names a command
-pub is_help : (met : Option (Text × List Row)) (has : Bool) → IsMet (codes "help") met → has_help (value_if_met (codes "word") met) ≡ has
-    → own_mistakes met ≡ help_by_test true has
-is_help None has is named = cc
-is_help (Some p) has is named =
-    let same : p.0 ≡ codes "help" = ap (λ (o : Option Text). unwrap_or o []) is in
-    ap₂ or_else (no_format (codes "help") (Some p) is refl)
-    (ap₂ or_else (no_report (codes "help") (Some p) is refl refl)
-    (ap₂ or_else (no_reduce (codes "help") (Some p) is refl) (ap₂ help_by_test (ap (λ (n : Text). bytes_eq n (codes "help")) same) named)))
-
-pub no_own : (one : Text) (met : Option (Text × List Row)) → IsMet one met → bytes_eq one (codes "trace") ≡ false → bytes_eq one (codes "check") ≡ false
-    → bytes_eq one (codes "inspect") ≡ false → bytes_eq one (codes "reduce") ≡ false → bytes_eq one (codes "help") ≡ false → own_mistakes met ≡ []
-no_own one met is trace check inspect reduce help =
-    ap₂ or_else (no_format one met is trace) (ap₂ or_else (no_report one met is check inspect) (ap₂ or_else (no_reduce one met is reduce) (no_help one met is help)))
-
--- nor has a `trace` whose format there is, nor a `check`
-pub trace_free : (met : Option (Text × List Row)) → IsMet (codes "trace") met → is_format (value_met (codes "format") met) ≡ true → own_mistakes met ≡ []
-trace_free met is format =
-    ap₂ or_else (a_format met format) (ap₂ or_else (no_report (codes "trace") met is refl refl) (ap₂ or_else (no_reduce (codes "trace") met is refl) (no_help (codes "trace") met is refl)))
-
-pub check_free : (met : Option (Text × List Row)) → IsMet (codes "check") met → is_report_format (value_met (codes "format") met) ≡ true → own_mistakes met ≡ []
-check_free met is format =
-    ap₂ or_else (no_format (codes "check") met is refl) (ap₂ or_else (a_report met format) (ap₂ or_else (no_reduce (codes "check") met is refl) (no_help (codes "check") met is refl)))
-
-pub inspect_free : (met : Option (Text × List Row)) → IsMet (codes "inspect") met → is_report_format (value_met (codes "format") met) ≡ true → own_mistakes met ≡ []
-inspect_free met is format =
-    ap₂ or_else (no_format (codes "inspect") met is refl) (ap₂ or_else (a_report met format) (ap₂ or_else (no_reduce (codes "inspect") met is refl) (no_help (codes "inspect") met is refl)))
-
--- another format of a `check` or an `inspect` is its mistake
-other_format : (met : Option (Text × List Row)) → format_mistakes met ≡ [] → tells_report met ≡ true → is_report_format (value_met (codes "format") met) ≡ false
-    → own_mistakes met ≡ InvalidValue ∷ []
-other_format met free tells other = ap₂ or_else free (ap (λ (ks : Kinds). or_else ks (or_else (reduce_mistakes met) (help_mistakes met))) (another_report met tells other))
-
-pub report_wrong : (met : Option (Text × List Row)) → TellsReport met → is_report_format (value_met (codes "format") met) ≡ false → own_mistakes met ≡ InvalidValue ∷ []
-report_wrong met (inl is) other = other_format met (no_format (codes "check") met is refl) (check_tells met is) other
-report_wrong met (inr is) other = other_format met (no_format (codes "inspect") met is refl) (inspect_tells met is) other
+pub help_is : (met : Option (Text × List Row)) (has : Bool) → IsMet (codes "help") met → has_help (value_if_met (codes "word") met) ≡ has
+    → own_mistakes met ≡ cond has (DisplayHelp ∷ []) (InvalidSubcommand ∷ [])
+help_is met has is named = own_of (codes "help") met is ∙ ap (λ (b : Bool). cond b (DisplayHelp ∷ []) (InvalidSubcommand ∷ [])) named
 
 -- ---- `reduce`
-
-is_reduce : (met : Option (Text × List Row)) → IsMet (codes "reduce") met → reduce_mistakes met ≡ reduce_faults met
-is_reduce None is = cc
-is_reduce (Some p) is =
-    let same : p.0 ≡ codes "reduce" = ap (λ (o : Option Text). unwrap_or o []) is in
-    ap (λ (b : Bool). cond b (reduce_faults (Some p)) []) (ap (λ (n : Text). bytes_eq n (codes "reduce")) same)
-
-pub of_reduce : (met : Option (Text × List Row)) → IsMet (codes "reduce") met → own_mistakes met ≡ reduce_faults met
-of_reduce met is =
-    ap₂ or_else (no_format (codes "reduce") met is refl)
-    (ap₂ or_else (no_report (codes "reduce") met is refl refl) (ap₂ or_else (is_reduce met is) (no_help (codes "reduce") met is refl) ∙ alone (reduce_faults met)))
-  where
-    alone : (kinds : Kinds) → or_else kinds [] ≡ kinds
-    alone [] = refl
-    alone (k ∷ ks) = refl
 
 -- the limits and the format are some that there are
 abbrev pub are_known : Option (Text × List Row) → Bool

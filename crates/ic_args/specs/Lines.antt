@@ -2,7 +2,8 @@
 use Rattle.std.specs.Prelude.{◌≡◌, ◌≢◌, ◌⊎◌, ◌<◌, ◌≤◌, ◌^◌, ℕ, Bool, true, false, List, [], ◌∷◌, ◌++◌, codes, length, Option, None, Some}
 use Rattle.std.specs.List.{AllByRecursion}
 use Rattle.clap.specs.Words.{Text}
-use Rattle.ic_args.specs.Words.{IsDecimal, most_rounds, most_steps}
+use Rattle.ic_args.specs.Words.{Choice, Entry, IsDecimal, Kind, a_flag, a_number, a_text, an_option, most_steps}
+use Rattle.ic_args.specs.Words.{attend_entry, batch_entry, check_entry, create_entry, dump_entry, inspect_entry, reduce_entry, serve_entry, trace_entry}
 
 -- an option, and the value that it is given
 pub record Given : Type 0 where
@@ -35,130 +36,42 @@ AreWrittenBy Writes [] words = words ≡ []
 AreWrittenBy Writes (given ∷ more) words = (first : List Text) × (rest : List Text)
     × (words ≡ first ++ rest) × Writes given first × AreWrittenBy Writes more rest
 
--- options with values are written one behind the other
-abbrev pub AreWritten : List Given → List Text → Type 0
-AreWritten given words = AreWrittenBy IsWritten given words
-
 -- a number from the least to the most
 abbrev pub IsWithin : (least most : ℕ) → Text → Type 0
 IsWithin least most text = (number : ℕ) × IsDecimal text number × (least ≤ number) × (number ≤ most)
 
--- an option of `serve` with a value of its own: a disk, or a number in its range
-abbrev pub IsServeValue : Given → Type 0
-IsServeValue given = (given.name ≡ codes "disk")
-    ⊎ (((given.name ≡ codes "workers") × IsWithin 1 64 given.value)
-    ⊎ ((given.name ≡ codes "every") × IsWithin 1 1000000 given.value))
+-- a value that an option of this kind takes
+abbrev pub Takes : Kind → Text → Type 0
+Takes a_text value = Unit {0}
+Takes (a_number least most) value = IsWithin least most value
 
--- the flag of `serve`, whose value is that it is given
-abbrev pub IsServeFlag : Given → Type 0
-IsServeFlag given = (given.name ≡ codes "explain") × (given.value ≡ codes "true")
+-- how an option is given; a flag is one word, and its value is that it is given
+abbrev pub IsGivenAs : Choice → Given → List Text → Type 0
+IsGivenAs (a_flag name) given words =
+    (given.name ≡ name) × (given.value ≡ codes "true") × (words ≡ (45 ∷ 45 ∷ given.name) ∷ [])
+IsGivenAs (an_option name kind default needed) given words =
+    (given.name ≡ name) × Takes kind given.value × IsWritten given words
 
--- how an option of `serve` is written; the flag is one word
-abbrev pub IsServeOption : Given → List Text → Type 0
-IsServeOption given words = (IsServeValue given × IsWritten given words)
-    ⊎ (IsServeFlag given × (words ≡ (45 ∷ 45 ∷ given.name) ∷ []))
-
--- an option of `batch`: a disk, or a number in its range
-abbrev pub IsBatchOption : Given → Type 0
-IsBatchOption given = (given.name ≡ codes "disk")
-    ⊎ (((given.name ≡ codes "rounds") × IsWithin 0 most_rounds given.value)
-    ⊎ (((given.name ≡ codes "every") × IsWithin 1 1000000 given.value)
-    ⊎ ((given.name ≡ codes "workers") × IsWithin 1 64 given.value)))
-
--- an option of `attend`: a disk, or a number in its range
-abbrev pub IsAttendOption : Given → Type 0
-IsAttendOption given = (given.name ≡ codes "disk")
-    ⊎ (((given.name ≡ codes "runners") × IsWithin 0 64 given.value)
-    ⊎ (((given.name ≡ codes "turns") × IsWithin 0 1000000 given.value)
-    ⊎ ((given.name ≡ codes "workers") × IsWithin 1 64 given.value)))
-
--- a number of rounds
-abbrev pub IsRoundsOption : Given → Type 0
-IsRoundsOption given = (given.name ≡ codes "rounds") × IsWithin 0 most_rounds given.value
-
--- an option of `reduce` with a number: of rounds, of threads, of interactions, or of places
-abbrev pub IsReduceNumber : Given → Type 0
-IsReduceNumber given = IsRoundsOption given
-    ⊎ (((given.name ≡ codes "workers") × IsWithin 1 64 given.value)
-    ⊎ (((given.name ≡ codes "steps") × IsWithin 0 most_steps given.value)
-    ⊎ ((given.name ≡ codes "nodes") × IsWithin 0 most_steps given.value)))
-
--- a flag of `reduce`, whose value is that it is given
-abbrev pub IsReduceFlag : Given → Type 0
-IsReduceFlag given = ((given.name ≡ codes "partial") ⊎ (given.name ≡ codes "stats")
-    ⊎ (given.name ≡ codes "quiet-answer")) × (given.value ≡ codes "true")
+-- it is one of these options
+abbrev pub IsOneOf : List Choice → Given → List Text → Type 0
+IsOneOf [] given words = ⊥
+IsOneOf (choice ∷ more) given words = IsGivenAs choice given words ⊎ IsOneOf more given words
 
 -- one of the words of limits
 abbrev pub IsLimitsText : Text → Type 0
 IsLimitsText text = (text ≡ codes "served") ⊎ (text ≡ codes "wide")
 
--- the option of `reduce` with limits
-abbrev pub IsLimitsOption : Given → Type 0
-IsLimitsOption given = (given.name ≡ codes "limits") × IsLimitsText given.value
-
 -- one of the words of formats of figures
 abbrev pub IsFiguresText : Text → Type 0
 IsFiguresText text = (text ≡ codes "lines") ⊎ (text ≡ codes "json")
 
--- the option of `reduce` with such a format
-abbrev pub IsFiguresOption : Given → Type 0
-IsFiguresOption given = (given.name ≡ codes "format") × IsFiguresText given.value
-
--- an option of `reduce` that has a value
-abbrev pub IsReduceValue : Given → Type 0
-IsReduceValue given = IsReduceNumber given ⊎ IsLimitsOption given ⊎ IsFiguresOption given
-
--- how an option of `reduce` is written; a flag is one word
-abbrev pub IsReduceOption : Given → List Text → Type 0
-IsReduceOption given words = (IsReduceValue given × IsWritten given words)
-    ⊎ (IsReduceFlag given × (words ≡ (45 ∷ 45 ∷ given.name) ∷ []))
-
--- one of the formats
+-- one of the formats of `trace`
 abbrev pub IsFormatText : Text → Type 0
 IsFormatText text = (text ≡ codes "tsv") ⊎ (text ≡ codes "svg") ⊎ (text ≡ codes "json")
 
--- an option of `trace`: a number of rounds, or a format
-abbrev pub IsTraceOption : Given → Type 0
-IsTraceOption given = IsRoundsOption given
-    ⊎ ((given.name ≡ codes "format") × IsFormatText given.value)
-
 -- a format of what `check` or `inspect` tells
-abbrev pub IsReportOption : Given → Type 0
-IsReportOption given = (given.name ≡ codes "format")
-    × ((given.value ≡ codes "text") ⊎ (given.value ≡ codes "json"))
-
--- the flag of `check`, whose value is that it is given
-abbrev pub IsCheckFlag : Given → Type 0
-IsCheckFlag given = (given.name ≡ codes "script") × (given.value ≡ codes "true")
-
--- how an option of `check` is written; the flag is one word
-abbrev pub IsCheckOption : Given → List Text → Type 0
-IsCheckOption given words = (IsReportOption given × IsWritten given words)
-    ⊎ (IsCheckFlag given × (words ≡ (45 ∷ 45 ∷ given.name) ∷ []))
-
--- an option of `inspect`: the disk, or a format
-abbrev pub IsInspectOption : Given → Type 0
-IsInspectOption given = (given.name ≡ codes "disk") ⊎ IsReportOption given
-
--- `--overwrite` stands before these words or behind them, or isn't there
-abbrev pub IsOverwriting : Bool → List Text → List Text → Type 0
-IsOverwriting false words line = line ≡ words
-IsOverwriting true words line =
-    (line ≡ codes "--overwrite" ∷ words) ⊎ (line ≡ words ++ codes "--overwrite" ∷ [])
-
--- `create --disk F`, with `--overwrite` or without
-abbrev pub IsCreateLine : Text → Bool → List Text → Type 0
-IsCreateLine disk overwrite words = (option rest : List Text) × (words ≡ codes "create" ∷ rest)
-    × IsOverwriting overwrite option rest
-    × IsWritten (record { name = codes "disk"; value = disk }) option
-
--- `dump --disk F`, and behind it the names of jobs, none of which begins with a hyphen
-pub record IsDumpLine (words : List Text) (path : Text) (names : List Text) : Type 0 where
-  pub front : List Text
-  pub begins : words ≡ codes "dump" ∷ (front ++ names)
-  pub written : IsWritten (record { name = codes "disk"; value = path }) front
-  pub plain : AllByRecursion HasNoHyphen names
-  pub few : length names < 2 ^ 64
+abbrev pub IsReportText : Text → Type 0
+IsReportText text = (text ≡ codes "text") ⊎ (text ≡ codes "json")
 
 -- no option has the name of one behind it
 abbrev pub AreOnce : List Given → Type 0
@@ -185,124 +98,135 @@ abbrev pub HasFlag : List Given → Text → Bool → Type 0
 HasFlag given name true = Gives given name (codes "true")
 HasFlag given name false = HasNone given name
 
--- `serve --disk F`, with `--workers N`, `--every K` and `--explain` or without, in any order, each
--- once
-pub record IsServeLine (words : List Text) (path threads rounds : Text) (told : Bool) : Type 0 where
-  pub given : List Given
-  pub rest : List Text
-  pub begins : words ≡ codes "serve" ∷ rest
-  pub written : AreWrittenBy IsServeOption given rest
-  pub once : AreOnce given
-  pub disk : Gives given (codes "disk") path
-  pub workers : HasValue given (codes "workers") (codes "2") threads
-  pub every : HasValue given (codes "every") (codes "100") rounds
-  pub explain : HasFlag given (codes "explain") told
-
--- `inspect --disk F`, with `--format text|json` or without, in any order, each once
-pub record IsInspectLine (words : List Text) (path shown : Text) : Type 0 where
-  pub given : List Given
-  pub rest : List Text
-  pub begins : words ≡ codes "inspect" ∷ rest
-  pub written : AreWritten given rest
-  pub options : AllByRecursion IsInspectOption given
-  pub once : AreOnce given
-  pub disk : Gives given (codes "disk") path
-  pub format : HasValue given (codes "format") (codes "text") shown
-
--- `attend --disk F`, with `--runners R`, `--turns T` and `--workers N` or without, in any order,
--- each once, and behind them the scripts, none of which begins with a hyphen
-pub record IsAttendLine (words : List Text) (path r t n : Text) (scripts : List Text) : Type 0 where
-  pub given : List Given
-  pub front : List Text
-  pub begins : words ≡ codes "attend" ∷ (front ++ scripts)
-  pub written : AreWritten given front
-  pub options : AllByRecursion IsAttendOption given
-  pub once : AreOnce given
-  pub disk : Gives given (codes "disk") path
-  pub runners : HasValue given (codes "runners") (codes "2") r
-  pub turns : HasValue given (codes "turns") (codes "0") t
-  pub workers : HasValue given (codes "workers") (codes "2") n
-  pub plain : AllByRecursion HasNoHyphen scripts
-  pub few : length scripts < 2 ^ 64
-
--- `check`, with `--format text|json` and `--script` or without, in any order, each once, and after
--- them the paths of files, one at least, none of which begins with a hyphen
-pub record IsCheckLine (words : List Text) (shown : Text) (paths : List Text) (told : Bool) : Type 0 where
-  pub given : List Given
-  pub front : List Text
-  pub begins : words ≡ codes "check" ∷ (front ++ paths)
-  pub written : AreWrittenBy IsCheckOption given front
-  pub once : AreOnce given
-  pub format : HasValue given (codes "format") (codes "text") shown
-  pub script : HasFlag given (codes "script") told
-  pub one : paths ≢ []
-  pub plain : AllByRecursion HasNoHyphen paths
-  pub few : length paths < 2 ^ 64
-
--- `batch --disk F`, with `--rounds N`, `--every K` and `--workers W` or without, in any order, each
--- once, and behind them the path of lines, which begins with no hyphen
-pub record IsBatchLine (words : List Text) (path r k n lines : Text) : Type 0 where
-  pub given : List Given
-  pub front : List Text
-  pub begins : words ≡ codes "batch" ∷ (front ++ lines ∷ [])
-  pub written : AreWritten given front
-  pub options : AllByRecursion IsBatchOption given
-  pub once : AreOnce given
-  pub disk : Gives given (codes "disk") path
-  pub rounds : HasValue given (codes "rounds") (codes "4611686018427387904") r
-  pub every : HasValue given (codes "every") (codes "100") k
-  pub workers : HasValue given (codes "workers") (codes "2") n
-  pub plain : HasNoHyphen lines
-
 -- an option's number: that which it is given, or its default where none is given
 abbrev pub HasNumber : List Given → (name : Text) (default number : ℕ) → Type 0
 HasNumber given name default number =
     ((text : Text) × Gives given name text × IsDecimal text number)
     ⊎ (HasNone given name × (number ≡ default))
 
--- `reduce`, with these options in this order, each once, and its FILE
-pub record IsReduceLine (words : List Text) (given : List Given) (file : Option Text) : Type 0 where
+-- a command, after it options that it has, in any order, each once, and then these words
+pub record IsLine (entry : Entry) (words : List Text) (given : List Given) (rest : List Text)
+    : Type 0 where
   pub front : List Text
-  pub rest : List Text
-  pub begins : words ≡ codes "reduce" ∷ (front ++ rest)
-  pub written : AreWrittenBy IsReduceOption given front
+  pub begins : words ≡ entry.name ∷ (front ++ rest)
+  pub written : AreWrittenBy (IsOneOf entry.options) given front
   pub once : AreOnce given
+
+-- words of which none begins with a hyphen
+abbrev pub ArePlain : List Text → Type 0
+ArePlain words = AllByRecursion HasNoHyphen words × (length words < 2 ^ 64)
+
+-- `create --disk F`, with `--overwrite` or without
+pub record IsCreateLine (path : Text) (overwrite : Bool) (words : List Text) : Type 0 where
+  pub given : List Given
+  pub line : IsLine create_entry words given []
+  pub disk : Gives given (codes "disk") path
+  pub overwrites : HasFlag given (codes "overwrite") overwrite
+
+-- `serve --disk F`, with `--workers N`, `--every K` and `--explain` or without
+pub record IsServeLine (words : List Text) (path threads rounds : Text) (told : Bool) : Type 0 where
+  pub given : List Given
+  pub line : IsLine serve_entry words given []
+  pub disk : Gives given (codes "disk") path
+  pub workers : HasValue given (codes "workers") (codes "2") threads
+  pub every : HasValue given (codes "every") (codes "100") rounds
+  pub explain : HasFlag given (codes "explain") told
+
+-- `attend --disk F`, with `--runners R`, `--turns T` and `--workers N` or without, and behind them
+-- the scripts
+pub record IsAttendLine (words : List Text) (path r t n : Text) (scripts : List Text) : Type 0 where
+  pub given : List Given
+  pub line : IsLine attend_entry words given scripts
+  pub disk : Gives given (codes "disk") path
+  pub runners : HasValue given (codes "runners") (codes "2") r
+  pub turns : HasValue given (codes "turns") (codes "0") t
+  pub workers : HasValue given (codes "workers") (codes "2") n
+  pub plain : ArePlain scripts
+
+-- `dump --disk F`, and behind it the names of jobs
+pub record IsDumpLine (words : List Text) (path : Text) (names : List Text) : Type 0 where
+  pub given : List Given
+  pub line : IsLine dump_entry words given names
+  pub disk : Gives given (codes "disk") path
+  pub plain : ArePlain names
+
+-- `inspect --disk F`, with `--format text|json` or without
+pub record IsInspectLine (words : List Text) (path shown : Text) : Type 0 where
+  pub given : List Given
+  pub line : IsLine inspect_entry words given []
+  pub disk : Gives given (codes "disk") path
+  pub format : HasValue given (codes "format") (codes "text") shown
+  pub known : IsReportText shown
+
+-- `check`, with `--format text|json` and `--script` or without, and after them the paths of files,
+-- one at least
+pub record IsCheckLine (words : List Text) (shown : Text) (paths : List Text) (told : Bool) : Type 0 where
+  pub given : List Given
+  pub line : IsLine check_entry words given paths
+  pub format : HasValue given (codes "format") (codes "text") shown
+  pub known : IsReportText shown
+  pub script : HasFlag given (codes "script") told
+  pub some : paths ≢ []
+  pub plain : ArePlain paths
+
+-- `batch --disk F`, with `--rounds N`, `--every K` and `--workers W` or without, and behind them the
+-- path of lines, which begins with no hyphen
+pub record IsBatchLine (words : List Text) (path r k n lines : Text) : Type 0 where
+  pub given : List Given
+  pub line : IsLine batch_entry words given (lines ∷ [])
+  pub disk : Gives given (codes "disk") path
+  pub rounds : HasValue given (codes "rounds") (codes "4611686018427387904") r
+  pub every : HasValue given (codes "every") (codes "100") k
+  pub workers : HasValue given (codes "workers") (codes "2") n
+  pub plain : HasNoHyphen lines
+
+-- `trace`, with `--rounds N` and `--format tsv|svg|json` or without, and its FILE
+pub record IsTraceLine (words : List Text) (most shown : Text) (file : Option Text) : Type 0 where
+  pub given : List Given
+  pub rest : List Text
+  pub line : IsLine trace_entry words given rest
   pub last : IsFileWord file rest
+  pub rounds : HasValue given (codes "rounds") (codes "1000000") most
+  pub format : HasValue given (codes "format") (codes "tsv") shown
+  pub known : IsFormatText shown
+
+-- `reduce`, with these options in this order, and its FILE
+pub record IsReduceLine (words : List Text) (given : List Given) (file : Option Text) : Type 0 where
+  pub rest : List Text
+  pub line : IsLine reduce_entry words given rest
+  pub last : IsFileWord file rest
+
+-- nothing is said of a file in which it is kept
+pub record AreUnkept (given : List Given) : Type 0 where
+  pub no_keep : HasNone given (codes "keep")
+  pub no_resume : HasNone given (codes "resume")
+  pub no_seconds : HasNone given (codes "seconds")
 
 -- options by which a net is reduced in place: bounds on interactions and on places, three flags, limits,
 -- and a format
 pub record AreInPlace (given : List Given) (s n : ℕ) (p t q : Bool) (l w : Text) : Type 0 where
   pub no_rounds : HasNone given (codes "rounds")
   pub no_workers : HasNone given (codes "workers")
+  pub unkept : AreUnkept given
   pub steps : HasNumber given (codes "steps") most_steps s
   pub nodes : HasNumber given (codes "nodes") 134217728 n
   pub partial : HasFlag given (codes "partial") p
   pub stats : HasFlag given (codes "stats") t
   pub limits : HasValue given (codes "limits") (codes "wide") l
+  pub known_limits : IsLimitsText l
   pub format : HasValue given (codes "format") (codes "lines") w
+  pub known_format : IsFiguresText w
   pub quiet : HasFlag given (codes "quiet-answer") q
 
 -- options by which rounds are made: how many at most, by how many threads, and a flag
 pub record AreOfRounds (given : List Given) (most threads : ℕ) (p : Bool) : Type 0 where
   pub rounds : (text : Text) × Gives given (codes "rounds") text × IsDecimal text most
   pub workers : HasNumber given (codes "workers") 2 threads
+  pub partial : HasFlag given (codes "partial") p
+  pub unkept : AreUnkept given
   pub no_steps : HasNone given (codes "steps")
   pub no_nodes : HasNone given (codes "nodes")
-  pub partial : HasFlag given (codes "partial") p
   pub no_stats : HasNone given (codes "stats")
   pub no_limits : HasNone given (codes "limits")
   pub no_format : HasNone given (codes "format")
   pub no_quiet : HasNone given (codes "quiet-answer")
-
--- `trace`, with `--rounds N` and `--format tsv|svg|json` or without, in any order, each once, and its FILE
-pub record IsTraceLine (words : List Text) (most shown : Text) (file : Option Text) : Type 0 where
-  pub given : List Given
-  pub front : List Text
-  pub rest : List Text
-  pub begins : words ≡ codes "trace" ∷ (front ++ rest)
-  pub written : AreWritten given front
-  pub last : IsFileWord file rest
-  pub options : AllByRecursion IsTraceOption given
-  pub once : AreOnce given
-  pub rounds : HasValue given (codes "rounds") (codes "1000000") most
-  pub format : HasValue given (codes "format") (codes "tsv") shown

@@ -1,8 +1,10 @@
 -- What the words after the program's name ask for (this project's choice).
 use Rattle.std.specs.Prelude.{◌≡◌, ◌≢◌, ◌≤◌, ℕ, Bool, map, List, fold, [], ◌∷◌, ◌++◌, Result, Ok, Err, true, false}
-use Rattle.std.specs.Prelude.{◌||◌, ◌&&◌, not, if◌then◌else◌, bytes_eq}
+use Rattle.std.specs.Prelude.{◌||◌, ◌&&◌, find, not, if◌then◌else◌, bytes_eq}
+use Rattle.std.specs.List.{list_any}
 use Rattle.std.specs.Option.{option_map_or}
-use Rattle.std.specs.Prelude.{codes, string_bytes, Option, Some, None, is_some, option_map, unwrap_or, option_and_then}
+use Rattle.std.specs.Prelude.{codes, string_bytes, Option, Some, None, is_some, option_map, unwrap_or, option_and_then, String}
+use Rattle.std.specs.declared.alloc.Global.{Global}
 use Rattle.std.specs.Str.Parse.{IsNumeral, digits_value, without_leading_plus}
 use Rattle.clap.specs.Words.{App, IsAmong, Kinds, Row, Rule, Shape, Text, all_of, first_of, new_app}
 use Rattle.clap.specs.Words.{fault_of, new_rule, one_of, subcommand_of, with_rule, with_subcommand}
@@ -11,14 +13,17 @@ use Rattle.clap.specs.Lexer.{usize_max}
 use Rattle.clap.specs.Walk.{is_empty}
 use Rattle.clap.specs.Simple.{on_top}
 use Rattle.clap.specs.declared.builder.action.ArgAction.TheVariants.{SetTrue}
+use Rattle.clap.specs.declared.builder.value_parser.ValueParser.{ValueParser}
 use Rattle.clap.specs.declared.builder.value_parser.ValueParser.TheVariants as parser
 use Rattle.clap.specs.declared.error.ErrorKind.{ErrorKind}
 use Rattle.clap.specs.declared.error.ErrorKind.TheVariants.{DisplayHelp, DisplayVersion, InvalidSubcommand, InvalidValue}
 use Rattle.clap.specs.declared.error.ErrorKind.TheVariants.{ArgumentConflict, MissingRequiredArgument}
 use Rattle.ic_args.specs.declared.words.Task.{Task}
-use Rattle.ic_args.specs.declared.words.Task.TheVariants.{Settle, Once, Create, Serve, Attend}
-use Rattle.ic_args.specs.declared.words.Task.TheVariants.{Reduce, ReduceKept, ReduceByRounds, Trace, Draw, Dump, Inspect, Check, Batch, Expand}
-use Rattle.ic_args.specs.declared.words.Task.TheVariants.{Help, Version}
+use Rattle.ic_args.specs.declared.words.Task.TheVariants.{Create, Serve, Attend, Reduce, ReduceKept, ReduceByRounds}
+use Rattle.ic_args.specs.declared.words.Task.TheVariants.{Trace, Dump, Inspect, Check, Batch, Help, Version}
+use Rattle.ic_args.specs.declared.words.Task.TheVariants as task
+use Rattle.ic_args.specs.declared.words.TextWord.{TextWord}
+use Rattle.ic_args.specs.declared.words.TextWord.TheVariants.{Settle, Once, Draw, Expand}
 use Rattle.ic_args.specs.declared.words.ReportFormat.{ReportFormat}
 use Rattle.ic_args.specs.declared.words.ReportFormat.TheVariants as check
 use Rattle.ic_args.specs.declared.words.TraceFormat.{TraceFormat}
@@ -45,63 +50,29 @@ with_settings s = record s {
 abbrev pub program : App
 program = on_top with_settings (new_app (codes "icserve"))
 
--- a command with these options and arguments
-abbrev pub command_with : Text → List Rule → App
-command_with name rules = fold with_rule (new_app name) rules
+-- ---- commands, as rows
 
--- the option `--disk F`, which has to be given
-abbrev pub disk_option : Rule
-disk_option = record (new_rule (codes "disk")) {
-  long = Some (codes "disk");
-  value_names = 1;
-  required = true;
-}
+-- what an option takes: a text, or a number from the least to the most
+pub data Kind : Type 0 where
+  a_text : Kind
+  a_number : (least most : ℕ) → Kind
 
--- the flag `--name`
-abbrev pub flag : Text → Rule
-flag name = record (new_rule name) {
-  long = Some name;
-  action = Some SetTrue;
-}
+-- an option: a flag `--name`; or `--name VALUE`, what it takes, its default, and whether it has to be given
+pub data Choice : Type 0 where
+  a_flag : (name : Text) → Choice
+  an_option : (name : Text) (kind : Kind) (default : Option Text) (needed : Bool) → Choice
 
--- an argument of this name, which may be given once
-abbrev pub optional_argument : Text → Rule
-optional_argument name = record (new_rule name) { value_names = 1 }
+-- what stands after the options: nothing, one word, or several; and whether there has to be one
+pub data Tail : Type 0 where
+  no_words : Tail
+  one_word : (name : Text) (needed : Bool) → Tail
+  many_words : (name : Text) (needed : Bool) → Tail
 
--- the argument `FILE`, which may be given
-abbrev pub input_argument : Rule
-input_argument = optional_argument (codes "file")
-
--- a command that reads a text, and has no option
-abbrev pub text_command : Text → App
-text_command name = command_with name (input_argument ∷ [])
-
-abbrev pub create_command : App
-create_command = command_with (codes "create") (disk_option ∷ flag (codes "overwrite") ∷ [])
-
--- the option `--name` with a text, and its default
-abbrev pub valued_option : (name default : Text) → Rule
-valued_option name default = record (new_rule name) {
-  long = Some name;
-  value_names = 1;
-  defaults = default ∷ [];
-}
-
--- the option `--name` with a number from the least to the most, and its default, or none
-abbrev pub number_option : (name : Text) (least most : ℕ) (defaults : List Text) → Rule
-number_option name least most defaults = record (new_rule name) {
-  long = Some name;
-  value_names = 1;
-  defaults = defaults;
-  parser = Some (parser.Unsigned least most);
-}
-
--- the option `--name` with a text, and no default
-abbrev pub text_option : Text → Rule
-text_option name = record (new_rule name) {
-  long = Some name;
-  value_names = 1;
-}
+-- a command, with its options and what stands after them
+pub record Entry : Type 0 where
+  pub name : Text
+  pub options : List Choice
+  pub tail : Tail
 
 -- the most rounds: 2 ^ 62
 abbrev pub most_rounds : ℕ
@@ -115,102 +86,194 @@ most_steps = 4611686018427387903
 abbrev pub most_seconds : ℕ
 most_seconds = 86400
 
-abbrev pub serve_command : App
-serve_command = command_with (codes "serve") (disk_option
-    ∷ number_option (codes "workers") 1 64 (codes "2" ∷ [])
-    ∷ number_option (codes "every") 1 1000000 (codes "100" ∷ []) ∷ flag (codes "explain") ∷ [])
+-- the option `--disk F`, which has to be given
+abbrev pub disk_option : Choice
+disk_option = an_option (codes "disk") a_text None true
 
--- the arguments `SCRIPT..`, of which there may be any number
-abbrev pub script_argument : Rule
-script_argument = record (new_rule (codes "script")) {
-  range = Some (record { start_inclusive = 0; end_inclusive = usize_max });
-  value_names = 1;
+-- an option with a text, or with a number, and its default
+abbrev pub valued_option : (name default : Text) → Choice
+valued_option name default = an_option name a_text (Some default) false
+
+abbrev pub number_option : (name : Text) (least most : ℕ) (default : Text) → Choice
+number_option name least most default = an_option name (a_number least most) (Some default) false
+
+-- the same without a default
+abbrev pub text_option : Text → Choice
+text_option name = an_option name a_text None false
+
+abbrev pub chosen_option : (name : Text) (least most : ℕ) → Choice
+chosen_option name least most = an_option name (a_number least most) None false
+
+abbrev pub threads_option : Choice
+threads_option = number_option (codes "workers") 1 64 (codes "2")
+
+abbrev pub every_option : Choice
+every_option = number_option (codes "every") 1 1000000 (codes "100")
+
+-- the argument `FILE`, which may be given
+abbrev pub input_word : Tail
+input_word = one_word (codes "file") false
+
+-- a command that reads a text, and has no option
+abbrev pub text_entry : Text → Entry
+text_entry name = record { name = name; options = []; tail = input_word }
+
+abbrev pub create_entry : Entry
+create_entry = record {
+  name = codes "create";
+  options = disk_option ∷ a_flag (codes "overwrite") ∷ [];
+  tail = no_words;
 }
 
-abbrev pub attend_command : App
-attend_command = command_with (codes "attend") (disk_option
-    ∷ number_option (codes "runners") 0 64 (codes "2" ∷ [])
-    ∷ number_option (codes "turns") 0 1000000 (codes "0" ∷ [])
-    ∷ number_option (codes "workers") 1 64 (codes "2" ∷ []) ∷ script_argument ∷ [])
-
-abbrev pub reduce_command : App
-reduce_command = command_with (codes "reduce") (number_option (codes "rounds") 0 most_rounds []
-    ∷ number_option (codes "workers") 1 64 []
-    ∷ number_option (codes "steps") 0 most_steps []
-    ∷ number_option (codes "nodes") 0 most_steps [] ∷ text_option (codes "limits")
-    ∷ text_option (codes "format") ∷ text_option (codes "keep") ∷ text_option (codes "resume")
-    ∷ number_option (codes "seconds") 1 most_seconds [] ∷ flag (codes "partial") ∷ flag (codes "stats")
-    ∷ flag (codes "quiet-answer") ∷ input_argument ∷ [])
-
-abbrev pub trace_command : App
-trace_command = command_with (codes "trace")
-    (number_option (codes "rounds") 0 most_rounds (codes "1000000" ∷ [])
-    ∷ valued_option (codes "format") (codes "tsv") ∷ input_argument ∷ [])
-
--- the argument of `dump` that names jobs, of which there may be any number
-abbrev pub name_argument : Rule
-name_argument = record (new_rule (codes "name")) {
-  range = Some (record { start_inclusive = 0; end_inclusive = usize_max });
-  value_names = 1;
+abbrev pub serve_entry : Entry
+serve_entry = record {
+  name = codes "serve";
+  options = disk_option ∷ threads_option ∷ every_option ∷ a_flag (codes "explain") ∷ [];
+  tail = no_words;
 }
 
-abbrev pub dump_command : App
-dump_command = command_with (codes "dump") (disk_option ∷ name_argument ∷ [])
-
-abbrev pub inspect_command : App
-inspect_command = command_with (codes "inspect")
-    (disk_option ∷ valued_option (codes "format") (codes "text") ∷ [])
-
--- the arguments `FILE..`, of which there is one at least
-abbrev pub file_argument : Rule
-file_argument = record (new_rule (codes "file")) {
-  range = Some (record { start_inclusive = 1; end_inclusive = usize_max });
-  value_names = 1;
-  required = true;
+abbrev pub attend_entry : Entry
+attend_entry = record {
+  name = codes "attend";
+  options = disk_option ∷ number_option (codes "runners") 0 64 (codes "2")
+      ∷ number_option (codes "turns") 0 1000000 (codes "0") ∷ threads_option ∷ [];
+  tail = many_words (codes "script") false;
 }
 
-abbrev pub check_command : App
-check_command = command_with (codes "check")
-    (valued_option (codes "format") (codes "text") ∷ flag (codes "script") ∷ file_argument ∷ [])
-
--- the argument `LINES`, which has to be given
-abbrev pub lines_argument : Rule
-lines_argument = record (new_rule (codes "lines")) {
-  value_names = 1;
-  required = true;
+abbrev pub reduce_entry : Entry
+reduce_entry = record {
+  name = codes "reduce";
+  options = chosen_option (codes "rounds") 0 most_rounds ∷ chosen_option (codes "workers") 1 64
+      ∷ chosen_option (codes "steps") 0 most_steps ∷ chosen_option (codes "nodes") 0 most_steps
+      ∷ text_option (codes "limits") ∷ text_option (codes "format") ∷ text_option (codes "keep")
+      ∷ text_option (codes "resume") ∷ chosen_option (codes "seconds") 1 most_seconds
+      ∷ a_flag (codes "partial") ∷ a_flag (codes "stats") ∷ a_flag (codes "quiet-answer") ∷ [];
+  tail = input_word;
 }
 
-abbrev pub batch_command : App
-batch_command = command_with (codes "batch") (disk_option
-    ∷ number_option (codes "rounds") 0 most_rounds (codes "4611686018427387904" ∷ [])
-    ∷ number_option (codes "every") 1 1000000 (codes "100" ∷ [])
-    ∷ number_option (codes "workers") 1 64 (codes "2" ∷ []) ∷ lines_argument ∷ [])
+abbrev pub trace_entry : Entry
+trace_entry = record {
+  name = codes "trace";
+  options = number_option (codes "rounds") 0 most_rounds (codes "1000000")
+      ∷ valued_option (codes "format") (codes "tsv") ∷ [];
+  tail = input_word;
+}
+
+abbrev pub dump_entry : Entry
+dump_entry = record {
+  name = codes "dump";
+  options = disk_option ∷ [];
+  tail = many_words (codes "name") false;
+}
+
+abbrev pub inspect_entry : Entry
+inspect_entry = record {
+  name = codes "inspect";
+  options = disk_option ∷ valued_option (codes "format") (codes "text") ∷ [];
+  tail = no_words;
+}
+
+abbrev pub check_entry : Entry
+check_entry = record {
+  name = codes "check";
+  options = valued_option (codes "format") (codes "text") ∷ a_flag (codes "script") ∷ [];
+  tail = many_words (codes "file") true;
+}
+
+abbrev pub batch_entry : Entry
+batch_entry = record {
+  name = codes "batch";
+  options = disk_option ∷ number_option (codes "rounds") 0 most_rounds (codes "4611686018427387904")
+      ∷ every_option ∷ threads_option ∷ [];
+  tail = one_word (codes "lines") true;
+}
 
 -- the command that shows the help of a command, or of the program
-abbrev pub help_command : App
-help_command = command_with (codes "help") (optional_argument (codes "word") ∷ [])
+abbrev pub help_entry : Entry
+help_entry = record { name = codes "help"; options = []; tail = one_word (codes "word") false }
 
--- the program with its commands `settle` and `once`
-abbrev pub with_streams : App
-with_streams = with_subcommand (with_subcommand program
-    (text_command (codes "settle")).top) (text_command (codes "once")).top
+-- ---- what the parser is told of them
 
--- the same with `create`, `serve` and `attend`
-abbrev pub with_disks : App
-with_disks = with_subcommand (with_subcommand (with_subcommand with_streams create_command.top)
-    serve_command.top) attend_command.top
+abbrev pub listed : Option Text → List Text
+listed None = []
+listed (Some text) = text ∷ []
 
--- the same with `reduce`, `trace` and `draw`
-abbrev pub with_looks : App
-with_looks = with_subcommand (with_subcommand (with_subcommand with_disks reduce_command.top)
-    trace_command.top) (text_command (codes "draw")).top
+abbrev pub parser_of : Kind → Option ValueParser
+parser_of a_text = None
+parser_of (a_number least most) = Some (parser.Unsigned least most)
 
--- the command line of the program, which has `dump`, `inspect`, `check`, `batch`, `expand` and `help`,
--- too
+abbrev pub rule_for : Choice → Rule
+rule_for (a_flag name) = record (new_rule name) {
+  long = Some name;
+  action = Some SetTrue;
+}
+rule_for (an_option name kind default needed) = record (new_rule name) {
+  long = Some name;
+  value_names = 1;
+  defaults = listed default;
+  parser = parser_of kind;
+  required = needed;
+}
+
+abbrev pub word_rule : (name : Text) (needed : Bool) → Rule
+word_rule name needed = record (new_rule name) {
+  value_names = 1;
+  required = needed;
+}
+
+abbrev pub words_rule : (name : Text) (needed : Bool) → Rule
+words_rule name needed = record (new_rule name) {
+  range = Some (record {
+    start_inclusive = if needed then 1 else 0;
+    end_inclusive = usize_max;
+  });
+  value_names = 1;
+  required = needed;
+}
+
+abbrev pub tail_rules : Tail → List Rule
+tail_rules no_words = []
+tail_rules (one_word name needed) = word_rule name needed ∷ []
+tail_rules (many_words name needed) = words_rule name needed ∷ []
+
+abbrev pub app_for : Entry → App
+app_for entry =
+    fold with_rule (new_app entry.name) (map rule_for entry.options ++ tail_rules entry.tail)
+
+-- a command line with a command more
+abbrev pub with_entry : App → Entry → App
+with_entry whole entry = with_subcommand whole (app_for entry).top
+
+-- the commands that have options, and `help`
+abbrev pub entries : List Entry
+entries = create_entry ∷ serve_entry ∷ attend_entry ∷ reduce_entry ∷ trace_entry ∷ dump_entry
+    ∷ inspect_entry ∷ check_entry ∷ batch_entry ∷ help_entry ∷ []
+
+-- the names of the commands that read a text and have no option
+abbrev pub text_word : TextWord → Text
+text_word Settle = codes "settle"
+text_word Once = codes "once"
+text_word Draw = codes "draw"
+text_word Expand = codes "expand"
+
+-- all of them
+abbrev pub text_words : List TextWord
+text_words = Settle ∷ Once ∷ Draw ∷ Expand ∷ []
+
+abbrev pub is_text_word : Text → Bool
+is_text_word name = list_any (λ word. bytes_eq (text_word word) name) text_words
+
+-- all commands
+abbrev pub all_entries : List Entry
+all_entries = entries ++ map (λ word. text_entry (text_word word)) text_words
+
+-- the command line of the program
 abbrev pub command_line : App
-command_line = with_subcommand (with_subcommand (with_subcommand (with_subcommand (with_subcommand
-    (with_subcommand with_looks dump_command.top) inspect_command.top) check_command.top)
-    batch_command.top) (text_command (codes "expand")).top) help_command.top
+command_line = fold with_entry program all_entries
+
+-- the names of all commands
+abbrev pub commands : List Text
+commands = map (λ entry. entry.name) all_entries
 
 -- the line that tells the version
 abbrev pub version_line : List ℕ
@@ -264,18 +327,12 @@ is_report_format text =
 abbrev pub is_met : Text → Option (Text × List Row) → Bool
 is_met name met = option_map_or (λ p. bytes_eq p.0 name) met false
 
--- the mistake of a `trace` whose format is none
-abbrev pub format_mistakes : Option (Text × List Row) → Kinds
-format_mistakes met = if is_met (codes "trace") met && not (is_format (value_met (codes "format") met))
-    then InvalidValue ∷ [] else []
+-- the mistake of a format that there isn't: of `trace`, and of `check` or `inspect`
+abbrev pub format_faults : Option (Text × List Row) → Kinds
+format_faults met = if is_format (value_met (codes "format") met) then [] else InvalidValue ∷ []
 
--- the mistake of a `check` or an `inspect` whose format is none
-abbrev pub tells_report : Option (Text × List Row) → Bool
-tells_report met = is_met (codes "check") met || is_met (codes "inspect") met
-
-abbrev pub report_mistakes : Option (Text × List Row) → Kinds
-report_mistakes met = if tells_report met && not (is_report_format (value_met (codes "format") met))
-    then InvalidValue ∷ [] else []
+abbrev pub report_faults : Option (Text × List Row) → Kinds
+report_faults met = if is_report_format (value_met (codes "format") met) then [] else InvalidValue ∷ []
 
 -- the option has a value
 abbrev pub is_given : Text → Option (Text × List Row) → Bool
@@ -345,24 +402,24 @@ reduce_faults met = if not (asks_rounds met)
     else if asks_in_place met then ArgumentConflict ∷ []
     else if is_given (codes "rounds") met then [] else MissingRequiredArgument ∷ []
 
--- the mistake of a `reduce`
-abbrev pub reduce_mistakes : Option (Text × List Row) → Kinds
-reduce_mistakes met = if is_met (codes "reduce") met then reduce_faults met else []
-
 -- the word names a command; where there is none, the program is meant
 abbrev pub has_help : Option Text → Bool
 has_help None = true
 has_help (Some word) = is_some (named_help word)
 
 -- what `help` comes to: help is asked for, or the word names no command
-abbrev pub help_mistakes : Option (Text × List Row) → Kinds
-help_mistakes met = if not (is_met (codes "help") met) then []
-    else if has_help (value_if_met (codes "word") met) then DisplayHelp ∷ [] else InvalidSubcommand ∷ []
+abbrev pub help_faults : Option (Text × List Row) → Kinds
+help_faults met = if has_help (value_if_met (codes "word") met) then DisplayHelp ∷ []
+    else InvalidSubcommand ∷ []
 
--- the mistakes of values that are read one by one, and help that is asked for by a command
+-- the mistakes of values that a command reads by itself, and the help that one asks for
+abbrev pub own_faults : List (Text × (Option (Text × List Row) → Kinds))
+own_faults = (codes "trace", format_faults) ∷ (codes "check", report_faults)
+    ∷ (codes "inspect", report_faults) ∷ (codes "reduce", reduce_faults)
+    ∷ (codes "help", help_faults) ∷ []
+
 abbrev pub own_mistakes : Option (Text × List Row) → Kinds
-own_mistakes met = or_else (format_mistakes met) (or_else (report_mistakes met)
-    (or_else (reduce_mistakes met) (help_mistakes met)))
+own_mistakes met = option_map_or (λ p. p.1 met) (find (λ p. is_met p.0 met) own_faults) []
 
 -- the mistakes that words may have: the parser's, and where it finds none those of their values
 abbrev pub mistakes_of : List Text → Kinds
@@ -371,8 +428,7 @@ mistakes_of words = or_else (fault_of command_line words) (own_mistakes (subcomm
 -- What is answered, by the mistakes that the words may have: none, or help or the version that is
 -- asked for, or another.
 abbrev pub AnswersWords : Kinds → Result Task WordsFault → Type 0
-AnswersWords mistakes (Ok (Settle file)) = mistakes ≡ []
-AnswersWords mistakes (Ok (Once file)) = mistakes ≡ []
+AnswersWords mistakes (Ok (task.Text word file)) = mistakes ≡ []
 AnswersWords mistakes (Ok (Create disk overwrite)) = mistakes ≡ []
 AnswersWords mistakes (Ok (Serve disk workers every explain)) = mistakes ≡ []
 AnswersWords mistakes (Ok (Attend disk runners turns workers scripts)) = mistakes ≡ []
@@ -381,12 +437,10 @@ AnswersWords mistakes (Ok (ReduceKept disk begins seconds steps nodes partial st
     mistakes ≡ []
 AnswersWords mistakes (Ok (ReduceByRounds rounds workers partial file)) = mistakes ≡ []
 AnswersWords mistakes (Ok (Trace rounds format file)) = mistakes ≡ []
-AnswersWords mistakes (Ok (Draw file)) = mistakes ≡ []
 AnswersWords mistakes (Ok (Dump disk names)) = mistakes ≡ []
 AnswersWords mistakes (Ok (Inspect disk format)) = mistakes ≡ []
 AnswersWords mistakes (Ok (Check files format script)) = mistakes ≡ []
 AnswersWords mistakes (Ok (Batch disk rounds every workers lines)) = mistakes ≡ []
-AnswersWords mistakes (Ok (Expand file)) = mistakes ≡ []
 AnswersWords mistakes (Ok (Help text)) = IsAmong DisplayHelp mistakes
 AnswersWords mistakes (Ok (Version text)) =
     IsAmong DisplayVersion mistakes × (string_bytes text ≡ version_line)
@@ -394,55 +448,23 @@ AnswersWords mistakes (Err (Words text)) = (mistake : ErrorKind)
     × IsAmong mistake mistakes × (mistake ≢ DisplayHelp) × (mistake ≢ DisplayVersion)
 AnswersWords mistakes (Err Memory) = Unit {0}
 
--- this task is answered, unless a growth was refused
+-- such a task is answered, unless a growth was refused
+abbrev pub GivesOne : (Task → Type 0) → Result Task WordsFault → Type 0
+GivesOne IsSo (Ok answer) = IsSo answer
+GivesOne IsSo (Err (Words text)) = ⊥
+GivesOne IsSo (Err Memory) = Unit {0}
+
+-- this task, the program's help, or the version
 abbrev pub GivesTask : Task → Result Task WordsFault → Type 0
-GivesTask task (Ok answer) = answer ≡ task
-GivesTask task (Err (Words text)) = ⊥
-GivesTask task (Err Memory) = Unit {0}
+GivesTask task answer = GivesOne (λ given. given ≡ task) answer
 
--- the program's help is answered, unless a growth was refused
 abbrev pub GivesHelp : Result Task WordsFault → Type 0
-GivesHelp (Ok (Help text)) = string_bytes text ≡ program_help
-GivesHelp (Err Memory) = Unit {0}
-GivesHelp (Ok (Settle file)) = ⊥
-GivesHelp (Ok (Once file)) = ⊥
-GivesHelp (Ok (Create disk overwrite)) = ⊥
-GivesHelp (Ok (Serve disk workers every explain)) = ⊥
-GivesHelp (Ok (Attend disk runners turns workers scripts)) = ⊥
-GivesHelp (Ok (Reduce steps nodes partial stats limits format quiet file)) = ⊥
-GivesHelp (Ok (ReduceKept disk begins seconds steps nodes partial stats format quiet file)) = ⊥
-GivesHelp (Ok (ReduceByRounds rounds workers partial file)) = ⊥
-GivesHelp (Ok (Trace rounds format file)) = ⊥
-GivesHelp (Ok (Draw file)) = ⊥
-GivesHelp (Ok (Dump disk names)) = ⊥
-GivesHelp (Ok (Inspect disk format)) = ⊥
-GivesHelp (Ok (Check files format script)) = ⊥
-GivesHelp (Ok (Batch disk rounds every workers lines)) = ⊥
-GivesHelp (Ok (Expand file)) = ⊥
-GivesHelp (Ok (Version text)) = ⊥
-GivesHelp (Err (Words text)) = ⊥
+GivesHelp answer =
+    GivesOne (λ given. (text : String Global) × (given ≡ Help text) × (string_bytes text ≡ program_help)) answer
 
--- the version is answered, unless a growth was refused
 abbrev pub GivesVersion : Result Task WordsFault → Type 0
-GivesVersion (Ok (Version text)) = string_bytes text ≡ version_line
-GivesVersion (Err Memory) = Unit {0}
-GivesVersion (Ok (Settle file)) = ⊥
-GivesVersion (Ok (Once file)) = ⊥
-GivesVersion (Ok (Create disk overwrite)) = ⊥
-GivesVersion (Ok (Serve disk workers every explain)) = ⊥
-GivesVersion (Ok (Attend disk runners turns workers scripts)) = ⊥
-GivesVersion (Ok (Reduce steps nodes partial stats limits format quiet file)) = ⊥
-GivesVersion (Ok (ReduceKept disk begins seconds steps nodes partial stats format quiet file)) = ⊥
-GivesVersion (Ok (ReduceByRounds rounds workers partial file)) = ⊥
-GivesVersion (Ok (Trace rounds format file)) = ⊥
-GivesVersion (Ok (Draw file)) = ⊥
-GivesVersion (Ok (Dump disk names)) = ⊥
-GivesVersion (Ok (Inspect disk format)) = ⊥
-GivesVersion (Ok (Check files format script)) = ⊥
-GivesVersion (Ok (Batch disk rounds every workers lines)) = ⊥
-GivesVersion (Ok (Expand file)) = ⊥
-GivesVersion (Ok (Help text)) = ⊥
-GivesVersion (Err (Words text)) = ⊥
+GivesVersion answer =
+    GivesOne (λ given. (text : String Global) × (given ≡ Version text) × (string_bytes text ≡ version_line)) answer
 
 -- the values of an argument of a command that is met, none where it has none
 abbrev pub values_met : Text → Option (Text × List Row) → List Text
@@ -541,8 +563,7 @@ pub record NamesBatch (words : List Text) (path : Text) (r k n : ℕ) (text : Te
 
 -- the words name the task, and the text of help and of the version is this
 abbrev pub Names : List (List ℕ) → Task → Type 0
-Names words (Settle file) = NamesText (codes "settle") words (option_map string_bytes file)
-Names words (Once file) = NamesText (codes "once") words (option_map string_bytes file)
+Names words (task.Text word file) = NamesText (text_word word) words (option_map string_bytes file)
 Names words (Create disk overwrite) = BeginsWith (codes "create") words
     × (string_bytes disk ≡ value_met (codes "disk") (subcommand_of command_line words))
     × (overwrite ≡ is_flag_met (codes "overwrite") (subcommand_of command_line words))
@@ -569,7 +590,6 @@ Names words (Trace rounds format file) =
     NamesText (codes "trace") words (option_map string_bytes file)
     × IsNumberOf (codes "rounds") 0 most_rounds words rounds
     × (value_met (codes "format") (subcommand_of command_line words) ≡ format_word format)
-Names words (Draw file) = NamesText (codes "draw") words (option_map string_bytes file)
 Names words (Dump disk names) = BeginsWith (codes "dump") words
     × (string_bytes disk ≡ value_met (codes "disk") (subcommand_of command_line words))
     × (map string_bytes names.items ≡ values_met (codes "name") (subcommand_of command_line words))
@@ -582,6 +602,5 @@ Names words (Check files format script) = BeginsWith (codes "check") words
     × (script ≡ is_flag_met (codes "script") (subcommand_of command_line words))
 Names words (Batch disk rounds every workers lines) =
     NamesBatch words (string_bytes disk) rounds every workers (string_bytes lines)
-Names words (Expand file) = NamesText (codes "expand") words (option_map string_bytes file)
 Names words (Help text) = string_bytes text ≡ help_asked words
 Names words (Version text) = string_bytes text ≡ version_line

@@ -6,14 +6,16 @@ ghost use Rattle.std.specs.Fmt.{decimal};
 ghost use Rattle.clap.specs.Words.{Text};
 ghost use Rattle.clap.specs.declared.error.ErrorKind.{ErrorKind};
 ghost use Rattle.clap.specs.declared.error.ErrorKind.TheVariants.{ArgumentConflict, DisplayHelp, DisplayVersion, InvalidSubcommand, InvalidValue, MissingRequiredArgument};
-ghost use Rattle.ic_args.specs.declared.words.Task.TheVariants.{Settle, Once, Create, Serve, Attend, Reduce, ReduceByRounds};
-ghost use Rattle.ic_args.specs.declared.words.Task.TheVariants.{Trace, Draw, Dump, Inspect, Check, Batch, Help, Version, Expand};
+ghost use Rattle.ic_args.specs.declared.words.Task.TheVariants.{Create, Serve, Attend, Reduce, ReduceByRounds};
+ghost use Rattle.ic_args.specs.declared.words.Task.TheVariants.{Trace, Dump, Inspect, Check, Batch, Help, Version};
+ghost use Rattle.ic_args.specs.declared.words.Task.TheVariants as task;
+ghost use Rattle.ic_args.specs.declared.words.TextWord.{TextWord};
 ghost use Rattle.ic_args.specs.declared.words.ReportFormat.{ReportFormat};
 ghost use Rattle.ic_args.specs.declared.words.TraceFormat.{TraceFormat};
 ghost use Rattle.ic_args.specs.declared.words.TextLimits.{TextLimits};
 ghost use Rattle.ic_args.specs.declared.words.FiguresFormat.{FiguresFormat};
 ghost use Rattle.ic_args.specs.declared.words.WordsFault.TheVariants.{Words, Memory};
-ghost use Rattle.ic_args.specs.Words.{AnswersWords, figures_word, format_word, limits_word, help_asked, mistakes_of, words_fault_number, IsDecimal, Names, report_word};
+ghost use Rattle.ic_args.specs.Words.{AnswersWords, figures_word, format_word, limits_word, help_asked, mistakes_of, words_fault_number, IsDecimal, Names, report_word, commands, text_word, text_words};
 ghost use Rattle.ic_args.specs.Help.{help_by, help_of, Says, program_help, help_help, settle_help, once_help, create_help, serve_help, attend_help};
 ghost use Rattle.ic_args.specs.Help.{batch_help, check_help, draw_help, dump_help, expand_help, inspect_help, reduce_help, trace_help};
 ghost use Rattle.ic_args.specs.Lines.{AreInPlace, AreOfRounds, Given, HasNoHyphen, IsAttendLine, IsBatchLine, IsCheckLine, IsCreateLine, IsDumpLine};
@@ -48,57 +50,33 @@ pub fn answers_go_by_mistakes(text: &String)
     ensures version_alone { ¬ AnswersWords (DisplayVersion ∷ []) (Ok (Help text.now)) }
     ensures line { AnswersWords (DisplayVersion ∷ []) (Ok (Version text.now))
         → string_bytes text.now ≡ codes "icserve 0.1.0" ++ 10 ∷ [] }
-    ensures task { (mistake : ErrorKind) → ¬ AnswersWords (mistake ∷ []) (Ok (Settle None)) }
+    ensures task { (mistake : ErrorKind) (word : TextWord)
+        → ¬ AnswersWords (mistake ∷ []) (Ok (task.Text word None)) }
 {}
 
 /// The words that are taken with no value: a command alone, and a `--` after it.
 pub fn commands_are_taken()
-    ensures settle { mistakes_of (codes "settle" ∷ []) ≡ [] }
-    ensures settled { mistakes_of (codes "settle" ∷ codes "--" ∷ []) ≡ [] }
-    ensures once { mistakes_of (codes "once" ∷ []) ≡ [] }
-    ensures once_ended { mistakes_of (codes "once" ∷ codes "--" ∷ []) ≡ [] }
+    ensures texts { map (λ word. mistakes_of (text_word word ∷ [])) text_words
+        ≡ map (λ word. []) text_words }
+    ensures ended { map (λ word. mistakes_of (text_word word ∷ codes "--" ∷ [])) text_words
+        ≡ map (λ word. []) text_words }
     ensures reduce { mistakes_of (codes "reduce" ∷ []) ≡ [] }
     ensures trace { mistakes_of (codes "trace" ∷ []) ≡ [] }
-    ensures draw { mistakes_of (codes "draw" ∷ []) ≡ [] }
-    ensures drawn { mistakes_of (codes "draw" ∷ codes "--" ∷ []) ≡ [] }
-    ensures expand { mistakes_of (codes "expand" ∷ []) ≡ [] }
-    ensures expanded { mistakes_of (codes "expand" ∷ codes "--" ∷ []) ≡ [] }
 {}
 
 /// The words that ask for help, at each command too, and those that ask for the version.
 pub fn help_and_version_are_asked()
     ensures help { mistakes_of (codes "--help" ∷ []) ≡ DisplayHelp ∷ [] }
     ensures short { mistakes_of (codes "-h" ∷ []) ≡ DisplayHelp ∷ [] }
-    ensures settle { mistakes_of (codes "settle" ∷ codes "--help" ∷ [])
-        ≡ DisplayHelp ∷ [] }
-    ensures once { mistakes_of (codes "once" ∷ codes "--help" ∷ []) ≡ DisplayHelp ∷ [] }
-    ensures create { mistakes_of (codes "create" ∷ codes "--help" ∷ [])
-        ≡ DisplayHelp ∷ [] }
-    ensures serve { mistakes_of (codes "serve" ∷ codes "--help" ∷ [])
-        ≡ DisplayHelp ∷ [] }
-    ensures short_serve { mistakes_of (codes "serve" ∷ codes "-h" ∷ [])
-        ≡ DisplayHelp ∷ [] }
-    ensures attend { mistakes_of (codes "attend" ∷ codes "--help" ∷ [])
-        ≡ DisplayHelp ∷ [] }
-    ensures reduce { mistakes_of (codes "reduce" ∷ codes "--help" ∷ [])
-        ≡ DisplayHelp ∷ [] }
-    ensures trace { mistakes_of (codes "trace" ∷ codes "--help" ∷ []) ≡ DisplayHelp ∷ [] }
-    ensures draw { mistakes_of (codes "draw" ∷ codes "--help" ∷ []) ≡ DisplayHelp ∷ [] }
-    ensures dump { mistakes_of (codes "dump" ∷ codes "--help" ∷ []) ≡ DisplayHelp ∷ [] }
-    ensures inspect { mistakes_of (codes "inspect" ∷ codes "--help" ∷ [])
-        ≡ DisplayHelp ∷ [] }
-    ensures check { mistakes_of (codes "check" ∷ codes "--help" ∷ []) ≡ DisplayHelp ∷ [] }
-    ensures batch { mistakes_of (codes "batch" ∷ codes "--help" ∷ []) ≡ DisplayHelp ∷ [] }
-    ensures expand { mistakes_of (codes "expand" ∷ codes "--help" ∷ []) ≡ DisplayHelp ∷ [] }
+    ensures commands { map (λ name. mistakes_of (name ∷ codes "--help" ∷ [])) commands
+        ≡ map (λ name. DisplayHelp ∷ []) commands }
+    ensures short_commands { map (λ name. mistakes_of (name ∷ codes "-h" ∷ [])) commands
+        ≡ map (λ name. DisplayHelp ∷ []) commands }
     ensures word { mistakes_of (codes "help" ∷ []) ≡ DisplayHelp ∷ [] }
-    ensures words { AllByRecursion (λ name. mistakes_of (codes "help" ∷ name ∷ []) ≡ DisplayHelp ∷ [])
-        (codes "settle" ∷ codes "once" ∷ codes "create" ∷ codes "serve" ∷ codes "attend"
-        ∷ codes "reduce" ∷ codes "trace" ∷ codes "draw" ∷ codes "dump"
-        ∷ codes "inspect" ∷ codes "check" ∷ codes "batch" ∷ codes "expand" ∷ codes "help" ∷ []) }
-    ensures asked { AllByRecursion (λ name. help_asked (codes "help" ∷ name ∷ []) ≡ help_of (name ∷ []))
-        (codes "settle" ∷ codes "once" ∷ codes "create" ∷ codes "serve" ∷ codes "attend"
-        ∷ codes "reduce" ∷ codes "trace" ∷ codes "draw" ∷ codes "dump"
-        ∷ codes "inspect" ∷ codes "check" ∷ codes "batch" ∷ codes "expand" ∷ codes "help" ∷ []) }
+    ensures words { map (λ name. mistakes_of (codes "help" ∷ name ∷ [])) commands
+        ≡ map (λ name. DisplayHelp ∷ []) commands }
+    ensures asked { map (λ name. help_asked (codes "help" ∷ name ∷ [])) commands
+        ≡ map (λ name. help_of (name ∷ [])) commands }
     ensures whole { help_asked (codes "help" ∷ []) ≡ program_help }
     ensures unknown { mistakes_of (codes "help" ∷ codes "helps" ∷ []) ≡ InvalidSubcommand ∷ [] }
     ensures version { mistakes_of (codes "--version" ∷ []) ≡ DisplayVersion ∷ [] }
@@ -178,20 +156,14 @@ pub fn each_command_has_its_help()
         ∷ codes "Prints the faults of texts with their places" ∷ []) }
 {}
 
-/// A well-formed line of `settle`, `once`, `draw` or `expand` is taken, and names the FILE that it is given, or
-/// standard input.
+/// A well-formed line of a command that reads a text and has no option is taken, and names the command, and the FILE that
+/// it is given, or standard input.
 pub fn text_lines_are_taken(named: &Option<String>)
-    ensures taken { (words : List Text) (file : Option Text) → AllByRecursion (λ command.
-        IsTextLine command file words → mistakes_of words ≡ [])
-        (codes "settle" ∷ codes "once" ∷ codes "draw" ∷ codes "expand" ∷ []) }
-    ensures settle { (words : List Text) (file : Option Text) → IsTextLine (codes "settle") file words
-        → Names words (Settle named.now) → option_map string_bytes named.now ≡ file }
-    ensures once { (words : List Text) (file : Option Text) → IsTextLine (codes "once") file words
-        → Names words (Once named.now) → option_map string_bytes named.now ≡ file }
-    ensures draw { (words : List Text) (file : Option Text) → IsTextLine (codes "draw") file words
-        → Names words (Draw named.now) → option_map string_bytes named.now ≡ file }
-    ensures expand { (words : List Text) (file : Option Text) → IsTextLine (codes "expand") file words
-        → Names words (Expand named.now) → option_map string_bytes named.now ≡ file }
+    ensures taken { (word : TextWord) (words : List Text) (file : Option Text)
+        → IsTextLine (text_word word) file words → mistakes_of words ≡ [] }
+    ensures named { (word other : TextWord) (words : List Text) (file : Option Text)
+        → IsTextLine (text_word word) file words → Names words (task.Text other named.now)
+        → (other ≡ word) × (option_map string_bytes named.now ≡ file) }
 {}
 
 /// A well-formed line of `create` is taken, and names the file that it is given, and whether it has

@@ -8,5 +8,5 @@ pub mod laws;
 mod words;
 
 pub use words::{
-    FiguresFormat, ReportFormat, Task, TextLimits, TraceFormat, WordsFault, read_words,
+    FiguresFormat, ReportFormat, Task, TextLimits, TextWord, TraceFormat, WordsFault, read_words,
 };

@@ -1,20 +1,18 @@
 //! The words after the program's name.
 
-ghost use Rattle.std.specs.Prelude.{◌≡◌, ◌≤◌, ℕ, true, false, map, option_map, None, Ok, IfOk, IfSome, IfNone, codes, [], ◌∷◌, string_bytes};
+ghost use Rattle.std.specs.Prelude.{◌≡◌, ◌≤◌, ℕ, true, false, fold, map, option_map, None, Ok, IfOk, IfSome, IfNone, codes, [], ◌∷◌, string_bytes};
 ghost use Rattle.clap.specs.Words.{App, Rule, app_of, kind_of, rule_of, subcommand_rows_of, with_rule, with_subcommand};
-ghost use Rattle.ic_args.specs.Words.{AnswersWords, GivesHelp, GivesTask, GivesVersion, Names, file_met, has_help, help_command, value_if_met};
-ghost use Rattle.ic_args.specs.Words.{attend_command, batch_command, check_command, command_line, create_command, dump_command, inspect_command};
-ghost use Rattle.ic_args.specs.Words.{program, reduce_command, serve_command, trace_command, with_disks, with_looks, with_streams};
-ghost use Rattle.ic_args.specs.Words.{disk_option, file_argument, flag, name_argument, number_option, valued_option};
-ghost use Rattle.ic_args.specs.Words.{is_report_format, lines_argument, most_rounds, most_steps, report_word};
-ghost use Rattle.ic_args.specs.Words.{script_argument};
-ghost use Rattle.ic_args.specs.Words.{input_argument, optional_argument, text_command};
+ghost use Rattle.ic_args.specs.Words.{AnswersWords, GivesHelp, GivesTask, GivesVersion, Names, file_met, has_help, value_if_met};
+ghost use Rattle.ic_args.specs.Words.{app_for, attend_entry, batch_entry, check_entry, create_entry, dump_entry, help_entry, inspect_entry};
+ghost use Rattle.ic_args.specs.Words.{reduce_entry, serve_entry, text_entry, trace_entry, entries, command_line, commands, program, with_entry};
+ghost use Rattle.ic_args.specs.Words.{a_flag, chosen_option, disk_option, number_option, rule_for, text_option, valued_option, word_rule, words_rule};
+ghost use Rattle.ic_args.specs.Words.{is_report_format, is_text_word, most_rounds, most_steps, report_word, text_word};
 ghost use Rattle.ic_args.specs.Words.{asks_kept, clashes, kept_met, most_seconds};
-ghost use Rattle.ic_args.specs.Words.{asks_in_place, asks_rounds, is_limits, limits_met, limits_word, text_option, is_flag_met, is_given, mistakes_of, reduce_faults, value_met, values_met};
+ghost use Rattle.ic_args.specs.Words.{asks_in_place, asks_rounds, is_limits, limits_met, limits_word, is_flag_met, is_given, mistakes_of, reduce_faults, value_met, values_met};
 ghost use Rattle.ic_args.specs.Words.{figures_met, figures_word, is_figures};
 ghost use Rattle.clap.specs.declared.builder.value_parser.ValueParser.TheVariants.{Unsigned};
 ghost use Rattle.ic_args.specs.inner.Making.{IsMade};
-ghost use Rattle.ic_args.specs.inner.Asking.{AnswersRefused, Asks, IsCommandMet, IsIn, IsMet, IsReadFrom, IsReadOr, commands};
+ghost use Rattle.ic_args.specs.inner.Asking.{AnswersRefused, Asks, IsCommandMet, IsIn, IsMet, IsReadFrom, IsReadOr};
 
 use crate::help::{has_help, help_by, help_of};
 use clap::builder::ValueParser;
@@ -107,13 +105,10 @@ For more information, try '--help'.
 /// where they name none.
 #[derive(Debug, Drop)]
 pub enum Task {
-    /// Settle a configuration.
-    Settle {
-        /// The path of the text.
-        file: Option<String>,
-    },
-    /// Make one round of a system.
-    Once {
+    /// What a command does that reads a text, and has no option.
+    Text {
+        /// The command.
+        word: TextWord,
         /// The path of the text.
         file: Option<String>,
     },
@@ -210,11 +205,6 @@ pub enum Task {
         /// The path of the text.
         file: Option<String>,
     },
-    /// Draw the net of a configuration.
-    Draw {
-        /// The path of the text.
-        file: Option<String>,
-    },
     /// Print jobs of a disk as lines that submit them.
     Dump {
         /// The path of the disk's file.
@@ -251,16 +241,32 @@ pub enum Task {
         /// The path of the lines.
         lines: String,
     },
-    /// Write a text with comments, long names and generic rules as one without.
-    Expand {
-        /// The path of the text.
-        file: Option<String>,
-    },
     /// Show this help.
     Help(String),
     /// Show this line, which tells the version.
     Version(String),
 }
+
+/// The commands that read a text, and have no option but its FILE.
+#[derive(Clone, Copy, Debug)]
+pub enum TextWord {
+    /// Settle a configuration.
+    Settle,
+    /// Make one round of a system.
+    Once,
+    /// Draw the net of a configuration.
+    Draw,
+    /// Write a text with comments, long names and generic rules as one without.
+    Expand,
+}
+
+/// All of them.
+const TEXT_WORDS: [TextWord; 4] = [
+    TextWord::Settle,
+    TextWord::Once,
+    TextWord::Draw,
+    TextWord::Expand,
+];
 
 /// The limits with which a text is read.
 #[derive(Clone, Copy, Debug)]
@@ -338,10 +344,8 @@ impl From<AllocError> for WordsFault {
 pub fn read_words(alloc: Global, words: &[String]) -> Result<Task, WordsFault>
     ensures answers { AnswersWords (mistakes_of (map string_bytes words.now)) result }
     ensures named { IfOk result (Names (map string_bytes words.now)) }
-    ensures settle { map string_bytes words.now ≡ codes "settle" ∷ []
-        → GivesTask (Task.Settle None) result }
-    ensures once { map string_bytes words.now ≡ codes "once" ∷ []
-        → GivesTask (Task.Once None) result }
+    ensures alone { (word : TextWord) → map string_bytes words.now ≡ text_word word ∷ []
+        → GivesTask (Task.Text word None) result }
     ensures help { map string_bytes words.now ≡ codes "--help" ∷ [] → GivesHelp result }
     ensures version { map string_bytes words.now ≡ codes "--version" ∷ [] → GivesVersion result }
 {
@@ -380,59 +384,67 @@ fn task_named(alloc: Global, name: &str, matches: &ArgMatches) -> Result<Task, W
     requires met { IsMet name.now (subcommand_rows_of matches.now) }
     ensures { Asks (subcommand_rows_of matches.now) result }
 {
+    match text_word_named(name) {
+        Some(word) => text_task(alloc, word, matches),
+        None => other_task(alloc, name, matches),
+    }
+}
+
+/// What the command of this name is asked for, which was met and isn't one of those.
+fn other_task(alloc: Global, name: &str, matches: &ArgMatches) -> Result<Task, WordsFault>
+    requires known { IsIn name.now commands }
+    requires other { is_text_word name.now ≡ false }
+    requires met { IsMet name.now (subcommand_rows_of matches.now) }
+    ensures { Asks (subcommand_rows_of matches.now) result }
+{
     match name {
-        "settle" => settle_task(alloc, matches),
-        "once" => once_task(alloc, matches),
         "create" => create_task(alloc, matches),
         "serve" => serve_task(alloc, matches),
         "attend" => attend_task(alloc, matches),
         "reduce" => reduce_task(alloc, matches),
         "trace" => trace_task(alloc, matches),
-        "draw" => draw_task(alloc, matches),
         "dump" => dump_task(alloc, matches),
         "inspect" => inspect_task(alloc, matches),
         "check" => check_task(alloc, matches),
         "batch" => batch_task(alloc, matches),
-        "expand" => expand_task(alloc, matches),
         "help" => help_task(alloc, matches),
         _ => unreachable!(),
     }
 }
 
-/// The task of `settle`.
-fn settle_task(alloc: Global, matches: &ArgMatches) -> Result<Task, WordsFault>
-    requires { IsMet (codes "settle") (subcommand_rows_of matches.now) }
-    ensures { Asks (subcommand_rows_of matches.now) result }
+/// The command of this name that reads a text and has no option, if it is that of one.
+fn text_word_named(name: &str) -> Option<TextWord>
+    ensures named { IfSome result (λ word. name.now ≡ text_word word) }
+    ensures none { IfNone result (is_text_word name.now ≡ false) }
 {
-    let file = file_of(alloc, matches)?;
-    Ok(Task::Settle { file })
+    match name {
+        "settle" => Some(TextWord::Settle),
+        "once" => Some(TextWord::Once),
+        "draw" => Some(TextWord::Draw),
+        "expand" => Some(TextWord::Expand),
+        _ => None,
+    }
 }
 
-/// The task of `once`.
-fn once_task(alloc: Global, matches: &ArgMatches) -> Result<Task, WordsFault>
-    requires { IsMet (codes "once") (subcommand_rows_of matches.now) }
-    ensures { Asks (subcommand_rows_of matches.now) result }
+/// The name of such a command.
+fn text_name<'a>(word: TextWord) -> &'a str
+    ensures { result.now ≡ text_word word }
 {
-    let file = file_of(alloc, matches)?;
-    Ok(Task::Once { file })
+    match word {
+        TextWord::Settle => "settle",
+        TextWord::Once => "once",
+        TextWord::Draw => "draw",
+        TextWord::Expand => "expand",
+    }
 }
 
-/// The task of `draw`.
-fn draw_task(alloc: Global, matches: &ArgMatches) -> Result<Task, WordsFault>
-    requires { IsMet (codes "draw") (subcommand_rows_of matches.now) }
+/// The task of a command that reads a text, and has no option.
+fn text_task(alloc: Global, word: TextWord, matches: &ArgMatches) -> Result<Task, WordsFault>
+    requires { IsMet (text_word word) (subcommand_rows_of matches.now) }
     ensures { Asks (subcommand_rows_of matches.now) result }
 {
     let file = file_of(alloc, matches)?;
-    Ok(Task::Draw { file })
-}
-
-/// The task of `expand`.
-fn expand_task(alloc: Global, matches: &ArgMatches) -> Result<Task, WordsFault>
-    requires { IsMet (codes "expand") (subcommand_rows_of matches.now) }
-    ensures { Asks (subcommand_rows_of matches.now) result }
-{
-    let file = file_of(alloc, matches)?;
-    Ok(Task::Expand { file })
+    Ok(Task::Text { word, file })
 }
 
 /// The task of `help`. A word that names no command is refused as the parser refuses such a command.
@@ -932,7 +944,7 @@ fn small_number_of(matches: &ArgMatches, option: &str, least: u32, most: u32) ->
 
 /// The option that names a file.
 fn disk_option<'a>(alloc: Global) -> Arg<'a>
-    ensures rule { rule_of result ≡ disk_option }
+    ensures rule { rule_of result ≡ rule_for disk_option }
     ensures local { result.global ≡ false }
 {
     Arg::new(alloc, "disk")
@@ -943,7 +955,7 @@ fn disk_option<'a>(alloc: Global) -> Arg<'a>
 
 /// A flag.
 fn flag<'a>(alloc: Global, name: &'a str) -> Arg<'a>
-    ensures rule { rule_of result ≡ flag name.now }
+    ensures rule { rule_of result ≡ rule_for (a_flag name.now) }
     ensures local { result.global ≡ false }
 {
     Arg::new(alloc, name).long(name).action(ArgAction::SetTrue)
@@ -951,7 +963,7 @@ fn flag<'a>(alloc: Global, name: &'a str) -> Arg<'a>
 
 /// An option with a value, and its default.
 fn valued_option<'a>(alloc: Global, name: &'a str, value: &'a str, default: &'a str) -> Arg<'a>
-    ensures rule { rule_of result ≡ valued_option name.now default.now }
+    ensures rule { rule_of result ≡ rule_for (valued_option name.now default.now) }
     ensures local { result.global ≡ false }
 {
     Arg::new(alloc, name)
@@ -962,7 +974,7 @@ fn valued_option<'a>(alloc: Global, name: &'a str, value: &'a str, default: &'a 
 
 /// An option with a text, and no default.
 fn text_option<'a>(alloc: Global, name: &'a str, value: &'a str) -> Arg<'a>
-    ensures rule { rule_of result ≡ text_option name.now }
+    ensures rule { rule_of result ≡ rule_for (text_option name.now) }
     ensures local { result.global ≡ false }
 {
     Arg::new(alloc, name).long(name).value_name(value)
@@ -977,7 +989,7 @@ fn number_option<'a>(
     read: ValueParser<'a>,
 ) -> Arg<'a>
     ensures rule { (least most : ℕ) → read.entry ≡ Unsigned least most
-        → rule_of result ≡ number_option name.now least most (default.now ∷ []) }
+        → rule_of result ≡ rule_for (number_option name.now least most default.now) }
     ensures local { result.global ≡ false }
 {
     valued_option(alloc, name, value, default).value_parser(read)
@@ -986,7 +998,7 @@ fn number_option<'a>(
 /// An option with a number that is read so, and no default.
 fn chosen_option<'a>(alloc: Global, name: &'a str, read: ValueParser<'a>) -> Arg<'a>
     ensures rule { (least most : ℕ) → read.entry ≡ Unsigned least most
-        → rule_of result ≡ number_option name.now least most [] }
+        → rule_of result ≡ rule_for (chosen_option name.now least most) }
     ensures local { result.global ≡ false }
 {
     let option = Arg::new(alloc, name).long(name).value_name("N");
@@ -1044,7 +1056,7 @@ fn waits<'a>() -> ValueParser<'a>
 
 /// The argument that names scripts.
 fn script_argument<'a>(alloc: Global) -> Arg<'a>
-    ensures rule { rule_of result ≡ script_argument }
+    ensures rule { rule_of result ≡ words_rule (codes "script") false }
     ensures local { result.global ≡ false }
 {
     Arg::new(alloc, "script").value_name("SCRIPT").num_args(0..)
@@ -1052,7 +1064,7 @@ fn script_argument<'a>(alloc: Global) -> Arg<'a>
 
 /// The argument that names jobs.
 fn name_argument<'a>(alloc: Global) -> Arg<'a>
-    ensures rule { rule_of result ≡ name_argument }
+    ensures rule { rule_of result ≡ words_rule (codes "name") false }
     ensures local { result.global ≡ false }
 {
     Arg::new(alloc, "name").value_name("NAME").num_args(0..)
@@ -1060,7 +1072,7 @@ fn name_argument<'a>(alloc: Global) -> Arg<'a>
 
 /// The argument that names texts, one at least.
 fn file_argument<'a>(alloc: Global) -> Arg<'a>
-    ensures rule { rule_of result ≡ file_argument }
+    ensures rule { rule_of result ≡ words_rule (codes "file") true }
     ensures local { result.global ≡ false }
 {
     Arg::new(alloc, "file")
@@ -1071,7 +1083,7 @@ fn file_argument<'a>(alloc: Global) -> Arg<'a>
 
 /// The argument that names a file of lines.
 fn lines_argument<'a>(alloc: Global) -> Arg<'a>
-    ensures rule { rule_of result ≡ lines_argument }
+    ensures rule { rule_of result ≡ word_rule (codes "lines") true }
     ensures local { result.global ≡ false }
 {
     Arg::new(alloc, "lines").value_name("LINES").required(true)
@@ -1079,7 +1091,7 @@ fn lines_argument<'a>(alloc: Global) -> Arg<'a>
 
 /// The argument of this name, which may be given once.
 fn optional_argument<'a>(alloc: Global, name: &'a str, value: &'a str) -> Arg<'a>
-    ensures rule { rule_of result ≡ optional_argument name.now }
+    ensures rule { rule_of result ≡ word_rule name.now false }
     ensures local { result.global ≡ false }
 {
     Arg::new(alloc, name).value_name(value)
@@ -1087,7 +1099,7 @@ fn optional_argument<'a>(alloc: Global, name: &'a str, value: &'a str) -> Arg<'a
 
 /// The argument that names a file to read.
 fn input_argument<'a>(alloc: Global) -> Arg<'a>
-    ensures rule { rule_of result ≡ input_argument }
+    ensures rule { rule_of result ≡ word_rule (codes "file") false }
     ensures local { result.global ≡ false }
 {
     optional_argument(alloc, "file", "FILE")
@@ -1122,14 +1134,14 @@ fn with_command<'a>(
 
 /// A command that reads a text, and has no option.
 fn text_command<'a>(alloc: Global, name: &'a str) -> Result<Command<'a>, AllocError>
-    ensures { IfOk result (IsMade (text_command name.now)) }
+    ensures { IfOk result (IsMade (app_for (text_entry name.now))) }
 {
     with_arg(Ok(Command::new(alloc, name)), input_argument(alloc))
 }
 
 /// The command that shows a help.
 fn help_command<'a>(alloc: Global) -> Result<Command<'a>, AllocError>
-    ensures { IfOk result (IsMade help_command) }
+    ensures { IfOk result (IsMade (app_for help_entry)) }
 {
     let word = optional_argument(alloc, "word", "WORD");
     with_arg(Ok(Command::new(alloc, "help")), word)
@@ -1137,7 +1149,7 @@ fn help_command<'a>(alloc: Global) -> Result<Command<'a>, AllocError>
 
 /// The command that makes a file an empty disk.
 fn create_command<'a>(alloc: Global) -> Result<Command<'a>, AllocError>
-    ensures { IfOk result (IsMade create_command) }
+    ensures { IfOk result (IsMade (app_for create_entry)) }
 {
     let command = with_arg(Ok(Command::new(alloc, "create")), disk_option(alloc));
     with_arg(command, flag(alloc, "overwrite"))
@@ -1145,7 +1157,7 @@ fn create_command<'a>(alloc: Global) -> Result<Command<'a>, AllocError>
 
 /// The command that serves lines.
 fn serve_command<'a>(alloc: Global) -> Result<Command<'a>, AllocError>
-    ensures { IfOk result (IsMade serve_command) }
+    ensures { IfOk result (IsMade (app_for serve_entry)) }
 {
     let command = with_arg(Ok(Command::new(alloc, "serve")), disk_option(alloc));
     let command = with_arg(
@@ -1158,7 +1170,7 @@ fn serve_command<'a>(alloc: Global) -> Result<Command<'a>, AllocError>
 
 /// The command that gives the commands of scripts.
 fn attend_command<'a>(alloc: Global) -> Result<Command<'a>, AllocError>
-    ensures { IfOk result (IsMade attend_command) }
+    ensures { IfOk result (IsMade (app_for attend_entry)) }
 {
     let command = with_arg(Ok(Command::new(alloc, "attend")), disk_option(alloc));
     let command = with_arg(
@@ -1175,7 +1187,7 @@ fn attend_command<'a>(alloc: Global) -> Result<Command<'a>, AllocError>
 
 /// The command that reduces a system.
 fn reduce_command<'a>(alloc: Global) -> Result<Command<'a>, AllocError>
-    ensures { IfOk result (IsMade reduce_command) }
+    ensures { IfOk result (IsMade (app_for reduce_entry)) }
 {
     let command = with_arg(
         Ok(Command::new(alloc, "reduce")),
@@ -1197,7 +1209,7 @@ fn reduce_command<'a>(alloc: Global) -> Result<Command<'a>, AllocError>
 
 /// The command that traces a system.
 fn trace_command<'a>(alloc: Global) -> Result<Command<'a>, AllocError>
-    ensures { IfOk result (IsMade trace_command) }
+    ensures { IfOk result (IsMade (app_for trace_entry)) }
 {
     let rounds = number_option(alloc, "rounds", "N", "1000000", rounds());
     let command = with_arg(Ok(Command::new(alloc, "trace")), rounds);
@@ -1207,7 +1219,7 @@ fn trace_command<'a>(alloc: Global) -> Result<Command<'a>, AllocError>
 
 /// The command that prints jobs of a disk.
 fn dump_command<'a>(alloc: Global) -> Result<Command<'a>, AllocError>
-    ensures { IfOk result (IsMade dump_command) }
+    ensures { IfOk result (IsMade (app_for dump_entry)) }
 {
     let command = with_arg(Ok(Command::new(alloc, "dump")), disk_option(alloc));
     with_arg(command, name_argument(alloc))
@@ -1215,7 +1227,7 @@ fn dump_command<'a>(alloc: Global) -> Result<Command<'a>, AllocError>
 
 /// The command that tells what a file holds.
 fn inspect_command<'a>(alloc: Global) -> Result<Command<'a>, AllocError>
-    ensures { IfOk result (IsMade inspect_command) }
+    ensures { IfOk result (IsMade (app_for inspect_entry)) }
 {
     let command = with_arg(Ok(Command::new(alloc, "inspect")), disk_option(alloc));
     with_arg(command, valued_option(alloc, "format", "FORMAT", "text"))
@@ -1223,7 +1235,7 @@ fn inspect_command<'a>(alloc: Global) -> Result<Command<'a>, AllocError>
 
 /// The command that tells the faults of texts.
 fn check_command<'a>(alloc: Global) -> Result<Command<'a>, AllocError>
-    ensures { IfOk result (IsMade check_command) }
+    ensures { IfOk result (IsMade (app_for check_entry)) }
 {
     let command = with_arg(
         Ok(Command::new(alloc, "check")),
@@ -1235,7 +1247,7 @@ fn check_command<'a>(alloc: Global) -> Result<Command<'a>, AllocError>
 
 /// The command that brings jobs to their ends.
 fn batch_command<'a>(alloc: Global) -> Result<Command<'a>, AllocError>
-    ensures { IfOk result (IsMade batch_command) }
+    ensures { IfOk result (IsMade (app_for batch_entry)) }
 {
     let command = with_arg(Ok(Command::new(alloc, "batch")), disk_option(alloc));
     let rounds = number_option(alloc, "rounds", "N", "4611686018427387904", rounds());
@@ -1260,40 +1272,51 @@ fn program<'a>(alloc: Global) -> Result<Command<'a>, AllocError>
         .bin_name("icserve")
 }
 
-/// The program with the commands over streams.
-fn with_streams<'a>(alloc: Global) -> Result<Command<'a>, AllocError>
-    ensures { IfOk result (λ command. app_of command ≡ with_streams) }
-{
-    let program = with_command(program(alloc), text_command(alloc, "settle"));
-    with_command(program, text_command(alloc, "once"))
-}
-
-/// The program with the commands over disks, too.
+/// The program with the commands over disks.
 fn with_disks<'a>(alloc: Global) -> Result<Command<'a>, AllocError>
-    ensures { IfOk result (λ command. app_of command ≡ with_disks) }
+    ensures { IfOk result (λ command.
+        app_of command ≡ fold with_entry program (create_entry ∷ serve_entry ∷ attend_entry ∷ [])) }
 {
-    let program = with_command(with_streams(alloc), create_command(alloc));
+    let program = with_command(program(alloc), create_command(alloc));
     let program = with_command(program, serve_command(alloc));
     with_command(program, attend_command(alloc))
 }
 
-/// The program with the commands for whoever looks at nets, too.
-fn with_looks<'a>(alloc: Global) -> Result<Command<'a>, AllocError>
-    ensures { IfOk result (λ command. app_of command ≡ with_looks) }
+/// The program with the commands that have options, and `help`.
+fn with_options<'a>(alloc: Global) -> Result<Command<'a>, AllocError>
+    ensures { IfOk result (λ command. app_of command ≡ fold with_entry program entries) }
 {
     let program = with_command(with_disks(alloc), reduce_command(alloc));
     let program = with_command(program, trace_command(alloc));
-    with_command(program, text_command(alloc, "draw"))
+    let program = with_command(program, dump_command(alloc));
+    let program = with_command(program, inspect_command(alloc));
+    let program = with_command(program, check_command(alloc));
+    let program = with_command(program, batch_command(alloc));
+    with_command(program, help_command(alloc))
+}
+
+/// The program with these commands, too.
+fn with_texts<'a>(
+    alloc: Global,
+    program: Command<'a>,
+    words: &[TextWord],
+) -> Result<Command<'a>, AllocError>
+    ensures { IfOk result (λ command.
+        app_of command
+        ≡ fold with_entry (app_of program.entry) (map (λ word. text_entry (text_word word)) words.now)) }
+{
+    let mut program = program;
+    for word in words {
+        let command = text_command(alloc, text_name(*word));
+        program = with_command(Ok(program), command)?;
+    }
+    Ok(program)
 }
 
 /// The program's command line.
 fn command<'a>(alloc: Global) -> Result<Command<'a>, AllocError>
     ensures { IfOk result (λ command. app_of command ≡ command_line) }
 {
-    let program = with_command(with_looks(alloc), dump_command(alloc));
-    let program = with_command(program, inspect_command(alloc));
-    let program = with_command(program, check_command(alloc));
-    let program = with_command(program, batch_command(alloc));
-    let program = with_command(program, text_command(alloc, "expand"));
-    with_command(program, help_command(alloc))
+    let words: [TextWord; 4] = TEXT_WORDS;
+    with_texts(alloc, with_options(alloc)?, words.as_slice())
 }

@@ -25,7 +25,7 @@ use crate::reducing::Wanted;
 use crate::session::Session;
 use crate::standing::stand_ins;
 use crate::standstill::tell_of_jobs;
-use ic_args::{Task, TextLimits, WordsFault, read_words};
+use ic_args::{Task, TextLimits, TextWord, WordsFault, read_words};
 use ic_book::{Book, BookFault, OpenCause, OpenFault};
 use ic_causes::{NotedFile, NotedFiles, NotedInput, NotedOutput, Notes};
 use ic_diagnostics::{once_telling, settle_telling};
@@ -129,10 +129,9 @@ fn answer<T: Threads + Wait + Copy + Send + Sync + 'static>(
 /// The path of the file that a task reads a text from, none where it reads standard input or no text.
 fn file_of(task: &Task) -> Option<&str> {
     let file = match task {
-        Task::Settle { file } | Task::Once { file } | Task::Draw { file } => file,
+        Task::Text { file, .. } | Task::Trace { file, .. } => file,
         Task::Reduce { file, .. } | Task::ReduceByRounds { file, .. } => file,
         Task::ReduceKept { file, .. } => file,
-        Task::Trace { file, .. } | Task::Expand { file } => file,
         _ => return None,
     };
     match file {
@@ -166,7 +165,7 @@ fn path_of(task: &Task) -> &str {
     }
 }
 
-/// Does a task. Only `settle`, `once`, `serve` and the tasks that `on_text` does read this input. The lines that tell the
+/// Does a task. Only `serve` and the tasks that `on_word` and `on_text` do read this input. The lines that tell the
 /// place of a fault in a text, and those that tell why a text or a script can't be read, are appended to `told`.
 fn run<T: Threads + Wait + Copy + Send + Sync + 'static, R: Read>(
     rt: &HostRuntime,
@@ -178,12 +177,7 @@ fn run<T: Threads + Wait + Copy + Send + Sync + 'static, R: Read>(
 ) -> Result<(), Failure> {
     let mut output = NotedOutput::new(io::writer(rt), notes);
     match task {
-        Task::Settle { .. } => {
-            settle_telling(rt.alloc(), input, &mut output, told).map_err(Failure::Stream)
-        }
-        Task::Once { .. } => {
-            once_telling(rt.alloc(), input, &mut output, told).map_err(Failure::Stream)
-        }
+        Task::Text { word, .. } => on_word(rt, *word, input, notes, told),
         Task::Check {
             files,
             format,
@@ -210,7 +204,28 @@ fn run<T: Threads + Wait + Copy + Send + Sync + 'static, R: Read>(
     }
 }
 
-/// Reduces, traces, draws or expands the text on this input.
+/// Settles, makes one round of, draws or expands the text on this input.
+fn on_word<R: Read>(
+    rt: &HostRuntime,
+    word: TextWord,
+    input: &mut R,
+    notes: &Notes,
+    told: &mut Vec<u8>,
+) -> Result<(), Failure> {
+    let mut output = NotedOutput::new(io::writer(rt), notes);
+    match word {
+        TextWord::Settle => {
+            settle_telling(rt.alloc(), input, &mut output, told).map_err(Failure::Stream)
+        }
+        TextWord::Once => {
+            once_telling(rt.alloc(), input, &mut output, told).map_err(Failure::Stream)
+        }
+        TextWord::Draw => looking::draw(rt, input, notes, told),
+        TextWord::Expand => texts::expand(rt, input, notes, told),
+    }
+}
+
+/// Reduces or traces the text on this input.
 fn on_text<T: Threads + Wait, R: Read>(
     rt: &HostRuntime,
     threads: &T,
@@ -234,8 +249,6 @@ fn on_text<T: Threads + Wait, R: Read>(
         Task::Trace { rounds, format, .. } => {
             looking::trace(rt, *rounds, *format, input, notes, told)
         }
-        Task::Draw { .. } => looking::draw(rt, input, notes, told),
-        Task::Expand { .. } => texts::expand(rt, input, notes, told),
         _ => Ok(()),
     }
 }

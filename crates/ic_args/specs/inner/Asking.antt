@@ -5,11 +5,12 @@ use Rattle.clap.specs.declared.error.ErrorKind.{ErrorKind}
 use Rattle.clap.specs.declared.error.ErrorKind.TheVariants.{DisplayHelp, DisplayVersion, OutOfMemory}
 use Rattle.ic_args.specs.Help.{help_by, help_of}
 use Rattle.ic_args.specs.Words.{IsDecimal, asks_in_place, asks_kept, asks_rounds, clashes, kept_met, most_seconds, format_word, is_flag_met, figures_met, figures_word, limits_met, limits_word, is_format, is_given, most_rounds, most_steps, is_report_format, report_word}
-use Rattle.ic_args.specs.Words.{file_met, has_help, value_if_met}
+use Rattle.ic_args.specs.Words.{commands, file_met, has_help, text_word, value_if_met}
 use Rattle.ic_args.specs.Words.{number_met, reduce_faults, value_met, values_met, version_line}
 use Rattle.ic_args.specs.declared.words.Task.{Task}
-use Rattle.ic_args.specs.declared.words.Task.TheVariants.{Settle, Once, Create, Serve, Attend, Reduce, ReduceKept, ReduceByRounds}
-use Rattle.ic_args.specs.declared.words.Task.TheVariants.{Trace, Draw, Dump, Inspect, Check, Batch, Expand, Help, Version}
+use Rattle.ic_args.specs.declared.words.Task.TheVariants.{Create, Serve, Attend, Reduce, ReduceKept, ReduceByRounds}
+use Rattle.ic_args.specs.declared.words.Task.TheVariants.{Trace, Dump, Inspect, Check, Batch, Help, Version}
+use Rattle.ic_args.specs.declared.words.Task.TheVariants as task
 use Rattle.ic_args.specs.declared.words.WordsFault.{WordsFault}
 use Rattle.ic_args.specs.declared.words.WordsFault.TheVariants.{Words, Memory}
 
@@ -27,12 +28,6 @@ IsReadOr option least most default met number =
 -- the command of this name was met
 abbrev pub IsMet : Text → Option (Text × List Row) → Type 0
 IsMet name met = option_map (λ p. p.0) met ≡ Some name
-
--- the commands of the program
-abbrev pub commands : List Text
-commands = codes "settle" ∷ codes "once" ∷ codes "create" ∷ codes "serve" ∷ codes "attend"
-    ∷ codes "reduce" ∷ codes "trace" ∷ codes "draw" ∷ codes "dump"
-    ∷ codes "inspect" ∷ codes "check" ∷ codes "batch" ∷ codes "expand" ∷ codes "help" ∷ []
 
 -- it is one of these
 abbrev pub IsIn : Text → List Text → Type 0
@@ -53,8 +48,7 @@ TellsReport met = IsMet (codes "check") met ⊎ IsMet (codes "inspect") met
 
 -- what is answered to the command that was met
 abbrev pub Asks : Option (Text × List Row) → Result Task WordsFault → Type 0
-Asks met (Ok (Settle file)) = AsksText (codes "settle") met (option_map string_bytes file)
-Asks met (Ok (Once file)) = AsksText (codes "once") met (option_map string_bytes file)
+Asks met (Ok (task.Text word file)) = AsksText (text_word word) met (option_map string_bytes file)
 Asks met (Ok (Create disk overwrite)) = IsMet (codes "create") met
     × (string_bytes disk ≡ value_met (codes "disk") met)
     × (overwrite ≡ is_flag_met (codes "overwrite") met)
@@ -94,7 +88,6 @@ Asks met (Ok (Trace rounds format file)) =
     AsksText (codes "trace") met (option_map string_bytes file)
     × IsReadFrom (codes "rounds") 0 most_rounds met rounds
     × (value_met (codes "format") met ≡ format_word format)
-Asks met (Ok (Draw file)) = AsksText (codes "draw") met (option_map string_bytes file)
 Asks met (Ok (Dump disk names)) = IsMet (codes "dump") met
     × (string_bytes disk ≡ value_met (codes "disk") met)
     × (map string_bytes names.items ≡ values_met (codes "name") met)
@@ -111,7 +104,6 @@ Asks met (Ok (Batch disk rounds every workers lines)) = IsMet (codes "batch") me
     × IsReadFrom (codes "every") 1 1000000 met every
     × IsReadFrom (codes "workers") 1 64 met workers
     × (string_bytes lines ≡ value_met (codes "lines") met)
-Asks met (Ok (Expand file)) = AsksText (codes "expand") met (option_map string_bytes file)
 Asks met (Ok (Help text)) = IsMet (codes "help") met
     × (has_help (value_if_met (codes "word") met) ≡ true)
     × (string_bytes text ≡ help_by (value_if_met (codes "word") met))

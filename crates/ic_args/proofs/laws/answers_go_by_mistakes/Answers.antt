@@ -20,4 +20,4 @@ pub returns-clause-line : goal.returns-clause-line
 returns-clause-line c = λ is. is.1
 
 pub returns-clause-task : goal.returns-clause-task
-returns-clause-task c = λ mistake is. cc
+returns-clause-task c = λ mistake word is. cc

@@ -1,11 +1,10 @@
 use Rattle.std.proofs.Common.{codes}
 use Rattle.clap.specs.Words.{new_app}
-use Rattle.ic_args.specs.Words.{disk_option, flag}
 use Rattle.ic_args.specs.inner.Making.{IsMade}
 use Rattle.ic_args.proofs.words.create_command.Goals as goal
 
 pub returns : goal.returns
 returns c =
     let made : IsMade (new_app (codes "create")) c.new.result = (c.new.ensures.app, c.new.ensures.local) in
-    let first = c.with_arg-command.ensures (new_app (codes "create")) disk_option made c.disk_option.ensures.rule c.disk_option.ensures.local in
-    c.with_arg.ensures _ (flag (codes "overwrite")) first c.flag.ensures.rule c.flag.ensures.local
+    let first = c.with_arg-command.ensures (new_app (codes "create")) _ made c.disk_option.ensures.rule c.disk_option.ensures.local in
+    c.with_arg.ensures _ _ first c.flag.ensures.rule c.flag.ensures.local

@@ -1,11 +1,10 @@
 use Rattle.std.proofs.Common.{codes}
 use Rattle.clap.specs.Words.{new_app}
-use Rattle.ic_args.specs.Words.{disk_option, name_argument}
 use Rattle.ic_args.specs.inner.Making.{IsMade}
 use Rattle.ic_args.proofs.words.dump_command.Goals as goal
 
 pub returns : goal.returns
 returns c =
     let made : IsMade (new_app (codes "dump")) c.new.result = (c.new.ensures.app, c.new.ensures.local) in
-    let first = c.with_arg-command.ensures (new_app (codes "dump")) disk_option made c.disk_option.ensures.rule c.disk_option.ensures.local in
-    c.with_arg.ensures _ name_argument first c.name_argument.ensures.rule c.name_argument.ensures.local
+    let first = c.with_arg-command.ensures (new_app (codes "dump")) _ made c.disk_option.ensures.rule c.disk_option.ensures.local in
+    c.with_arg.ensures _ _ first c.name_argument.ensures.rule c.name_argument.ensures.local

@@ -23,8 +23,7 @@ returns-in-Ok c =
     record {
       answers = answer.answers;
       named = answer.named;
-      settle = answer.settle;
-      once = answer.once;
+      alone = answer.alone;
       help = λ is. absurd (asked_not_taken _ _ _ help_asked is none);
       version = λ is. absurd (asked_not_taken _ _ _ version_asked is none);
     }
@@ -37,8 +36,7 @@ returns-in-Err c =
     record {
       answers = answer.answers;
       named = answer.named;
-      settle = answer.settle;
-      once = answer.once;
+      alone = answer.alone;
       help = answer.help;
       version = answer.version;
     }

@@ -1,5 +1,6 @@
 use Rattle.std.proofs.Common.{◌≡◌, ◌∙◌, Bor, List, ℕ, Option, Some, option_map, sym, ap, subst}
-use Rattle.ic_args.specs.inner.Asking.{IsIn, commands}
+use Rattle.ic_args.specs.Words.{commands}
+use Rattle.ic_args.specs.inner.Asking.{IsIn}
 use Rattle.ic_args.proofs.NoCommand.{met_name}
 use Rattle.ic_args.proofs.words.task_of.Goals as goal
 
