@@ -12,7 +12,7 @@ pub mod Accepted
 pub mod Arguments
 pub mod Entries
 pub mod EntryLines
-pub mod Commands
+pub mod Known
 pub mod Formats
 pub mod LineEnds
 pub mod TextWords

@@ -8,7 +8,7 @@ use Rattle.clap.specs.Faults.{level_fault}
 use Rattle.clap.specs.declared.builder.value_parser.ValueParser.{ValueParser}
 use Rattle.ic_args.specs.Words.{BeginsWith, Choice, Entry, Kind, Tail, a_flag, a_number, an_option, attend_entry, batch_entry, command_line, is_given, many_words, most_rounds, most_seconds, most_steps, no_words, one_word, reduce_entry, serve_entry, trace_entry}
 use Rattle.ic_args.proofs.Arguments.{none_first, one_fits, same_id, several_fits}
-use Rattle.ic_args.proofs.Commands.{known_attend, known_batch, known_reduce, known_serve, known_trace}
+use Rattle.ic_args.proofs.Known.{known_attend, known_batch, known_reduce, known_serve, known_trace}
 use Rattle.ic_args.proofs.Entries.{after_options, apart_other_way, apart_parts, are_apart, built_choice, choice_named, differ, differ_parts, name_of, reader, rules_of, tail_name}
 use Rattle.ic_args.proofs.EntryLines.{IsKnown, leaf}
 use Rattle.ic_args.proofs.Flags.{flag_fits}

@@ -6,7 +6,7 @@ use Rattle.clap.specs.Words.{Row, Text, subcommand_of}
 use Rattle.clap.specs.Kinds.{or_else}
 use Rattle.ic_args.specs.Words.{IsDecimal, IsNumberOf, IsNumberOr, NamesReduce, asks_in_place, asks_kept, asks_rounds, clashes, command_line, file_met, is_flag_met, is_figures, is_given, is_limits, mistakes_of, most_rounds, most_steps, reduce_entry, value_if_met}
 use Rattle.ic_args.specs.Lines.{AreInPlace, AreOfRounds, AreUnkept, Given, Gives, HasFlag, HasNone, HasNumber, HasValue, IsReduceLine}
-use Rattle.ic_args.proofs.Commands.{known_reduce}
+use Rattle.ic_args.proofs.Known.{known_reduce}
 use Rattle.ic_args.proofs.Entries.{default_value}
 use Rattle.ic_args.proofs.EntryLines.{IsTaken, file_is, file_rest, flag_is, taken, value_given}
 use Rattle.ic_args.proofs.Formats.{figures_known, limits_known}

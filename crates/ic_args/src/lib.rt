@@ -3,6 +3,7 @@
 //! `read_words` reads them, through the kit's `clap`, as what the program is asked to do.
 #![tactic(auto)]
 
+mod commands;
 mod help;
 pub mod laws;
 mod words;

@@ -4,7 +4,7 @@ use Rattle.clap.specs.Words.{Text}
 use Rattle.ic_args.specs.Words.{IsDecimal, attend_entry}
 use Rattle.ic_args.specs.Lines.{IsAttendLine}
 use Rattle.ic_args.proofs.EntryLines.{IsTaken, taken, value_given, value_is, values_are}
-use Rattle.ic_args.proofs.Commands.{known_attend}
+use Rattle.ic_args.proofs.Known.{known_attend}
 use Rattle.ic_args.proofs.WordsLaws.{own_of}
 use Rattle.ic_args.proofs.laws.attend_lines_are_taken.Goals as goal
 

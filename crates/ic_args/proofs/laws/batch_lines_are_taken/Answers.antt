@@ -6,7 +6,7 @@ use Rattle.ic_args.specs.Words.{IsDecimal, batch_entry}
 use Rattle.ic_args.specs.Lines.{IsBatchLine}
 use Rattle.ic_args.proofs.Arguments.{plain_word}
 use Rattle.ic_args.proofs.EntryLines.{IsTaken, taken, value_given, value_is}
-use Rattle.ic_args.proofs.Commands.{known_batch}
+use Rattle.ic_args.proofs.Known.{known_batch}
 use Rattle.ic_args.proofs.LineEnds.{text}
 use Rattle.ic_args.proofs.WordsLaws.{own_of}
 use Rattle.ic_args.proofs.laws.batch_lines_are_taken.Goals as goal

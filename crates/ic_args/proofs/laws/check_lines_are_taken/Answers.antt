@@ -5,7 +5,7 @@ use Rattle.clap.proofs.OnLiterals.{clap_on_literals}
 use Rattle.ic_args.specs.Words.{check_entry, is_report_format}
 use Rattle.ic_args.specs.Lines.{IsCheckLine}
 use Rattle.ic_args.proofs.EntryLines.{IsTaken, flag_is, taken, value_is, values_are}
-use Rattle.ic_args.proofs.Commands.{known_check}
+use Rattle.ic_args.proofs.Known.{known_check}
 use Rattle.ic_args.proofs.Formats.{report_known}
 use Rattle.ic_args.proofs.WordsLaws.{report_is}
 use Rattle.ic_args.proofs.laws.check_lines_are_taken.Goals as goal

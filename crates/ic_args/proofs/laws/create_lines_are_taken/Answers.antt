@@ -4,7 +4,7 @@ use Rattle.clap.specs.Words.{Text}
 use Rattle.ic_args.specs.Words.{create_entry}
 use Rattle.ic_args.specs.Lines.{IsCreateLine}
 use Rattle.ic_args.proofs.EntryLines.{IsTaken, flag_is, taken, value_given}
-use Rattle.ic_args.proofs.Commands.{known_create}
+use Rattle.ic_args.proofs.Known.{known_create}
 use Rattle.ic_args.proofs.WordsLaws.{own_of}
 use Rattle.ic_args.proofs.laws.create_lines_are_taken.Goals as goal
 

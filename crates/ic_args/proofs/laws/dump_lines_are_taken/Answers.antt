@@ -4,7 +4,7 @@ use Rattle.clap.specs.Words.{Text}
 use Rattle.ic_args.specs.Words.{dump_entry}
 use Rattle.ic_args.specs.Lines.{IsDumpLine}
 use Rattle.ic_args.proofs.EntryLines.{IsTaken, taken, value_given, values_are}
-use Rattle.ic_args.proofs.Commands.{known_dump}
+use Rattle.ic_args.proofs.Known.{known_dump}
 use Rattle.ic_args.proofs.WordsLaws.{own_of}
 use Rattle.ic_args.proofs.laws.dump_lines_are_taken.Goals as goal
 

@@ -5,7 +5,7 @@ use Rattle.clap.proofs.OnLiterals.{clap_on_literals}
 use Rattle.ic_args.specs.Words.{inspect_entry, is_report_format}
 use Rattle.ic_args.specs.Lines.{IsInspectLine}
 use Rattle.ic_args.proofs.EntryLines.{IsTaken, taken, value_given, value_is}
-use Rattle.ic_args.proofs.Commands.{known_inspect}
+use Rattle.ic_args.proofs.Known.{known_inspect}
 use Rattle.ic_args.proofs.Formats.{report_known}
 use Rattle.ic_args.proofs.WordsLaws.{report_is}
 use Rattle.ic_args.proofs.laws.inspect_lines_are_taken.Goals as goal

@@ -4,7 +4,7 @@ use Rattle.clap.specs.Words.{Text}
 use Rattle.ic_args.specs.Words.{IsDecimal, serve_entry}
 use Rattle.ic_args.specs.Lines.{IsServeLine}
 use Rattle.ic_args.proofs.EntryLines.{IsTaken, flag_is, taken, value_given, value_is}
-use Rattle.ic_args.proofs.Commands.{known_serve}
+use Rattle.ic_args.proofs.Known.{known_serve}
 use Rattle.ic_args.proofs.WordsLaws.{own_of}
 use Rattle.ic_args.proofs.laws.serve_lines_are_taken.Goals as goal
 

@@ -5,7 +5,7 @@ use Rattle.clap.proofs.OnLiterals.{clap_on_literals}
 use Rattle.ic_args.specs.Words.{IsDecimal, is_format, trace_entry}
 use Rattle.ic_args.specs.Lines.{IsTraceLine}
 use Rattle.ic_args.proofs.EntryLines.{IsTaken, file_is, file_rest, taken, value_is}
-use Rattle.ic_args.proofs.Commands.{known_trace}
+use Rattle.ic_args.proofs.Known.{known_trace}
 use Rattle.ic_args.proofs.Formats.{format_known}
 use Rattle.ic_args.proofs.WordsLaws.{trace_is}
 use Rattle.ic_args.proofs.laws.trace_lines_are_taken.Goals as goal

@@ -4,7 +4,7 @@ use Rattle.clap.specs.Words.{app_of}
 use Rattle.clap.specs.Simple.{app_of_fields, on_top}
 use Rattle.clap.specs.declared.builder.command.Command.{Command}
 use Rattle.ic_args.specs.Words.{program, with_settings}
-use Rattle.ic_args.proofs.words.program.Goals as goal
+use Rattle.ic_args.proofs.commands.program.Goals as goal
 
 pub returns : goal.returns
 returns c =

@@ -3,7 +3,7 @@ use Rattle.std.proofs.lemmas.Result.{IfOk-at_ok, IfOk-weaker}
 use Rattle.clap.specs.Words.{App, app_of, with_subcommand}
 use Rattle.clap.specs.declared.builder.command.Command.{Command}
 use Rattle.ic_args.specs.inner.Making.{IsMade}
-use Rattle.ic_args.proofs.words.with_command.Goals as goal
+use Rattle.ic_args.proofs.commands.with_command.Goals as goal
 
 pub returns : goal.returns
 returns c = λ whole part first second.

@@ -1,5 +1,5 @@
 use Rattle.ic_args.specs.Words.{program}
-use Rattle.ic_args.proofs.words.with_disks.Goals as goal
+use Rattle.ic_args.proofs.commands.with_disks.Goals as goal
 
 pub returns : goal.returns
 returns c =

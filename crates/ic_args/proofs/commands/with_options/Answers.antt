@@ -1,4 +1,4 @@
-use Rattle.ic_args.proofs.words.with_options.Goals as goal
+use Rattle.ic_args.proofs.commands.with_options.Goals as goal
 
 pub returns : goal.returns
 returns c =

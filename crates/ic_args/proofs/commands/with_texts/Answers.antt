@@ -5,7 +5,7 @@ use Rattle.std.proofs.lemmas.List.Sums.{fold-append}
 use Rattle.clap.specs.Words.{App, Text, app_of}
 use Rattle.ic_args.specs.declared.words.TextWord.{TextWord}
 use Rattle.ic_args.specs.Words.{Entry, app_for, text_entry, text_word, with_entry}
-use Rattle.ic_args.proofs.words.with_texts.Goals as goal
+use Rattle.ic_args.proofs.commands.with_texts.Goals as goal
 
 abbrev entry_of : TextWord → Entry
 entry_of word = text_entry (text_word word)
