@@ -1,6 +1,6 @@
 #!/usr/bin/env python3
-"""Writes the helps of crates/ic_args/src/help.rt into crates/ic_args/specs/Help.antt, and the places of what a law finds in
-them into its proof: run it after an edit of a help, or of that law."""
+"""Writes the helps of crates/ic_args/src/help.rt into crates/ic_args/specs/Help.antt, by the names in `named_help`, and the
+proofs that go through these names or find parts of a help: run it after an edit of a help, or of the law on helps."""
 
 import re
 from pathlib import Path
@@ -8,6 +8,7 @@ from pathlib import Path
 CRATE = Path(__file__).resolve().parent.parent / "crates/ic_args"
 SPECS, LAWS = CRATE / "specs/Help.antt", CRATE / "src/laws.rt"
 PROOF = CRATE / "proofs/laws/each_command_has_its_help/Answers.antt"
+NAMED = CRATE / "proofs/help/named_help/Answers.antt"
 COLUMNS = 96
 
 
@@ -20,6 +21,11 @@ def helps():
     """The helps of the source, by their names there."""
     found = re.findall(r'const (\w+): &str = "\\\n(.*?)";\n', (CRATE / "src/help.rt").read_text(), re.S)
     return {name.lower(): plain(text) for name, text in found}
+
+
+def names():
+    """The names of commands, each with the name of its help in the source, as `named_help` has them."""
+    return re.findall(r'"(\w+)" => Some\((\w+)\),', (CRATE / "src/help.rt").read_text())
 
 
 def quoted(text):
@@ -47,8 +53,36 @@ def definition(name, text):
 def specs():
     """The definitions of the helps, in their file."""
     before, rest = SPECS.read_text().split("abbrev pub program_help", 1)
-    after = rest[rest.index("-- the help of each command") :]
-    return before + "\n".join(definition(*it) for it in helps().items()) + "\n" + after
+    after = rest[rest.index("-- the help of the command of this name") :]
+    return before + "\n".join(definition(*it) for it in helps().items()) + "\n" + table() + "\n" + after
+
+
+def table():
+    """The definition of the helps by the names of their commands."""
+    lines = ["helps = "]
+    for name, help in names():
+        row = f"({quoted(name)}, {help.lower()}_help) ∷ "
+        if len(lines[-1] + row) > COLUMNS + 4:
+            lines.append("    ∷ ")
+            lines[-2] = lines[-2].removesuffix("∷ ").rstrip()
+        lines[-1] += row
+    return "-- the help of each command\nabbrev pub helps : List (Text × Text)\n" + "\n".join(lines) + "[]\n"
+
+
+def named():
+    """The proof of `named_help`, which goes through the names."""
+    others = "".join(f"(other.not-{name}, " for name, _ in names()) + "tt" + ")" * len(names())
+    before = NAMED.read_text().split("pub returns-in_default", 1)[0]
+    default = f"""pub returns-in_default : goal.returns-in_default
+returns-in_default c =
+    let other = c.in_default in
+    sym (no_help_named c.args.word.now {others})
+"""
+    each = (
+        f"\npub returns-in-{name} : goal.returns-in-{name}\nreturns-in-{name} c = sym (ap named_help c.in-{name}.is)\n"
+        for name, _ in names()
+    )
+    return before + default + "".join(each)
 
 
 def places(clause):
@@ -76,7 +110,7 @@ def proof():
 
 def written():
     """Each file that this writes, with what it has to hold."""
-    return {SPECS: specs(), PROOF: proof()}
+    return {SPECS: specs(), PROOF: proof(), NAMED: named()}
 
 
 if __name__ == "__main__":

@@ -422,14 +422,13 @@ help_help = text_of (codes "Shows the help of a command, or of the program"
     ∷ codes "  (what icserve settle --help prints)"
     ∷ [])
 
--- the help of each command; that of `reduce` tells the language
+-- the help of each command
 abbrev pub helps : List (Text × Text)
 helps = (codes "settle", settle_help) ∷ (codes "once", once_help) ∷ (codes "create", create_help)
     ∷ (codes "serve", serve_help) ∷ (codes "attend", attend_help) ∷ (codes "reduce", reduce_help)
     ∷ (codes "trace", trace_help) ∷ (codes "draw", draw_help) ∷ (codes "dump", dump_help)
     ∷ (codes "inspect", inspect_help) ∷ (codes "check", check_help) ∷ (codes "batch", batch_help)
-    ∷ (codes "expand", expand_help)
-    ∷ (codes "help", help_help) ∷ (codes "language", reduce_help) ∷ []
+    ∷ (codes "expand", expand_help) ∷ (codes "help", help_help) ∷ (codes "language", reduce_help) ∷ []
 
 -- the help of the command of this name, none where it names none
 abbrev pub named_help : Text → Option Text

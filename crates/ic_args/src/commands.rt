@@ -7,7 +7,7 @@ ghost use Rattle.ic_args.specs.Words.{attend_entry, batch_entry, check_entry, cr
 ghost use Rattle.ic_args.specs.Words.{command_line, entries, program, text_entry, text_word, with_entry};
 ghost use Rattle.ic_args.specs.inner.Making.{IsMade, choice_of, entry_of, kind_of, tail_of};
 
-use crate::words::{TEXT_WORDS, TextWord, VERSION};
+use crate::words::{TEXT_WORDS, TextWord, VERSION, text_name};
 use clap::builder::ValueParser;
 use clap::{Arg, ArgAction, Command};
 use std::alloc::{AllocError, Global};
@@ -52,7 +52,7 @@ const KEEPS: Value = Value::Number(1, 1_000_000);
 /// How many rounds are made at most.
 const ROUNDS: Value = Value::Number(0, 4_611_686_018_427_387_904);
 
-/// How many interactions are made at most, or how many places there are.
+/// How many interactions are made at most, or how many places and equations there are.
 const STEPS: Value = Value::Number(0, 4_611_686_018_427_387_903);
 
 /// An option with a text, and its default or none.
@@ -370,18 +370,6 @@ fn with_command<'a>(
     let command = command?;
     let program = program?;
     program.subcommand(command)
-}
-
-/// The name of a command that reads a text and has no option.
-fn text_name<'a>(word: TextWord) -> &'a str
-    ensures { result.now ≡ text_word word }
-{
-    match word {
-        TextWord::Settle => "settle",
-        TextWord::Once => "once",
-        TextWord::Draw => "draw",
-        TextWord::Expand => "expand",
-    }
 }
 
 /// The program without its commands.

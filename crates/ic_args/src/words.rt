@@ -422,6 +422,18 @@ fn text_word_named(name: &str) -> Option<TextWord>
     }
 }
 
+/// The name of a command that reads a text and has no option.
+pub(crate) fn text_name<'a>(word: TextWord) -> &'a str
+    ensures { result.now ≡ text_word word }
+{
+    match word {
+        TextWord::Settle => "settle",
+        TextWord::Once => "once",
+        TextWord::Draw => "draw",
+        TextWord::Expand => "expand",
+    }
+}
+
 /// The task of a command that reads a text, and has no option.
 fn text_task(alloc: Global, word: TextWord, matches: &ArgMatches) -> Result<Task, WordsFault>
     requires { IsMet (text_word word) (subcommand_rows_of matches.now) }
