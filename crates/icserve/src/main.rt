@@ -39,6 +39,7 @@ use ic_serving::{ServeFault, serve_watched};
 use ic_slots::is_unused;
 use ic_streams::StreamFault;
 use ic_text::Limits;
+use std::alloc::AllocError;
 use std::env;
 use std::io::{self, BufWriter, ErrorKind, IsTerminal, Read, Write};
 use std::process::ExitCode;
@@ -402,14 +403,16 @@ fn attend<T: Threads + Wait + Sync>(
 /// What the words after the program's name ask for.
 fn task(rt: &HostRuntime) -> Result<Task, WordsFault> {
     let alloc = rt.alloc();
-    let words = match env::args(rt) {
-        Ok(args) => args.skip(1).collect::<Vec<String>>(alloc)?,
+    let mut words = match env::args(rt) {
+        Ok(words) => words,
         Err(error) if error.kind() == ErrorKind::OutOfMemory => return Err(WordsFault::Memory),
         Err(_) => {
             let text = format!(in alloc; "error: the words are no UTF-8 text\n")?;
             return Err(WordsFault::Words(text));
         }
     };
+    let _program = words.next();
+    let words = words.collect::<Vec<String>>(alloc)?;
     if words.is_empty() {
         return no_words(rt);
     }
@@ -514,13 +517,16 @@ fn serve<T: Threads + Wait + Copy + Send + 'static, R: Read>(
         every,
         &progress,
     );
-    let flushed = output.flush().map_err(|_| ServeFault::Write);
+    let flushed = output.flush().is_ok();
     progress.wipe();
     if explains || rt.stderr().is_terminal() {
         tell_of_jobs(rt, book.table().jobs());
     }
     book.close();
-    served.and(flushed)
+    if served.is_ok() && !flushed {
+        return Err(ServeFault::Write);
+    }
+    served
 }
 
 /// Gives the scripts to the disk, with so many runners, turns and workers, and writes what their
@@ -575,20 +581,27 @@ fn refuse(rt: &HostRuntime, failure: &Failure, path: &str, notes: &Notes, told: 
     if failure.is_silent(notes.last()) {
         return ExitCode::from(failure.status());
     }
-    match failure.line(rt.alloc()) {
-        Ok(line) => {
-            tell(rt, &line);
-            if let Ok(lines) = failure.lines_behind(rt.alloc(), path.as_bytes(), notes.last()) {
-                tell(rt, &lines);
-            }
-            tell(rt, told);
-            ExitCode::from(failure.status())
-        }
-        Err(_) => {
-            let _ = eprintln!(rt; "icserve: memory");
-            ExitCode::from(4)
-        }
+    if tell_failure(rt, failure, path, notes).is_err() {
+        tell(rt, b"icserve: memory\n");
+        return ExitCode::from(4);
     }
+    tell(rt, told);
+    ExitCode::from(failure.status())
+}
+
+/// Writes the line of a failure to standard error, and what is to be told of the disk's file of this path.
+fn tell_failure(
+    rt: &HostRuntime,
+    failure: &Failure,
+    path: &str,
+    notes: &Notes,
+) -> Result<(), AllocError> {
+    let line = failure.line(rt.alloc())?;
+    tell(rt, &line);
+    if let Ok(lines) = failure.lines_behind(rt.alloc(), path.as_bytes(), notes.last()) {
+        tell(rt, &lines);
+    }
+    Ok(())
 }
 
 /// Writes lines to standard error, as far as that can be done.

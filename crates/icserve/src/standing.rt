@@ -8,15 +8,25 @@ use std::os::fd::AsFd;
 /// The number of the error that says that a file isn't open.
 const NOT_OPEN: i32 = 9;
 
-/// Files that stand where standard input, output or error is closed, one for each that is. While they
-/// are open no disk is opened there: what is written to standard output would be written to the disk.
-/// One that can't be opened is noted.
-pub(crate) fn stand_ins(rt: &HostRuntime, notes: &Notes) -> io::Result<[Option<File>; 3]> {
-    Ok([
-        stand_in(rt, &rt.stdin(), notes)?,
-        stand_in(rt, &rt.stdout(), notes)?,
-        stand_in(rt, &rt.stderr(), notes)?,
-    ])
+/// Files that stand where standard input, output or error is closed, one for each that is.
+#[derive(Drop)]
+pub(crate) struct StandIns {
+    input: Option<File>,
+    output: Option<File>,
+    error: Option<File>,
+}
+
+/// Opens a file for each standard stream that is closed. While they are open no disk is opened there: what is written to
+/// standard output would be written to the disk. One that can't be opened is noted.
+pub(crate) fn stand_ins(rt: &HostRuntime, notes: &Notes) -> io::Result<StandIns> {
+    let input = stand_in(rt, &rt.stdin(), notes)?;
+    let output = stand_in(rt, &rt.stdout(), notes)?;
+    let error = stand_in(rt, &rt.stderr(), notes)?;
+    Ok(StandIns {
+        input,
+        output,
+        error,
+    })
 }
 
 /// A file in the place of this stream, where it is closed and those before it are open: the system
