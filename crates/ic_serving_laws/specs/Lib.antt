@@ -1,2 +1,3 @@
+pub mod Attending
 pub mod Served
 pub mod Servings

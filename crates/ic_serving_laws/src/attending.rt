@@ -18,7 +18,7 @@ ghost use Rattle.ic_attend.specs.Ends.{EndsTell};
 ghost use Rattle.ic_attend.specs.Faults.{IsAsOpened, IsTorn};
 ghost use Rattle.ic_attend.specs.OneHistory.{IsOneHistory};
 ghost use Rattle.ic_scripts.specs.Attending.{IsAttended};
-ghost use Rattle.ic_attend_laws.specs.Attending.{AttendedOver};
+ghost use Rattle.ic_serving_laws.specs.Attending.{AttendedOver};
 
 use ic_attend::Attended;
 use ic_book::Book;

@@ -8,7 +8,7 @@ use Rattle.ic_jobs.specs.Turns.{RunsAt}
 use Rattle.ic_book.specs.Book.{log_of, table_of}
 use Rattle.ic_attend.specs.declared.attended.RunnerEnd.TheVariants.{Idle, Turns}
 use Rattle.ic_attend.specs.Runners.{EndHolds, NoneRuns}
-use Rattle.ic_attend_laws.proofs.laws.runners_end_where_nothing_is_due.Goals as goal
+use Rattle.ic_serving_laws.proofs.attending.runners_end_where_nothing_is_due.Goals as goal
 
 -- what holds of each element holds of the one at a place
 at_place : {X : Type 0} (P : X → Type 0) (xs : List X) (k : ℕ) (x : X) → All P xs → slice_get xs k ≡ Some x → P x

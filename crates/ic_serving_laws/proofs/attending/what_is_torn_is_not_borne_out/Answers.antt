@@ -1,7 +1,7 @@
 use Rattle.std.proofs.Common.{◌≡◌}
 use Rattle.ic_slots.specs.Held.{the_table}
 use Rattle.ic_book.specs.Book.{start_of}
-use Rattle.ic_attend_laws.proofs.laws.what_is_torn_is_not_borne_out.Goals as goal
+use Rattle.ic_serving_laws.proofs.attending.what_is_torn_is_not_borne_out.Goals as goal
 
 pub returns : goal.returns
 returns g c = λ scripts runners turns workers torn keeps held history.

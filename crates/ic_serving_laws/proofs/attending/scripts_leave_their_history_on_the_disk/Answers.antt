@@ -2,7 +2,7 @@ use Rattle.std.proofs.Common.{List, inl, inr, sym, subst}
 use Rattle.ic_disk.specs.Images.{Within}
 use Rattle.ic_jobs.specs.Job.{JobParts}
 use Rattle.ic_slots.specs.Held.{IsHeld, the_table}
-use Rattle.ic_attend_laws.proofs.laws.scripts_leave_their_history_on_the_disk.Goals as goal
+use Rattle.ic_serving_laws.proofs.attending.scripts_leave_their_history_on_the_disk.Goals as goal
 
 pub returns : goal.returns
 returns g c = λ scripts runners turns workers old new is keeps. elim is [
