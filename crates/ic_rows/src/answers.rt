@@ -15,7 +15,9 @@
 //!   `bind CONFIGURATION`: what is bound where it settles, as equations. `gathered RESULTS`: what gathering refuses.
 //! - `alike ROUNDS SYSTEM`: the text after at most so many rounds, by terms and by words the same. Before each round
 //!   all bodies of settling, and the tests of what is quiet, agree.
+//! - `memory`, `file`, `opens`, `laws`: of disks, as `disks` says.
 
+use crate::disks::of_disks;
 use crate::engines::alike;
 use crate::flat::{are_over, are_same, words};
 use crate::gathering::gathered;
@@ -28,9 +30,12 @@ use std::alloc::Global;
 
 /// The kinds of these rows.
 #[derive(Drop)]
-pub struct Kinds;
+pub struct Kinds<'a> {
+    /// What has the files.
+    pub rt: &'a HostRuntime,
+}
 
-impl Answers for Kinds {
+impl Answers for Kinds<'_> {
     fn answer(&self, alloc: Global, row: &Row<'_>) -> Result<Vec<u8>, Trouble> {
         match row.kind {
             "task" => task(alloc, row.text),
@@ -39,6 +44,7 @@ impl Answers for Kinds {
             "term_ends" => ends(alloc, row.text),
             "gathered" => gathered(alloc, row.text),
             "paired" | "same" | "over" => of_two(alloc, row),
+            "memory" | "file" | "opens" | "laws" => Ok(of_disks(self.rt, row)?),
             _ => after_number(alloc, row),
         }
     }

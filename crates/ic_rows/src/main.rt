@@ -1,9 +1,11 @@
-//! The worked rows of values that are made by calls, of their words in flat form, of single steps, and of the task that
-//! words after the program's name ask for. `answers` says what a row may ask. What the built program shows of texts,
+//! The worked rows of values that are made by calls, of their words in flat form, of single steps, of the task that words
+//! after the program's name ask for, and of disks and the two slots, in memory and in files. `answers` says what a row
+//! may ask. What the built program shows of texts,
 //! settling, rounds and refused words is in `trials/rows`.
 #![tactic(auto)]
 
 mod answers;
+mod disks;
 mod engines;
 mod flat;
 mod gathering;
@@ -17,5 +19,5 @@ use ic_notation::check_rows;
 use std::io;
 
 fn main(rt: HostRuntime) -> io::Result<()> {
-    check_rows(&rt, rt.alloc(), &Kinds)
+    check_rows(&rt, rt.alloc(), &Kinds { rt: &rt })
 }

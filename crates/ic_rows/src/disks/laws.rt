@@ -1,7 +1,7 @@
 //! The calls that are laws of any disk: they are the disk's own.
 
-use crate::calls::tell_length;
-use crate::told::Told;
+use crate::disks::calls::tell_length;
+use crate::disks::told::Told;
 use ic_disk::laws::{
     failures_rise, len_as_modelled, read_as_modelled, settled_disk_begins, sync_as_modelled,
     write_as_modelled,

@@ -1,4 +1,4 @@
-//! What is answered to a row, by its kind.
+//! What is answered to rows of disks and of the frames on them.
 //!
 //! A script is words with `, ` between two, each of which is answered in turn: `o` or `e` says that a call went well or
 //! was refused, `y` or `n` whether something is so. Bytes are hexadecimal digits, `-` none, and `[COUNT DIGITS]` so
@@ -17,31 +17,24 @@
 //!   closes them. `holds BODY` tells what was found.
 //! - `opens PATH`: whether a disk is opened there, without making it and with. `laws`: the calls that are laws.
 
-use crate::files::{in_file, opens};
-use crate::laws::of_the_laws;
-use crate::memory::in_memory;
-use ic_notation::{Answers, Row, Trouble};
-use std::alloc::{AllocError, Global};
+mod calls;
+mod files;
+mod laws;
+mod memory;
+mod told;
+mod words;
 
-/// The kinds of these rows.
-#[derive(Drop)]
-pub struct Kinds<'a> {
-    /// What has the files.
-    pub rt: &'a HostRuntime,
-}
+use crate::disks::files::{in_file, opens};
+use crate::disks::laws::of_the_laws;
+use crate::disks::memory::in_memory;
+use ic_notation::Row;
+use std::alloc::AllocError;
 
-impl Answers for Kinds<'_> {
-    fn answer(&self, alloc: Global, row: &Row<'_>) -> Result<Vec<u8>, Trouble> {
-        match row.kind {
-            "memory" => Ok(in_memory(alloc, row.text)?),
-            "laws" => Ok(of_the_laws(alloc)?),
-            _ => Ok(of_files(self.rt, row)?),
-        }
-    }
-}
-
-fn of_files(rt: &HostRuntime, row: &Row<'_>) -> Result<Vec<u8>, AllocError> {
+/// What is answered to a row of a disk.
+pub fn of_disks(rt: &HostRuntime, row: &Row<'_>) -> Result<Vec<u8>, AllocError> {
     match row.kind {
+        "memory" => in_memory(rt.alloc(), row.text),
+        "laws" => of_the_laws(rt.alloc()),
         "file" => in_file(rt, row.name, row.text),
         _ => opens(rt, row.text),
     }

@@ -1,8 +1,8 @@
 //! Scripts of a disk in a file of the system.
 
-use crate::calls::call;
-use crate::told::Told;
-use crate::words::{body_of, first_of, number_and_rest};
+use crate::disks::calls::call;
+use crate::disks::told::Told;
+use crate::disks::words::{body_of, first_of, number_and_rest};
 use ic_disk::{Disk, DiskFile, FileDisk};
 use std::alloc::AllocError;
 use std::fs::{self, OpenOptions};

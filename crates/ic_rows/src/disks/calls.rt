@@ -1,7 +1,7 @@
 //! Calls of any disk, through its bound.
 
-use crate::told::Told;
-use crate::words::{body_of, byte, first_of, number_and_rest};
+use crate::disks::told::Told;
+use crate::disks::words::{body_of, byte, first_of, number_and_rest};
 use ic_disk::laws::{write_and_mark, write_synced};
 use ic_disk::{Disk, DiskFault};
 use std::alloc::{AllocError, Global};

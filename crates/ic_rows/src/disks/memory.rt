@@ -2,9 +2,9 @@
 
 ghost use Rattle.std.specs.Prelude.{◌+◌, ◌≤◌, length, IfOk};
 
-use crate::calls::call;
-use crate::told::Told;
-use crate::words::{body_of, byte, first_of, number, number_and_rest};
+use crate::disks::calls::call;
+use crate::disks::told::Told;
+use crate::disks::words::{body_of, byte, first_of, number, number_and_rest};
 use ic_disk::{Blow, Choice, FuseDisk, MemDisk, Then};
 use ic_frames::{Frames, HEAD, KeepFault, MAX_BODY, OpenCause, Opened, create};
 use std::alloc::{AllocError, Global};
