@@ -446,13 +446,13 @@ def settled(config):
 def settled_by_steps(config):
     """The same, as docs/rounds.md says it, one step after the other."""
     while True:
+        occurs = Counter(names_of(config))
         for place, equation in enumerate(config.equations):
-            rest = config.equations[:place] + config.equations[place + 1 :]
-            outside = set(names_of(Config(config.interface, rest, 0)))
-            if step := applicable(equation, lambda name, _: name in outside):
+            if step := applicable(equation, lambda name, _: occurs[name] > names_in(equation).count(name)):
                 break
         else:
             return config
+        rest = config.equations[:place] + config.equations[place + 1 :]
         name, other = step
 
         def replaced(term):

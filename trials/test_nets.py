@@ -208,8 +208,8 @@ class Nets(NetTrial):
                 self.equals(f"spoiled {way}", "how many are changed, and told apart", answer, f"{len(told)} {sum(told)}")
 
 
-class DrawnNets(NetTrial):
-    seconds = 40
+class DrawnOrders(NetTrial):
+    seconds, needs_program = 40, False
 
     def test_drawn_systems_in_drawn_orders(self):
         for name, _, text, answer in self.rows("drawn_orders"):
@@ -219,12 +219,18 @@ class DrawnNets(NetTrial):
                 self.equals(f"drawn_orders {count}", "the sums", answer, " ".join(str(sum(it)) for it in zip(*sums)))
 
     def sums_of(self, drawn, orders):
-        """What an end adds to the sums. So many drawn orders have to come to it, and the program, where it is one of the first."""
+        """What an end adds to the sums. So many drawn orders have to come to it."""
         self.orders_agree(drawn, orders)
-        if drawn.number < REDUCED:
-            self.ends_in(drawn.rules, drawn.text, steps.net_of(drawn.rules, drawn.end))
         first, last = circles(model.settled(drawn.config)), circles(drawn.end)
         return 1, sum(drawn.counts.firings), drawn.counts.names, first > 0, last > 0, last > first
+
+
+class DrawnNets(NetTrial):
+    seconds = 5
+
+    def test_the_program_comes_to_the_ends_of_the_first_drawn_systems(self):
+        for drawn in drawn_ends(REDUCED):
+            self.ends_in(drawn.rules, drawn.text, steps.net_of(drawn.rules, drawn.end))
 
 
 class Rounds(NetTrial):
