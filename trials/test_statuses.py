@@ -129,8 +129,9 @@ class Words(Trial):
         for words in [*self.REFUSED, ("serve", "--disk", os.fsdecode(b"\xff"))]:
             with self.subTest(words=words):
                 ran = run(*words, cwd=self.room)
-                if ran.status != 2 or ran.out or not ran.err.startswith(b"error: ") or not ran.err.endswith(b"\n"):
-                    self.told(ran.command, "the end", "status 2, nothing on standard output, `error: ..`", ran[1:])
+                begins = b"error: " if words else b"A job server"
+                if ran.status != 2 or ran.out or not ran.err.startswith(begins) or not ran.err.endswith(b"\n"):
+                    self.told(ran.command, "the end", f"status 2, nothing on standard output, {begins} ..", ran[1:])
                 self.equals(ran.command, "the files that it made", [], os.listdir(self.room))
 
     def test_help_and_version_go_to_standard_output(self):

@@ -6,7 +6,7 @@ import time
 import unittest
 
 from known import LOOP, TWO, fetched, submitted
-from program import PATIENCE, Server, Trial, run, shown
+from program import OF_BAD, PATIENCE, Server, Trial, run, shown
 from shim import noted, shimmed
 
 # The ways of the shell to close a standard stream, by its number.
@@ -164,7 +164,8 @@ class Long(Trial):
             server.process.stdin.close()
             taker.join()
             status = server.process.wait(PATIENCE)
-            self.equals(server.said(), "status and standard error", (0, b""), (status, server.process.stderr.read()))
+            told = OF_BAD if answer_of_block.startswith(b"bad ") else b""
+            self.equals(server.said(), "status and standard error", (0, told), (status, server.process.stderr.read()))
         self.equals(f"{server.said()}{len(block)} bytes, {times} times", "bytes of right answers", [wanted, True], came)
         return figures
 
