@@ -1,8 +1,8 @@
 -- Lemmas: what was read back of a machine that has stopped is what a reduction answers.
-use Rattle.std.proofs.Common.{◌≡◌, ◌≢◌, ℕ, ◌+◌, ◌*◌, ◌^◌, ◌<◌, List, [], ◌∷◌, false, None, Some, IsTrue, length, map, slice_get, refl, sym, ap, ◌∙◌, subst as transport}
+use Rattle.std.proofs.Common.{◌≡◌, ◌≢◌, ℕ, ◌+◌, ◌*◌, ◌^◌, ◌<◌, List, [], ◌∷◌, inl, inr, false, None, Some, IsTrue, length, map, slice_get, refl, sym, ap, ◌∙◌, subst as transport}
 use Rattle.std.proofs.lemmas.Bool.{false≢true}
 use Rattle.ic_in_place.specs.Reductions.{is_written, stuck_at}
-use Rattle.std.specs.Prelude.{◌↔◌}
+use Rattle.std.specs.Prelude.{◌↔◌, ◌⊎◌}
 use Rattle.std.specs.List.{flat_map, AllByRecursion}
 use Rattle.std.proofs.lemmas.List.{length-map}
 use Rattle.ic_term.specs.Configuration.{Configuration, configuration_names, occurrences}
@@ -32,7 +32,7 @@ use Rattle.ic_in_place.specs.declared.running.Bounds.{Bounds}
 use Rattle.ic_in_place.specs.declared.running.End.{End}
 use Rattle.ic_in_place.specs.declared.running.End.TheVariants.{Quiet, Steps, Nodes, Limit}
 use Rattle.ic_in_place.specs.declared.running.End.TheVariants as end
-use Rattle.ic_in_place.specs.Reducing.{CanInteract, IsPutTogether, EndsBy, IsReachedBy}
+use Rattle.ic_in_place.specs.Reducing.{CanInteract, IsPutTogether, HasEnds, EndsBy, IsReachedBy}
 use Rattle.ic_in_place.specs.Counting.{TellsNameSteps}
 use Rattle.ic_in_place.specs.Running.{HasPairs, IsFullNext}
 use Rattle.ic_in_place.specs.Holding.{AreGiven, IsHeldAt}
@@ -90,6 +90,14 @@ quiet_at rs bounds d interactions Nodes is e = cc
 quiet_at rs bounds d interactions Limit is e = cc
 quiet_at rs bounds d interactions end.Memory is e = cc
 
+-- no pair is left at a quiet end
+done_at : (bounds : Bounds) (p : Plans) (m : Net) (end : End) → StopsBy bounds p m end → end ≡ Quiet → m.pending ≡ []
+done_at bounds p m Quiet is e = is
+done_at bounds p m Steps is e = cc
+done_at bounds p m Nodes is e = cc
+done_at bounds p m Limit is e = cc
+done_at bounds p m end.Memory is e = cc
+
 -- it held too much where it stopped for that
 over_at : (bounds : Bounds) (p : Plans) (m : Net) (end : End) → StopsBy bounds p m end → end ≡ Nodes → bounds.nodes < all_entries m
 over_at bounds p m Nodes is e = is.0
@@ -143,6 +151,7 @@ held_at s bounds given m end places by_rule answer stopped net = record {
   compiled = stopped.compiled;
   starts = stopped.starts;
   none = stopped.none;
+  no_aside = stopped.no_aside;
   watched = stopped.watched;
   by_plans = stopped.by_plans;
   held = stopped.held;
@@ -150,6 +159,8 @@ held_at s bounds given m end places by_rule answer stopped net = record {
   one_net = net;
   all = stopped.all;
   enough = stopped.enough;
+  tables = stopped.tables;
+  pairs = stopped.pairs;
 }
 
 -- What was read back is what was reached, and its words are written.
@@ -159,7 +170,7 @@ pub answered_so : AnswerLaws → (s : SystemParts) (bounds : Bounds) (given : Li
     → (HasNext stopped.plans m.pending → CanInteract s.rules.rules (configuration_read stopped.held.numbers ts terms))
     → (HasNames (configuration_read stopped.held.numbers ts terms)
     → AreGiven stopped.held.numbers.given (configuration_read stopped.held.numbers ts terms)
-    → (m.pending ≡ [] → IsQuiet s.rules.rules (configuration_read stopped.held.numbers ts terms)) × IsPutTogether (configuration_read stopped.held.numbers ts terms))
+    → (m.pending ≡ [] → IsQuiet s.rules.rules (configuration_read stopped.held.numbers ts terms)) × HasEnds (configuration_read stopped.held.numbers ts terms) (equations_left m))
     → IsWhole (flat_words stopped.held.numbers ts) → length (forest (flat_words stopped.held.numbers ts)) ≡ terms + 2 * equations
     → AllByRecursion (IsNumbered given) ts → words ≡ flat_words (written_numbers (arities_of s) given) ts
     → (answer : Configuration) × IsReachedBy s bounds answer end m.interactions places (equations_left m) by_rule × IsPutTogether answer
@@ -196,16 +207,18 @@ answered_so laws s bounds given m end places by_rule stopped ts terms equations 
           counted = stopped.counted;
           within = stopped.within;
           held = held_at s bounds given m end places by_rule answer stopped net;
-          ended = ends_alike s bounds stopped.plans answer m end next (quiet net.names_too are).0 (quiet net.names_too are).1 stopped.ended;
+          ended = ends_alike s bounds stopped.plans answer m end next (quiet net.names_too are).0 (quiet net.names_too are).1.0 stopped.ended;
+          done = done_at bounds stopped.plans m end stopped.ended;
           over = over_at bounds stopped.plans m end stopped.ended;
           next = left_over bounds stopped.plans m end stopped.ended;
           full = full_at bounds stopped.plans m end stopped.ended;
           left = left_at bounds stopped.plans m end stopped.pairs stopped.ended;
         };
         equations = refl;
+        ends = λ at. (quiet net.names_too are).1;
         counts = stopped.counts;
       }),
-      (quiet net.names_too are).1,
+      (quiet net.names_too are).1.0,
       length-equations ws terms equations 0 counted,
       transport (λ (l : List FlatWord). WritesAlike rs.symbols l terms equations answer) (sym words_are)
           (alike_so rs.symbols r.turn ws terms equations answer (laws.forgets r.turn ws r.untold) whole counted refl refl over),
@@ -220,6 +233,17 @@ pub record IsUnread (s : SystemParts) (bounds : Bounds) (end : End) (interaction
   pub name_steps : TellsNameSteps s.rules.rules s.config interactions (length answer.equations) end None
   pub stuck : None ≡ stuck_at end s.rules.symbols answer
 
+-- it is neither a quiet end nor one where all interactions were made
+no_ends : (c : Configuration) (left : ℕ) (stop : End) → is_written asked.Answer stop ≡ false → (stop ≡ Quiet) ⊎ (stop ≡ Steps) → HasEnds c left
+no_ends c left Quiet none at = absurd (false≢true (sym none))
+no_ends c left Steps none at = absurd (false≢true (sym none))
+no_ends c left Nodes none (inl e) = cc
+no_ends c left Nodes none (inr e) = cc
+no_ends c left Limit none (inl e) = cc
+no_ends c left Limit none (inr e) = cc
+no_ends c left end.Memory none (inl e) = cc
+no_ends c left end.Memory none (inr e) = cc
+
 pub unread_so : ((c : Configuration) → HasNames c → OneNet c c) → (s : SystemParts) (bounds : Bounds) (given : List ℕ) (m : Net) (end : End) (places : ℕ) (by_rule : List ℕ) → HasStopped s bounds given by_rule m end places
     → is_written asked.Answer end ≡ false → IsUnread s bounds end m.interactions places (equations_left m) by_rule
 unread_so itself s bounds given m Quiet places by_rule stopped none = absurd (false≢true (sym none))
@@ -227,8 +251,9 @@ unread_so itself s bounds given m Steps places by_rule stopped none = absurd (fa
 unread_so itself s bounds given m Nodes places by_rule stopped none = record {
   answer = net_of stopped.held.numbers m.interface (pieces m);
   reached = record {
-    reached = record { fired = stopped.fired; reached = stopped.held.reached; counted = stopped.counted; within = stopped.within; held = held_at s bounds given m Nodes places by_rule _ stopped (itself _ stopped.held.has_names); ended = (stopped.ended.1, stopped.ended.2); over = over_at bounds stopped.plans m Nodes stopped.ended; next = left_over bounds stopped.plans m Nodes stopped.ended; full = full_at bounds stopped.plans m Nodes stopped.ended; left = left_at bounds stopped.plans m Nodes stopped.pairs stopped.ended };
+    reached = record { fired = stopped.fired; reached = stopped.held.reached; counted = stopped.counted; within = stopped.within; held = held_at s bounds given m Nodes places by_rule _ stopped (itself _ stopped.held.has_names); ended = (stopped.ended.1, stopped.ended.2); done = done_at bounds stopped.plans m Nodes stopped.ended; over = over_at bounds stopped.plans m Nodes stopped.ended; next = left_over bounds stopped.plans m Nodes stopped.ended; full = full_at bounds stopped.plans m Nodes stopped.ended; left = left_at bounds stopped.plans m Nodes stopped.pairs stopped.ended };
     equations = refl;
+    ends = no_ends _ _ Nodes none;
     counts = stopped.counts;
   };
   name_steps = refl;
@@ -237,8 +262,9 @@ unread_so itself s bounds given m Nodes places by_rule stopped none = record {
 unread_so itself s bounds given m Limit places by_rule stopped none = record {
   answer = net_of stopped.held.numbers m.interface (pieces m);
   reached = record {
-    reached = record { fired = stopped.fired; reached = stopped.held.reached; counted = stopped.counted; within = stopped.within; held = held_at s bounds given m Limit places by_rule _ stopped (itself _ stopped.held.has_names); ended = stopped.ended.0; over = over_at bounds stopped.plans m Limit stopped.ended; next = left_over bounds stopped.plans m Limit stopped.ended; full = full_at bounds stopped.plans m Limit stopped.ended; left = left_at bounds stopped.plans m Limit stopped.pairs stopped.ended };
+    reached = record { fired = stopped.fired; reached = stopped.held.reached; counted = stopped.counted; within = stopped.within; held = held_at s bounds given m Limit places by_rule _ stopped (itself _ stopped.held.has_names); ended = stopped.ended.0; done = done_at bounds stopped.plans m Limit stopped.ended; over = over_at bounds stopped.plans m Limit stopped.ended; next = left_over bounds stopped.plans m Limit stopped.ended; full = full_at bounds stopped.plans m Limit stopped.ended; left = left_at bounds stopped.plans m Limit stopped.pairs stopped.ended };
     equations = refl;
+    ends = no_ends _ _ Limit none;
     counts = stopped.counts;
   };
   name_steps = refl;
@@ -247,8 +273,9 @@ unread_so itself s bounds given m Limit places by_rule stopped none = record {
 unread_so itself s bounds given m end.Memory places by_rule stopped none = record {
   answer = net_of stopped.held.numbers m.interface (pieces m);
   reached = record {
-    reached = record { fired = stopped.fired; reached = stopped.held.reached; counted = stopped.counted; within = stopped.within; held = held_at s bounds given m end.Memory places by_rule _ stopped (itself _ stopped.held.has_names); ended = tt; over = over_at bounds stopped.plans m end.Memory stopped.ended; next = left_over bounds stopped.plans m end.Memory stopped.ended; full = full_at bounds stopped.plans m end.Memory stopped.ended; left = left_at bounds stopped.plans m end.Memory stopped.pairs stopped.ended };
+    reached = record { fired = stopped.fired; reached = stopped.held.reached; counted = stopped.counted; within = stopped.within; held = held_at s bounds given m end.Memory places by_rule _ stopped (itself _ stopped.held.has_names); ended = tt; done = done_at bounds stopped.plans m end.Memory stopped.ended; over = over_at bounds stopped.plans m end.Memory stopped.ended; next = left_over bounds stopped.plans m end.Memory stopped.ended; full = full_at bounds stopped.plans m end.Memory stopped.ended; left = left_at bounds stopped.plans m end.Memory stopped.pairs stopped.ended };
     equations = refl;
+    ends = no_ends _ _ end.Memory none;
     counts = stopped.counts;
   };
   name_steps = refl;

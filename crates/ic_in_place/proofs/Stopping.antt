@@ -8,7 +8,7 @@ use Rattle.ic_term.specs.Symbol.{is_over}
 use Rattle.ic_rules.specs.RuleSet.{Rules, IsRuleSet}
 use Rattle.ic_rules.specs.System.{SystemParts}
 use Rattle.ic_round.specs.Naming.{HasNames}
-use Rattle.ic_machine.specs.Net.{Net, all_entries, pieces, IsPair, IsStuck}
+use Rattle.ic_machine.specs.Net.{Net, all_entries, pieces, IsAtPlace, IsPair, IsStuck}
 use Rattle.ic_machine.specs.Plan.{Planned, Plans, ArePlans, IsPlan}
 use Rattle.ic_machine.specs.Runs.{IsStart, Ran}
 use Rattle.ic_meaning.specs.Plans.{ArePlansOf, StandsForNet, rule_number}
@@ -96,10 +96,10 @@ pub stopped_so : StopLaws → (s : SystemParts) (bounds : Bounds) (numbers : Lis
     → ((x : ℕ) → (occurrences x (configuration_names s.config) ≡ 1) ↔ Contains given x)
     → IsBegun p (length given) plan operands old → RunsOn p bounds.steps end old m
     → (end ≡ Nodes → bounds.nodes < all_entries m) → (end ≡ Nodes → IsLookedAt p old m) → places ≡ m.names + sum m.agents
-    → length m.places ≤ places → AllByRecursion IsPair m.pending → IsWatched p bounds.nodes old m
+    → length m.places ≤ places → AllByRecursion IsAtPlace m.places → AllByRecursion IsPair m.pending → IsWatched p bounds.nodes old m
     → (by_rule : List ℕ) → IsSummed (length s.rules.rules) numbers m.counts by_rule → length numbers ≡ length p.plans → m.interactions < 2 ^ 64
     → HasStopped s bounds given by_rule m end places
-stopped_so laws s bounds numbers p given plan operands old m end places sound arities plans of_rules start stands are begun runs nodes looked all enough pairs watched by_rule summed numbered low =
+stopped_so laws s bounds numbers p given plan operands old m end places sound arities plans of_rules start stands are begun runs nodes looked all enough tables pairs watched by_rule summed numbered low =
     let before = looked_ran p bounds.nodes watched.allowed watched.before old watched.mark watched.looked in
     let ran : Ran p old m = ran_through p old watched.mark m before.0 watched.after in
     let count : length (arities_of s) ≡ length s.rules.symbols = length-map s.rules.symbols (λ x. x.arity) in
@@ -139,6 +139,7 @@ stopped_so laws s bounds numbers p given plan operands old m end places sound ar
       own_arities = ran.arities ∙ begun.arities ∙ arities;
       starts = begun.starts;
       by_plans = ap (map (rule_number numbers)) (ran_through-fired p old watched.mark m before.0 watched.after ∙ ap (λ l. l ++ watched.after.fired) before.1);
+      tables = tables;
       pairs = pairs;
       fired = map (rule_number numbers) ran.fired;
       held = held;
@@ -155,6 +156,7 @@ stopped_so laws s bounds numbers p given plan operands old m end places sound ar
           (laws.reached s.rules numbers p s.config given plan operands old sound.rules sound.over sound.names compiled
           (record { first = old; starts = begun.starts; separate = begun.separate; aside = begun.aside; ran = ran_nothing p old }));
       none = begun.none;
+      no_aside = begun.aside;
       watched = watched;
       aside = transport (AllByRecursion (IsStuck p)) (sym (ran.aside ∙ ap (λ es. es ++ ran.more) begun.aside)) ran.stuck;
       ended = by_end bounds p old m end begun.none runs nodes looked;

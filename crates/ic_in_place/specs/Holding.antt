@@ -7,7 +7,7 @@ use Rattle.ic_round.specs.Naming.{HasNames}
 use Rattle.ic_reaching.specs.OneNet.{OneNet}
 use Rattle.ic_reaching.specs.Reaching.{Reaches}
 use Rattle.ic_arena.specs.declared.word.TheConstants.{GIVEN}
-use Rattle.ic_machine.specs.Net.{Net, pieces, IsAtPlace}
+use Rattle.ic_machine.specs.Net.{Net, pieces, IsAtPlace, IsPair}
 use Rattle.ic_machine.specs.Plan.{Planned, Plans, ArePlans, IsPlan}
 use Rattle.ic_machine.specs.Runs.{Starts, Ran}
 use Rattle.ic_machine.specs.Separate.{IsSeparate}
@@ -52,8 +52,8 @@ pub record Holds (rs : Rules) (p : Plans) (c : Configuration) (given fired : Lis
   pub free : AreGiven given (net_of numbers m.interface (pieces m))
 
 -- A machine that has so many places, of names and for agents, the free ones too, holds one net with an answer. No more
--- pieces are at them than there are places. It began with the configuration, and these rules are those of the plans that
--- fired since. Its places were watched on the way.
+-- pieces are at them than there are places: places hold no equation, and no side of a pending one is a name of the net. It
+-- began with the configuration, and these rules are those of the plans that fired since. Its places were watched on the way.
 pub record IsHeldAt (rs : Rules) (c answer : Configuration) (fired : List ℕ) (places nodes : ℕ) : Type 0 where
   pub machine : Net
   pub first : Net
@@ -65,6 +65,7 @@ pub record IsHeldAt (rs : Rules) (c answer : Configuration) (fired : List ℕ) (
   pub compiled : AreCompiled rs rule_numbers plans c given plan operands
   pub starts : Starts plans (length given) plan operands first
   pub none : first.interactions ≡ 0
+  pub no_aside : first.aside ≡ []
   pub watched : IsWatched plans nodes first machine
   pub by_plans : fired ≡ map (rule_number rule_numbers) (watched.before ++ watched.after.fired)
   pub held : Holds rs plans c given fired machine
@@ -72,6 +73,8 @@ pub record IsHeldAt (rs : Rules) (c answer : Configuration) (fired : List ℕ) (
   pub one_net : OneNet (net_of held.numbers machine.interface (pieces machine)) answer
   pub all : places ≡ machine.names + sum machine.agents
   pub enough : length machine.places ≤ places
+  pub tables : AllByRecursion IsAtPlace machine.places
+  pub pairs : AllByRecursion IsPair machine.pending
 
 -- No pair is left to be looked at, and places hold no equation.
 pub record HasEnded (m : Net) : Type 0 where

@@ -1,5 +1,5 @@
 -- What a system is reduced to in place (this project's choice).
-use Rattle.std.specs.Prelude.{◌≡◌, ℕ, suc, ◌+◌, ◌*◌, ◌<◌, ◌≤◌, List, ◌++◌, IsTrue, length}
+use Rattle.std.specs.Prelude.{◌≡◌, ◌⊎◌, ℕ, suc, ◌+◌, ◌*◌, ◌<◌, ◌≤◌, List, [], ◌++◌, IsTrue, length}
 use Rattle.std.specs.List.{list_all, AllByRecursion}
 use Rattle.ic_term.specs.Tree.{Tree, name, agent, names, Pair}
 use Rattle.ic_term.specs.Configuration.{Configuration, configuration_names, occurrences}
@@ -41,6 +41,10 @@ pub record IsPutTogether (c : Configuration) : Type 0 where
   pub are_ends : AllByRecursion (λ e. IsAgentOrFree c e.left × IsAgentOrFree c e.right) ends
   pub are_circles : AllByRecursion IsCircle circles
 
+-- It is put together, and so many of its equations are no circles.
+abbrev pub HasEnds : Configuration → ℕ → Type 0
+HasEnds c n = (together : IsPutTogether c) × (length together.ends ≡ n)
+
 -- an interaction is possible
 abbrev pub CanInteract : List Rule → Configuration → Type 0
 CanInteract rs c = (d : Configuration) × (place : ℕ) × Interaction rs c d place
@@ -57,9 +61,10 @@ EndsBy rs bounds c interactions Limit = interactions < bounds.steps
 EndsBy rs bounds c interactions Memory = Unit {0}
 
 -- A configuration is reached from that of a system by so many interactions, at most as many as may be made, and this is
--- why no more were made. The machine that held it had so many places. Where it stopped for what it held, places and
--- equations that are left were together more than the bound, and a pair that can fire was left. Where it stopped at a limit,
--- a table would be full. Where memory ran out, equations were left, and no side of one is a name of the net.
+-- why no more were made. The machine that held it had so many places. At a quiet end no equation is pending. Where it
+-- stopped for what it held, places and equations that are left were together more than the bound, and a pair that can fire
+-- was left. Where it stopped at a limit, a table would be full. Where memory ran out, equations were left, and no side of one
+-- is a name of the net.
 pub record IsReached (s : SystemParts) (bounds : Bounds) (answer : Configuration) (end : End)
     (interactions places : ℕ) : Type 0 where
   pub fired : List ℕ
@@ -68,16 +73,19 @@ pub record IsReached (s : SystemParts) (bounds : Bounds) (answer : Configuration
   pub within : interactions ≤ bounds.steps
   pub held : IsHeldAt s.rules s.config answer fired places bounds.nodes
   pub ended : EndsBy s.rules.rules bounds answer interactions end
+  pub done : end ≡ Quiet → held.machine.pending ≡ []
   pub over : end ≡ Nodes → bounds.nodes < all_entries held.machine
   pub next : end ≡ Nodes → HasNext held.plans held.machine.pending
   pub full : end ≡ Limit → IsFullNext held.plans held.machine
   pub left : end ≡ Memory → HasPairs held.machine.pending
 
--- The same, and how many equations the machine had left, and how many of these interactions were made by each rule.
+-- The same, and how many equations the machine had left, and how many of these interactions were made by each rule. Where no
+-- interaction is possible, or as many were made as may be, so many equations of the configuration are no circles.
 pub record IsReachedBy (s : SystemParts) (bounds : Bounds) (answer : Configuration) (end : End)
     (interactions places left : ℕ) (by_rule : List ℕ) : Type 0 where
   pub reached : IsReached s bounds answer end interactions places
   pub equations : left ≡ equations_left reached.held.machine
+  pub ends : (end ≡ Quiet) ⊎ (end ≡ Steps) → HasEnds answer left
   pub counts : AreCounts (length s.rules.rules) reached.fired by_rule
 
 -- Words write a configuration with its names numbered anew, so many of their terms in its interface, and so many equations.

@@ -6,3 +6,4 @@ pub mod Taken
 pub mod Told
 pub mod Pending
 pub mod Onward
+pub mod Left

@@ -1,6 +1,6 @@
 //! Laws of what a reduction in place answers and tells.
 
-ghost use Rattle.std.specs.Prelude.{◌≡◌, ◌≢◌, ℕ, ◌+◌, ◌≤◌, List, [], false, Option, None, Some, Ok, Err, IsTrue, length};
+ghost use Rattle.std.specs.Prelude.{◌≡◌, ◌≢◌, ◌⊎◌, ℕ, ◌+◌, ◌≤◌, List, [], false, Option, None, Some, Ok, Err, Contains, IsTrue, length};
 ghost use Rattle.std.specs.List.{AllByRecursion};
 ghost use Rattle.std.specs.Option.{option_map};
 ghost use Rattle.ic_term.specs.Configuration.{Configuration};
@@ -10,7 +10,10 @@ ghost use Rattle.ic_rules.specs.RuleSet.{IsRuleSet};
 ghost use Rattle.ic_rules.specs.System.{SystemParts};
 ghost use Rattle.ic_round.specs.Naming.{HasNames};
 ghost use Rattle.ic_round.specs.Rounds.{IsQuiet};
-ghost use Rattle.ic_machine.specs.Net.{IsPair};
+ghost use Rattle.ic_arena.specs.declared.word.Word.{Word};
+ghost use Rattle.ic_arena.specs.declared.word.TheConstants.{NAME};
+ghost use Rattle.ic_arena.specs.Piece.{equated};
+ghost use Rattle.ic_machine.specs.Net.{equations_in, pieces, IsPair};
 ghost use Rattle.ic_confluence.specs.Kinds.{Kind, Chain};
 ghost use Rattle.ic_reaching.specs.OneNet.{OneNet};
 ghost use Rattle.ic_reaching.specs.Reaching.{Reaches, rules_fired};
@@ -113,13 +116,38 @@ pub fn a_stop_comes_before_an_interaction()
     ic_meaning::laws::steps_of_pieces_are_steps_of_the_net();
 }
 
-/// The equations that are told to be left are those that the machine held, pending or set aside.
+/// The equations that are told to be left are those that the machine held, pending or set aside. Its pieces have no other
+/// equation, and no side of one is a name of the net. At a quiet end none is pending. There, and where as many interactions
+/// were made as may be, they are those equations of the answer that are no circles, however its equations are parted.
 pub fn equations_told_are_those_that_are_left()
-    ensures { (s : SystemParts) (bounds : Bounds) (answer : Configuration) (end : End)
+    ensures left { (s : SystemParts) (bounds : Bounds) (answer : Configuration) (end : End)
         (interactions places left : ℕ) (by_rule : List ℕ)
         → (is : IsReachedBy s bounds answer end interactions places left by_rule)
         → left ≡ length is.reached.held.machine.pending + length is.reached.held.machine.aside }
-{}
+    ensures all { (s : SystemParts) (bounds : Bounds) (answer : Configuration) (end : End)
+        (interactions places left : ℕ) (by_rule : List ℕ)
+        → (is : IsReachedBy s bounds answer end interactions places left by_rule)
+        → left ≡ equations_in (pieces is.reached.held.machine) }
+    ensures linked { (s : SystemParts) (bounds : Bounds) (answer : Configuration) (end : End)
+        (interactions places : ℕ) → (is : IsReached s bounds answer end interactions places)
+        → (l r : Word) → Contains (pieces is.held.machine) (equated l r)
+        → (¬ (l.tag ≡ NAME)) × (¬ (r.tag ≡ NAME)) }
+    ensures none_pending { (s : SystemParts) (bounds : Bounds) (answer : Configuration)
+        (interactions places : ℕ) → (is : IsReached s bounds answer Quiet interactions places)
+        → is.held.machine.pending ≡ [] }
+    ensures no_circles { (s : SystemParts) (bounds : Bounds) (answer : Configuration) (end : End)
+        (interactions places left : ℕ) (by_rule : List ℕ)
+        → IsReachedBy s bounds answer end interactions places left by_rule
+        → (end ≡ Quiet) ⊎ (end ≡ Steps) → (together : IsPutTogether answer)
+        → left ≡ length together.ends }
+    ensures circles { (s : SystemParts) (bounds : Bounds) (answer : Configuration) (end : End)
+        (interactions places left : ℕ) (by_rule : List ℕ)
+        → IsReachedBy s bounds answer end interactions places left by_rule
+        → (end ≡ Quiet) ⊎ (end ≡ Steps) → (together : IsPutTogether answer)
+        → left + length together.circles ≡ length answer.equations }
+{
+    ic_machine::laws::equations_are_made_by_plans();
+}
 
 /// The machine that held what was reached has fired as many pairs as interactions are told.
 pub fn interactions_are_pairs_that_fired()

@@ -8,7 +8,7 @@ use Rattle.ic_rules.specs.RuleSet.{IsRuleSet}
 use Rattle.ic_rules.specs.System.{SystemParts}
 use Rattle.ic_round.specs.Naming.{HasNames}
 use Rattle.ic_arena.specs.declared.word.TheConstants.{GIVEN}
-use Rattle.ic_machine.specs.Net.{Net, all_entries, pieces, HasNext, IsPair, IsStuck}
+use Rattle.ic_machine.specs.Net.{Net, all_entries, pieces, HasNext, IsAtPlace, IsPair, IsStuck}
 use Rattle.ic_machine.specs.Plan.{Planned, Plans}
 use Rattle.ic_machine.specs.Runs.{Starts}
 use Rattle.ic_machine.specs.Separate.{IsSeparate}
@@ -68,6 +68,7 @@ pub record HasStopped (s : SystemParts) (bounds : Bounds) (given by_rule : List 
   pub first : Net
   pub starts : Starts plans (length given) plan operands first
   pub none : first.interactions ≡ 0
+  pub no_aside : first.aside ≡ []
   pub watched : IsWatched plans bounds.nodes first m
   pub fired : List ℕ
   pub by_plans : fired ≡ map (rule_number rule_numbers) (watched.before ++ watched.after.fired)
@@ -78,6 +79,7 @@ pub record HasStopped (s : SystemParts) (bounds : Bounds) (given by_rule : List 
   pub within : m.interactions ≤ bounds.steps
   pub all : places ≡ m.names + sum m.agents
   pub enough : length m.places ≤ places
+  pub tables : AllByRecursion IsAtPlace m.places
   pub pairs : AllByRecursion IsPair m.pending
   pub aside : AllByRecursion (IsStuck plans) m.aside
   pub ended : StopsBy bounds plans m end

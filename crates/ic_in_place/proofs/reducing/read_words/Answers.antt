@@ -14,7 +14,7 @@ use Rattle.ic_meaning.specs.Nets.{net_of, AreNetPieces}
 use Rattle.ic_readback.specs.declared.token.Token.{Token}
 use Rattle.ic_readback.specs.Reading.{flat_words, configuration_read}
 use Rattle.ic_in_place.specs.Holding.{AreGiven}
-use Rattle.ic_in_place.specs.Reducing.{IsPutTogether, IsReachedBy}
+use Rattle.ic_in_place.specs.Reducing.{HasEnds, IsReachedBy}
 use Rattle.ic_in_place.specs.inner.Numbering.{written_numbers, IsNumbered}
 use Rattle.ic_in_place.proofs.Answering.{AnswerLaws, answered_so, quiet_at}
 use Rattle.ic_in_place.proofs.Interacts.{can_interact}
@@ -62,7 +62,7 @@ returns-clause-reached c = λ bounds stopped.
     let d : Configuration = configuration_read n read.tokens.items read.terms in
     let pairs : AllByRecursion IsPair (m.pending ++ m.aside) =
     all_pairs stopped.plans m.pending m.aside stopped.pairs stopped.aside in
-    let quiet : HasNames d → AreGiven n.given d → (m.pending ≡ [] → IsQuiet s.rules.rules d) × IsPutTogether d =
+    let quiet : HasNames d → AreGiven n.given d → (m.pending ≡ [] → IsQuiet s.rules.rules d) × HasEnds d (equations_left m) =
     (λ named free. (
       (λ none. quiet_read c.what_is_read_of_stuck_pairs_is_quiet.ensures s.rules stopped.rule_numbers stopped.plans n m read.tokens.items read.terms read.equations
           sound.rules stopped.compiled.of_rules held.sound none stopped.aside c.in_ok-read.ensures.terms heads (c.in_ok-read.ensures.counted n arities) circles named free),

@@ -27,4 +27,4 @@ returns g c =
     (c.in_ok-program.ensures.arities ∙ ap (λ (r : Rules). map (λ x. x.arity) r.symbols) same) c.in_ok-program.ensures.sound
     (subst (λ (r : Rules). ArePlansOf r numbers p) same c.in_ok-program.ensures.plans)
     c.in_ok-first.ensures.start c.in_ok-first.ensures.stands c.in_ok-first.ensures.given c.in_ok-machine.ensures run.ensures.ends
-    run.ensures.nodes run.ensures.looked run.ensures.count run.ensures.enough run.ensures.pairs run.ensures.watched by_rule summed c.in_ok-program.ensures.numbers low
+    run.ensures.nodes run.ensures.looked run.ensures.count run.ensures.enough run.ensures.places run.ensures.pairs run.ensures.watched by_rule summed c.in_ok-program.ensures.numbers low
