@@ -2,6 +2,7 @@
 
 ghost use Rattle.std.specs.Prelude.{◌≡◌, ◌≢◌, ◌⊎◌, ℕ, ◌+◌, ◌≤◌, List, [], false, Option, None, Some, Ok, Err, Contains, IsTrue, length};
 ghost use Rattle.std.specs.List.{AllByRecursion};
+ghost use Rattle.std.specs.Io.KnownBytes.{Appends};
 ghost use Rattle.std.specs.Option.{option_map};
 ghost use Rattle.ic_term.specs.Configuration.{Configuration};
 ghost use Rattle.ic_term.specs.Symbol.{is_over};
@@ -33,19 +34,29 @@ ghost use Rattle.ic_in_place.specs.declared.stream.Outcome.{Outcome};
 ghost use Rattle.ic_in_place.specs.Counting.{TellsNameSteps};
 ghost use Rattle.ic_in_place.specs.Reducing.{IsPutTogether, IsReached, IsReachedBy};
 ghost use Rattle.ic_in_place.specs.Reductions.{EndsAs, ReducesInPlace, Tells, is_written};
+ghost use Rattle.ic_in_place_laws.specs.Outcomes.{AreOf};
 
 /// What stands in an empty output after a reduction to a quiet end is the line of the net of every order, and the outcome
-/// that was told counts the interactions of every order.
+/// that was told counts the interactions of every order. At any end, the outcome and what is appended tell of a configuration
+/// that is reached by the system that the text is read as.
 pub fn what_is_told_is_of_the_text()
-    ensures { (limits : Limits) (bounds : Bounds) (asked : Asked) (input line : List ℕ)
+    ensures quiet { (limits : Limits) (bounds : Bounds) (asked : Asked) (input line : List ℕ)
         (outcome : Outcome) (s : SystemParts) (e : Configuration) (kinds : List Kind)
         → Tells limits bounds asked input outcome (Some []) (Some line) → outcome.end ≡ Quiet
         → asked ≢ Nothing → ReadsSystemWithin limits input (Ok s)
         → Chain s.rules.rules kinds s.config e → IsQuiet s.rules.rules e
         → (answer : Configuration) × (line ≡ line_of s.rules.symbols (renumbered answer))
         × OneNet answer e × (length (rules_fired kinds) ≡ outcome.interactions) }
+    ensures ends { (limits : Limits) (bounds : Bounds) (asked : Asked) (input line : List ℕ)
+        (outcome : Outcome) (s : SystemParts) → EndsAs limits bounds asked input outcome line
+        → ReadsSystemWithin limits input (Ok s) → AreOf s bounds asked outcome line }
+    ensures told { (limits : Limits) (bounds : Bounds) (asked : Asked) (input : List ℕ)
+        (outcome : Outcome) (s : SystemParts) (old new : Option (List ℕ))
+        → Tells limits bounds asked input outcome old new → ReadsSystemWithin limits input (Ok s)
+        → (line : List ℕ) × AreOf s bounds asked outcome line × Appends old new line }
 {
     ic_in_place::laws::a_line_is_the_net_of_every_order();
+    ic_text::laws::one_system_reading();
 }
 
 /// A text that is read as a system isn't refused.
