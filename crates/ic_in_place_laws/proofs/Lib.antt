@@ -7,3 +7,4 @@ pub mod Told
 pub mod Pending
 pub mod Onward
 pub mod Left
+pub mod Tidy

@@ -19,7 +19,8 @@ ghost use Rattle.ic_in_place.specs.declared.running.End.TheVariants.{Limit};
 ghost use Rattle.ic_in_place.specs.Agents.{agents_with_arguments, with_arguments};
 ghost use Rattle.ic_in_place.specs.Holding.{AreCompiled, AreGiven};
 ghost use Rattle.ic_in_place.specs.Reducing.{IsReached, IsReachedBy};
-ghost use Rattle.ic_in_place.specs.Running.{IsNextLook};
+ghost use Rattle.ic_in_place.specs.Running.{names_allowed, IsNextLook, IsWatched};
+ghost use Rattle.ic_in_place_laws.specs.Looks.{AreTidy};
 ghost use Rattle.ic_in_place_laws.specs.Nodes.{inner_names, nodes_at, nodes_fired};
 
 /// A plan that stands for a rule makes no more names than the rule has that are no argument by themselves, and as many agents
@@ -127,4 +128,14 @@ pub fn names_are_put_through_at_looks()
         ⊎ (((x y u : Word) → Contains new.places (waits x y) → Contains new.places (waits y u)
         → x ≡ y)
         × (allowed ≡ max (2 * in_use NAME new.places) (new.names / 2) + 4096)) }
+{}
+
+/// Looks at a machine that is watched go on from the first net, or from one at which names were put through. Each look since
+/// then found fewer names in use than are allowed after it: twice as many as were in use, or half of all if these are more,
+/// and 4,096.
+pub fn names_in_use_are_fewer_than_allowed()
+    ensures watched { (p : Plans) (nodes : ℕ) (old new : Net) → (is : IsWatched p nodes old new)
+        → AreTidy p nodes is.allowed old is.mark }
+    ensures allowed { (n : Net)
+        → names_allowed n ≡ max (2 * in_use NAME n.places) (n.names / 2) + 4096 }
 {}

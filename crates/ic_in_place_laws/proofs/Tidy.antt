@@ -1,0 +1,44 @@
+-- Lemmas: how many names are in use at looks.
+use Rattle.std.proofs.Common.{◌≡◌, ◌⊎◌, inl, inr, ℕ, ◌<◌, List, [], ◌++◌, refl, ⊎_elim, ◌∙◌, subst as transport}
+use Rattle.ic_arena.specs.declared.word.TheConstants.{NAME}
+use Rattle.ic_machine.specs.Net.{Net, in_use, ArePutThrough}
+use Rattle.ic_machine.specs.Plan.{Plans}
+use Rattle.ic_in_place.specs.Running.{names_allowed, IsNextLook, Looked, no_look, one_more_look}
+use Rattle.ic_in_place_laws.specs.Looks.{no_look_since, one_more_since, AreTidy}
+
+pub tidy_looks : (p : Plans) (nodes allowed : ℕ) (fired : List ℕ) (first last : Net) → Looked p nodes allowed fired first last
+    → AreTidy p nodes allowed first last
+tidy_looks p nodes allowed fired first last (no_look m) = record {
+  through = m;
+  fired = [];
+  looked = no_look m;
+  tidied = inl refl;
+  since = no_look_since m;
+  same = refl;
+}
+tidy_looks p nodes allowed fired first last (one_more_look low high before a m b looked next) =
+    let old : AreTidy p nodes low a m = tidy_looks p nodes low before a m looked in
+    ⊎_elim (fewer old) now next.tidy
+  where
+    fewer : AreTidy p nodes low a m → (in_use NAME b.places < low) × (high ≡ low) → AreTidy p nodes high a b
+    fewer old is = record {
+      through = old.through;
+      fired = old.fired;
+      looked = old.looked;
+      tidied = old.tidied;
+      since = one_more_since old.through m b old.since
+          (transport (λ (k : ℕ). IsNextLook p nodes k (names_allowed old.through) m b) old.same
+          (transport (λ (k : ℕ). IsNextLook p nodes low k m b) (is.1 ∙ old.same) next))
+          (transport (λ (k : ℕ). in_use NAME b.places < k) old.same is.0);
+      same = is.1 ∙ old.same;
+    }
+
+    now : ArePutThrough b.places × (high ≡ names_allowed b) → AreTidy p nodes high a b
+    now is = record {
+      through = b;
+      fired = before ++ next.ran.fired;
+      looked = transport (λ (k : ℕ). Looked p nodes k (before ++ next.ran.fired) a b) is.1 (one_more_look low high before a m b looked next);
+      tidied = inr is.0;
+      since = no_look_since b;
+      same = is.1;
+    }
