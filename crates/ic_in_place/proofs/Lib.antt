@@ -17,3 +17,6 @@ pub mod NameSteps
 pub mod NoNameStep
 pub mod OneCount
 pub mod AtPlaces
+pub mod Bijections
+pub mod Renumbering
+pub mod LowNames

@@ -1,7 +1,8 @@
 //! Laws of what a machine holds, and of what is answered.
 
 ghost use Rattle.std.specs.Prelude.{◌≡◌, ◌≢◌, ℕ, suc, ◌+◌, ◌*◌, ◌^◌, ◌<◌, ◌≤◌, List, [], ◌∷◌, Option, SomeIff, Ok, IsTrue, length, map, sum, sum_by};
-ghost use Rattle.ic_term.specs.Configuration.{Configuration};
+ghost use Rattle.std.specs.List.{AllByRecursion};
+ghost use Rattle.ic_term.specs.Configuration.{Configuration, configuration_names, occurrences};
 ghost use Rattle.ic_term.specs.Symbol.{is_over};
 ghost use Rattle.ic_rules.specs.RuleSet.{Rules, IsRuleSet};
 ghost use Rattle.ic_naming.specs.Naming.{renumbered};
@@ -10,6 +11,7 @@ ghost use Rattle.ic_rules.specs.System.{SystemParts};
 ghost use Rattle.ic_settle.specs.NameSteps.{NameStep};
 ghost use Rattle.ic_text.specs.SystemText.{ReadsSystemWithin};
 ghost use Rattle.ic_text.specs.declared.limits.Limits.{Limits};
+ghost use Rattle.ic_text.specs.declared.limits.TheConstants.{MAX_NAME};
 ghost use Rattle.ic_streams.specs.Streams.{line_of};
 ghost use Rattle.ic_round.specs.Rounds.{IsQuiet, iterate};
 ghost use Rattle.ic_confluence.specs.Kinds.{Kind, Chain};
@@ -216,9 +218,25 @@ pub fn counts_are_how_often_each_rule_fired()
         → a ≡ b }
 {}
 
+/// A configuration with its names numbered anew is the same net, wherever fresh names begin, if its free names may stand in
+/// texts. It is one net with each that has its terms and equations, and fresh names above all of its own.
+pub fn a_renumbered_net_is_the_same_net()
+    ensures same { (c : Configuration)
+        → ((x : ℕ) → occurrences x (configuration_names c) ≡ 1 → x ≤ MAX_NAME)
+        → SameButNext c (renumbered c) }
+    ensures net { (c d : Configuration) → HasNames c
+        → AllByRecursion (λ x. x < d.next) (configuration_names d)
+        → ((x : ℕ) → occurrences x (configuration_names c) ≡ 1 → x ≤ MAX_NAME)
+        → d.interface ≡ (renumbered c).interface → d.equations ≡ (renumbered c).equations
+        → OneNet c d }
+{
+    ic_naming::laws::names_are_told_apart();
+}
+
 /// Where a text is reduced to a quiet end and its line is asked for, this is the line of the net in which every order of
-/// steps ends, of the system that the text is read as. Where no equation is left in that net, the line is written as the
-/// end of any order is. Whatever is asked for, the interactions that are told are those of every order.
+/// steps ends, of the system that the text is read as. The line is that of a configuration which is the same net as the end
+/// of any order, wherever fresh names begin. Where no equation is left in that net, the line is written as the end of any
+/// order is. Whatever is asked for, the interactions that are told are those of every order.
 pub fn a_line_is_the_net_of_every_order()
     ensures net { (limits : Limits) (bounds : Bounds) (asked : Asked) (input line : List ℕ)
         (outcome : Outcome) (s : SystemParts) (e : Configuration) (kinds : List Kind)
@@ -227,6 +245,13 @@ pub fn a_line_is_the_net_of_every_order()
         → Chain s.rules.rules kinds s.config e → IsQuiet s.rules.rules e
         → (answer : Configuration) × (line ≡ line_of s.rules.symbols (renumbered answer))
         × OneNet answer e × (length (rules_fired kinds) ≡ outcome.interactions) }
+    ensures written { (limits : Limits) (bounds : Bounds) (asked : Asked) (input line : List ℕ)
+        (outcome : Outcome) (s : SystemParts) (e : Configuration) (kinds : List Kind)
+        → EndsAs limits bounds asked input outcome line → outcome.end ≡ Quiet
+        → asked ≢ Nothing → ReadsSystemWithin limits input (Ok s)
+        → Chain s.rules.rules kinds s.config e → IsQuiet s.rules.rules e
+        → (written : Configuration) × (line ≡ line_of s.rules.symbols written)
+        × SameButNext written e }
     ensures text { (limits : Limits) (bounds : Bounds) (asked : Asked) (input line : List ℕ)
         (outcome : Outcome) (s : SystemParts) (e : Configuration) (kinds : List Kind)
         → EndsAs limits bounds asked input outcome line → outcome.end ≡ Quiet
@@ -248,6 +273,9 @@ pub fn a_line_is_the_net_of_every_order()
     ic_text::laws::one_system_reading();
     ic_reaching::laws::what_is_reached_quiet_is_the_end_of_every_order();
     ic_reaching::laws::where_names_begin_is_all_that_differs();
+    ic_reaching::laws::where_names_begin_is_no_matter();
+    ic_reaching::laws::free_names_stay();
+    a_renumbered_net_is_the_same_net();
     a_quiet_end_is_that_of_every_order();
     without_equations_every_order_has_one_text();
 }

@@ -16,7 +16,7 @@ ghost use Rattle.ic_arena.specs.declared.word.TheConstants.{NAME};
 ghost use Rattle.ic_arena.specs.Piece.{equated};
 ghost use Rattle.ic_machine.specs.Net.{equations_in, pieces, IsPair};
 ghost use Rattle.ic_confluence.specs.Kinds.{Kind, Chain};
-ghost use Rattle.ic_reaching.specs.OneNet.{OneNet};
+ghost use Rattle.ic_reaching.specs.OneNet.{OneNet, SameButNext};
 ghost use Rattle.ic_reaching.specs.Reaching.{Reaches, rules_fired};
 ghost use Rattle.ic_naming.specs.Naming.{renumbered};
 ghost use Rattle.ic_text.specs.SystemText.{ReadsSystemWithin};
@@ -36,8 +36,8 @@ ghost use Rattle.ic_in_place.specs.Reducing.{IsPutTogether, IsReached, IsReached
 ghost use Rattle.ic_in_place.specs.Reductions.{EndsAs, ReducesInPlace, Tells, is_written};
 ghost use Rattle.ic_in_place_laws.specs.Outcomes.{AreOf};
 
-/// What stands in an empty output after a reduction to a quiet end is the line of the net of every order, and the outcome
-/// that was told counts the interactions of every order. At any end, the outcome and what is appended tell of a configuration
+/// What stands in an empty output after a reduction to a quiet end is the line of the net of every order, written of a
+/// configuration which is the same net, and the outcome that was told counts the interactions of every order. At any end, the outcome and what is appended tell of a configuration
 /// that is reached by the system that the text is read as.
 pub fn what_is_told_is_of_the_text()
     ensures quiet { (limits : Limits) (bounds : Bounds) (asked : Asked) (input line : List ℕ)
@@ -47,6 +47,13 @@ pub fn what_is_told_is_of_the_text()
         → Chain s.rules.rules kinds s.config e → IsQuiet s.rules.rules e
         → (answer : Configuration) × (line ≡ line_of s.rules.symbols (renumbered answer))
         × OneNet answer e × (length (rules_fired kinds) ≡ outcome.interactions) }
+    ensures written { (limits : Limits) (bounds : Bounds) (asked : Asked) (input line : List ℕ)
+        (outcome : Outcome) (s : SystemParts) (e : Configuration) (kinds : List Kind)
+        → Tells limits bounds asked input outcome (Some []) (Some line) → outcome.end ≡ Quiet
+        → asked ≢ Nothing → ReadsSystemWithin limits input (Ok s)
+        → Chain s.rules.rules kinds s.config e → IsQuiet s.rules.rules e
+        → (written : Configuration) × (line ≡ line_of s.rules.symbols written)
+        × SameButNext written e }
     ensures ends { (limits : Limits) (bounds : Bounds) (asked : Asked) (input line : List ℕ)
         (outcome : Outcome) (s : SystemParts) → EndsAs limits bounds asked input outcome line
         → ReadsSystemWithin limits input (Ok s) → AreOf s bounds asked outcome line }

@@ -1,9 +1,11 @@
 -- A reduction goes on: what was reached, and what is reached from there.
-use Rattle.std.proofs.Common.{◌≡◌, ℕ, ◌+◌, ◌<◌, ◌≤◌, ◌==◌, List, [], ◌∷◌, ◌++◌, Ok, length, map, count_by, refl, sym, ap, subst, ◌∙◌, arith}
+use Rattle.std.proofs.Common.{◌≡◌, ℕ, ◌+◌, ◌<◌, ◌≤◌, ◌==◌, List, [], ◌∷◌, ◌++◌, true, false, Ok, length, map, count_by, refl, sym, ap, subst, ◌∙◌, arith}
 use Rattle.std.proofs.lemmas.List.{length-append}
 use Rattle.std.proofs.lemmas.List.Sums.{sum_by-append}
 use Rattle.std.specs.Prelude.{◌↔◌, Bool, IsTrue, slice_index_or}
+use Rattle.std.specs.Cmp.{unsigned_Decides}
 use Rattle.std.specs.List.{AllByRecursion}
+use Rattle.ic_naming.specs.lemmas.Occurring.{occurrences-other}
 use Rattle.ic_term.specs.Configuration.{Configuration, IsWide, configuration_names, occurrences, one_above}
 use Rattle.ic_term.specs.Symbol.{is_over}
 use Rattle.ic_rules.specs.RuleSet.{Rules, IsRuleSet}
@@ -25,7 +27,22 @@ use Rattle.ic_text.specs.declared.limits.Limits.TheVariants.{Wide}
 use Rattle.ic_round.specs.Rounds.{IsQuiet}
 use Rattle.ic_state.specs.State.{Kept}
 use Rattle.ic_keeping.specs.Way.{AreSums, IsAnswer, IsOnWay, IsSound, IsStateOf}
-use Rattle.ic_keeping.proofs.Renumbering.{NamingLaws, occurring, renumbered_net}
+
+-- what laws of names say that this one builds on
+pub record NamingLaws : Type 0 where
+  pub next : (c : Configuration) (next : ℕ) → HasNames c → HasNames (record c { next = next }) → OneNet c (record c { next = next })
+  pub net : (c d : Configuration) → HasNames c → AllByRecursion (λ x. x < d.next) (configuration_names d)
+      → ((x : ℕ) → occurrences x (configuration_names c) ≡ 1 → x ≤ MAX_NAME)
+      → d.interface ≡ (renumbered c).interface → d.equations ≡ (renumbered c).equations → OneNet c d
+
+-- what is of each name is of one that occurs
+at_name : (P : ℕ → Type 0) (n m : ℕ) (ms : List ℕ) (b : Bool) → (m == n) ≡ b → P m → (1 ≤ occurrences n ms → P n) → 1 ≤ occurrences n (m ∷ ms) → P n
+at_name P n m ms true e one rest some = subst P ((unsigned_Decides m n).0 e) one
+at_name P n m ms false e one rest some = rest (omega (arith, some, occurrences-other n m ms e))
+
+occurring : (P : ℕ → Type 0) (n : ℕ) (ns : List ℕ) → AllByRecursion P ns → 1 ≤ occurrences n ns → P n
+occurring P n [] all some = absurd (omega (arith, some))
+occurring P n (m ∷ ms) all some = at_name P n m ms (m == n) refl all.0 (occurring P n ms all.1) some
 
 -- what is given by laws of the crates below
 pub record ReachingLaws : Type 0 where
@@ -95,7 +112,7 @@ module _ (naming : NamingLaws) (laws : ReachingLaws) (s t : SystemParts) (sound 
       kept_on_way = record {
         fired = further.fired;
         reached = laws.net s.rules.rules s.config answer (kept above) further.fired further.reached
-            (renumbered_net naming answer (kept above) (laws.names s.rules.rules s.config answer further.fired further.reached) (laws.above (configuration_names (kept 0))) free_low
+            (naming.net answer (kept above) (laws.names s.rules.rules s.config answer further.fired further.reached) (laws.above (configuration_names (kept 0))) free_low
             (ap (λ (e : Configuration). e.interface) written) (ap (λ (e : Configuration). e.equations) written));
         counted = further.counted;
         counts = further.counts;

@@ -110,9 +110,8 @@ fn run_piece<C: Clock, V: Watch>(
     ensures counted { IfOk result (λ piece. length (forest state.new.words.items)
         ≡ state.new.terms + 2 * piece.equations) }
 {
-    ic_naming::laws::names_are_told_apart();
+    ic_in_place::laws::a_renumbered_net_is_the_same_net();
     ic_reaching::laws::a_name_step_leads_to_one_net();
-    ic_reaching::laws::one_net_is_an_equivalence();
     ic_reaching::laws::what_is_reached_is_one_net();
     ic_reaching::laws::what_is_reached_goes_on();
     ic_reaching::laws::free_names_stay();

@@ -1,11 +1,11 @@
 use Rattle.std.proofs.Common.{◌≡◌, ◌≢◌, ℕ, List, [], ◌∷◌, cond, Result, Ok, length, refl, sym, ap, ◌∙◌, subst, arith}
 use Rattle.ic_term.specs.Tree.{Pair}
-use Rattle.ic_term.specs.Configuration.{Configuration}
+use Rattle.ic_term.specs.Configuration.{Configuration, configuration_names, occurrences}
 use Rattle.ic_rules.specs.System.{SystemParts}
 use Rattle.ic_round.specs.Rounds.{IsQuiet, iterate}
 use Rattle.ic_confluence.specs.Kinds.{Chain}
 use Rattle.ic_naming.specs.Naming.{renumbered}
-use Rattle.ic_reaching.specs.OneNet.{OneNet}
+use Rattle.ic_reaching.specs.OneNet.{OneNet, SameButNext}
 use Rattle.ic_reaching.specs.Reaching.{rules_fired}
 use Rattle.ic_streams.specs.Streams.{line_of}
 use Rattle.ic_text.specs.declared.fault.TextFault.{TextFault}
@@ -15,6 +15,7 @@ use Rattle.ic_in_place.specs.declared.running.End.TheVariants.{Quiet}
 use Rattle.ic_in_place.specs.declared.stream.Asked.{Asked}
 use Rattle.ic_in_place.specs.declared.stream.Asked.TheVariants.{Answer, AlsoPart, Nothing}
 use Rattle.ic_in_place.specs.Reductions.{is_written, line_reached}
+use Rattle.ic_in_place.proofs.LowNames.{low_name}
 use Rattle.ic_in_place.proofs.laws.a_line_is_the_net_of_every_order.Goals as goal
 
 -- a line that is asked for is written at a quiet end
@@ -39,6 +40,27 @@ returns-clause-net c = λ limits bounds asked input line outcome s e kinds is qu
     let all = subst (λ (t : SystemParts). Chain t.rules.rules kinds t.config e → IsQuiet t.rules.rules e
     → (line ≡ line_of t.rules.symbols (renumbered is.answer)) × OneNet is.answer e × (length (rules_fired kinds) ≡ outcome.interactions)) same every chain still in
     (is.answer, all.0, all.1, all.2)
+
+pub returns-clause-written : goal.returns-clause-written
+returns-clause-written c = λ limits bounds asked input line outcome s e kinds is quiet some reads chain still.
+    let same : is.system ≡ s = one_system is.system s (c.one_system_reading.ensures.answer limits input (Ok is.system) (Ok s) is.reads reads) in
+    let reached = subst (λ (x : End). IsReached is.system bounds is.answer x outcome.interactions outcome.places) quiet is.reached.reached in
+    let written : Configuration = renumbered is.answer in
+    let printed : line ≡ line_of is.system.rules.symbols written =
+    is.prints ∙ ap (λ (x : End). line_reached asked x is.system.rules.symbols is.answer) quiet ∙ asked_for asked some _ in
+    let free = c.free_names_stay.ensures.reached is.system.rules is.system.config is.answer reached.fired is.rule_set is.over is.names reached.reached in
+    let low = (λ (x : ℕ) (once : occurrences x (configuration_names is.answer) ≡ 1).
+    low_name limits input is.system is.reads x (omega (arith, (free x).1 once))) in
+    let numbered : SameButNext is.answer written = c.a_renumbered_net_is_the_same_net.ensures.same is.answer low in
+    let every : Chain is.system.rules.rules kinds is.system.config e → IsQuiet is.system.rules.rules e
+    → (line ≡ line_of is.system.rules.symbols written) × SameButNext written e =
+    (λ chain still.
+    let net = (c.what_is_reached_quiet_is_the_end_of_every_order.ensures.every_order is.system.rules is.system.config is.answer e reached.fired kinds
+    is.rule_set is.over is.names reached.reached reached.ended.0 chain still).0 in
+    (printed, c.where_names_begin_is_no_matter.ensures.through written is.answer e (c.where_names_begin_is_no_matter.ensures.other_way is.answer written numbered) net)) in
+    let all = subst (λ (t : SystemParts). Chain t.rules.rules kinds t.config e → IsQuiet t.rules.rules e
+    → (line ≡ line_of t.rules.symbols written) × SameButNext written e) same every chain still in
+    (written, all.0, all.1)
 
 nothing_left : (es : List Pair) → length es ≡ 0 → es ≡ []
 nothing_left [] none = refl

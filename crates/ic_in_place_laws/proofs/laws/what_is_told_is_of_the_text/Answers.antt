@@ -1,7 +1,7 @@
 use Rattle.std.proofs.Common.{◌≡◌, ℕ, List, Result, Ok, length, sym, subst}
 use Rattle.ic_term.specs.Configuration.{Configuration}
 use Rattle.ic_rules.specs.System.{SystemParts}
-use Rattle.ic_reaching.specs.OneNet.{OneNet}
+use Rattle.ic_reaching.specs.OneNet.{OneNet, SameButNext}
 use Rattle.ic_reaching.specs.Reaching.{rules_fired}
 use Rattle.ic_naming.specs.Naming.{renumbered}
 use Rattle.ic_streams.specs.Streams.{line_of}
@@ -19,6 +19,11 @@ returns-clause-quiet c = λ limits bounds asked input line outcome s e kinds tel
     subst (λ (l : List ℕ). (answer : Configuration) × (l ≡ line_of s.rules.symbols (renumbered answer))
     × OneNet answer e × (length (rules_fired kinds) ≡ outcome.interactions)) (sym tells.2)
     (c.a_line_is_the_net_of_every_order.ensures.net limits bounds asked input tells.0 outcome s e kinds tells.1 quiet some reads chain still)
+
+pub returns-clause-written : goal.returns-clause-written
+returns-clause-written c = λ limits bounds asked input line outcome s e kinds tells quiet some reads chain still.
+    subst (λ (l : List ℕ). (written : Configuration) × (l ≡ line_of s.rules.symbols written) × SameButNext written e) (sym tells.2)
+    (c.a_line_is_the_net_of_every_order.ensures.written limits bounds asked input tells.0 outcome s e kinds tells.1 quiet some reads chain still)
 
 one_system : (s t : SystemParts) → ◌≡◌ {A = Result SystemParts TextFault} (Ok s) (Ok t) → s ≡ t
 one_system s t same = cc

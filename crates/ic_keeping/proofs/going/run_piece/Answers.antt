@@ -9,19 +9,14 @@ use Rattle.ic_flat.specs.Words.{forest, is_word_over, IsWhole}
 use Rattle.ic_in_place.specs.declared.running.End.{End}
 use Rattle.ic_state.specs.State.{kept_by}
 use Rattle.ic_keeping.specs.Way.{IsAnswer}
-use Rattle.ic_keeping.proofs.Renumbering.{NamingLaws}
-use Rattle.ic_keeping.proofs.WayLemmas.{ReachingLaws, answer_of, state_of}
+use Rattle.ic_keeping.proofs.WayLemmas.{NamingLaws, ReachingLaws, answer_of, state_of}
 use Rattle.ic_keeping.proofs.going.run_piece.Goals as goal
 
 pub returns-clause-goes_on : goal.returns-clause-goes_on
 returns-clause-goes_on g c s sound rules is =
     let naming : NamingLaws = record {
-      apart = c.names_are_told_apart.ensures.apart;
-      free = c.names_are_told_apart.ensures.free;
-      one = c.a_name_step_leads_to_one_net.ensures.same;
       next = c.a_name_step_leads_to_one_net.ensures.next;
-      other_way = c.one_net_is_an_equivalence.ensures.other_way;
-      through = c.one_net_is_an_equivalence.ensures.through;
+      net = c.a_renumbered_net_is_the_same_net.ensures.net;
     } in
     let laws : ReachingLaws = record {
       names = c.what_is_reached_is_one_net.ensures.names;
@@ -45,12 +40,8 @@ returns-clause-goes_on g c s sound rules is =
 pub returns-clause-answer : goal.returns-clause-answer
 returns-clause-answer g c s sound rules is =
     let naming : NamingLaws = record {
-      apart = c.names_are_told_apart.ensures.apart;
-      free = c.names_are_told_apart.ensures.free;
-      one = c.a_name_step_leads_to_one_net.ensures.same;
       next = c.a_name_step_leads_to_one_net.ensures.next;
-      other_way = c.one_net_is_an_equivalence.ensures.other_way;
-      through = c.one_net_is_an_equivalence.ensures.through;
+      net = c.a_renumbered_net_is_the_same_net.ensures.net;
     } in
     let laws : ReachingLaws = record {
       names = c.what_is_reached_is_one_net.ensures.names;

@@ -9,11 +9,12 @@ use Rattle.ic_rules.specs.Renaming.{renamed, renamed_trees}
 use Rattle.ic_naming.specs.lemmas.Occurring.{occurrences-cons, occurrences-other}
 use Rattle.ic_rules.specs.lemmas.RenamingLaws.{names-renamed, flat_names-renamed}
 use Rattle.ic_round.specs.Naming.{HasNames}
-use Rattle.ic_confluence.specs.Sameness.{Renames, Same, renaming, renamed_in, renamed_pair}
-use Rattle.ic_reaching.specs.OneNet.{OneNet, raised}
+use Rattle.ic_confluence.specs.Sameness.{Renames, renaming, renamed_in, renamed_pair}
+use Rattle.ic_settle.specs.NameSteps.{no_step}
+use Rattle.ic_reaching.specs.OneNet.{OneNet, SameButNext, raised}
 use Rattle.ic_naming.specs.Naming.{IsOneToOne, renumbered, told_name}
 use Rattle.ic_text.specs.declared.limits.TheConstants.{MAX_NAME}
-use Rattle.ic_keeping.proofs.Bijections.{Extends, Bounded, apart_from, extended}
+use Rattle.ic_in_place.proofs.Bijections.{Extends, Bounded, apart_from, extended}
 
 abbrev Agree : (ℕ → ℕ) → (ℕ → ℕ) → List ℕ → Type 0
 Agree f g ns = AllByRecursion (λ n. f n ≡ g n) ns
@@ -68,22 +69,6 @@ bounded : (f : ℕ → ℕ) (ns : List ℕ) (m : ℕ) → above f ns ≤ m → B
 bounded f [] m le = tt
 bounded f (n ∷ ns) m le = ((omega (arith, le), omega (arith, le)), bounded f ns m (omega (arith, le)))
 
--- what is given by laws of the crates below
-pub record NamingLaws : Type 0 where
-  pub apart : (ns : List ℕ) → IsOneToOne (told_name ns) ns
-  pub free : (ns : List ℕ) (n : ℕ) → occurrences n ns ≡ 1 → n ≤ MAX_NAME → told_name ns n ≡ n
-  pub one : (c d : Configuration) → HasNames c → Same c d → OneNet c d
-  pub next : (c : Configuration) (next : ℕ) → HasNames c → HasNames (record c { next = next }) → OneNet c (record c { next = next })
-  pub other_way : (c d : Configuration) → OneNet c d → OneNet d c
-  pub through : (c d e : Configuration) → OneNet c d → OneNet d e → OneNet c e
-
-still_below : (n m : ℕ) (ns : List ℕ) → n ≤ m → AllByRecursion (λ k. k < n) ns → AllByRecursion (λ k. k < m) ns
-still_below n m [] le all = tt
-still_below n m (k ∷ ks) le all = (omega (arith, all.0, le), still_below n m ks le all.1)
-
-raised_names : (more : ℕ) (c : Configuration) → HasNames c → HasNames (raised more c)
-raised_names more c is = record { below = still_below c.next (c.next + more) (configuration_names c) (omega arith) is.below; twice = is.twice }
-
 same_parts : (c d : Configuration) → c.interface ≡ d.interface → c.equations ≡ d.equations → c.next ≡ d.next → c ≡ d
 same_parts c d one two three = λ i. record { interface = one i; equations = two i; next = three i }
 
@@ -114,8 +99,8 @@ pair_names-renamed f (e ∷ es) =
     (sym (map-append f (names e.left ++ names e.right) (flat_map pair_names es)
     ∙ ap (λ l. l ++ map f (flat_map pair_names es)) (map-append f (names e.left) (names e.right))))
 
-module _ (laws : NamingLaws) (c d : Configuration) (is : HasNames c) (below : AllByRecursion (λ n. n < d.next) (configuration_names d))
-    (few : (n : ℕ) → occurrences n (configuration_names c) ≡ 1 → n ≤ MAX_NAME)
+module _ (told_apart : (ns : List ℕ) → IsOneToOne (told_name ns) ns) (told_free : (ns : List ℕ) (n : ℕ) → occurrences n ns ≡ 1 → n ≤ MAX_NAME → told_name ns n ≡ n)
+    (c d : Configuration) (few : (n : ℕ) → occurrences n (configuration_names c) ≡ 1 → n ≤ MAX_NAME)
     (interface : d.interface ≡ (renumbered c).interface) (equations : d.equations ≡ (renumbered c).equations) where
   abbrev ns : List ℕ
   ns = configuration_names c
@@ -124,7 +109,7 @@ module _ (laws : NamingLaws) (c d : Configuration) (is : HasNames c) (below : Al
   turn = told_name ns
 
   extends : Extends turn ns (above turn ns)
-  extends = extended turn ns (above turn ns) (apart_from turn ns (laws.apart ns)) (bounded turn ns (above turn ns) (omega arith))
+  extends = extended turn ns (above turn ns) (apart_from turn ns (told_apart ns)) (bounded turn ns (above turn ns) (omega arith))
 
   abbrev more : ℕ
   more = above turn ns + d.next
@@ -149,27 +134,39 @@ module _ (laws : NamingLaws) (c d : Configuration) (is : HasNames c) (below : Al
       ∙ ap (λ (l : List ℕ). map extends.to (flat_map names c.interface) ++ l) (pair_names-renamed extends.to c.equations)
       ∙ sym (map-append extends.to (flat_map names c.interface) (flat_map pair_names c.equations))
 
-  pub is_too : HasNames d
-  is_too = record {
-    below = below;
-    twice = λ m. subst (λ (l : List ℕ). occurrences m l ≤ 2) (sym names_are)
-        (subst (λ (k : ℕ). k ≤ 2) (sym (turned_occurrences extends.to extends.from extends.there_and_back extends.back_and_there m ns)) (is.twice (extends.from m)));
-  }
-
   renames : Renames (raised more c) (raised others d)
   renames = record {
     to = extends.to;
     from = extends.from;
     there_and_back = extends.there_and_back;
     back_and_there = extends.back_and_there;
-    free = λ n once. occurring (λ m. extends.to m ≡ turn m) n ns extends.agrees (omega (arith, once)) ∙ laws.free ns n once (few n once);
+    free = λ n once. occurring (λ m. extends.to m ≡ turn m) n ns extends.agrees (omega (arith, once)) ∙ told_free ns n once (few n once);
     fresh = λ n high. extends.fresh n (omega (arith, high));
     result = same_parts (raised others d) (renamed_in extends.to (raised more c)) terms_are pairs_are (omega arith);
   }
 
-  pub renumbered_net : OneNet c d
-  renumbered_net =
-      laws.through c (raised more c) d (laws.next c (c.next + more) is (raised_names more c is))
-      (laws.through (raised more c) (raised others d) d
-      (laws.one (raised more c) (raised others d) (raised_names more c is) (renaming (raised more c) (raised others d) renames))
-      (laws.other_way d (raised others d) (laws.next d (d.next + others) is_too (raised_names others d is_too))))
+  pub renumbered_same : SameButNext c d
+  renumbered_same = record {
+    more = more;
+    others = others;
+    same = renaming (raised more c) (raised others d) renames;
+  }
+
+  module _ (is : HasNames c) (below : AllByRecursion (λ n. n < d.next) (configuration_names d)) where
+    pub is_too : HasNames d
+    is_too = record {
+      below = below;
+      twice = λ m. subst (λ (l : List ℕ). occurrences m l ≤ 2) (sym names_are)
+          (subst (λ (k : ℕ). k ≤ 2) (sym (turned_occurrences extends.to extends.from extends.there_and_back extends.back_and_there m ns)) (is.twice (extends.from m)));
+    }
+
+    pub renumbered_net : OneNet c d
+    renumbered_net = record {
+      names = is;
+      names_too = is_too;
+      end = c;
+      end_too = d;
+      steps = no_step c;
+      steps_too = no_step d;
+      same = renumbered_same;
+    }
