@@ -8,3 +8,4 @@ pub mod Pending
 pub mod Onward
 pub mod Left
 pub mod Tidy
+pub mod Traced

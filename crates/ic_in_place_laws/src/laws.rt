@@ -1,6 +1,6 @@
 //! Laws of what a reduction in place answers and tells.
 
-ghost use Rattle.std.specs.Prelude.{◌≡◌, ◌≢◌, ◌⊎◌, ℕ, ◌+◌, ◌≤◌, List, [], false, Option, None, Some, Ok, Err, Contains, IsTrue, length};
+ghost use Rattle.std.specs.Prelude.{◌≡◌, ◌≢◌, ◌⊎◌, ℕ, ◌+◌, ◌≤◌, List, [], false, Option, None, Some, Ok, Err, Contains, IsTrue, length, sum_by};
 ghost use Rattle.std.specs.List.{AllByRecursion};
 ghost use Rattle.std.specs.Io.KnownBytes.{Appends};
 ghost use Rattle.std.specs.Option.{option_map};
@@ -10,7 +10,7 @@ ghost use Rattle.ic_rules.specs.Rule.{Rule};
 ghost use Rattle.ic_rules.specs.RuleSet.{IsRuleSet};
 ghost use Rattle.ic_rules.specs.System.{SystemParts};
 ghost use Rattle.ic_round.specs.Naming.{HasNames};
-ghost use Rattle.ic_round.specs.Rounds.{IsQuiet};
+ghost use Rattle.ic_round.specs.Rounds.{IsQuiet, iterate};
 ghost use Rattle.ic_arena.specs.declared.word.Word.{Word};
 ghost use Rattle.ic_arena.specs.declared.word.TheConstants.{NAME};
 ghost use Rattle.ic_arena.specs.Piece.{equated};
@@ -25,6 +25,7 @@ ghost use Rattle.ic_text.specs.declared.limits.Limits.{Limits};
 ghost use Rattle.ic_streams.specs.Streams.{line_of};
 ghost use Rattle.ic_streams.specs.declared.fault.StreamFault.TheVariants as stream;
 ghost use Rattle.ic_by_rounds.specs.Stuck.{stuck_text};
+ghost use Rattle.ic_by_rounds.specs.Tracing.{rows_of};
 ghost use Rattle.ic_in_place.specs.declared.running.Bounds.{Bounds};
 ghost use Rattle.ic_in_place.specs.declared.running.End.{End};
 ghost use Rattle.ic_in_place.specs.declared.running.End.TheVariants.{Quiet, Steps, Nodes, Limit, Memory};
@@ -173,3 +174,17 @@ pub fn interactions_are_pairs_that_fired()
         (interactions places : ℕ) → (is : IsReached s bounds answer end interactions places)
         → is.held.machine.interactions ≡ interactions }
 {}
+
+/// Where a reduction ends quiet, and so many rounds do, the pairs that the rounds fire are together the interactions that
+/// are told.
+pub fn rounds_fire_as_many_pairs()
+    ensures { (s : SystemParts) (bounds : Bounds) (answer : Configuration)
+        (interactions places n : ℕ)
+        → IsRuleSet s.rules → IsTrue (is_over s.rules.symbols s.config) → HasNames s.config
+        → IsReached s bounds answer Quiet interactions places
+        → IsQuiet s.rules.rules (iterate s.rules.rules n s.config)
+        → sum_by (λ row. row.pairs) (rows_of s.rules.rules s.config n) ≡ interactions }
+{
+    ic_in_place::laws::a_quiet_end_is_that_of_every_order();
+    ic_by_rounds::laws::rows_count_interactions();
+}
