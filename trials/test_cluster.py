@@ -88,6 +88,7 @@ class Scripts(Shards):
             ([*good, "", "submit x {} <r|r=r>"], "jobs.txt:12:18: bad name r: in a configuration a name stands at most twice; `icserve expand` writes rules that copy"),
             (["submit x", *good], "jobs.txt:1:9: bad syntax: "),
             ([*good, "", "list"], "jobs.txt:12: this is no submit"),
+            (["{A(x)><B(x)} <r|A(r)=B(C)>"], "jobs.txt:1: this is no submit"),
             ([*good, "run 10", "list"], "jobs.txt:11: this is no submit"),
             ([*good, "copy a1 submit"], "jobs.txt:11: this is no submit"),
             (["", *good, "", good[3]], "jobs.txt:13: the name a3 is that of line 5"),
