@@ -83,6 +83,7 @@ follows_name OldName = false
 follows_name VerbName = false
 follows_name Number = false
 follows_name Nothing = false
+
 -- of a comment with which a file begins, be it a text or lines
 abbrev pub front_comment_sentence : List ℕ
 front_comment_sentence = codes "there are no comments; `icserve expand` takes those that begin with # "
