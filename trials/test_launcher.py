@@ -228,9 +228,10 @@ class Launcher(Trial):
 
 
 class FirstCommands(Trial):
-    """What the README begins with, on a clean copy of this repository, by the real build that proves nothing."""
+    """What the README begins with, on a clean copy of this repository, by the real build that proves nothing. The program that
+    this builds answers as the proved one."""
 
-    seconds, needs_program = 240, False
+    seconds = 240
 
     def test_the_first_commands_of_the_readme_answer_on_a_clean_copy(self):
         if not os.access(shutil.which("rt") or "/opt/rattle/bin/rt", os.X_OK):
