@@ -14,6 +14,10 @@ from shim import shimmed, was_refused
 
 WORDS = [["create"], ["create", "--overwrite"], ["serve"], ["attend"], ["dump"], ["inspect"]]
 
+# Each word with the option that names its file, and what it is given.
+GIVEN = [([*it, "--disk"], ["list", f"submit two {TWO.text}"]) for it in WORDS]
+GIVEN += [(["reduce", it], "{A><B} <|A=B>") for it in ("--keep", "--resume")]
+
 STAND_IN = "/dev/null, in the place of a closed standard stream"
 
 
@@ -25,8 +29,8 @@ def opens_few(most):
 class Devices(Trial):
     def is_left(self, path, data, env=None):
         """Fails unless each word refuses what looks as a device, and leaves it as it is. The file of a device is `path`."""
-        for words in WORDS:
-            ran = run(*words, "--disk", path, given=["list", f"submit two {TWO.text}"], env=env)
+        for words, given in GIVEN:
+            ran = run(*words, path, given=given, env=env)
             told = (ran.status, ran.out, ran.err.decode(), ran.behind.decode())
             wanted = (3, b"", "icserve: device\n", f"{path}: open: is a device\n")
             self.equals(ran.command, "how it ends", wanted, told)

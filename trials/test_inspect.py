@@ -299,8 +299,8 @@ class Inspect(ModelTrial):
         self.ended(ran, out=lines)
 
     def test_each_head_is_read_before_its_body_and_again_after_both(self):
-        """Of each slot the head is read, and then the body, unless that is too long or the head is cut off; then both heads
-        again. Those of the first slot are read first each time, as the law on two readings wants it."""
+        """First it is looked whether a reduction is kept there. Of each slot the head is read, and then the body, unless that is
+        too long or the head is cut off; then both heads again. Those of the first slot are read first each time, as the law on two readings wants it."""
         log = self.room / "log"
         for second, parts in (
             (slot(2, EMPTY), [(SECOND, HEAD), (SECOND + HEAD, len(EMPTY))]),
@@ -311,7 +311,7 @@ class Inspect(ModelTrial):
                 put(self.path, slot(1, EMPTY), second)
                 lines = report(self.path.read_bytes())
                 ran = self.runs("inspect", "--disk", self.path, out=lines, env=shimmed(log=log))
-                wanted = [(0, HEAD), (HEAD, len(EMPTY)), *parts, (0, HEAD), (SECOND, HEAD)]
+                wanted = [(0, 73), (0, HEAD), (HEAD, len(EMPTY)), *parts, (0, HEAD), (SECOND, HEAD)]
                 self.equals(ran.command, "what is read", wanted, [(it.at, it.length) for it in noted(log) if it.kind == "R"])
 
     def test_an_output_that_cant_be_written(self):

@@ -4,6 +4,7 @@ counts of one that isn't stopped. Files that hold something else are refused, an
 import json
 import os
 import signal
+import struct
 import subprocess
 import sys
 import time
@@ -28,6 +29,19 @@ def ackermann(number):
 def figures(ran):
     """The figures that a run tells."""
     return json.loads(ran.err.splitlines()[0])
+
+
+def seen(place, content):
+    """What `inspect` tells of a file, and its number where its gate is open."""
+    if content is None:
+        return f"file {place}: missing", -1
+    gate, number, size = content[0] == 1, *struct.unpack(">2Q", content[1:HEAD])
+    head = f"file {place}: {'open' if gate else 'closed'}, number {number}, size {size}"
+    if content[HEAD : HEAD + 8] != b"ICKEPT01":
+        return f"{head}, no state", number if gate else -1
+    _, interactions, ended, rules, words, millis = struct.unpack(">6Q", content[HEAD + 8 : HEAD + 56])
+    fields = f"interactions {interactions}, words {words}, rules {rules}, milliseconds {millis}"
+    return f"{head}, {'ended' if ended else 'not ended'}, {fields}", number if gate else -1
 
 
 def laid(content, at, data):
@@ -76,7 +90,7 @@ class Keep(Stops):
             self.equals(ran.command, name, whole[1][name], figures(ran)[name])
 
     def kept(self):
-        """How many interactions the files hold, or nothing where they are refused. What they hold is kept once more."""
+        """How many interactions the files hold, or nothing where they are refused."""
         ran = run("reduce", "--resume", self.file, "--steps", 0, "--quiet-answer", *FIGURES)
         if ran.status == 3:
             return None
@@ -102,6 +116,29 @@ class Keep(Stops):
         for words, given in ((["--keep", self.file], text), (["--resume", self.file], b"")):
             self.runs("reduce", *words, given=given, out=whole.out, err=whole.err)
             self.agree(run("reduce", "--resume", self.file, *FIGURES), self.whole(text))
+
+    def inspected(self):
+        """What `inspect` tells, as it is found in the files; each file stays as it is."""
+        before = self.contents()
+        files = [seen(place, content) for place, content in enumerate(before, 1)]
+        newest = max((1, 2), key=lambda it: files[it - 1][1])
+        lines = [*(it for it, _ in files), f"held: file {newest}"]
+        self.runs("inspect", "--disk", self.file, out=lines)
+        ran = run("inspect", "--disk", self.file, "--format", "json")
+        told = [json.loads(it) for it in ran.out.splitlines()]
+        self.equals(ran.command, "what is held", {"held": f"file {newest}"}, told[2])
+        self.equals(ran.command, "what the files hold", before, self.contents())
+        return told[newest - 1]
+
+    def test_inspect_tells_what_is_kept(self):
+        total = self.whole(ackermann(2))[1]["interactions"]
+        run("reduce", "--keep", self.file, "--steps", 0, given=ackermann(2))
+        for most in (0, 9, 9, 30, total, total):
+            run("reduce", "--resume", self.file, "--steps", most)
+            told = self.inspected()
+            self.equals(self.file, "what is told", (most, most == total), (told["interactions"], told["ended"]))
+        self.second.unlink()
+        self.runs("inspect", "--disk", self.file, out=[seen(1, self.contents()[0])[0], "file 2: missing", "held: file 1"])
 
     def test_what_is_not_asked_for_is_not_printed(self):
         self.runs("reduce", "--keep", self.file, "--quiet-answer", given=ackermann(2))
@@ -133,7 +170,7 @@ class Keep(Stops):
                 if content is not None:
                     path.write_bytes(content)
             self.refuses("reduce", "--keep", self.file, given=ackermann(2), line="not empty", status=3)
-            self.equals(self.file, "what the files hold", [first or b"", second], self.contents())
+            self.equals(self.file, "what the files hold", [first, second], self.contents())
         self.clear()
         self.agree(run("reduce", "--keep", self.file, *FIGURES, given=ackermann(2)), self.whole(ackermann(2)))
         before = self.contents()
@@ -195,6 +232,46 @@ class Keep(Stops):
             ran = run("reduce", "--resume", self.file)
             process.kill()
         self.equals(ran.command, "the end", (6, b"icserve: locked\n"), (ran.status, ran.err))
+
+    def test_a_second_file_that_another_process_has_is_told_of(self):
+        """The second file of one reduction is the first of another. No file is made."""
+        text = "{A(B(x))><B(A(x))} <|A(x)=B(x)>"
+        command = [PROGRAM, "reduce", "--keep", str(self.second), "--seconds", "1"]
+        with subprocess.Popen(command, stdin=subprocess.PIPE, stdout=subprocess.DEVNULL, stderr=subprocess.DEVNULL) as process:
+            process.stdin.write(text.encode())
+            process.stdin.close()
+            end = time.monotonic() + 30
+            while not (self.second.exists() and self.second.stat().st_size > HEAD) and time.monotonic() < end:
+                time.sleep(0.01)
+            ran = run("reduce", "--keep", self.file, given=text)
+            told = (ran.status, ran.err, ran.behind.decode(), self.file.exists())
+            process.kill()
+        wanted = (6, b"icserve: locked\n", f"{self.second}: lock: another server has it open\n", False)
+        self.equals(ran.command, "the end", wanted, told)
+
+    def test_the_file_is_named_of_which_a_call_has_failed(self):
+        run("reduce", "--keep", self.file, "--steps", 9, given=ackermann(2))
+        before = self.contents()
+        named = set()
+        for number in range(1, 60):
+            self.put(before)
+            ran = run("reduce", "--resume", self.file, "--steps", 20, env=shimmed(f"disk {number} once", self.log))
+            if not was_refused(self.log):
+                break
+            if ran.status in (3, 4):
+                named.add(ran.behind.decode().split(": ")[0])
+        self.equals("the files", "those that are named", {str(self.file), str(self.second)}, named)
+
+    def test_what_has_ended_is_answered_on_a_full_device(self):
+        """Nothing is kept where no interaction was made, so nothing is written."""
+        whole = self.whole(ackermann(2))
+        run("reduce", "--keep", self.file, given=ackermann(2))
+        before = self.contents()
+        ran = run("reduce", "--resume", self.file, *FIGURES, **grows_to(0))
+        self.agree(ran, whole)
+        ran, calls = self.life("", whole[1]["interactions"], False)
+        self.equals(ran.command, "writes", [], [it for it in calls if it.kind != "S"])
+        self.equals(ran.command, "what the files hold", before, self.contents())
 
     def test_a_full_device_leaves_what_was_kept(self):
         text = church(9)

@@ -59,6 +59,7 @@ shown_path path = map shown_byte path
 -- what a call was made on, where the file is that of a path
 abbrev pub target_words : List ℕ → Target → List ℕ
 target_words path target.File = shown_path path
+target_words path target.Second = shown_path path ++ codes ".2"
 target_words path target.Folder = shown_path path ++ codes ": its folder"
 target_words path target.StandIn = codes "/dev/null, in the place of a closed standard stream"
 target_words path target.Input = codes "standard input"

@@ -14,6 +14,8 @@ use std::os::unix::fs::MetadataExt;
 pub enum Target {
     /// The file of a disk, a script or a text.
     File,
+    /// The second file in which a reduction is kept.
+    Second,
     /// The folder in which that file stands.
     Folder,
     /// What is opened in the place of a standard stream that is closed: `/dev/null`.

@@ -10,13 +10,14 @@ use std::io::{self, Read, Seek, SeekFrom, Write};
 use std::os::unix::fs::FileExt;
 use std::rt::Files;
 
-/// The files of a runtime, while the disk in the file of this path is opened. A call to a file
+/// The files of a runtime, while the disk in the file of this path is opened, which is noted as this target. A call to a file
 /// that fails is noted as `Notes` says, and so is a special file that is looked at; what is opened by
 /// another path is the folder of that file.
 #[derive(Drop)]
 pub struct NotedFiles<'a, 'n, R> {
     pub rt: &'a R,
     pub path: &'a str,
+    pub target: Target,
     pub notes: &'n Notes,
 }
 
@@ -64,7 +65,7 @@ impl<R> NotedFiles<'_, '_, R> {
     /// What a call by this path is made on.
     fn target_of(&self, path: &str) -> Target {
         if path == self.path {
-            Target::File
+            self.target
         } else {
             Target::Folder
         }

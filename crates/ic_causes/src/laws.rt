@@ -34,6 +34,11 @@ pub fn a_cause_is_told()
       call = call.Lock;
       reason = reason.Locked;
     })) ≡ codes "a.disk: lock: another process has it open" ++ 10 ∷ [] }
+    ensures second { cause_line (codes "a.keep") (Some (record {
+      target = target.Second;
+      call = call.Lock;
+      reason = reason.Locked;
+    })) ≡ codes "a.keep.2: lock: another process has it open" ++ 10 ∷ [] }
     ensures full { cause_line (codes "a.disk") (Some (record {
       target = target.File;
       call = call.Write;

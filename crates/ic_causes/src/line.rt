@@ -53,6 +53,11 @@ fn target_words(alloc: Global, path: &[u8], target: Target) -> Result<Vec<u8>, A
 {
     match target {
         Target::File => shown_path(alloc, path),
+        Target::Second => {
+            let mut words = shown_path(alloc, path)?;
+            words.extend_from_slice(b".2")?;
+            Ok(words)
+        }
         Target::Folder => {
             let mut words = shown_path(alloc, path)?;
             words.extend_from_slice(b": its folder")?;

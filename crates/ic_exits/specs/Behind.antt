@@ -32,7 +32,7 @@ use Rattle.ic_batch.specs.declared.fault.Difference.{Difference}
 use Rattle.ic_batch.specs.declared.fault.Difference.TheVariants as difference
 use Rattle.ic_exits.specs.declared.failure.Failure.{Failure}
 use Rattle.ic_exits.specs.declared.failure.Failure.TheVariants.{Words, Stream, Disk, Locked, Create, NotEmpty, Open, Serve, Attend, Dump, Inspect, Jobs, Batch, Faults, NotDone}
-use Rattle.ic_exits.specs.declared.failure.Failure.TheVariants.{Round, Overgrown, TableFull, OutOfMemory, Kept, SecondFile}
+use Rattle.ic_exits.specs.declared.failure.Failure.TheVariants.{Round, Overgrown, TableFull, OutOfMemory, Kept}
 use Rattle.ic_exits.specs.declared.failure.Reached.{Reached}
 use Rattle.ic_by_rounds.specs.declared.refusal.Refusal.{Refusal}
 use Rattle.ic_round.specs.declared.round_fault.RoundFault.{RoundFault}
@@ -95,6 +95,7 @@ book_lines book.Memory path cause = []
 abbrev pub lines_of_input : Target → List ℕ → List ℕ
 lines_of_input target.Input lines = lines
 lines_of_input target.File lines = []
+lines_of_input target.Second lines = []
 lines_of_input target.Folder lines = []
 lines_of_input target.StandIn lines = []
 lines_of_input target.Output lines = []
@@ -206,30 +207,26 @@ kept_lines keeping.Limit path cause = []
 kept_lines keeping.Memory path cause = []
 kept_lines (keeping.Keep fault) path cause = keep_lines fault path cause
 
--- the path of the second file in which a reduction is kept
-abbrev pub second_path : List ℕ → List ℕ
-second_path path = path ++ codes ".2"
-
 -- of a file without the second one
 abbrev pub no_second : List ℕ
 no_second = codes "no reduction is kept in it, since its second file isn't there; "
     ++ codes "--resume takes F, and not F.2"
 
--- whether a call found no file
-abbrev pub is_missing : Reason → Bool
-is_missing reason.Missing = true
-is_missing _ = false
+-- whether a call found no second file
+abbrev pub is_no_second : Target → Reason → Bool
+is_no_second target.Second reason.Missing = true
+is_no_second _ _ = false
 
 -- whether it is that call which has failed last
-abbrev pub finds_none : Option Cause → Bool
-finds_none None = false
-finds_none (Some cause) = is_missing cause.reason
+abbrev pub finds_no_second : Option Cause → Bool
+finds_no_second None = false
+finds_no_second (Some cause) = is_no_second cause.target cause.reason
 
--- where the second file can't be opened
-abbrev pub second_lines : List ℕ → Option Cause → List ℕ
-second_lines path cause = if finds_none cause
-    then cause_line (second_path path) cause ++ shown_of path no_second
-    else cause_line (second_path path) cause
+-- where a file can't be opened
+abbrev pub disk_lines : List ℕ → Option Cause → List ℕ
+disk_lines path cause = if finds_no_second cause
+    then cause_line path cause ++ shown_of path no_second
+    else cause_line path cause
 
 -- how far a net has come that is reduced in place
 abbrev pub reached_text : Reached → List ℕ
@@ -259,7 +256,7 @@ round_lines refusal = codes "round " ++ decimal refusal.round ++ codes ", nodes 
 -- what standard error is told behind the line of a failure, where the disk is in the file of this
 -- path and the cause is that of the last call to it, or to standard input, that has failed
 abbrev pub lines_behind : Failure → List ℕ → Option Cause → List ℕ
-lines_behind (Disk fault) path cause = cause_line path cause
+lines_behind (Disk fault) path cause = disk_lines path cause
 lines_behind Locked path cause = cause_line path cause
 lines_behind (Create fault) path cause = create_lines fault path cause
 lines_behind NotEmpty path cause = shown_of path not_empty
@@ -279,4 +276,3 @@ lines_behind (Overgrown reached nodes) path cause = overgrown_lines reached node
 lines_behind (TableFull reached) path cause = reached_lines reached
 lines_behind (OutOfMemory reached) path cause = reached_lines reached
 lines_behind (Kept fault) path cause = kept_lines fault path cause
-lines_behind (SecondFile fault) path cause = second_lines path cause

@@ -4,7 +4,7 @@
 ghost use Rattle.std.specs.Prelude.{◌≡◌, IfOk};
 ghost use Rattle.ic_exits.specs.Behind.{book_lines, create_lines, ends_without_reader, is_of_writing, is_silent, lines_behind, open_lines, scripts_lines};
 ghost use Rattle.ic_exits.specs.Behind.{batch_lines, input_lines, inspect_lines, limit_text, overgrown_lines, reached_lines, reached_text, round_lines};
-ghost use Rattle.ic_exits.specs.Behind.{finds_none, found_lines, keep_lines, kept_lines, second_lines};
+ghost use Rattle.ic_exits.specs.Behind.{disk_lines, finds_no_second, found_lines, keep_lines, kept_lines};
 ghost use Rattle.ic_exits.specs.Behind.{serve_lines, shown_of, stream_lines, taken_words};
 
 use crate::{Failure, Reached};
@@ -88,7 +88,8 @@ impl Failure {
         ensures { IfOk result (λ lines. lines.items ≡ lines_behind self.now path.now cause) }
     {
         match self {
-            Failure::Disk(_) | Failure::Locked => cause_line(alloc, path, cause),
+            Failure::Disk(_) => disk_lines(alloc, path, cause),
+            Failure::Locked => cause_line(alloc, path, cause),
             Failure::Create(fault) => create_lines(alloc, *fault, path, cause),
             Failure::NotEmpty => said_of(alloc, path, NOT_EMPTY),
             Failure::Open(fault) => open_lines(alloc, *fault, path, cause),
@@ -105,7 +106,6 @@ impl Failure {
             Failure::Batch(fault) => batch_lines(alloc, *fault, path, cause),
             Failure::Inspect(fault) => inspect_lines(alloc, *fault, path, cause),
             Failure::Kept(fault) => kept_lines(alloc, *fault, path, cause),
-            Failure::SecondFile(_) => second_lines(alloc, path, cause),
         }
     }
 }
@@ -220,26 +220,23 @@ fn open_lines(
     }
 }
 
-/// What is said where the second file of a path can't be opened.
-fn second_lines(alloc: Global, path: &[u8], cause: Option<Cause>) -> Result<Vec<u8>, AllocError>
-    ensures { IfOk result (λ lines. lines.items ≡ second_lines path.now cause) }
+fn disk_lines(alloc: Global, path: &[u8], cause: Option<Cause>) -> Result<Vec<u8>, AllocError>
+    ensures { IfOk result (λ lines. lines.items ≡ disk_lines path.now cause) }
 {
-    let mut second = path.to_vec(alloc)?;
-    second.extend_from_slice(b".2")?;
-    let mut lines = cause_line(alloc, &second, cause)?;
-    if finds_none(cause) {
+    let mut lines = cause_line(alloc, path, cause)?;
+    if finds_no_second(cause) {
         let more = said_of(alloc, path, NO_SECOND)?;
         lines.extend_from_slice(&more)?;
     }
     Ok(lines)
 }
 
-/// Whether this call, which has failed last, found no file.
-fn finds_none(cause: Option<Cause>) -> bool
-    ensures { result ≡ finds_none cause }
+/// Whether this call, which has failed last, found no second file of a reduction.
+fn finds_no_second(cause: Option<Cause>) -> bool
+    ensures { result ≡ finds_no_second cause }
 {
     match cause {
-        Some(cause) => cause.reason == Reason::Missing,
+        Some(cause) => cause.target == Target::Second && cause.reason == Reason::Missing,
         None => false,
     }
 }
@@ -365,7 +362,8 @@ fn input_lines(alloc: Global, path: &[u8], cause: Option<Cause>) -> Result<Vec<u
     };
     match failed.target {
         Target::Input => cause_line(alloc, path, Some(failed)),
-        Target::File | Target::Folder | Target::StandIn | Target::Output => Ok(Vec::new(alloc)),
+        Target::File | Target::Second | Target::Folder => Ok(Vec::new(alloc)),
+        Target::StandIn | Target::Output => Ok(Vec::new(alloc)),
     }
 }
 

@@ -84,8 +84,6 @@ pub enum Failure {
     OutOfMemory(Reached),
     /// A reduction isn't kept in two files, or doesn't go on from there.
     Kept(KeepingFault),
-    /// The second file in which a reduction is kept can't be opened or locked.
-    SecondFile(DiskFault),
 }
 
 impl Failure {
@@ -114,7 +112,6 @@ impl Failure {
             Failure::Overgrown(_, _) | Failure::TableFull(_) => 1,
             Failure::OutOfMemory(_) => 4,
             Failure::Kept(fault) => kept_status(*fault),
-            Failure::SecondFile(_) => 3,
         }
     }
 
@@ -145,7 +142,6 @@ impl Failure {
             Failure::TableFull(_) => told(alloc, b"table full"),
             Failure::OutOfMemory(_) => told(alloc, b"memory"),
             Failure::Kept(fault) => told(alloc, kept_word(*fault)),
-            Failure::SecondFile(_) => told(alloc, b"device"),
         }
     }
 }

@@ -30,7 +30,7 @@ ghost use Rattle.ic_lines.specs.declared.script.ScriptFault.{ScriptFault};
 ghost use Rattle.ic_scripts.specs.declared.fault.ScriptsFault.TheVariants as scripts;
 ghost use Rattle.ic_exits.specs.declared.failure.Failure.{Failure};
 ghost use Rattle.ic_exits.specs.declared.failure.Failure.TheVariants.{Words, Stream, Disk, Locked, Create, NotEmpty, Open, Serve, Attend, Dump, Inspect, Jobs, Batch, Faults, NotDone};
-ghost use Rattle.ic_exits.specs.declared.failure.Failure.TheVariants.{Round, Overgrown, TableFull, OutOfMemory, Kept, SecondFile};
+ghost use Rattle.ic_exits.specs.declared.failure.Failure.TheVariants.{Round, Overgrown, TableFull, OutOfMemory, Kept};
 ghost use Rattle.ic_by_rounds.specs.declared.refusal.Refusal.{Refusal};
 ghost use Rattle.ic_exits.specs.declared.failure.Reached.{Reached};
 ghost use Rattle.ic_in_place.specs.declared.running.End.TheVariants as end;
@@ -267,7 +267,6 @@ pub fn lines_of_looks_are()
 pub fn endings_of_kept_reductions_are()
     ensures files { (cause : OpenCause) → map status_of (Kept keeping.NotEmpty ∷ Kept keeping.Device
         ∷ Kept (keeping.Open cause) ∷ Kept keeping.Unsound ∷ []) ≡ 3 ∷ 3 ∷ 3 ∷ 3 ∷ [] }
-    ensures second { (fault : DiskFault) → status_of (SecondFile fault) ≡ 3 }
     ensures large { status_of (Kept keeping.Limit) ≡ 1 }
     ensures others { (fault : KeepFault) → map status_of (Kept keeping.Memory
         ∷ Kept (keeping.Keep fault) ∷ []) ≡ 4 ∷ 4 ∷ [] }
@@ -300,17 +299,15 @@ pub fn endings_of_kept_reductions_are()
         × (lines_behind (Kept keeping.Device) path cause ≡ cause_line path cause)
         × (lines_behind (Kept (keeping.Open opening.Device)) path cause ≡ cause_line path cause) }
     ensures second_file { (fault : DiskFault) (path : List ℕ) (cause : Cause)
-        → cause.reason ≢ reason.Missing → lines_behind (SecondFile fault) path (Some cause)
-        ≡ cause_line (path ++ codes ".2") (Some cause) }
-    ensures untold { (fault : DiskFault) (path : List ℕ)
-        → lines_behind (SecondFile fault) path None ≡ cause_line (path ++ codes ".2") None }
-    ensures no_second_file { (fault : DiskFault) (path : List ℕ) (t : Target) (c : FileCall)
-        → lines_behind (SecondFile fault) path (Some (record {
-          target = t;
+        → cause.reason ≢ reason.Missing
+        → lines_behind (Disk fault) path (Some cause) ≡ cause_line path (Some cause) }
+    ensures no_second_file { (fault : DiskFault) (path : List ℕ) (c : FileCall)
+        → lines_behind (Disk fault) path (Some (record {
+          target = target.Second;
           call = c;
           reason = reason.Missing;
-        })) ≡ cause_line (path ++ codes ".2") (Some (record {
-          target = t;
+        })) ≡ cause_line path (Some (record {
+          target = target.Second;
           call = c;
           reason = reason.Missing;
         })) ++ shown_path path ++ codes ": "
@@ -362,8 +359,11 @@ pub fn lines_behind_are(text: &String)
     ensures no_memory { (reached : Reached) (path : List ℕ) (cause : Option Cause)
         → lines_behind (OutOfMemory reached) path cause
         ≡ lines_behind (TableFull reached) path cause }
-    ensures file { (fault : DiskFault) (path : List ℕ) (cause : Option Cause)
-        → lines_behind (Disk fault) path cause ≡ cause_line path cause }
+    ensures file { (fault : DiskFault) (path : List ℕ) (cause : Cause)
+        → cause.target ≢ target.Second
+        → lines_behind (Disk fault) path (Some cause) ≡ cause_line path (Some cause) }
+    ensures untold { (fault : DiskFault) (path : List ℕ)
+        → lines_behind (Disk fault) path None ≡ cause_line path None }
     ensures locked { (path : List ℕ) (cause : Option Cause)
         → lines_behind Locked path cause ≡ cause_line path cause }
     ensures created { (path : List ℕ) (cause : Option Cause)

@@ -1,3 +1,6 @@
+pub mod Quiet
 pub mod WayLemmas
 pub mod Orders
 pub mod Resuming
+pub mod GoingLemmas
+pub mod LivesLemmas

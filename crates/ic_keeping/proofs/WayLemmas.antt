@@ -1,5 +1,5 @@
 -- A reduction goes on: what was reached, and what is reached from there.
-use Rattle.std.proofs.Common.{◌≡◌, ℕ, ◌+◌, ◌<◌, ◌≤◌, ◌==◌, List, [], ◌∷◌, ◌++◌, true, false, Ok, length, map, count_by, refl, sym, ap, subst, ◌∙◌, arith}
+use Rattle.std.proofs.Common.{◌≡◌, ℕ, ◌+◌, ◌<◌, ◌≤◌, ◌==◌, List, [], ◌∷◌, ◌++◌, true, false, Ok, length, count_by, refl, sym, ap, subst, ◌∙◌, arith}
 use Rattle.std.proofs.lemmas.List.{length-append}
 use Rattle.std.proofs.lemmas.List.Sums.{sum_by-append}
 use Rattle.std.specs.Prelude.{◌↔◌, Bool, IsTrue, slice_index_or}
@@ -20,13 +20,15 @@ use Rattle.ic_naming.specs.Naming.{renumbered}
 use Rattle.ic_text.specs.declared.limits.TheConstants.{MAX_NAME}
 use Rattle.ic_in_place.specs.declared.running.Bounds.{Bounds}
 use Rattle.ic_in_place.specs.declared.running.End.{End}
+use Rattle.ic_in_place.specs.declared.running.End.TheVariants.{Quiet, Steps, Nodes, Limit, Memory}
 use Rattle.ic_in_place.specs.Counting.{AreCounts}
 use Rattle.ic_in_place.specs.Reducing.{EndsBy, IsPutTogether, IsReachedBy}
 use Rattle.ic_text.specs.SystemText.{ReadsSystemWithin}
 use Rattle.ic_text.specs.declared.limits.Limits.TheVariants.{Wide}
 use Rattle.ic_round.specs.Rounds.{IsQuiet}
 use Rattle.ic_state.specs.State.{Kept}
-use Rattle.ic_keeping.specs.Way.{AreSums, IsAnswer, IsOnWay, IsSound, IsStateOf}
+use Rattle.ic_keeping.specs.Way.{AreSums, EndsWithin, IsAnswer, IsOnWay, IsSound, IsStateOf}
+use Rattle.ic_keeping.proofs.Quiet.{QuietLaws, quiet_too}
 
 -- what laws of names say that this one builds on
 pub record NamingLaws : Type 0 where
@@ -47,6 +49,7 @@ occurring P n (m ∷ ms) all some = at_name P n m ms (m == n) refl all.0 (occurr
 -- what is given by laws of the crates below
 pub record ReachingLaws : Type 0 where
   pub names : (rs : List Rule) (c d : Configuration) (fired : List ℕ) → Reaches rs c d fired → HasNames d
+  pub over : (rs : Rules) (c d : Configuration) (fired : List ℕ) → IsRuleSet rs → IsTrue (is_over rs.symbols c) → HasNames c → Reaches rs.rules c d fired → IsTrue (is_over rs.symbols d)
   pub net : (rs : List Rule) (c d e : Configuration) (fired : List ℕ) → Reaches rs c d fired → OneNet d e → Reaches rs c e fired
   pub reached : (rs : Rules) (c d e : Configuration) (fired also : List ℕ) → IsRuleSet rs → IsTrue (is_over rs.symbols c) → HasNames c → Reaches rs.rules c d fired
       → Reaches rs.rules d e also → Reaches rs.rules c e (fired ++ also)
@@ -118,6 +121,20 @@ module _ (naming : NamingLaws) (laws : ReachingLaws) (s t : SystemParts) (sound 
         counts = further.counts;
       }
 
+      pub kept_quiet : QuietLaws → IsQuiet s.rules.rules answer → IsQuiet s.rules.rules (kept above)
+      kept_quiet quiet_laws quiet = subst (λ (e : Configuration). IsQuiet s.rules.rules (record e { next = above })) (sym written)
+          (quiet_too quiet_laws s.rules answer (laws.names s.rules.rules s.config answer further.fired further.reached) sound.rules
+          (laws.over s.rules s.config answer further.fired sound.rules sound.over sound.names further.reached) free_low quiet above)
+
+-- a piece within some bounds has ended so, and these are the bounds of the run
+ends_within : (rs : List Rule) (piece most : Bounds) (c : Configuration) (j entries n : ℕ) (end : End) → EndsBy rs piece c j end → (end ≡ Nodes → most.nodes < entries)
+    → (end ≡ Steps → most.steps ≤ n) → EndsWithin rs most c n entries end
+ends_within rs piece most c j entries n Quiet is nodes steps = is.0
+ends_within rs piece most c j entries n Steps is nodes steps = (is.1, steps refl)
+ends_within rs piece most c j entries n Nodes is nodes steps = nodes refl
+ends_within rs piece most c j entries n Limit is nodes steps = tt
+ends_within rs piece most c j entries n Memory is nodes steps = tt
+
 -- A state, a system that has its configuration, and the state after a piece.
 module _ (naming : NamingLaws) (laws : ReachingLaws) (s t : SystemParts) (sound : IsSound s) (k new : Kept) (is : IsStateOf s k)
     (rules : t.rules ≡ s.rules) (interface : t.config.interface ≡ (configuration_of k.words k.terms 0).interface) (equations : t.config.equations ≡ (configuration_of k.words k.terms 0).equations)
@@ -135,24 +152,36 @@ module _ (naming : NamingLaws) (laws : ReachingLaws) (s t : SystemParts) (sound 
   on_way = subst (λ (n : ℕ). IsOnWay s answer n new.by_rule) (sym sum)
       (further naming laws s t sound (configuration_of k.words k.terms is.next) k.interactions k.by_rule is.way rules interface equations names bounds answer end j places left more new.by_rule r adds)
 
-  pub answer_of : IsAnswer s end new
-  answer_of = record {
+  ended_by : EndsBy s.rules.rules bounds answer j end
+  ended_by = subst (λ (rs : Rules). EndsBy rs.rules bounds answer j end) rules r.reached.ended
+
+  over : end ≡ Nodes → bounds.nodes < places + left
+  over ended =
+      let more = r.reached.over ended in
+      omega (arith, more, r.reached.held.all, r.equations)
+
+  pub answer_of : (most : Bounds) → most.nodes ≡ bounds.nodes → (end ≡ Steps → most.steps ≤ new.interactions) → IsAnswer s most end places left new
+  answer_of most nodes steps = record {
+    sound = sound;
     answer = answer;
     way = on_way;
-    quiet = λ ended.
-        let quiet = subst (λ (e : End). EndsBy t.rules.rules bounds answer j e) ended r.reached.ended in
-        subst (λ (rs : Rules). IsQuiet rs.rules answer) rules quiet.0;
+    ended = ends_within s.rules.rules bounds most answer j (places + left) new.interactions end ended_by (λ ended. omega (arith, over ended, nodes)) steps;
     together = together;
     written = new_written;
   }
 
-  pub state_of : IsStateOf s new
-  state_of = record {
+  answer_quiet : end ≡ Quiet → IsQuiet s.rules.rules answer
+  answer_quiet ended = (subst (λ (e : End). EndsBy s.rules.rules bounds answer j e) ended ended_by).0
+
+  pub state_of : QuietLaws → (new.ended ≡ true → end ≡ Quiet) → IsStateOf s new
+  state_of quiet_laws ended = record {
     reads = subst (λ (text : List ℕ). ReadsSystemWithin Wide text (Ok s)) (sym same_text) is.reads;
     next = one_above (configuration_names (configuration_of new.words new.terms 0));
     way = subst (λ (n : ℕ). IsOnWay s (configuration_of new.words new.terms (one_above (configuration_names (configuration_of new.words new.terms 0)))) n new.by_rule) (sym sum)
         (kept_on_way naming laws s t sound (configuration_of k.words k.terms is.next) k.interactions k.by_rule is.way rules interface equations names bounds answer end j places left more new.by_rule r adds
         low new.words new.terms new_written);
+    quiet = λ has_ended. kept_quiet naming laws s t sound (configuration_of k.words k.terms is.next) k.interactions k.by_rule is.way rules interface equations names bounds answer end j places left more new.by_rule r adds
+        low new.words new.terms new_written quiet_laws (answer_quiet (ended has_ended));
   }
 
 -- A text from which no interaction was made.

@@ -1,7 +1,8 @@
 -- How far a reduction that is kept has come (this project's choice).
-use Rattle.std.specs.Prelude.{◌≡◌, ℕ, ◌+◌, ◌<◌, ◌≤◌, List, Ok, IsTrue, length, slice_index_or}
+use Rattle.std.specs.Prelude.{◌≡◌, ◌⊎◌, ℕ, ◌+◌, ◌<◌, ◌≤◌, List, true, false, Ok, IsTrue, length, slice_index_or}
 use Rattle.ic_term.specs.Configuration.{Configuration}
 use Rattle.ic_term.specs.Symbol.{is_over}
+use Rattle.ic_rules.specs.Rule.{Rule}
 use Rattle.ic_rules.specs.RuleSet.{IsRuleSet}
 use Rattle.ic_rules.specs.System.{SystemParts}
 use Rattle.ic_flat.specs.Flat.{configuration_of}
@@ -12,10 +13,11 @@ use Rattle.ic_naming.specs.Naming.{renumbered}
 use Rattle.ic_round.specs.Naming.{HasNames}
 use Rattle.ic_round.specs.Rounds.{IsQuiet}
 use Rattle.ic_reaching.specs.Reaching.{Reaches}
+use Rattle.ic_in_place.specs.declared.running.Bounds.{Bounds}
 use Rattle.ic_in_place.specs.declared.running.End.{End}
-use Rattle.ic_in_place.specs.declared.running.End.TheVariants.{Quiet}
+use Rattle.ic_in_place.specs.declared.running.End.TheVariants.{Quiet, Steps, Nodes, Limit, Memory}
 use Rattle.ic_in_place.specs.Counting.{AreCounts}
-use Rattle.ic_in_place.specs.Reducing.{IsPutTogether}
+use Rattle.ic_in_place.specs.Reducing.{CanInteract, IsPutTogether}
 use Rattle.ic_state.specs.State.{Kept, IsKept, state_bytes}
 
 -- each of these counts is the sum of two others
@@ -34,11 +36,20 @@ pub record IsOnWay (s : SystemParts) (c : Configuration) (interactions : ℕ) (b
   pub counts : AreCounts (length s.rules.rules) fired by_rule
 
 -- What is kept is a state of a reduction of this system: its text is read as the system, and its words write a
--- configuration that is reached from there by the interactions that it tells.
+-- configuration that is reached from there by the interactions that it tells. If it has ended, no step is possible.
 pub record IsStateOf (s : SystemParts) (k : Kept) : Type 0 where
   pub reads : ReadsSystemWithin Wide k.text (Ok s)
   pub next : ℕ
   pub way : IsOnWay s (configuration_of k.words k.terms next) k.interactions k.by_rule
+  pub quiet : k.ended ≡ true → IsQuiet s.rules.rules (configuration_of k.words k.terms next)
+
+-- the state with which the reduction of a system begins: the configuration of the text, and no interactions
+pub record IsBegun (s : SystemParts) (k : Kept) : Type 0 where
+  pub state : IsStateOf s k
+  pub config : configuration_of k.words k.terms s.config.next ≡ s.config
+  pub none : k.interactions ≡ 0
+  pub goes_on : k.ended ≡ false
+  pub millis : k.millis ≡ 0
 
 -- what a system keeps whose rules and configuration were read
 pub record IsSound (s : SystemParts) : Type 0 where
@@ -46,12 +57,24 @@ pub record IsSound (s : SystemParts) : Type 0 where
   pub over : IsTrue (is_over s.rules.symbols s.config)
   pub names : HasNames s.config
 
--- What was kept last when a run ended: the words of an answer with its names numbered anew, which is reached from the
--- system's configuration by the interactions that are told. At a quiet end no step of it is possible.
-pub record IsAnswer (s : SystemParts) (end : End) (k : Kept) : Type 0 where
+-- What an end says of what was reached, by so many interactions of all runs. So many are together the places of the last
+-- piece and the equations that it had left.
+abbrev pub EndsWithin : List Rule → Bounds → Configuration → (interactions entries : ℕ) → End → Type 0
+EndsWithin rs bounds c interactions entries Quiet = IsQuiet rs c
+EndsWithin rs bounds c interactions entries Steps =
+    CanInteract rs c × (bounds.steps ≤ interactions)
+EndsWithin rs bounds c interactions entries Nodes = bounds.nodes < entries
+EndsWithin rs bounds c interactions entries Limit = Unit {0}
+EndsWithin rs bounds c interactions entries Memory = Unit {0}
+
+-- What a run ends with: the words of an answer with its names numbered anew, which is reached from the system's
+-- configuration by the interactions that are told. This is why it ended.
+pub record IsAnswer (s : SystemParts) (bounds : Bounds) (end : End) (places left : ℕ) (k : Kept)
+    : Type 0 where
+  pub sound : IsSound s
   pub answer : Configuration
   pub way : IsOnWay s answer k.interactions k.by_rule
-  pub quiet : end ≡ Quiet → IsQuiet s.rules.rules answer
+  pub ended : EndsWithin s.rules.rules bounds answer k.interactions (places + left) end
   pub together : IsPutTogether answer
   pub written : configuration_of k.words k.terms (MAX_NAME + 1) ≡ renumbered answer
 
@@ -63,3 +86,24 @@ IsFormOf s bytes = (k : Kept) × IsKept k × IsStateOf s k × (bytes ≡ state_b
 abbrev pub IsFormFrom : SystemParts → (least : ℕ) → List ℕ → Type 0
 IsFormFrom s least bytes =
     (k : Kept) × IsKept k × IsStateOf s k × (least ≤ k.interactions) × (bytes ≡ state_bytes k)
+
+-- A state goes further than so many interactions: it has more of them, or as many and has ended.
+abbrev pub GoesFurther : (interactions : ℕ) → Kept → Type 0
+GoesFurther interactions k =
+    (interactions < k.interactions) ⊎ ((interactions ≡ k.interactions) × (k.ended ≡ true))
+
+-- One state was kept, and this state of the reduction is kept after it, which goes further. These are their bytes.
+pub record IsKeptAfter (s : SystemParts) (old new : List ℕ) : Type 0 where
+  pub before : Kept
+  pub after : Kept
+  pub old_is : old ≡ state_bytes before
+  pub new_is : new ≡ state_bytes after
+  pub was_kept : IsKept before
+  pub is_kept : IsKept after
+  pub state : IsStateOf s after
+  pub further : GoesFurther before.interactions after
+
+-- What is kept goes as far as this state: it has as many interactions, and has ended where this has.
+pub record IsAsFar (kept k : Kept) : Type 0 where
+  pub interactions : kept.interactions ≡ k.interactions
+  pub ended : k.ended ≡ true → kept.ended ≡ true

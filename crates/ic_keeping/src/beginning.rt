@@ -9,19 +9,20 @@ ghost use Rattle.ic_kept.specs.Opening.{OnlyReads};
 ghost use Rattle.ic_rules.specs.System.{SystemParts};
 ghost use Rattle.ic_state.specs.State.{IsKept, Kept, kept_by, state_bytes};
 ghost use Rattle.ic_text.specs.SystemText.{ReadsSystemWithin};
-ghost use Rattle.ic_keeping.specs.Way.{IsFormOf, IsStateOf};
+ghost use Rattle.ic_keeping.specs.Disks.{Relates};
+ghost use Rattle.ic_keeping.specs.Way.{IsBegun, IsFormOf, IsStateOf};
 
 use crate::fault::KeepingFault;
 use crate::systems::systems_are_sound;
 use ic_disk::Disk;
-use ic_kept::{CreateFault, Keeper, create};
+use ic_kept::{CreateFault, Keeper, OpenFault, create};
 use ic_state::{State, StateFault, decode, encode};
 use ic_text::{Limits, Misread, TextFault, find_wide_system};
 use std::alloc::{AllocError, Global};
 
 /// The state of a text from which no interaction was made.
 pub fn begun(alloc: Global, text: &[u8]) -> Result<State, Misread>
-    ensures read { IfOk result (λ state. (s : SystemParts) × IsStateOf s (kept_by state)) }
+    ensures read { IfOk result (λ state. (s : SystemParts) × IsBegun s (kept_by state)) }
     ensures text { IfOk result (λ state. state.text.items ≡ text.now) }
     ensures refused { IfErr result (λ misread. misread.fault ≢ TextFault.Memory
         → ReadsSystemWithin Limits.Wide text.now (Err misread.fault)) }
@@ -62,13 +63,22 @@ pub fn begin<D: Disk>(
     first: &mut D,
     second: &mut D,
 ) -> Result<(), KeepingFault>
-    // A file that holds something is refused, and then nothing is written.
+    // A file that holds something is refused, and then nothing is written. Nor is anything at any other answer.
     ensures empty { IsTrue (D.keeps first.old) → IsTrue (D.keeps second.old)
         → OnOk result ((D.content first.old ≡ []) × (D.content second.old ≡ [])) }
     ensures spares_first { IsTrue (D.keeps first.old) → IsErrOf result KeepingFault.NotEmpty
         → OnlyReads D.content D.image D.clock D.left first.old first.new }
     ensures spares_second { IsTrue (D.keeps second.old) → IsErrOf result KeepingFault.NotEmpty
         → OnlyReads D.content D.image D.clock D.left second.old second.new }
+    ensures leaves_first { IsTrue (D.keeps first.old) → IsTrue (D.keeps second.old)
+        → ¬ ((D.content first.old ≡ []) × (D.content second.old ≡ []))
+        → OnlyReads D.content D.image D.clock D.left first.old first.new }
+    ensures leaves_second { IsTrue (D.keeps first.old) → IsTrue (D.keeps second.old)
+        → ¬ ((D.content first.old ≡ []) × (D.content second.old ≡ []))
+        → OnlyReads D.content D.image D.clock D.left second.old second.new }
+    ensures not_empty { IsTrue (D.keeps first.old) → IsTrue (D.keeps second.old)
+        → IsErrOf result KeepingFault.NotEmpty
+        → ¬ ((D.content first.old ≡ []) × (D.content second.old ≡ [])) }
 
     // At Ok a crash leaves files that hold a state of the reduction.
     ensures kept { (s : SystemParts) → IsStateOf s (kept_by state.now)
@@ -97,16 +107,26 @@ pub(crate) fn bytes_of(alloc: Global, state: &State) -> Result<Vec<u8>, KeepingF
     }
 }
 
-/// The state that two files hold, and what keeps the next ones there. It begins with a sync of each, and changes nothing.
-pub fn resume<D: Disk + Drop>(
+/// Two disks on which no state of a reduction was found, in either order, and why.
+#[derive(Debug, Drop)]
+pub struct ResumeFault<D> {
+    pub first: D,
+    pub second: D,
+    pub cause: KeepingFault,
+}
+
+/// The state that two files hold, and what keeps the next ones there. It begins with a sync of each, and changes nothing. A
+/// fault hands the disks back.
+pub fn resume<D: Disk>(
     alloc: Global,
     first: D,
     second: D,
-) -> Result<(Keeper<D>, State), KeepingFault>
+) -> Result<(Keeper<D>, State), ResumeFault<D>>
     // It answers by what reads give, and that state is kept from then on.
     ensures found { IsTrue (D.keeps first) → IsTrue (D.keeps second)
         → IfOk result (λ found.
         Hold (state_bytes (kept_by found.1)) (D.content first) (D.content second)) }
+    ensures sound { IfOk result (λ found. IsKept (kept_by found.1)) }
     ensures kept { IsTrue (D.keeps first) → IsTrue (D.keeps second)
         → IfOk result (λ found. KeepsModel D.keeps found.0
         × Keeps D.image (state_bytes (kept_by found.1)) found.0) }
@@ -117,17 +137,40 @@ pub fn resume<D: Disk + Drop>(
         → IfOk result (λ found. IsStateOf s (kept_by found.1)) }
     ensures refused { (s : SystemParts) → IsTrue (D.keeps first) → IsTrue (D.keeps second)
         → HoldOne (IsFormOf s) (D.content first) (D.content second)
-        → IfErr result (λ fault. (fault ≡ KeepingFault.Open OpenCause.Device)
-        ⊎ (fault ≡ KeepingFault.Open OpenCause.Memory) ⊎ (fault ≡ KeepingFault.Memory)) }
+        → IfErr result (λ fault. (fault.cause ≡ KeepingFault.Open OpenCause.Device)
+        ⊎ (fault.cause ≡ KeepingFault.Open OpenCause.Memory)
+        ⊎ (fault.cause ≡ KeepingFault.Memory)) }
+
+    // Whatever it answers, a crash at any moment leaves what was there.
+    ensures reads { IsTrue (D.keeps first) → IsTrue (D.keeps second)
+        → Relates (OnlyReads D.content D.image D.clock D.left) result first second }
 {
     ic_kept::laws::one_state_is_held();
     ic_state::laws::each_state_has_its_own_bytes();
     match Keeper::open(alloc, first, second) {
-        Ok((keeper, bytes)) => {
-            let state = state_of(alloc, &bytes)?;
-            Ok((keeper, state))
+        Ok((keeper, bytes)) => match state_of(alloc, &bytes) {
+            Ok(state) => Ok((keeper, state)),
+            Err(cause) => {
+                let (first, second) = keeper.close();
+                Err(ResumeFault {
+                    first,
+                    second,
+                    cause,
+                })
+            }
+        },
+        Err(fault) => {
+            let OpenFault {
+                first,
+                second,
+                cause,
+            } = fault;
+            Err(ResumeFault {
+                first,
+                second,
+                cause: KeepingFault::Open(cause),
+            })
         }
-        Err(fault) => Err(KeepingFault::Open(fault.cause)),
     }
 }
 

@@ -1,6 +1,6 @@
-//! A reduction that goes on from a state, and is kept after each piece.
+//! A reduction that goes on from a state, and is kept after each piece that has gone further.
 
-ghost use Rattle.std.specs.Prelude.{◌≡◌, ◌≢◌, ◌⊎◌, ◌+◌, ◌*◌, ◌≤◌, ℕ, List, [], Ok, Err, IfOk, IsNone, IsTrue, OnOk, OnErr, length, if◌then◌else◌};
+ghost use Rattle.std.specs.Prelude.{◌≡◌, ◌≢◌, ◌⊎◌, ◌+◌, ◌*◌, ◌≤◌, List, [], Ok, Err, IfOk, IsNone, IsTrue, OnOk, OnErr, length, max, true, false, if◌then◌else◌};
 ghost use Rattle.std.specs.Arc.{arc_value};
 ghost use Rattle.ic_rules.specs.System.{SystemParts};
 ghost use Rattle.std.specs.List.{list_all};
@@ -9,13 +9,14 @@ ghost use Rattle.ic_by_rounds.specs.Stuck.{stuck_text};
 ghost use Rattle.ic_flat.specs.Flat.{configuration_of};
 ghost use Rattle.ic_flat.specs.Words.{forest, is_word_over, IsWhole};
 ghost use Rattle.ic_frames.specs.declared.faults.KeepFault.{KeepFault};
+ghost use Rattle.ic_in_place.specs.declared.running.Bounds.{Bounds};
 ghost use Rattle.ic_in_place.specs.Reductions.{is_written};
 ghost use Rattle.ic_kept.specs.Course.{IsKeep, Way};
 ghost use Rattle.ic_kept.specs.Keeper.{Keeps, KeepsModel};
-ghost use Rattle.ic_state.specs.State.{IsKept, kept_by, state_bytes};
+ghost use Rattle.ic_state.specs.State.{IsKept, Kept, kept_by, state_bytes};
 ghost use Rattle.ic_streams.specs.Streams.{line_of};
 ghost use Rattle.ic_text.specs.SystemText.{ReadsSystemWithin};
-ghost use Rattle.ic_keeping.specs.Way.{AreSums, IsAnswer, IsFormFrom, IsSound, IsStateOf};
+ghost use Rattle.ic_keeping.specs.Way.{AreSums, GoesFurther, IsAnswer, IsAsFar, IsKeptAfter, IsSound, IsStateOf};
 
 use crate::beginning::bytes_of;
 use crate::counts::add_all;
@@ -44,7 +45,7 @@ pub struct Ended {
     pub left: u64,
     /// The rules of the text, and its symbols.
     pub rules: Arc<RuleSet>,
-    /// What was reached, as it was kept.
+    /// What was reached. What is kept goes as far.
     pub state: State,
     /// The line of what was reached, where it is asked for.
     pub line: Vec<u8>,
@@ -100,10 +101,14 @@ fn run_piece<C: Clock, V: Watch>(
 ) -> Result<Piece, KeepingFault>
     ensures goes_on { (s : SystemParts) → IsSound s → arc_value rules.now ≡ s.rules
         → IsStateOf s (kept_by state.old) → OnOk result (IsStateOf s (kept_by state.new)) }
-    ensures answer { (s : SystemParts) → IsSound s → arc_value rules.now ≡ s.rules
-        → IsStateOf s (kept_by state.old)
-        → IfOk result (λ piece. IsAnswer s piece.end (kept_by state.new)) }
+    ensures answer { (s : SystemParts) (most : Bounds) → IsSound s → arc_value rules.now ≡ s.rules
+        → IsStateOf s (kept_by state.old) → most.nodes ≡ bounds.nodes
+        → IfOk result (λ piece. (piece.end ≡ End.Steps → most.steps ≤ state.new.interactions)
+        → IsAnswer s most piece.end piece.places piece.left (kept_by state.new)) }
     ensures later { OnOk result (state.old.interactions ≤ state.new.interactions) }
+    ensures within { OnOk result
+        (state.new.interactions ≤ state.old.interactions + bounds.steps) }
+    ensures millis { OnOk result (state.old.millis ≤ state.new.millis) }
     ensures whole { OnOk result (IsWhole state.new.words.items) }
     ensures over { OnOk result (IsTrue (list_all (is_word_over (arc_value rules.now).symbols)
         state.new.words.items)) }
@@ -116,6 +121,8 @@ fn run_piece<C: Clock, V: Watch>(
     ic_reaching::laws::what_is_reached_goes_on();
     ic_reaching::laws::free_names_stay();
     ic_term::laws::next_is_one_above_the_greatest_name();
+    ic_confluence::laws::same_nets_take_the_same_steps();
+    ic_round::laws::quiet_is_no_step();
     let begun = clock.millis();
     let words = replace(&mut state.words, Vec::new(alloc));
     let system = system_of(alloc, rules, words, state.terms)?;
@@ -140,7 +147,11 @@ fn take_in(
         (state.new.interactions ≡ state.old.interactions + reduced.interactions) }
     ensures by_rule { OnOk result
         (AreSums state.old.by_rule.items reduced.by_rule.items state.new.by_rule.items) }
+    ensures ended { OnOk result (state.new.ended ≡ true → reduced.end ≡ End.Quiet) }
+    ensures millis { OnOk result (state.old.millis ≤ state.new.millis) }
     ensures end { IfOk result (λ piece. piece.end ≡ reduced.end) }
+    ensures places { IfOk result (λ piece. piece.places ≡ reduced.places) }
+    ensures left { IfOk result (λ piece. piece.left ≡ reduced.left) }
     ensures equations { IfOk result (λ piece. piece.equations ≡ reduced.equations) }
 {
     let sum = state.interactions.checked_add(reduced.interactions);
@@ -148,7 +159,7 @@ fn take_in(
     add_all(&mut state.by_rule, &reduced.by_rule).ok_or(KeepingFault::Limit)?;
     state.terms = reduced.terms as u64;
     state.words = reduced.words;
-    state.ended = reduced.end == End::Quiet;
+    state.ended = is_quiet(reduced.end);
     state.millis = state.millis.saturating_add(all);
     Ok(Piece {
         end: reduced.end,
@@ -157,6 +168,68 @@ fn take_in(
         equations: reduced.equations,
         millis,
     })
+}
+
+/// Whether no interaction is possible.
+fn is_quiet(end: End) -> bool
+    ensures { result ≡ true → end ≡ End.Quiet }
+{
+    match end {
+        End::Quiet => true,
+        _ => false,
+    }
+}
+
+/// Whether a run of so many interactions at most ends with a piece that has ended so.
+fn ends_run(end: End, interactions: u64, most: u64) -> bool
+    ensures { result ≡ true → end ≡ End.Steps → most ≤ interactions }
+{
+    match end {
+        End::Steps => interactions >= most,
+        _ => true,
+    }
+}
+
+/// Keeps a state, if it goes further than what was reached before: so many interactions, and it had ended or not.
+fn keep_further<D: Disk>(
+    alloc: Global,
+    state: &State,
+    interactions: u64,
+    ended: bool,
+    keeper: &mut Keeper<D>,
+) -> Result<(), KeepingFault>
+    requires { interactions ≤ state.now.interactions }
+    ensures kept { OnOk result ((GoesFurther interactions (kept_by state.now)
+        × IsKept (kept_by state.now)
+        × IsKeep D.keeps D.image D.clock D.left (state_bytes (kept_by state.now)) (Ok tt)
+        keeper.old keeper.new)
+        ⊎ ((interactions ≡ state.now.interactions) × (state.now.ended ≡ true → ended ≡ true)
+        × (keeper.new ≡ keeper.old))) }
+    ensures refused { OnErr result ((keeper.new ≡ keeper.old) ⊎ ((fault : KeepFault)
+        × GoesFurther interactions (kept_by state.now) × IsKept (kept_by state.now)
+        × IsKeep D.keeps D.image D.clock D.left (state_bytes (kept_by state.now)) (Err fault)
+        keeper.old keeper.new)) }
+{
+    if goes_further(state, interactions, ended) {
+        return keep_state(alloc, state, keeper);
+    }
+    Ok(())
+}
+
+/// Whether a state goes further than what was reached before.
+fn goes_further(state: &State, interactions: u64, ended: bool) -> bool
+    requires { interactions ≤ state.now.interactions }
+    ensures further { result ≡ true → GoesFurther interactions (kept_by state.now) }
+    ensures as_far { result ≡ false → (interactions ≡ state.now.interactions)
+        × (state.now.ended ≡ true → ended ≡ true) }
+{
+    if interactions < state.interactions {
+        return true;
+    }
+    if state.ended {
+        return !ended;
+    }
+    false
 }
 
 /// Keeps a state.
@@ -270,7 +343,8 @@ fn tell(
     Ok(Told { line, stuck })
 }
 
-/// Goes on with a reduction from a state, in pieces that are kept one after another, until it ends.
+/// Goes on with a reduction from a state, in pieces, until it ends. It keeps what each piece has reached, if that goes further
+/// than what was kept last.
 pub fn go_on<D: Disk, C: Clock, V: Watch>(
     alloc: Global,
     state: State,
@@ -284,7 +358,14 @@ pub fn go_on<D: Disk, C: Clock, V: Watch>(
     // However often the reduction was stopped before, the answer is one of the system that was read first, and the
     // interactions are those of all runs.
     ensures answer { (s : SystemParts) → IsStateOf s (kept_by state)
-        → IfOk result (λ ended. IsAnswer s ended.end (kept_by ended.state)) }
+        → IfOk result (λ ended.
+        IsAnswer s bounds ended.end ended.places ended.left (kept_by ended.state)) }
+    ensures state { (s : SystemParts) → IsStateOf s (kept_by state)
+        → IfOk result (λ ended. IsStateOf s (kept_by ended.state)) }
+    ensures later { IfOk result (λ ended. state.interactions ≤ ended.state.interactions) }
+    ensures within { IfOk result (λ ended.
+        ended.state.interactions ≤ max bounds.steps state.interactions) }
+    ensures millis { IfOk result (λ ended. state.millis ≤ ended.state.millis) }
     ensures line { (s : SystemParts) → IsStateOf s (kept_by state)
         → IfOk result (λ ended. ended.line.items ≡ if is_written asked ended.end
         then line_of s.rules.symbols
@@ -297,14 +378,15 @@ pub fn go_on<D: Disk, C: Clock, V: Watch>(
         → option_map (λ text. text.items) ended.stuck ≡ stuck_text s.rules.symbols
         (configuration_of ended.state.words.items ended.state.terms 0)) }
     ensures unstuck { IfOk result (λ ended. ended.end ≢ End.Quiet → IsNone ended.stuck) }
-    // At Ok that is kept.
-    ensures kept { (s : SystemParts) (before : List ℕ) → IsStateOf s (kept_by state)
-        → KeepsModel D.keeps keeper.old → Keeps D.image before keeper.old
-        → IsFormFrom s state.interactions before
-        → IfOk result (λ ended. Keeps D.image (state_bytes (kept_by ended.state)) keeper.new) }
-    // It keeps states of this reduction that go no less far than the one it began with, and no others.
-    ensures way { (s : SystemParts) → IsStateOf s (kept_by state)
-        → Way D.keeps D.image D.clock D.left (IsFormFrom s state.interactions)
+    // At Ok a state is kept that goes as far.
+    ensures kept { (s : SystemParts) → IsStateOf s (kept_by state) → IsKept (kept_by state)
+        → KeepsModel D.keeps keeper.old → Keeps D.image (state_bytes (kept_by state)) keeper.old
+        → IfOk result (λ ended. (k : Kept) × IsKept k × IsStateOf s k
+        × IsAsFar k (kept_by ended.state) × KeepsModel D.keeps keeper.new
+        × Keeps D.image (state_bytes k) keeper.new) }
+    // It keeps states of this reduction, each of which goes further than the one before it, and no others.
+    ensures way { (s : SystemParts) → IsStateOf s (kept_by state) → IsKept (kept_by state)
+        → Way D.keeps D.image D.clock D.left (IsKeptAfter s) (state_bytes (kept_by state))
         keeper.old keeper.new }
 {
     let rules = rules_of(alloc, &state.text)?;
@@ -316,9 +398,11 @@ pub fn go_on<D: Disk, C: Clock, V: Watch>(
             steps: pace.piece.min(left),
             nodes: bounds.nodes,
         };
+        let before = state.interactions;
+        let had_ended = state.ended;
         let run = run_piece(alloc, &rules, &mut state, piece, clock, watch)?;
-        keep_state(alloc, &state, keeper)?;
-        if run.end != End::Steps || state.interactions >= bounds.steps {
+        keep_further(alloc, &state, before, had_ended, keeper)?;
+        if ends_run(run.end, state.interactions, bounds.steps) {
             let told = tell(alloc, rules.symbols(), &state, run, asked)?;
             return Ok(Ended {
                 end: run.end,

@@ -9,10 +9,12 @@ mod counts;
 mod fault;
 mod going;
 pub mod laws;
+mod life;
 mod pace;
 mod systems;
 
-pub use beginning::{begin, begun, resume};
+pub use beginning::{ResumeFault, begin, begun, resume};
 pub use fault::KeepingFault;
 pub use going::{Ended, go_on};
+pub use life::live;
 pub use pace::{Clock, Pace};

@@ -1,5 +1,5 @@
 -- What two files hold, and that it is one state.
-use Rattle.std.proofs.Common.{◌≡◌, ◌⊎◌, inl, inr, ⊎_elim, ℕ, ◌+◌, ◌<◌, ◌≤◌, Bool, true, false, List, length, sym, ◌∙◌, ap, subst, arith}
+use Rattle.std.proofs.Common.{◌≡◌, ◌⊎◌, inl, inr, ℕ, ◌+◌, ◌<◌, ◌≤◌, Bool, true, false, List, length, sym, ◌∙◌, ap, subst, arith}
 use Rattle.ic_disk.specs.Content.{bytes_at}
 use Rattle.ic_disk.specs.Images.{Only, Within}
 use Rattle.ic_frames.specs.declared.faults.OpenCause.{OpenCause}
@@ -7,7 +7,7 @@ use Rattle.ic_frames.specs.declared.faults.OpenCause.TheVariants.{Device, NoSlot
 use Rattle.ic_kept.specs.declared.head.Head.{Head}
 use Rattle.ic_kept.specs.declared.finding.Chosen.{Chosen}
 use Rattle.ic_kept.specs.declared.finding.Found.{Found}
-use Rattle.ic_kept.specs.Sheet.{gate, number, size, IsBehindGate, IsNewest, IsOlder, IsBeside, IsBelow}
+use Rattle.ic_kept.specs.Sheet.{gate, number, IsBehindGate, IsNewest, IsOlder, IsBeside, IsBelow}
 use Rattle.ic_kept.specs.inner.Finding.{Leads, IsChosen, Finds, IsFound, Spoils, pick}
 use Rattle.ic_kept.proofs.SheetLemmas.{beside_older}
 use Rattle.ic_kept.specs.Held.{HoldsIn, Hold, HoldEither, Answers}

@@ -3,3 +3,4 @@ pub mod SheetLemmas
 pub mod HeldLemmas
 pub mod ReadLemmas
 pub mod WriteLemmas
+pub mod MomentLemmas

@@ -1,13 +1,13 @@
 -- What the fields of a file are after each write of a keep.
-use Rattle.std.proofs.Common.{◌≡◌, ◌⊎◌, inl, inr, ⊎_elim, ℕ, ◌+◌, ◌-◌, ◌^◌, ◌<◌, ◌≤◌, Bool, true, false, List, [], ◌∷◌, length, get_or, sym, ◌∙◌, ap, subst, arith}
+use Rattle.std.proofs.Common.{◌≡◌, ◌⊎◌, inl, inr, ⊎_elim, ℕ, ◌+◌, ◌^◌, ◌<◌, ◌≤◌, Bool, true, false, List, [], ◌∷◌, length, get_or, sym, ◌∙◌, ap, subst, arith}
 use Rattle.std.proofs.lemmas.Nat.{from_be_bytes-to_be_bytes_8}
 use Rattle.std.specs.Prelude.{replicate}
 use Rattle.std.specs.Int.{w64, from_be_bytes, to_be_bytes}
 use Rattle.ic_disk.specs.Content.{bytes_at, laid}
-use Rattle.ic_disk.specs.Images.{Torn, TornFrom, Within, Only}
+use Rattle.ic_disk.specs.Images.{Torn}
 use Rattle.ic_disk.specs.lemmas.ContentLaws.{length-laid, laid-inside}
 use Rattle.ic_disk.specs.lemmas.ImageLaws.{torn_laid}
-use Rattle.ic_kept.specs.Sheet.{gate, number, size, IsMade, IsBehindGate, IsNewest, IsShut, IsOlder, IsBelow, IsBeside}
+use Rattle.ic_kept.specs.Sheet.{number, size, IsMade, IsBehindGate, IsNewest, IsShut, IsOlder, IsBelow, IsBeside}
 use Rattle.ic_kept.proofs.FileLemmas.{torn_bytes, laid_bytes, laid_first, torn_first, get_or-bytes_at}
 
 pub zero_is_one : ◌≡◌ {A = ℕ} 0 1 → ⊥

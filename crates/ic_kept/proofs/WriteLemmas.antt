@@ -1,13 +1,11 @@
 -- What the writes of a keep leave of a disk, at each moment and at the end.
-use Rattle.std.proofs.Common.{◌≡◌, ◌⊎◌, inl, inr, ⊎_elim, ℕ, ◌+◌, ◌^◌, ◌<◌, ◌≤◌, Bool, true, false, List, [], ◌∷◌, length, get_or, sym, ◌∙◌, ap, subst, arith}
+use Rattle.std.proofs.Common.{◌≡◌, ◌⊎◌, inl, inr, ⊎_elim, ℕ, ◌≤◌, false, List, get_or, sym, subst, arith}
 use Rattle.std.proofs.lemmas.Bool.{cases_lt}
-use Rattle.std.specs.Int.{w64, to_be_bytes}
-use Rattle.ic_disk.specs.Content.{laid}
-use Rattle.ic_disk.specs.Images.{Torn, TornFrom, Within, Only}
+use Rattle.ic_disk.specs.Images.{TornFrom, Within, Only}
 use Rattle.ic_disk.specs.Time.{LeavesOnly, LeftSince}
-use Rattle.ic_disk.specs.lemmas.Moments.{started, leaves_weaker, then_runs}
-use Rattle.ic_kept.specs.Sheet.{IsMade, IsBehindGate, IsNewest, IsShut, IsOlder, IsBelow, IsBeside}
-use Rattle.ic_kept.proofs.SheetLemmas.{gate_torn, behind_torn, behind_stays, laid_shut, laid_open, laid_behind, beside_older, shut_older}
+use Rattle.ic_disk.specs.lemmas.Moments.{leaves_weaker, then_runs}
+use Rattle.ic_kept.specs.Sheet.{IsBehindGate, IsNewest, IsShut, IsOlder, IsBelow}
+use Rattle.ic_kept.proofs.SheetLemmas.{gate_torn, behind_torn, behind_stays, beside_older, shut_older}
 
 -- what is of the only image is of each image
 pub of_only : (P : List ℕ → Type 0) (file : List ℕ) (image : List ℕ → Type 0) → Only file image → P file → Within image P

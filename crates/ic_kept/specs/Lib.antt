@@ -4,5 +4,6 @@ pub mod Keeper
 pub mod Keeping
 pub mod Course
 pub mod Opening
+pub mod Lives
 pub mod lemmas
 pub mod inner

@@ -1,8 +1,10 @@
 //! Finding the state that two files hold.
 
-ghost use Rattle.std.specs.Prelude.{◌≡◌, ◌+◌, ◌<◌, ◌≤◌, ℕ, List, length, IsTrue, IfOk, IfErr, OnOk};
+ghost use Rattle.std.specs.Prelude.{◌≡◌, ◌≢◌, ◌⊎◌, ◌+◌, ◌<◌, ◌≤◌, ℕ, List, length, IsTrue, IfOk, IfErr, OnOk};
 ghost use Rattle.ic_disk.specs.Content.{bytes_at};
 ghost use Rattle.ic_disk.specs.Images.{Only};
+ghost use Rattle.ic_disk.specs.Time.{CountsFailure, OneMore};
+ghost use Rattle.ic_frames.specs.Faults.{CountsOpen};
 ghost use Rattle.ic_kept.specs.Held.{Answers};
 ghost use Rattle.ic_kept.specs.Opening.{OnlyReads};
 ghost use Rattle.ic_kept.specs.Sheet.{IsMade};
@@ -19,6 +21,7 @@ use std::alloc::Global;
 fn read_bytes<D: Disk, const N: usize>(disk: &mut D, at: u64) -> Result<[u8; N], DiskFault>
     requires { IsTrue (D.keeps disk.old) → at + N ≤ length (D.content disk.old) }
     ensures keeps { D.keeps disk.new ≡ D.keeps disk.old }
+    ensures counted { CountsFailure result (D.failures disk.old) (D.failures disk.new) }
     ensures bytes { IsTrue (D.keeps disk.old)
         → IfOk result (λ bytes. bytes ≡ bytes_at at N (D.content disk.old)) }
     ensures reads { IsTrue (D.keeps disk.old)
@@ -32,6 +35,7 @@ fn read_bytes<D: Disk, const N: usize>(disk: &mut D, at: u64) -> Result<[u8; N],
 // Syncs a disk, and asks for its length.
 fn measure<D: Disk>(disk: &mut D) -> Result<u64, DiskFault>
     ensures keeps { D.keeps disk.new ≡ D.keeps disk.old }
+    ensures counted { CountsFailure result (D.failures disk.old) (D.failures disk.new) }
     ensures length { IsTrue (D.keeps disk.old)
         → IfOk result (λ len. len ≡ length (D.content disk.old)) }
     ensures settled { IsTrue (D.keeps disk.old)
@@ -48,6 +52,7 @@ fn measure<D: Disk>(disk: &mut D) -> Result<u64, DiskFault>
 fn read_head<D: Disk>(disk: &mut D) -> Result<Option<Head>, DiskFault>
     requires { IsTrue (D.keeps disk.old) → IsMade (D.content disk.old) }
     ensures keeps { D.keeps disk.new ≡ D.keeps disk.old }
+    ensures counted { CountsFailure result (D.failures disk.old) (D.failures disk.new) }
     ensures head { IsTrue (D.keeps disk.old)
         → IfOk result (λ head. IsHeadOf head (D.content disk.old)) }
     ensures reads { IsTrue (D.keeps disk.old)
@@ -65,6 +70,7 @@ fn read_head<D: Disk>(disk: &mut D) -> Result<Option<Head>, DiskFault>
 // The head of a file, after a sync, if its gate is open.
 fn look<D: Disk>(disk: &mut D) -> Result<Option<Head>, OpenCause>
     ensures keeps { D.keeps disk.new ≡ D.keeps disk.old }
+    ensures counted { CountsOpen result (D.failures disk.old) (D.failures disk.new) }
     ensures made { IsTrue (D.keeps disk.old) → OnOk result (IsMade (D.content disk.old)) }
     ensures head { IsTrue (D.keeps disk.old)
         → IfOk result (λ head. IsHeadOf head (D.content disk.old)) }
@@ -103,7 +109,8 @@ pub(crate) struct Found {
 
 // The file to take, by the heads of both.
 fn choose(first: Option<Head>, second: Option<Head>) -> Result<Chosen, OpenCause>
-    ensures { (one other : List ℕ) → IsMade one → IsMade other
+    ensures of_heads { IfErr result (λ cause. cause ≢ OpenCause.Device) }
+    ensures chosen { (one other : List ℕ) → IsMade one → IsMade other
         → IsHeadOf first one → IsHeadOf second other → Chooses result one other }
 {
     match (first, second) {
@@ -135,6 +142,7 @@ fn choose(first: Option<Head>, second: Option<Head>) -> Result<Chosen, OpenCause
 // The state of a file of this length, if it lies within the file.
 fn read_state<D: Disk>(alloc: Global, disk: &mut D, size: u64) -> Result<Vec<u8>, OpenCause>
     ensures keeps { D.keeps disk.new ≡ D.keeps disk.old }
+    ensures counted { CountsOpen result (D.failures disk.old) (D.failures disk.new) }
     ensures long { IfOk result (λ state. length state.items ≡ size) }
     ensures within { IsTrue (D.keeps disk.old)
         → OnOk result (HEAD + size ≤ length (D.content disk.old)) }
@@ -163,6 +171,9 @@ pub(crate) fn find<D: Disk>(
 ) -> Result<Found, OpenCause>
     ensures keeps_first { D.keeps first.new ≡ D.keeps first.old }
     ensures keeps_second { D.keeps second.new ≡ D.keeps second.old }
+    ensures device { IfErr result (λ cause. cause ≡ OpenCause.Device
+        → OneMore (D.failures first.old) (D.failures first.new)
+        ⊎ OneMore (D.failures second.old) (D.failures second.new)) }
     ensures found { IsTrue (D.keeps first.old) → IsTrue (D.keeps second.old)
         → IfOk result (λ found. IsFound found (D.content first.old) (D.content second.old)) }
     ensures refused { IsTrue (D.keeps first.old) → IsTrue (D.keeps second.old)

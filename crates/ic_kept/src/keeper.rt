@@ -1,6 +1,8 @@
 //! A state that is kept in two files.
 
-ghost use Rattle.std.specs.Prelude.{◌≡◌, ◌↔◌, ◌^◌, ◌-◌, ◌<◌, true, false, IsTrue, IsErrOf, IfOk, IfErr, OnOk};
+ghost use Rattle.std.specs.Prelude.{◌≡◌, ◌↔◌, ◌⊎◌, ◌^◌, ◌-◌, ◌<◌, true, false, IsTrue, IsErrOf, IfOk, IfErr, OnOk};
+ghost use Rattle.ic_disk.specs.Time.{OneMore};
+ghost use Rattle.ic_frames.specs.Faults.{CountsKeep};
 ghost use Rattle.ic_kept.specs.Held.{Answers, Hold};
 
 use crate::finding::{Found, find};
@@ -31,7 +33,7 @@ pub struct OpenFault<D> {
 
 impl<D: Disk> Keeper<D> {
     ghost use Rattle.ic_kept.specs.Keeper.{is_broken, is_closed, newest_of, number_of, other_of, Keeps, KeepsModel};
-    ghost use Rattle.ic_kept.specs.Keeping.{CrashInKeeping, FaultLeaves};
+    ghost use Rattle.ic_kept.specs.Keeping.{CrashInKeeping, FaultLeaves, written_disk};
     ghost use Rattle.ic_kept.specs.Opening.{OnlyReads, Relates};
 
     /// Finds the state that two files hold. It begins with a sync of each, and changes nothing. A fault hands the disks back.
@@ -45,6 +47,10 @@ impl<D: Disk> Keeper<D> {
             → IfOk result (λ opened. Hold opened.1.items (D.content first) (D.content second)) }
         ensures refused { IsTrue (D.keeps first) → IsTrue (D.keeps second)
             → IfErr result (λ fault. Answers fault.cause (D.content first) (D.content second)) }
+
+        ensures device { IfErr result (λ fault. fault.cause ≡ OpenCause.Device
+            → OneMore (D.failures first) (D.failures fault.first)
+            ⊎ OneMore (D.failures second) (D.failures fault.second)) }
 
         // That state is kept from then on.
         ensures kept { IsTrue (D.keeps first) → IsTrue (D.keeps second)
@@ -117,6 +123,8 @@ impl<D: Disk> Keeper<D> {
         ensures crash { CrashInKeeping D.keeps D.image D.clock D.left state.now
             result self.old self.new }
         ensures model { KeepsModel D.keeps self.old → KeepsModel D.keeps self.new }
+        ensures counted { CountsKeep result (D.failures (other_of self.old))
+            (D.failures (written_disk result self.new)) }
     {
         self.check_usable()?;
         self.broken = true;

@@ -1,10 +1,11 @@
 //! Laws of the definitions that the contracts of this crate cite.
 
-ghost use Rattle.std.specs.Prelude.{◌≡◌, ◌⊎◌, ℕ, List};
-ghost use Rattle.std.specs.List.{Contains};
-ghost use Rattle.ic_kept.specs.Course.{HoldOne, LeftOnWay, Way};
+ghost use Rattle.std.specs.Prelude.{◌≡◌, ◌⊎◌, ◌≤◌, ℕ, Bool, List, Result, Ok, Err, IsTrue};
+ghost use Rattle.ic_frames.specs.declared.faults.KeepFault.{KeepFault};
+ghost use Rattle.ic_kept.specs.Course.{Course, HoldOneOf, IsKeep, Leads, LeftInCourse, LeftOnWay, Way, last_refused, one_more};
 ghost use Rattle.ic_kept.specs.Held.{Hold, HoldEither};
-ghost use Rattle.ic_kept.specs.Keeper.{Keeps, KeepsModel};
+ghost use Rattle.ic_kept.specs.Keeper.{Keeps, KeepsModel, newest_of, other_of};
+ghost use Rattle.ic_kept.specs.Lives.{Lives};
 
 use crate::Keeper;
 use ic_disk::Disk;
@@ -26,14 +27,89 @@ pub fn one_of_two_is_held()
         → Hold state second first }
 {}
 
-/// A stop in the midst of keeps, one after another, leaves one of the states that were kept, or the one that stood there
-/// before.
-pub fn a_stop_leaves_a_state_that_was_kept<D: Disk>(keeper: &Keeper<D>)
-    ensures { (states : List (List ℕ)) (end : Keeper D) (first : List ℕ)
-        → KeepsModel D.keeps keeper.now → Keeps D.image first keeper.now → Contains states first
-        → (way : Way D.keeps D.image D.clock D.left (Contains states) keeper.now end)
-        → (one other : List ℕ) → LeftOnWay D.keeps D.image D.clock D.left way one other
-        → HoldOne (Contains states) one other }
+/// A stop at any moment of keeps, one after another, leaves the state that was kept last, or the one that was coming. Each of
+/// them may come after the one before it.
+pub fn a_stop_leaves_the_last_state_or_the_next<D: Disk>(keeper: &Keeper<D>)
+    ensures held { (after : (old new : List ℕ) → Bool) (end : Keeper D) (first : List ℕ)
+        → KeepsModel D.keeps keeper.now → Keeps D.image first keeper.now
+        → (way : Way D.keeps D.image D.clock D.left (λ old new. IsTrue (after old new))
+        first keeper.now end)
+        → (kept coming one other : List ℕ)
+        → LeftOnWay D.keeps D.image D.clock D.left way kept coming one other
+        → HoldOneOf kept coming one other }
+    ensures led { (after : (old new : List ℕ) → Bool) (end : Keeper D) (first : List ℕ)
+        → (way : Way D.keeps D.image D.clock D.left (λ old new. IsTrue (after old new))
+        first keeper.now end)
+        → (kept coming one other : List ℕ)
+        → LeftOnWay D.keeps D.image D.clock D.left way kept coming one other
+        → Leads (λ old new. IsTrue (after old new)) first kept
+        × ((coming ≡ kept) ⊎ IsTrue (after kept coming)) }
 {
     let _ = keeper;
+}
+
+/// Each moment is one at which a stop may come: before, between and after keeps, and all that since its beginning a keep has
+/// left on the disk that it writes.
+pub fn a_stop_may_come_at_each_moment<D: Disk>(keeper: &Keeper<D>)
+    ensures between { (after : (old new : List ℕ) → Bool) (first last : List ℕ) (end : Keeper D)
+        → (course : Course D.keeps D.image D.clock D.left (λ old new. IsTrue (after old new))
+        first keeper.now last end)
+        → (one other : List ℕ) → D.image (newest_of end) one → D.image (other_of end) other
+        → LeftInCourse D.keeps D.image D.clock D.left course last last one other }
+    ensures earlier { (after : (old new : List ℕ) → Bool) (first last next : List ℕ)
+        (mid end : Keeper D)
+        → (course : Course D.keeps D.image D.clock D.left (λ old new. IsTrue (after old new))
+        first keeper.now last mid)
+        → (comes : IsTrue (after last next))
+        → (keep : IsKeep D.keeps D.image D.clock D.left next (Ok tt) mid end)
+        → (kept coming one other : List ℕ)
+        → LeftInCourse D.keeps D.image D.clock D.left course kept coming one other
+        → LeftInCourse D.keeps D.image D.clock D.left
+        (one_more first last next keeper.now mid end course comes keep) kept coming one other }
+    ensures midst { (after : (old new : List ℕ) → Bool) (first last next : List ℕ)
+        (mid end : Keeper D)
+        → (course : Course D.keeps D.image D.clock D.left (λ old new. IsTrue (after old new))
+        first keeper.now last mid)
+        → (comes : IsTrue (after last next))
+        → (keep : IsKeep D.keeps D.image D.clock D.left next (Ok tt) mid end)
+        → (t : ℕ) (one other : List ℕ) → D.image (newest_of mid) one → D.clock (other_of mid) ≤ t
+        → D.left (newest_of end) t other
+        → LeftInCourse D.keeps D.image D.clock D.left
+        (one_more first last next keeper.now mid end course comes keep) last next one other }
+    ensures refused { (after : (old new : List ℕ) → Bool) (first last next : List ℕ)
+        (mid end : Keeper D) (fault : KeepFault)
+        → (course : Course D.keeps D.image D.clock D.left (λ old new. IsTrue (after old new))
+        first keeper.now last mid)
+        → (comes : IsTrue (after last next))
+        → (keep : IsKeep D.keeps D.image D.clock D.left next (Err fault) mid end)
+        → (t : ℕ) (one other : List ℕ) → D.image (newest_of mid) one → D.clock (other_of mid) ≤ t
+        → D.left (other_of end) t other
+        → LeftOnWay D.keeps D.image D.clock D.left
+        (last_refused first last next keeper.now mid end fault course comes keep)
+        last next one other }
+{
+    let _ = keeper;
+}
+
+/// After any list of lives, each stopped at any moment, the files hold the state that was kept last, or the one that was
+/// coming, and an opening finds one of these. The states lead from one to another.
+pub fn any_lives_leave_a_state_that_was_kept<D: Disk>(first: &D, second: &D)
+    ensures held { (after : (old new : List ℕ) → Bool) (begun kept coming : List ℕ)
+        → Lives D.keeps D.content D.image D.clock D.left (λ old new. IsTrue (after old new))
+        begun kept coming first.now second.now
+        → (one other : List ℕ) → D.image first.now one → D.image second.now other
+        → HoldOneOf kept coming one other }
+    ensures led { (after : (old new : List ℕ) → Bool) (begun kept coming : List ℕ)
+        → Lives D.keeps D.content D.image D.clock D.left (λ old new. IsTrue (after old new))
+        begun kept coming first.now second.now
+        → Leads (λ old new. IsTrue (after old new)) begun kept
+        × ((coming ≡ kept) ⊎ IsTrue (after kept coming)) }
+    ensures opened { (after : (old new : List ℕ) → Bool) (begun kept coming state : List ℕ)
+        → Lives D.keeps D.content D.image D.clock D.left (λ old new. IsTrue (after old new))
+        begun kept coming first.now second.now
+        → Hold state (D.content first.now) (D.content second.now)
+        → (state ≡ kept) ⊎ (state ≡ coming) }
+{
+    let _ = first;
+    let _ = second;
 }

@@ -8,6 +8,7 @@
 mod creation;
 mod fault;
 mod finding;
+mod front;
 mod head;
 mod keeper;
 pub mod laws;
@@ -15,5 +16,6 @@ mod writing;
 
 pub use creation::create;
 pub use fault::CreateFault;
+pub use front::{Front, front_of};
 pub use head::HEAD;
 pub use keeper::{Keeper, OpenFault};

@@ -2,7 +2,7 @@
 
 ghost use Rattle.std.specs.Prelude.{◌≡◌, ◌⊎◌, ℕ, List, IsTrue, OnOk};
 ghost use Rattle.ic_disk.specs.Images.{Within};
-ghost use Rattle.ic_disk.specs.Time.{LeavesOnly};
+ghost use Rattle.ic_disk.specs.Time.{CountsFailure, LeavesOnly};
 ghost use Rattle.ic_kept.specs.Sheet.{IsBehindGate, IsBelow, IsBeside, IsNewest, IsOlder, IsShut};
 
 use crate::HEAD;
@@ -12,6 +12,7 @@ use ic_disk::{Disk, DiskFault};
 // Closes the gate.
 fn close_gate<D: Disk>(disk: &mut D) -> Result<(), DiskFault>
     ensures keeps { D.keeps disk.new ≡ D.keeps disk.old }
+    ensures counted { CountsFailure result (D.failures disk.old) (D.failures disk.new) }
     ensures any_moment { (n : ℕ) → IsTrue (D.keeps disk.old) → Within (D.image disk.old) (IsBelow n)
         → LeavesOnly D.clock D.left disk.old disk.new (IsBelow n) }
     ensures shut { (n : ℕ) → IsTrue (D.keeps disk.old) → Within (D.image disk.old) (IsBelow n)
@@ -24,6 +25,7 @@ fn close_gate<D: Disk>(disk: &mut D) -> Result<(), DiskFault>
 // Writes a state, its length and its number behind a closed gate.
 pub(crate) fn write_state<D: Disk>(disk: &mut D, number: u64, state: &[u8]) -> Result<(), DiskFault>
     ensures keeps { D.keeps disk.new ≡ D.keeps disk.old }
+    ensures counted { CountsFailure result (D.failures disk.old) (D.failures disk.new) }
     ensures any_moment { IsTrue (D.keeps disk.old) → Within (D.image disk.old) IsShut
         → LeavesOnly D.clock D.left disk.old disk.new IsShut }
     ensures shut { IsTrue (D.keeps disk.old) → Within (D.image disk.old) IsShut
@@ -40,6 +42,7 @@ pub(crate) fn write_state<D: Disk>(disk: &mut D, number: u64, state: &[u8]) -> R
 // Opens the gate.
 pub(crate) fn open_gate<D: Disk>(disk: &mut D) -> Result<(), DiskFault>
     ensures keeps { D.keeps disk.new ≡ D.keeps disk.old }
+    ensures counted { CountsFailure result (D.failures disk.old) (D.failures disk.new) }
     ensures any_moment { (n : ℕ) (state : List ℕ) → IsTrue (D.keeps disk.old)
         → Within (D.image disk.old) (IsBehindGate n state)
         → LeavesOnly D.clock D.left disk.old disk.new (λ file. IsShut file ⊎ IsNewest n state file) }
@@ -54,6 +57,7 @@ pub(crate) fn open_gate<D: Disk>(disk: &mut D) -> Result<(), DiskFault>
 // Puts a state with this number into a file whose gate is closed.
 fn write_shut<D: Disk>(disk: &mut D, number: u64, state: &[u8]) -> Result<(), DiskFault>
     ensures keeps { D.keeps disk.new ≡ D.keeps disk.old }
+    ensures counted { CountsFailure result (D.failures disk.old) (D.failures disk.new) }
     ensures any_moment { IsTrue (D.keeps disk.old) → Within (D.image disk.old) IsShut
         → LeavesOnly D.clock D.left disk.old disk.new
         (λ file. IsShut file ⊎ IsNewest number state.now file) }
@@ -73,6 +77,7 @@ pub(crate) fn write_beside<D: Disk>(
     state: &[u8],
 ) -> Result<(), DiskFault>
     ensures keeps { D.keeps disk.new ≡ D.keeps disk.old }
+    ensures counted { CountsFailure result (D.failures disk.old) (D.failures disk.new) }
     ensures any_moment { (n : ℕ) → IsTrue (D.keeps disk.old)
         → Within (D.image disk.old) (IsBeside closed n)
         → LeavesOnly D.clock D.left disk.old disk.new

@@ -2,3 +2,4 @@ pub mod NumberLemmas
 pub mod ListLemmas
 pub mod WordLemmas
 pub mod StateLemmas
+pub mod WorkedLemmas

@@ -1,5 +1,5 @@
 -- The bytes of a state, read from the front.
-use Rattle.std.proofs.Common.{◌≡◌, ℕ, ◌+◌, ◌*◌, ◌^◌, ◌<◌, ◌≤◌, Bool, true, false, List, [], ◌∷◌, ◌++◌, length, get_or, refl, sym, ap, ◌∙◌, arith}
+use Rattle.std.proofs.Common.{◌≡◌, ℕ, ◌*◌, ◌^◌, ◌<◌, ◌≤◌, Bool, true, false, List, ◌++◌, length, get_or, nat_eq, refl, sym, ap, ◌∙◌, arith}
 use Rattle.std.proofs.lemmas.Grind.{get_or_default_zero}
 use Rattle.std.proofs.lemmas.List.{length-append}
 use Rattle.std.specs.List.{flat_map, AllByRecursion}
@@ -49,6 +49,15 @@ module _ (head bytes rest : List ℕ) (long : length head ≡ 7) (small : AllByR
   pub ended_is : get_or head 3 0 ≤ 1
   ended_is = omega (arith, ap (λ (l : List ℕ). get_or l 3 0) head_is.0, ended_small k.ended)
 
+  pub interactions_are : get_or head 2 0 ≡ k.interactions
+  interactions_are = ap (λ (l : List ℕ). get_or l 2 0) head_is.0
+
+  pub ended_at : get_or head 3 0 ≡ ended_number k.ended
+  ended_at = ap (λ (l : List ℕ). get_or l 3 0) head_is.0
+
+  pub millis_are : get_or head 6 0 ≡ k.millis
+  millis_are = ap (λ (l : List ℕ). get_or l 6 0) head_is.0
+
   pub rules_are : get_or head 4 0 ≡ length k.by_rule
   rules_are = ap (λ (l : List ℕ). get_or l 4 0) head_is.0
 
@@ -70,6 +79,10 @@ module _ (head bytes rest : List ℕ) (long : length head ≡ 7) (small : AllByR
   words_fit by_rule behind count fits next short =
       let both = same_numbers by_rule k.by_rule behind (flat_map word_bytes k.words ++ k.text) fits kept.by_rule (count ∙ rules_are) (sym next ∙ head_is.1) in
       omega (arith, short, words_are, ap length both.1, length-append (flat_map word_bytes k.words) k.text, length-spelled word_bytes length-word_bytes k.words)
+
+pub ended_told : (b : Bool) (n : ℕ) → n ≡ ended_number b → nat_eq n 1 ≡ b
+ended_told true n e = ap (λ (m : ℕ). nat_eq m 1) e
+ended_told false n e = ap (λ (m : ℕ). nat_eq m 1) e
 
 one_ended : (a b : Bool) → ended_number a ≡ ended_number b → a ≡ b
 one_ended true true e = refl

@@ -1,8 +1,7 @@
 -- Words and their numbers.
-use Rattle.std.proofs.Common.{◌≡◌, ℕ, ◌+◌, ◌-◌, ◌*◌, ◌^◌, ◌<◌, ◌≤◌, length, refl, ap, arith}
+use Rattle.std.proofs.Common.{◌≡◌, ◌^◌, ◌<◌, length, refl, ap, arith}
 use Rattle.ic_flat.specs.declared.word.Word.{Word}
 use Rattle.ic_flat.specs.declared.word.Word.TheVariants.{Name, Agent}
-use Rattle.ic_state.specs.Numbers.{eight_bytes}
 use Rattle.ic_state.specs.Words.{word_number, word_bytes, IsKeptWord}
 use Rattle.ic_state.proofs.NumberLemmas.{eight_bytes-injective, length-eight_bytes}
 

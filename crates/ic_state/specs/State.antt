@@ -1,8 +1,9 @@
 -- A state as bytes (this project's choice).
-use Rattle.std.specs.Prelude.{ℕ, ◌<◌, ◌^◌, Bool, true, false, List, [], ◌∷◌, ◌++◌, length}
+use Rattle.std.specs.Prelude.{◌≡◌, ℕ, ◌<◌, ◌^◌, Bool, true, false, List, [], ◌∷◌, ◌++◌, length}
 use Rattle.std.specs.List.{flat_map, AllByRecursion}
 use Rattle.ic_flat.specs.declared.word.Word.{Word}
 use Rattle.ic_state.specs.declared.state.State.{State}
+use Rattle.ic_state.specs.declared.state.StateHead.{StateHead}
 use Rattle.ic_state.specs.declared.form.TheConstants.{FORMAT}
 use Rattle.ic_state.specs.Numbers.{eight_bytes}
 use Rattle.ic_state.specs.Words.{word_bytes, IsKeptWord}
@@ -55,3 +56,11 @@ pub record IsKept (k : Kept) : Type 0 where
   pub millis : k.millis < 2 ^ 64
   pub by_rule : AllByRecursion (λ n. n < 2 ^ 64) k.by_rule
   pub words : AllByRecursion IsKeptWord k.words
+
+-- what the first numbers of a state say of it
+pub record IsHeadOf (head : StateHead) (k : Kept) : Type 0 where
+  pub interactions : head.interactions ≡ k.interactions
+  pub ended : head.ended ≡ k.ended
+  pub rules : head.rules ≡ length k.by_rule
+  pub words : head.words ≡ length k.words
+  pub millis : head.millis ≡ k.millis

@@ -16,7 +16,7 @@ use std::alloc::Global;
 pub const FORMAT: u64 = 0x4943_4b45_5054_3031;
 
 /// How many numbers stand before the lists of a state.
-const HEAD: u64 = 7;
+pub(crate) const HEAD: u64 = 7;
 
 /// The byte form of a state, if each of its words has a number. Takes linear time.
 pub fn encode(alloc: Global, state: &State) -> Result<Vec<u8>, StateFault>

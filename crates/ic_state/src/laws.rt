@@ -2,9 +2,18 @@
 
 ghost use Rattle.std.specs.Prelude.{◌≡◌, ℕ, List, length};
 ghost use Rattle.ic_state.specs.State.{Kept, IsKept, state_bytes};
+ghost use Rattle.ic_state.specs.Worked.{begun_by_hand, ended_by_hand, joins_begun, joins_ended};
 
 /// Two states with the same bytes are the same state.
 pub fn each_state_has_its_own_bytes()
     ensures { (k other : Kept) → IsKept k → IsKept other → state_bytes k ≡ state_bytes other
         → k ≡ other }
+{}
+
+/// The fields and their order, by two states of one reduction whose bytes are written by hand: as it begins, and as it has
+/// ended.
+pub fn a_state_by_hand()
+    ensures begun { state_bytes joins_begun ≡ begun_by_hand }
+    ensures ended { state_bytes joins_ended ≡ ended_by_hand }
+    ensures lengths { (length begun_by_hand ≡ 130) × (length ended_by_hand ≡ 98) }
 {}

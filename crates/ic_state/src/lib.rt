@@ -7,10 +7,12 @@
 mod fault;
 mod fields;
 mod form;
+mod front;
 pub mod laws;
 mod state;
 mod words;
 
 pub use fault::StateFault;
 pub use form::{FORMAT, decode, encode};
-pub use state::State;
+pub use front::head_of;
+pub use state::{State, StateHead};

@@ -20,3 +20,18 @@ pub struct State {
     /// For how many milliseconds it has gone on.
     pub millis: u64,
 }
+
+/// What the first numbers of a state say.
+#[derive(Clone, Copy, Debug)]
+pub struct StateHead {
+    /// How many interactions were made.
+    pub interactions: u64,
+    /// Whether the reduction has ended.
+    pub ended: bool,
+    /// How many rules there are.
+    pub rules: u64,
+    /// How many words there are.
+    pub words: u64,
+    /// For how many milliseconds it has gone on.
+    pub millis: u64,
+}

@@ -1,7 +1,7 @@
 //! What the words over a text read: standard input, or a file.
 
 use crate::session::Session;
-use ic_causes::{NotedFile, NotedFiles, NotedInput, Notes, cause_line, shown_path};
+use ic_causes::{NotedFile, NotedFiles, NotedInput, Notes, Target, cause_line, shown_path};
 use ic_exits::Failure;
 use ic_streams::StreamFault;
 use std::alloc::{AllocError, Global};
@@ -52,7 +52,12 @@ pub(crate) fn open_file<'n>(
     path: &str,
     notes: &'n Notes,
 ) -> Result<NotedFile<'n>, StreamFault> {
-    let files = NotedFiles { rt, path, notes };
+    let files = NotedFiles {
+        rt,
+        path,
+        target: Target::File,
+        notes,
+    };
     let mut how = OpenOptions::new();
     how.read(true);
     how.open(&files, path).map_err(|error| match error.kind() {

@@ -1,9 +1,10 @@
-//! The program's word `inspect`: what a disk's file holds, on standard output.
+//! The program's word `inspect`: what a disk's file holds, or two files in which a reduction is kept, on standard output.
 
+use crate::kept;
 use crate::others::{other_at, other_line};
 use crate::standing::stand_ins;
 use ic_args::ReportFormat;
-use ic_causes::{NotedFile, NotedFiles, NotedOutput, Notes};
+use ic_causes::{NotedFile, NotedFiles, NotedOutput, Notes, Target};
 use ic_disk::{DiskFault, open_plain};
 use ic_exits::Failure;
 use ic_frames::{HEAD, SECOND_AT};
@@ -26,10 +27,34 @@ pub(crate) fn inspect(
         ReportFormat::Text => Layout::Words,
         ReportFormat::Json => Layout::Objects,
     };
+    if let Some(fronts) = kept::read_fronts(rt, path, notes)? {
+        return inspect_kept(rt, path, fronts, format, notes);
+    }
     for _ in 0..LOOKS {
         if look(rt, path, layout, notes)? {
             return Ok(());
         }
+    }
+    Err(Failure::Inspect(InspectFault::Changed))
+}
+
+/// Prints what two files hold in which a reduction is kept, if two readings in turn give the same.
+fn inspect_kept(
+    rt: &HostRuntime,
+    path: &str,
+    fronts: kept::Fronts,
+    format: ReportFormat,
+    notes: &Notes,
+) -> Result<(), Failure> {
+    let mut seen = fronts;
+    for _ in 0..LOOKS {
+        let Some(again) = kept::read_fronts(rt, path, notes)? else {
+            continue;
+        };
+        if kept::are_same(&seen, &again) {
+            return kept::tell(rt, &again, format, notes);
+        }
+        seen = again;
     }
     Err(Failure::Inspect(InspectFault::Changed))
 }
@@ -77,8 +102,23 @@ pub(crate) fn open_to_read<'a>(
     path: &str,
     notes: &'a Notes,
 ) -> io::Result<NotedFile<'a>> {
+    open_to_read_as(rt, path, Target::File, notes)
+}
+
+/// The same, where calls to the file that fail are noted as of this target.
+pub(crate) fn open_to_read_as<'a>(
+    rt: &HostRuntime,
+    path: &str,
+    target: Target,
+    notes: &'a Notes,
+) -> io::Result<NotedFile<'a>> {
     let _stand_ins = stand_ins(rt, notes)?;
-    let files = NotedFiles { rt, path, notes };
+    let files = NotedFiles {
+        rt,
+        path,
+        target,
+        notes,
+    };
     let mut how = OpenOptions::new();
     how.read(true);
     open_plain(&files, &how, path)

@@ -1,13 +1,13 @@
 //! The program's word `reduce` where what is reached is kept in two files.
 
 use crate::reducing::{Wanted, tell_end};
-use crate::{NotedDisk, open_disk};
-use ic_causes::{NotedOutput, Notes};
+use crate::{NotedDisk, open_disk, open_disk_as};
+use ic_causes::{Cause, NotedOutput, Notes, Reason, Target};
 use ic_diagnostics::{Kind, refused_within};
-use ic_disk::{Disk, DiskFault};
+use ic_disk::Disk;
 use ic_exits::Failure;
 use ic_in_place::{Bounds, Outcome};
-use ic_keeping::{Clock, Ended, KeepingFault, Pace, begin, begun, go_on, resume};
+use ic_keeping::{Clock, Ended, KeepingFault, Pace, begin, begun, live};
 use ic_progress::Watching;
 use ic_state::State;
 use ic_streams::{StreamFault, read_text_within, write_line};
@@ -65,17 +65,16 @@ pub(crate) fn reduce<R: Read>(
     } else {
         open_both(rt, kept.path, notes)?
     };
-    let (mut keeper, state) = resume(rt.alloc(), first, second).map_err(Failure::Kept)?;
     let watching = Watching::new(rt);
     let clock = Since {
         rt,
         begun: Instant::now(rt).ok(),
     };
     let pace = Pace::new(kept.seconds.saturating_mul(1_000));
-    let ended = go_on(
+    let lived = live(
         rt.alloc(),
-        state,
-        &mut keeper,
+        first,
+        second,
         bounds,
         pace,
         wanted.asked,
@@ -83,7 +82,8 @@ pub(crate) fn reduce<R: Read>(
         &watching,
     );
     watching.wipe();
-    let done = tell(rt, ended.map_err(Failure::Kept)?, bounds, wanted, notes);
+    let (ended, _keeper) = lived.map_err(|fault| Failure::Kept(fault.cause))?;
+    let done = tell(rt, ended, bounds, wanted, notes);
     if matches!(done, Err(Failure::Overgrown(_, _))) {
         let _ = told.extend_from_slice(KEPT);
     }
@@ -110,24 +110,46 @@ fn read_state<R: Read>(
     }
 }
 
-/// Keeps a state as the first in the two files of a path, which are made where they are missing. The second isn't made where
-/// the first holds something.
+/// Keeps a state as the first in the two files of a path, which are made where they are missing. None is made where the other
+/// holds something, or can't be had.
 fn begin_in<'a>(
     rt: &HostRuntime,
     path: &str,
     state: &State,
     notes: &'a Notes,
 ) -> Result<(NotedDisk<'a>, NotedDisk<'a>), Failure> {
+    look_at_second(rt, path, notes)?;
     let mut first = open_disk(rt, path, true, notes)?;
-    let len = first
-        .len()
-        .map_err(|_| Failure::Kept(KeepingFault::Device))?;
-    if len > 0 {
-        return Err(Failure::Kept(KeepingFault::NotEmpty));
-    }
+    check_empty(&mut first)?;
     let mut second = open_second(rt, path, true, notes)?;
     begin(rt.alloc(), state, &mut first, &mut second).map_err(Failure::Kept)?;
     Ok((first, second))
+}
+
+/// Refuses a second file that holds something or can't be had. It may be missing.
+fn look_at_second(rt: &HostRuntime, path: &str, notes: &Notes) -> Result<(), Failure> {
+    match open_second(rt, path, false, notes) {
+        Ok(mut second) => check_empty(&mut second),
+        Err(Failure::Disk(_)) if is_missing(notes.last()) => Ok(()),
+        Err(failure) => Err(failure),
+    }
+}
+
+/// Whether what has failed last is that a file isn't there.
+fn is_missing(cause: Option<Cause>) -> bool {
+    match cause {
+        Some(cause) => cause.reason == Reason::Missing,
+        None => false,
+    }
+}
+
+/// Refuses a disk that holds something.
+fn check_empty(disk: &mut NotedDisk<'_>) -> Result<(), Failure> {
+    match disk.len() {
+        Ok(0) => Ok(()),
+        Ok(_) => Err(Failure::Kept(KeepingFault::NotEmpty)),
+        Err(_) => Err(Failure::Kept(KeepingFault::Device)),
+    }
 }
 
 /// The disks in the two files of a path.
@@ -151,7 +173,7 @@ fn open_second<'a>(
     let second = format!(in rt.alloc(); "{path}.2").map_err(|_| Failure::Kept(
         KeepingFault::Memory,
     ))?;
-    open_disk(rt, second.as_str(), create, notes).map_err(|_| Failure::SecondFile(DiskFault))
+    open_disk_as(rt, second.as_str(), Target::Second, create, notes)
 }
 
 /// Tells how a reduction has ended: its line on standard output, where it is wanted, and the rest on standard error.

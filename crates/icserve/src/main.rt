@@ -8,6 +8,7 @@ mod dumping;
 mod input;
 mod inspecting;
 mod keeping;
+mod kept;
 mod looking;
 mod others;
 mod reducing;
@@ -27,7 +28,7 @@ use crate::standing::stand_ins;
 use crate::standstill::tell_of_jobs;
 use ic_args::{Task, TextLimits, TextWord, WordsFault, read_words};
 use ic_book::{Book, BookFault, OpenCause, OpenFault};
-use ic_causes::{NotedFile, NotedFiles, NotedInput, NotedOutput, Notes};
+use ic_causes::{NotedFile, NotedFiles, NotedInput, NotedOutput, Notes, Target};
 use ic_diagnostics::{once_telling, settle_telling};
 use ic_disk::{DiskFault, FileDisk};
 use ic_exits::{Failure, opening_failure};
@@ -439,8 +440,24 @@ pub(crate) fn open_disk<'a>(
     create: bool,
     notes: &'a Notes,
 ) -> Result<NotedDisk<'a>, Failure> {
+    open_disk_as(rt, path, Target::File, create, notes)
+}
+
+/// The same, where calls to the file that fail are noted as of this target.
+pub(crate) fn open_disk_as<'a>(
+    rt: &HostRuntime,
+    path: &str,
+    target: Target,
+    create: bool,
+    notes: &'a Notes,
+) -> Result<NotedDisk<'a>, Failure> {
     let _stand_ins = stand_ins(rt, notes).map_err(|_| Failure::Disk(DiskFault))?;
-    let files = NotedFiles { rt, path, notes };
+    let files = NotedFiles {
+        rt,
+        path,
+        target,
+        notes,
+    };
     FileDisk::open(&files, path, create).map_err(|fault| opening_failure(fault, notes.last()))
 }
 

@@ -2,7 +2,7 @@
 
 use crate::texts::{read_limited, too_long};
 use ic_book::MAX_ENTRIES;
-use ic_causes::{NotedFiles, Notes, cause_line, shown_path};
+use ic_causes::{NotedFiles, Notes, Target, cause_line, shown_path};
 use ic_check::check_script_line;
 use ic_jobs::Command;
 use ic_scripts::{ScriptsFault, add_script};
@@ -105,7 +105,12 @@ pub(crate) fn read_file(
 /// The bytes of the file of this path, or none where it has too many. A call to it that fails is
 /// noted. It may be a pipe, which is read to its end.
 fn noted_bytes(rt: &HostRuntime, path: &str, notes: &Notes) -> io::Result<Option<Vec<u8>>> {
-    let files = NotedFiles { rt, path, notes };
+    let files = NotedFiles {
+        rt,
+        path,
+        target: Target::File,
+        notes,
+    };
     let mut how = OpenOptions::new();
     how.read(true);
     let file = how.open(&files, path)?;

@@ -1,11 +1,11 @@
 -- What is found in two files. Inner: private functions cite it.
-use Rattle.std.specs.Prelude.{◌≡◌, ℕ, ◌+◌, Bool, true, false, List, Option, None, Some, Result, Ok, Err}
+use Rattle.std.specs.Prelude.{◌≡◌, ℕ, Bool, true, false, List, Option, None, Some, Result, Ok, Err}
 use Rattle.ic_kept.specs.declared.head.Head.{Head}
 use Rattle.ic_kept.specs.declared.finding.Chosen.{Chosen}
 use Rattle.ic_kept.specs.declared.finding.Found.{Found}
 use Rattle.ic_frames.specs.declared.faults.OpenCause.{OpenCause}
 use Rattle.ic_frames.specs.declared.faults.OpenCause.TheVariants.{Device, NoSlot, TwoAlike, Damaged, Memory}
-use Rattle.ic_kept.specs.Sheet.{gate, number, size, IsBeside, IsMade, IsNewest}
+use Rattle.ic_kept.specs.Sheet.{gate, number, size, IsBeside, IsNewest}
 use Rattle.ic_kept.specs.Held.{Answers}
 
 -- an open gate is before this number and this length

@@ -1,49 +1,110 @@
--- A stop in the midst of keeps leaves one of the states that were kept.
-use Rattle.std.proofs.Common.{◌≡◌, ◌⊎◌, inl, inr, ⊎_elim, ℕ, ◌+◌, Bool, List, Result, Ok, Err}
-use Rattle.ic_disk.specs.Images.{Within}
+-- A stop in the midst of keeps leaves the state that was kept last, or the one that was coming.
+use Rattle.std.proofs.Common.{◌≡◌, ◌⊎◌, inl, inr, ⊎_elim, ℕ, ◌+◌, Bool, true, false, List, Result, Ok, Err, sym, ◌∙◌, subst}
 use Rattle.ic_frames.specs.declared.faults.KeepFault.{KeepFault}
 use Rattle.ic_kept.specs.declared.keeper.Keeper.{Keeper}
+use Rattle.ic_kept.specs.Sheet.{IsBeside, IsOlder}
 use Rattle.ic_kept.specs.Held.{Hold, HoldEither}
-use Rattle.ic_kept.specs.Keeper.{newest_of, number_of, Keeps, KeepsModel}
-use Rattle.ic_kept.specs.Course.{IsKeep, Course, no_keep, one_more, Way, all_answered, last_refused, LeftInKeep, LeftInCourse, LeftOnWay, HoldOne}
+use Rattle.ic_kept.specs.Keeper.{number_of, is_closed, Keeps, KeepsModel}
+use Rattle.ic_kept.specs.Course.{IsKeep, Course, no_keep, one_more, Way, all_answered, last_refused, LeftBetween, LeftInKeep, LeftInCourse, LeftOnWay, Leads, stays, goes_on, HoldOneOf}
 
--- one of two states that have P
-one_has : (P : List ℕ → Type 0) (n : ℕ) (state next newest other : List ℕ) → P state → P next → HoldEither n state next newest other → HoldOne P newest other
-one_has P n state next newest other has next_has is = ⊎_elim
-    (λ old. (state, has, (n, inl old)))
-    (λ new. (next, next_has, (n + 1, inr new)))
-    is
+is_older : (closed : Bool) (n : ℕ) (file : List ℕ) → IsBeside closed n file → IsOlder n file
+is_older true n file is = record { made = is.made; older = λ opened. absurd (is.shut opened) }
+is_older false n file is = record { made = is.made; older = λ opened. is.below }
 
-module _ {D : Type 0} (keeps_model : D → Bool) (image : D → List ℕ → Type 0) (clock : D → ℕ) (left : D → ℕ → List ℕ → Type 0) (P : List ℕ → Type 0) where
-  -- what is kept after keeps that were answered has P
-  pub kept_after : (k n : Keeper D) (first : List ℕ) → KeepsModel keeps_model k → Keeps image first k → P first → Course keeps_model image clock left P k n
-      → KeepsModel keeps_model n × ((state : List ℕ) × P state × Keeps image state n)
-  kept_after k n first model keeps has (no_keep x) = (model, (first, has, keeps))
-  kept_after k n first model keeps has (one_more x m y state before next_has keep) =
-      let was = kept_after k m first model keeps has before in
-      (keep.model was.0, (state, next_has, keep.crash.kept was.1.0 was.0 was.1.2))
+either_holds : (n : ℕ) (state next a b : List ℕ) → HoldEither n state next a b → HoldOneOf state next a b
+either_holds n state next a b is = ⊎_elim (λ old. inl (n, inl old)) (λ new. inr (n + 1, inr new)) is
 
-  left_in : (result : Result (Unit {0}) KeepFault) (m n : Keeper D) (next : List ℕ) → P next → IsKeep keeps_model image clock left next result m n → KeepsModel keeps_model m
-      → (state : List ℕ) → P state → Keeps image state m → (a b : List ℕ) → LeftInKeep keeps_model image clock left result m n a b → HoldOne P a b
-  left_in result m n next next_has keep model state has keeps a b there =
-      one_has P (number_of m) state next a b has next_has ((keep.crash.any_moment state model keeps a there.spared).each b there.written)
+module _ {D : Type 0} (keeps_model : D → Bool) (image : D → List ℕ → Type 0) (clock : D → ℕ) (left : D → ℕ → List ℕ → Type 0) (After : (old new : List ℕ) → Type 0) where
+  -- what is kept after keeps that were answered
+  pub kept_after : (k n : Keeper D) (first last : List ℕ) → KeepsModel keeps_model k → Keeps image first k → Course keeps_model image clock left After first k last n
+      → KeepsModel keeps_model n × Keeps image last n
+  kept_after k n first last model keeps (no_keep state x) = (model, keeps)
+  kept_after k n first last model keeps (one_more f state next x m y before after keep) =
+      let was = kept_after k m first state model keeps before in
+      (keep.model was.0, keep.crash.kept state was.0 was.1)
 
-  pub left_in_course : (k n : Keeper D) (first : List ℕ) → KeepsModel keeps_model k → Keeps image first k → P first → (course : Course keeps_model image clock left P k n) → (a b : List ℕ)
-      → LeftInCourse keeps_model image clock left course a b → HoldOne P a b
-  left_in_course k n first model keeps has (no_keep x) a b there = absurd there
-  left_in_course k n first model keeps has (one_more x m y state before next_has keep) a b there = ⊎_elim
-      (λ earlier. left_in_course k m first model keeps has before a b earlier)
-      (λ here.
-      let was = kept_after k m first model keeps has before in
-      left_in (Ok tt) m n state next_has keep was.0 was.1.0 was.1.1 was.1.2 a b here)
+  left_between : (state : List ℕ) (k : Keeper D) → Keeps image state k → (kept coming a b : List ℕ) → LeftBetween keeps_model image clock left state k kept coming a b → HoldOneOf kept coming a b
+  left_between state k keeps kept coming a b there =
+      let holds : Hold state a b = (
+        number_of k,
+        inl (record { newest = keeps.newest a there.on_newest; older = is_older (is_closed k) (number_of k) b (keeps.beside b there.on_other) }),
+      ) in
+      inl (subst (λ (s : List ℕ). Hold s a b) (sym there.kept_is) holds)
+
+  left_in : (result : Result (Unit {0}) KeepFault) (m n : Keeper D) (state next : List ℕ) → IsKeep keeps_model image clock left next result m n → KeepsModel keeps_model m
+      → Keeps image state m → (kept coming a b : List ℕ) → LeftInKeep keeps_model image clock left state next result m n kept coming a b → HoldOneOf kept coming a b
+  left_in result m n state next keep model keeps kept coming a b there = subst (λ (s : List ℕ). HoldOneOf s coming a b) (sym there.kept_is)
+      (subst (λ (s : List ℕ). HoldOneOf state s a b) (sym there.coming_is)
+      (either_holds (number_of m) state next a b ((keep.crash.any_moment state model keeps a there.spared).each b there.written)))
+
+  pub left_in_course : (k n : Keeper D) (first last : List ℕ) → KeepsModel keeps_model k → Keeps image first k → (course : Course keeps_model image clock left After first k last n)
+      → (kept coming a b : List ℕ) → LeftInCourse keeps_model image clock left course kept coming a b → HoldOneOf kept coming a b
+  left_in_course k n first last model keeps (no_keep state x) kept coming a b there = left_between first k keeps kept coming a b there
+  left_in_course k n first last model keeps (one_more f state next x m y before after keep) kept coming a b there =
+      let was = kept_after k m first state model keeps before in
+      ⊎_elim
+      (λ earlier. left_in_course k m first state model keeps before kept coming a b earlier)
+      (λ later. ⊎_elim
+      (λ here. left_in (Ok tt) m n state next keep was.0 was.1 kept coming a b here)
+      (λ behind. left_between next n (keep.crash.kept state was.0 was.1) kept coming a b behind)
+      later)
       there
 
-  pub left_on_way : (k n : Keeper D) (first : List ℕ) → KeepsModel keeps_model k → Keeps image first k → P first → (way : Way keeps_model image clock left P k n) → (a b : List ℕ)
-      → LeftOnWay keeps_model image clock left way a b → HoldOne P a b
-  left_on_way k n first model keeps has (all_answered x y course) a b there = left_in_course k n first model keeps has course a b there
-  left_on_way k n first model keeps has (last_refused x m y state fault before next_has keep) a b there = ⊎_elim
-      (λ earlier. left_in_course k m first model keeps has before a b earlier)
-      (λ here.
-      let was = kept_after k m first model keeps has before in
-      left_in (Err fault) m n state next_has keep was.0 was.1.0 was.1.1 was.1.2 a b here)
+  pub left_on_way : (k n : Keeper D) (first : List ℕ) → KeepsModel keeps_model k → Keeps image first k → (way : Way keeps_model image clock left After first k n)
+      → (kept coming a b : List ℕ) → LeftOnWay keeps_model image clock left way kept coming a b → HoldOneOf kept coming a b
+  left_on_way k n first model keeps (all_answered f last x y course) kept coming a b there = left_in_course k n first last model keeps course kept coming a b there
+  left_on_way k n first model keeps (last_refused f state next x m y fault before after keep) kept coming a b there =
+      let was = kept_after k m first state model keeps before in
+      ⊎_elim
+      (λ earlier. left_in_course k m first state model keeps before kept coming a b earlier)
+      (λ here. left_in (Err fault) m n state next keep was.0 was.1 kept coming a b here)
       there
+
+  -- the states that lead to what was kept last, and to what was coming
+  abbrev pub IsComing : (kept coming : List ℕ) → Type 0
+  IsComing kept coming = (coming ≡ kept) ⊎ After kept coming
+
+  abbrev OnWay : (first kept coming : List ℕ) → Type 0
+  OnWay first kept coming = Leads After first kept × IsComing kept coming
+
+  pub leads_on : (k n : Keeper D) (first last : List ℕ) → Course keeps_model image clock left After first k last n → Leads After first last
+  leads_on k n first last (no_keep state x) = stays state
+  leads_on k n first last (one_more f state next x m y before after keep) = goes_on first state next (leads_on k m first state before) after
+
+  here_between : (first state : List ℕ) (k : Keeper D) → Leads After first state → (kept coming a b : List ℕ) → LeftBetween keeps_model image clock left state k kept coming a b → OnWay first kept coming
+  here_between first state k leads kept coming a b there = (subst (λ (s : List ℕ). Leads After first s) (sym there.kept_is) leads, inl (there.coming_is ∙ sym there.kept_is))
+
+  here_in : (first state next : List ℕ) (result : Result (Unit {0}) KeepFault) (m n : Keeper D) → Leads After first state → After state next → (kept coming a b : List ℕ)
+      → LeftInKeep keeps_model image clock left state next result m n kept coming a b → OnWay first kept coming
+  here_in first state next result m n leads after kept coming a b there = (
+    subst (λ (s : List ℕ). Leads After first s) (sym there.kept_is) leads,
+    inr (subst (λ (s : List ℕ). After s coming) (sym there.kept_is) (subst (λ (s : List ℕ). After state s) (sym there.coming_is) after)),
+  )
+
+  pub course_leads : (k n : Keeper D) (first last : List ℕ) → (course : Course keeps_model image clock left After first k last n)
+      → (kept coming a b : List ℕ) → LeftInCourse keeps_model image clock left course kept coming a b → OnWay first kept coming
+  course_leads k n first last (no_keep state x) kept coming a b there = here_between first first k (stays first) kept coming a b there
+  course_leads k n first last (one_more f state next x m y before after keep) kept coming a b there =
+      let leads = leads_on k m first state before in
+      ⊎_elim
+      (λ earlier. course_leads k m first state before kept coming a b earlier)
+      (λ later. ⊎_elim
+      (λ here. here_in first state next (Ok tt) m n leads after kept coming a b here)
+      (λ behind. here_between first next n (goes_on first state next leads after) kept coming a b behind)
+      later)
+      there
+
+  pub way_leads : (k n : Keeper D) (first : List ℕ) → (way : Way keeps_model image clock left After first k n)
+      → (kept coming a b : List ℕ) → LeftOnWay keeps_model image clock left way kept coming a b → OnWay first kept coming
+  way_leads k n first (all_answered f last x y course) kept coming a b there = course_leads k n first last course kept coming a b there
+  way_leads k n first (last_refused f state next x m y fault before after keep) kept coming a b there =
+      let leads = leads_on k m first state before in
+      ⊎_elim
+      (λ earlier. course_leads k m first state before kept coming a b earlier)
+      (λ here. here_in first state next (Err fault) m n leads after kept coming a b here)
+      there
+
+-- the states that lead to one lead on with those after it
+pub leads_then : (After : (old new : List ℕ) → Type 0) (first state last : List ℕ) → Leads After first state → Leads After state last → Leads After first last
+leads_then After first state last before (stays x) = before
+leads_then After first state last before (goes_on f x next after step) = goes_on first x next (leads_then After first state x before after) step

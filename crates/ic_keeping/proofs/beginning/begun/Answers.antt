@@ -1,7 +1,8 @@
-use Rattle.std.proofs.Common.{◌≡◌, ◌∙◌, ℕ, List, Ok, length, sym, ap, subst}
+use Rattle.std.proofs.Common.{◌≡◌, ◌∙◌, ℕ, List, Ok, length, refl, sym, ap, subst}
 use Rattle.std.proofs.lemmas.Result.{err_from_is_err_and}
 use Rattle.ic_term.specs.Configuration.{Configuration}
 use Rattle.ic_rules.specs.RuleSet.{Rules}
+use Rattle.ic_flat.specs.Flat.{configuration_of}
 use Rattle.ic_text.specs.SystemText.{ReadsSystemWithin}
 use Rattle.ic_text.specs.declared.limits.Limits.TheVariants.{Wide}
 use Rattle.ic_text.specs.lemmas.PlacedWithin.{placed-within}
@@ -15,13 +16,25 @@ pub returns-clause-read : goal.returns-clause-read
 returns-clause-read c =
     let s = c.in_ok-system.system in
     let by = c.in_ok-by_rule.by_rule.items in
-    let rules = c.rules.ensures.rules ∙ ap (λ (r : Rules). r.rules) (c.deref.ensures ∙ c.into_parts-rules.ensures.rules) in (
+    let words = c.into_parts-words.result.0.items in
+    let terms = c.into_parts-words.result.1 in
+    let rules = c.rules.ensures.rules ∙ ap (λ (r : Rules). r.rules) (c.deref.ensures ∙ c.into_parts-rules.ensures.rules) in
+    let whole : configuration_of words terms c.into_parts-words.result.3 ≡ s.config = c.into_parts-words.ensures.same ∙ c.into_parts-rules.ensures.config in
+    let config : configuration_of words terms s.config.next ≡ s.config =
+    subst (λ (n : ℕ). configuration_of words terms n ≡ s.config) (ap (λ (d : Configuration). d.next) whole) whole in (
       s,
       record {
-        reads = subst (λ (text : List ℕ). ReadsSystemWithin Wide text (Ok s)) (sym (c.in_ok-kept.ensures.items_if_clones_equal (λ x y e. e))) c.in_ok-system.ensures.read;
-        next = c.into_parts-words.result.3;
-        way = subst (λ (d : Configuration). IsOnWay s d 0 by) (sym (c.into_parts-words.ensures.same ∙ c.into_parts-rules.ensures.config))
-            (begun_on_way s by c.what_is_reached_is_one_net.ensures.itself c.systems_are_sound.ensures.names (c.in_ok-by_rule.ensures.long ∙ ap length rules) c.in_ok-by_rule.ensures.none);
+        state = record {
+          reads = subst (λ (text : List ℕ). ReadsSystemWithin Wide text (Ok s)) (sym (c.in_ok-kept.ensures.items_if_clones_equal (λ x y e. e))) c.in_ok-system.ensures.read;
+          next = s.config.next;
+          way = subst (λ (d : Configuration). IsOnWay s d 0 by) (sym config)
+              (begun_on_way s by c.what_is_reached_is_one_net.ensures.itself c.systems_are_sound.ensures.names (c.in_ok-by_rule.ensures.long ∙ ap length rules) c.in_ok-by_rule.ensures.none);
+          quiet = λ ended. cc;
+        };
+        config = config;
+        none = refl;
+        goes_on = refl;
+        millis = refl;
       },
     )
 

@@ -1,4 +1,4 @@
-use Rattle.std.proofs.Common.{◌≡◌, ◌∙◌, ◌+◌, ◌*◌, ℕ, List, length, sym, ap, subst, arith}
+use Rattle.std.proofs.Common.{◌≡◌, ◌∙◌, ℕ, List, length, sym, ap, subst, arith}
 use Rattle.std.specs.Prelude.{IsTrue}
 use Rattle.std.specs.Arc.{arc_value}
 use Rattle.std.specs.List.{list_all}
@@ -9,6 +9,7 @@ use Rattle.ic_flat.specs.Words.{forest, is_word_over, IsWhole}
 use Rattle.ic_in_place.specs.declared.running.End.{End}
 use Rattle.ic_state.specs.State.{kept_by}
 use Rattle.ic_keeping.specs.Way.{IsAnswer}
+use Rattle.ic_keeping.proofs.Quiet.{QuietLaws}
 use Rattle.ic_keeping.proofs.WayLemmas.{NamingLaws, ReachingLaws, answer_of, state_of}
 use Rattle.ic_keeping.proofs.going.run_piece.Goals as goal
 
@@ -20,6 +21,7 @@ returns-clause-goes_on g c s sound rules is =
     } in
     let laws : ReachingLaws = record {
       names = c.what_is_reached_is_one_net.ensures.names;
+      over = c.what_is_reached_is_one_net.ensures.over;
       net = c.what_is_reached_is_one_net.ensures.net;
       reached = c.what_is_reached_goes_on.ensures.reached;
       free = c.free_names_stay.ensures.reached;
@@ -33,18 +35,20 @@ returns-clause-goes_on g c s sound rules is =
     let interface = c.in_ok-system.ensures.interface ∙ ap (λ (ws : List Word). (configuration_of ws old.terms 0).interface) words in
     let equations = c.in_ok-system.ensures.equations ∙ ap (λ (ws : List Word). (configuration_of ws old.terms 0).equations) words in
     let piece = c.in_ok-piece.ensures in
+    let quiet_laws : QuietLaws = record { test = c.quiet_is_no_step.ensures; same = c.same_nets_take_the_same_steps.ensures.quiet; renumbered = c.a_renumbered_net_is_the_same_net.ensures.same } in
     state_of naming laws s t sound (kept_by old) (kept_by c.take_in.new.state) is (c.in_ok-system.ensures.rules ∙ rules) interface equations c.in_ok-system.ensures.names c.in_ok-system.ensures.low
     c.args.bounds answer.0 reduced.end reduced.interactions reduced.places reduced.left reduced.by_rule.items answer.1 answer.2 reduced.words.items reduced.terms answer.4.written
-    piece.text piece.words piece.terms piece.interactions piece.by_rule
+    piece.text piece.words piece.terms piece.interactions piece.by_rule quiet_laws piece.ended
 
 pub returns-clause-answer : goal.returns-clause-answer
-returns-clause-answer g c s sound rules is =
+returns-clause-answer g c s most sound rules is nodes = λ steps.
     let naming : NamingLaws = record {
       next = c.a_name_step_leads_to_one_net.ensures.next;
       net = c.a_renumbered_net_is_the_same_net.ensures.net;
     } in
     let laws : ReachingLaws = record {
       names = c.what_is_reached_is_one_net.ensures.names;
+      over = c.what_is_reached_is_one_net.ensures.over;
       net = c.what_is_reached_is_one_net.ensures.net;
       reached = c.what_is_reached_goes_on.ensures.reached;
       free = c.free_names_stay.ensures.reached;
@@ -58,9 +62,15 @@ returns-clause-answer g c s sound rules is =
     let interface = c.in_ok-system.ensures.interface ∙ ap (λ (ws : List Word). (configuration_of ws old.terms 0).interface) words in
     let equations = c.in_ok-system.ensures.equations ∙ ap (λ (ws : List Word). (configuration_of ws old.terms 0).equations) words in
     let piece = c.in_ok-piece.ensures in
-    subst (λ (e : End). IsAnswer s e (kept_by c.take_in.new.state)) (sym piece.end) (answer_of naming laws s t sound (kept_by old) (kept_by c.take_in.new.state) is (c.in_ok-system.ensures.rules ∙ rules) interface equations c.in_ok-system.ensures.names c.in_ok-system.ensures.low
+    subst (λ (e : End). IsAnswer s most e c.in_ok-piece.piece.places c.in_ok-piece.piece.left (kept_by c.take_in.new.state)) (sym piece.end)
+    (subst (λ (n : ℕ). IsAnswer s most reduced.end n c.in_ok-piece.piece.left (kept_by c.take_in.new.state)) (sym piece.places)
+    (subst (λ (n : ℕ). IsAnswer s most reduced.end reduced.places n (kept_by c.take_in.new.state)) (sym piece.left)
+    (answer_of naming laws s t sound (kept_by old) (kept_by c.take_in.new.state) is (c.in_ok-system.ensures.rules ∙ rules) interface equations c.in_ok-system.ensures.names c.in_ok-system.ensures.low
     c.args.bounds answer.0 reduced.end reduced.interactions reduced.places reduced.left reduced.by_rule.items answer.1 answer.2 reduced.words.items reduced.terms answer.4.written
-    piece.text piece.words piece.terms piece.interactions piece.by_rule)
+    piece.text piece.words piece.terms piece.interactions piece.by_rule most nodes (λ ended. steps (piece.end ∙ ended)))))
+
+pub returns-clause-within : goal.returns-clause-within
+returns-clause-within g c = omega (arith, c.in_ok-piece.ensures.interactions, c.in_ok-reduced.ensures.1.reached.within)
 
 pub returns-clause-whole : goal.returns-clause-whole
 returns-clause-whole g c = subst (λ (ws : List Word). IsWhole ws) (sym c.in_ok-piece.ensures.words) c.in_ok-reduced.ensures.4.whole

@@ -1,12 +1,11 @@
-use Rattle.std.proofs.Common.{[], cond, ap}
-use Rattle.ic_term.specs.Configuration.{Configuration}
+use Rattle.std.proofs.Common.{[], cond}
 use Rattle.ic_streams.specs.Streams.{line_of}
 use Rattle.ic_by_rounds.specs.Stuck.{stuck_text}
 use Rattle.ic_in_place.specs.Reductions.{is_written}
 use Rattle.ic_keeping.proofs.laws.a_kept_answer_is_told_as_any_other.Goals as goal
 
 pub returns-clause-line : goal.returns-clause-line
-returns-clause-line c = λ s end k asked is. (λ i. cond (is_written asked end) (line_of s.rules.symbols (is.written i)) [])
+returns-clause-line c = λ s bounds end places left k asked is. (λ i. cond (is_written asked end) (line_of s.rules.symbols (is.written i)) [])
 
 pub returns-clause-stuck : goal.returns-clause-stuck
-returns-clause-stuck c = λ s k is. (λ i. stuck_text s.rules.symbols (is.written i))
+returns-clause-stuck c = λ s bounds places left k is. (λ i. stuck_text s.rules.symbols (is.written i))

@@ -1,4 +1,4 @@
-use Rattle.std.proofs.Common.{◌≡◌, ◌∙◌, sym, subst}
+use Rattle.std.proofs.Common.{◌∙◌, sym, subst}
 use Rattle.ic_state.specs.State.{Kept}
 use Rattle.ic_keeping.specs.Way.{IsStateOf}
 use Rattle.ic_keeping.proofs.laws.what_was_kept_is_read_back.Goals as goal

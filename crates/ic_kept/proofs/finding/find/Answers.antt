@@ -12,7 +12,7 @@ returns-in_err-state-clause-refused g c keeps keeps_too =
     let chosen = c.in_ok-chosen.chosen in
     let cause = c.in_err-state.field-0.0 in
     let e = err_from_is_err_and c.from_residual-in_err-state.result c.from_residual-in_err-state.ensures.1 in
-    let is : IsChosen chosen a b = c.in_ok-chosen.ensures a b (c.in_ok-one.ensures.made keeps) (c.in_ok-other.ensures.made keeps_too) (c.in_ok-one.ensures.head keeps) (c.in_ok-other.ensures.head keeps_too) in
+    let is : IsChosen chosen a b = c.in_ok-chosen.ensures.chosen a b (c.in_ok-one.ensures.made keeps) (c.in_ok-other.ensures.made keeps_too) (c.in_ok-one.ensures.head keeps) (c.in_ok-other.ensures.head keeps_too) in
     let spoils = subst (λ (f : List ℕ). Spoils cause (length f < 17 + chosen.head.size)) (c.look-2.ensures.reads keeps_too).same (c.in_err-state.ensures.refused (c.look-2.ensures.keeps ∙ keeps_too)) in
     rw (e.1, e.2) (spoils_answers cause (length b < 17 + chosen.head.size) a b spoils (λ cut. spoiled_from true chosen a b c.if-chosen.true is cut))
 
@@ -23,7 +23,7 @@ returns-in_err-state-2-clause-refused g c keeps keeps_too =
     let chosen = c.in_ok-chosen.chosen in
     let cause = c.in_err-state-2.field-0.0 in
     let e = err_from_is_err_and c.from_residual-in_err-state-2.result c.from_residual-in_err-state-2.ensures.1 in
-    let is : IsChosen chosen a b = c.in_ok-chosen.ensures a b (c.in_ok-one.ensures.made keeps) (c.in_ok-other.ensures.made keeps_too) (c.in_ok-one.ensures.head keeps) (c.in_ok-other.ensures.head keeps_too) in
+    let is : IsChosen chosen a b = c.in_ok-chosen.ensures.chosen a b (c.in_ok-one.ensures.made keeps) (c.in_ok-other.ensures.made keeps_too) (c.in_ok-one.ensures.head keeps) (c.in_ok-other.ensures.head keeps_too) in
     let spoils = subst (λ (f : List ℕ). Spoils cause (length f < 17 + chosen.head.size)) (c.look.ensures.reads keeps).same (c.in_err-state-2.ensures.refused (c.look.ensures.keeps ∙ keeps)) in
     rw (e.1, e.2) (spoils_answers cause (length a < 17 + chosen.head.size) a b spoils (λ cut. spoiled_from false chosen a b c.if-chosen.false is cut))
 

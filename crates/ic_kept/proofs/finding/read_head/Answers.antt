@@ -1,4 +1,4 @@
-use Rattle.std.proofs.Common.{◌∙◌, ◌+◌, sym, ap, List, ℕ, arith}
+use Rattle.std.proofs.Common.{◌∙◌, sym, ap, List, ℕ}
 use Rattle.ic_disk.specs.Content.{bytes_at}
 use Rattle.ic_kept.proofs.SheetLemmas.{gate_read, number_read, size_read}
 use Rattle.ic_kept.proofs.ReadLemmas.{reads_then}

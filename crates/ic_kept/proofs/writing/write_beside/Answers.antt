@@ -1,4 +1,4 @@
-use Rattle.std.proofs.Common.{◌∙◌, ◌⊎◌, Bool, true, false, subst}
+use Rattle.std.proofs.Common.{◌∙◌, ◌⊎◌, Bool, subst}
 use Rattle.ic_disk.specs.Images.{Within}
 use Rattle.ic_kept.specs.Sheet.{IsBeside, IsNewest, IsOlder}
 use Rattle.ic_kept.proofs.WriteLemmas.{older_run, closing_run, run_then}

@@ -1,5 +1,4 @@
 use Rattle.std.proofs.Common.{◌∙◌, ◌⊎◌, inl}
-use Rattle.ic_disk.specs.Time.{LeavesOnly}
 use Rattle.ic_disk.specs.lemmas.Moments.{leaves_weaker}
 use Rattle.ic_kept.specs.Sheet.{IsNewest, IsShut}
 use Rattle.ic_kept.proofs.WriteLemmas.{shut_then}

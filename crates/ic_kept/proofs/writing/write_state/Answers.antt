@@ -1,5 +1,4 @@
 use Rattle.std.proofs.Common.{◌∙◌, ◌^◌, ◌<◌, length, refl, arith}
-use Rattle.ic_disk.specs.Images.{Within}
 use Rattle.ic_kept.specs.Sheet.{IsBehindGate, IsShut}
 use Rattle.ic_kept.proofs.SheetLemmas.{laid_behind}
 use Rattle.ic_kept.proofs.WriteLemmas.{shut_run, images_after, run_then, of_only}

@@ -1,0 +1,48 @@
+-- A net with its names numbered anew is as quiet, wherever fresh names begin.
+use Rattle.std.proofs.Common.{ℕ, ◌+◌, ◌<◌, ◌≤◌, ◌≡◌, List, [], ◌∷◌, Bool, refl, sym, ap, subst, arith}
+use Rattle.std.specs.List.{AllByRecursion}
+use Rattle.std.specs.Prelude.{◌↔◌, ◌&&◌, IsTrue, Option, None, Some, is_none, option_map}
+use Rattle.ic_term.specs.Configuration.{Configuration, configuration_names, occurrences}
+use Rattle.ic_term.specs.Symbol.{is_over}
+use Rattle.ic_rules.specs.Rule.{Rule}
+use Rattle.ic_rules.specs.RuleSet.{Rules, IsRuleSet}
+use Rattle.ic_settle.specs.Settling.{applied, first_choice}
+use Rattle.ic_naming.specs.Naming.{renumbered}
+use Rattle.ic_round.specs.Naming.{HasNames}
+use Rattle.ic_round.specs.Quiet.{is_inert, is_quiet}
+use Rattle.ic_round.specs.Rounds.{IsQuiet}
+use Rattle.ic_confluence.specs.Sameness.{Same}
+use Rattle.ic_reaching.specs.OneNet.{SameButNext, raised}
+use Rattle.ic_text.specs.declared.limits.TheConstants.{MAX_NAME}
+
+-- what laws of the crates below say of quiet nets
+pub record QuietLaws : Type 0 where
+  pub test : (rs : List Rule) (c : Configuration) → IsTrue (is_quiet rs c) ↔ IsQuiet rs c
+  pub same : (rs : Rules) (c d : Configuration) → IsRuleSet rs → IsTrue (is_over rs.symbols c) → HasNames c → Same c d → IsQuiet rs.rules c → IsQuiet rs.rules d
+  pub renumbered : (c : Configuration) → ((x : ℕ) → occurrences x (configuration_names c) ≡ 1 → x ≤ MAX_NAME) → SameButNext c (renumbered c)
+
+either_none : {X Y : Type 0} (f g : X → Y) (o : Option X) → is_none (option_map f o) ≡ is_none (option_map g o)
+either_none f g None = refl
+either_none f g (Some x) = refl
+
+-- where fresh names begin is no matter to what is quiet
+next_test : (rs : List Rule) (next : ℕ) (c : Configuration) → is_quiet rs (record c { next = next }) ≡ is_quiet rs c
+next_test rs next c = ap (λ (b : Bool). is_inert rs c && b) (either_none (applied (record c { next = next })) (applied c) (first_choice c.interface [] c.equations))
+
+quiet_from : QuietLaws → (rs : List Rule) (next : ℕ) (c : Configuration) → IsQuiet rs c → IsQuiet rs (record c { next = next })
+quiet_from laws rs next c quiet = (laws.test rs (record c { next = next })).0 (subst (λ (b : Bool). IsTrue b) (sym (next_test rs next c)) ((laws.test rs c).1 quiet))
+
+still_below : (n m : ℕ) (ns : List ℕ) → n ≤ m → AllByRecursion (λ k. k < n) ns → AllByRecursion (λ k. k < m) ns
+still_below n m [] le all = tt
+still_below n m (k ∷ ks) le all = (omega (arith, all.0, le), still_below n m ks le all.1)
+
+raised_names : (more : ℕ) (c : Configuration) → HasNames c → HasNames (raised more c)
+raised_names more c is = record { below = still_below c.next (c.next + more) (configuration_names c) (omega arith) is.below; twice = is.twice }
+
+pub quiet_too : QuietLaws → (rs : Rules) (c : Configuration) → HasNames c → IsRuleSet rs → IsTrue (is_over rs.symbols c)
+    → ((x : ℕ) → occurrences x (configuration_names c) ≡ 1 → x ≤ MAX_NAME) → IsQuiet rs.rules c → (next : ℕ) → IsQuiet rs.rules (record (renumbered c) { next = next })
+quiet_too laws rs c is set over low quiet next =
+    let net = laws.renumbered c low in
+    quiet_from laws rs.rules next (raised net.others (renumbered c))
+        (laws.same rs (raised net.more c) (raised net.others (renumbered c)) set over (raised_names net.more c is) net.same
+        (quiet_from laws rs.rules (c.next + net.more) c quiet))

@@ -1,0 +1,13 @@
+-- The worked example, by computing.
+use Rattle.std.proofs.Common.{◌≡◌, refl}
+use Rattle.ic_state.specs.Numbers.{eight_bytes}
+use Rattle.ic_state.specs.State.{state_bytes}
+use Rattle.ic_state.specs.Worked.{begun_by_hand, ended_by_hand, joins_begun, joins_ended}
+
+pub begun_bytes : state_bytes joins_begun ≡ begun_by_hand
+unfolding eight_bytes
+begun_bytes = refl
+
+pub ended_bytes : state_bytes joins_ended ≡ ended_by_hand
+unfolding eight_bytes
+ended_bytes = refl

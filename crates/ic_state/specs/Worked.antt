@@ -1,0 +1,61 @@
+-- Two states by hand, and their bytes field by field: the worked example of the form.
+use Rattle.std.specs.Prelude.{ℕ, List, [], ◌∷◌, ◌++◌, true, false, codes}
+use Rattle.ic_flat.specs.declared.word.Word.TheVariants.{Name, Agent}
+use Rattle.ic_state.specs.State.{Kept}
+
+-- the text `{A(x)><B(x)} <r|A(r)=B(C)>`, of which the symbols are `A` 0, `B` 1 and `C` 2, and the name `r` is 17
+abbrev pub joins : List ℕ
+joins = codes "{A(x)><B(x)} <r|A(r)=B(C)>"
+
+-- its state as it begins: `<r|A(r)=B(C)>`
+abbrev pub joins_begun : Kept
+joins_begun = record {
+  text = joins;
+  words = Name 17 ∷ Agent 0 1 ∷ Name 17 ∷ Agent 1 1 ∷ Agent 2 0 ∷ [];
+  terms = 1;
+  interactions = 0;
+  by_rule = 0 ∷ [];
+  ended = false;
+  millis = 0;
+}
+
+-- its state after its one interaction, and 1,027 milliseconds: `<C|>`
+abbrev pub joins_ended : Kept
+joins_ended = record {
+  text = joins;
+  words = Agent 2 0 ∷ [];
+  terms = 1;
+  interactions = 1;
+  by_rule = 1 ∷ [];
+  ended = true;
+  millis = 1027;
+}
+
+-- a number below 256 in eight bytes
+abbrev pub in_eight : ℕ → List ℕ
+in_eight n = 0 ∷ 0 ∷ 0 ∷ 0 ∷ 0 ∷ 0 ∷ 0 ∷ n ∷ []
+
+-- an agent with this symbol and so many arguments, both below 256
+abbrev pub agent_in_eight : (symbol arguments : ℕ) → List ℕ
+agent_in_eight symbol arguments = 0x80 ∷ 0 ∷ 0 ∷ arguments ∷ 0 ∷ 0 ∷ 0 ∷ symbol ∷ []
+
+-- `ICKEPT01`
+abbrev pub format_by_hand : List ℕ
+format_by_hand = 0x49 ∷ 0x43 ∷ 0x4b ∷ 0x45 ∷ 0x50 ∷ 0x54 ∷ 0x30 ∷ 0x31 ∷ []
+
+-- The 130 bytes: one term, no interaction, not ended, one rule, five words, no milliseconds; the rule hasn't fired.
+abbrev pub begun_by_hand : List ℕ
+begun_by_hand = format_by_hand
+    ++ in_eight 1 ++ in_eight 0 ++ in_eight 0 ++ in_eight 1 ++ in_eight 5 ++ in_eight 0
+    ++ in_eight 0
+    ++ in_eight 17 ++ agent_in_eight 0 1 ++ in_eight 17 ++ agent_in_eight 1 1 ++ agent_in_eight 2 0
+    ++ joins
+
+-- The 98 bytes: one term, one interaction, ended, one rule, one word, 1,027 milliseconds; the rule has fired once.
+abbrev pub ended_by_hand : List ℕ
+ended_by_hand = format_by_hand
+    ++ in_eight 1 ++ in_eight 1 ++ in_eight 1 ++ in_eight 1 ++ in_eight 1
+    ++ (0 ∷ 0 ∷ 0 ∷ 0 ∷ 0 ∷ 0 ∷ 4 ∷ 3 ∷ [])
+    ++ in_eight 1
+    ++ agent_in_eight 2 0
+    ++ joins

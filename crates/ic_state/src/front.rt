@@ -1,0 +1,31 @@
+//! What is said by the first bytes of a state.
+
+ghost use Rattle.std.specs.Prelude.{◌≡◌, ◌≢◌, ◌≤◌, ◌++◌, List, ℕ, Err, IfOk, length};
+ghost use Rattle.ic_state.specs.State.{Kept, IsHeadOf, IsKept, state_bytes};
+ghost use Rattle.ic_state.specs.declared.fault.StateFault.TheVariants.{NotAState};
+
+use crate::fault::StateFault;
+use crate::fields::numbers_at;
+use crate::form::{FORMAT, HEAD};
+use crate::state::StateHead;
+use std::alloc::Global;
+
+/// What is said by bytes with which a state begins, if they are 56 or more. Takes constant time.
+pub fn head_of(alloc: Global, bytes: &[u8]) -> Result<StateHead, StateFault>
+    ensures told { (kept : Kept) (rest : List ℕ) → IsKept kept → bytes.now ++ rest ≡ state_bytes kept
+        → IfOk result (λ head. IsHeadOf head kept) }
+    ensures refused { result ≡ Err NotAState → (kept : Kept) (rest : List ℕ) → IsKept kept
+        → 56 ≤ length bytes.now → bytes.now ++ rest ≢ state_bytes kept }
+{
+    let (head, _) = numbers_at(alloc, HEAD, bytes)?;
+    if head[0] != FORMAT || head[3] > 1 {
+        return Err(StateFault::NotAState);
+    }
+    Ok(StateHead {
+        interactions: head[2],
+        ended: head[3] == 1,
+        rules: head[4],
+        words: head[5],
+        millis: head[6],
+    })
+}

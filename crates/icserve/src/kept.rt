@@ -1,0 +1,220 @@
+//! What `inspect` tells of two files in which a reduction is kept.
+
+use crate::inspecting::open_to_read_as;
+use ic_args::ReportFormat;
+use ic_causes::{Cause, NotedOutput, Notes, Reason, Target};
+use ic_disk::DiskFault;
+use ic_exits::Failure;
+use ic_inspect::InspectFault;
+use ic_kept::{Front, HEAD, front_of};
+use ic_output::write_flushed;
+use ic_state::{StateFault, StateHead, head_of};
+use std::alloc::AllocError;
+use std::io::{self, Read};
+
+/// How many first bytes of a file are looked at: its head, and the first numbers of its state.
+const FRONT: u64 = HEAD + 56;
+
+/// With what a state begins.
+const FORMAT: &[u8] = b"ICKEPT01";
+
+/// The first bytes of both files; those of the second where it is there.
+#[derive(Debug, Drop)]
+pub(crate) struct Fronts {
+    first: Vec<u8>,
+    second: Option<Vec<u8>>,
+}
+
+/// What is seen of a file.
+#[derive(Clone, Copy, Debug)]
+enum Seen {
+    Missing,
+    CutOff,
+    NoState(Front),
+    State(Front, StateHead),
+}
+
+/// The first bytes of the file of this path and of its second file, if a state stands in the first.
+pub(crate) fn read_fronts(
+    rt: &HostRuntime,
+    path: &str,
+    notes: &Notes,
+) -> Result<Option<Fronts>, Failure> {
+    let first = read_front(rt, path, Target::File, notes)?;
+    if !has_format(&first) {
+        return Ok(None);
+    }
+    let second = format!(in rt.alloc(); "{path}.2").map_err(|_| memory())?;
+    let second = match read_front(rt, second.as_str(), Target::Second, notes) {
+        Ok(bytes) => Some(bytes),
+        Err(_) if is_missing(notes.last()) => None,
+        Err(failure) => return Err(failure),
+    };
+    Ok(Some(Fronts { first, second }))
+}
+
+/// Whether a state stands in a file that begins with these bytes.
+fn has_format(bytes: &[u8]) -> bool {
+    match bytes.get(HEAD as usize..) {
+        Some(state) => state.starts_with(FORMAT),
+        None => false,
+    }
+}
+
+/// Whether what has failed last is that a file isn't there.
+fn is_missing(cause: Option<Cause>) -> bool {
+    match cause {
+        Some(cause) => cause.reason == Reason::Missing,
+        None => false,
+    }
+}
+
+fn memory() -> Failure {
+    Failure::Inspect(InspectFault::Memory)
+}
+
+/// The first bytes of the file of this path.
+fn read_front(
+    rt: &HostRuntime,
+    path: &str,
+    target: Target,
+    notes: &Notes,
+) -> Result<Vec<u8>, Failure> {
+    let file = open_to_read_as(rt, path, target, notes).map_err(|_| Failure::Disk(DiskFault))?;
+    let mut bytes = Vec::new(rt.alloc());
+    match file.at(0).take(FRONT).read_to_end(&mut bytes) {
+        Ok(_) => Ok(bytes),
+        Err(_) => Err(Failure::Inspect(InspectFault::Read)),
+    }
+}
+
+/// Whether both are the same bytes.
+pub(crate) fn are_same(one: &Fronts, other: &Fronts) -> bool {
+    let seconds = match (&one.second, &other.second) {
+        (Some(one), Some(other)) => one.as_slice() == other.as_slice(),
+        (None, None) => true,
+        _ => false,
+    };
+    one.first.as_slice() == other.first.as_slice() && seconds
+}
+
+/// Prints what the files hold, by their first bytes.
+pub(crate) fn tell(
+    rt: &HostRuntime,
+    fronts: &Fronts,
+    format: ReportFormat,
+    notes: &Notes,
+) -> Result<(), Failure> {
+    let lines = lines_of(rt, fronts, format).map_err(|_| memory())?;
+    let mut output = NotedOutput::new(io::writer(rt), notes);
+    write_flushed(&mut output, lines.as_bytes()).map_err(|_| Failure::Inspect(InspectFault::Write))
+}
+
+/// The lines of what the files hold.
+fn lines_of(rt: &HostRuntime, fronts: &Fronts, format: ReportFormat) -> Result<String, AllocError> {
+    let first = see(rt, &fronts.first)?;
+    let second = match &fronts.second {
+        Some(bytes) => see(rt, bytes)?,
+        None => Seen::Missing,
+    };
+    let mut lines = String::new(rt.alloc());
+    lines.push_str(line_of(rt, 1, first, format)?.as_str())?;
+    lines.push_str(line_of(rt, 2, second, format)?.as_str())?;
+    let held = held_of(first, second);
+    let line = match format {
+        ReportFormat::Text => format!(in rt.alloc(); "held: {held}\n")?,
+        ReportFormat::Json => format!(in rt.alloc(); "{{\"held\":\"{held}\"}}\n")?,
+    };
+    lines.push_str(line.as_str())?;
+    Ok(lines)
+}
+
+/// What is seen of a file that begins with these bytes.
+fn see(rt: &HostRuntime, bytes: &[u8]) -> Result<Seen, AllocError> {
+    let Some(front) = front_of(bytes) else {
+        return Ok(Seen::CutOff);
+    };
+    match head_of(rt.alloc(), &bytes[HEAD as usize..]) {
+        Ok(head) => Ok(Seen::State(front, head)),
+        Err(StateFault::NotAState) => Ok(Seen::NoState(front)),
+        Err(StateFault::Memory) => Err(AllocError),
+    }
+}
+
+/// The line of what is seen of a file.
+fn line_of(
+    rt: &HostRuntime,
+    place: u32,
+    seen: Seen,
+    format: ReportFormat,
+) -> Result<String, AllocError> {
+    match format {
+        ReportFormat::Text => words_of(rt, place, seen),
+        ReportFormat::Json => object_of(rt, place, seen),
+    }
+}
+
+/// The gate in a word.
+fn gate_of(front: Front) -> &'static str {
+    if front.opened { "open" } else { "closed" }
+}
+
+fn words_of(rt: &HostRuntime, place: u32, seen: Seen) -> Result<String, AllocError> {
+    match seen {
+        Seen::Missing => format!(in rt.alloc(); "file {place}: missing\n"),
+        Seen::CutOff => format!(in rt.alloc(); "file {place}: cut off\n"),
+        Seen::NoState(front) => {
+            let (gate, number, size) = (gate_of(front), front.number, front.size);
+            format!(in rt.alloc(); "file {place}: {gate}, number {number}, size {size}, no state\n")
+        }
+        Seen::State(front, head) => {
+            let (gate, number, size) = (gate_of(front), front.number, front.size);
+            let ended = if head.ended { "ended" } else { "not ended" };
+            let (interactions, words) = (head.interactions, head.words);
+            let (rules, millis) = (head.rules, head.millis);
+            format!(in rt.alloc();
+                "file {place}: {gate}, number {number}, size {size}, {ended}, interactions {interactions}, words {words}, rules {rules}, milliseconds {millis}\n"
+            )
+        }
+    }
+}
+
+fn object_of(rt: &HostRuntime, place: u32, seen: Seen) -> Result<String, AllocError> {
+    match seen {
+        Seen::Missing => format!(in rt.alloc(); "{{\"file\":{place},\"state\":\"missing\"}}\n"),
+        Seen::CutOff => format!(in rt.alloc(); "{{\"file\":{place},\"state\":\"cut off\"}}\n"),
+        Seen::NoState(front) => {
+            let (gate, number, size) = (gate_of(front), front.number, front.size);
+            format!(in rt.alloc();
+                "{{\"file\":{place},\"state\":\"{gate}\",\"number\":{number},\"size\":{size}}}\n"
+            )
+        }
+        Seen::State(front, head) => {
+            let (gate, number, size) = (gate_of(front), front.number, front.size);
+            let (interactions, words, ended) = (head.interactions, head.words, head.ended);
+            let (rules, millis) = (head.rules, head.millis);
+            format!(in rt.alloc();
+                "{{\"file\":{place},\"state\":\"{gate}\",\"number\":{number},\"size\":{size},\"ended\":{ended},\"interactions\":{interactions},\"words\":{words},\"rules\":{rules},\"milliseconds\":{millis}}}\n"
+            )
+        }
+    }
+}
+
+/// The number of a file whose gate is open.
+fn open_number(seen: Seen) -> Option<u64> {
+    match seen {
+        Seen::State(front, _) | Seen::NoState(front) if front.opened => Some(front.number),
+        _ => None,
+    }
+}
+
+/// Which file has the state that is kept, by the heads of both.
+fn held_of(first: Seen, second: Seen) -> &'static str {
+    match (open_number(first), open_number(second)) {
+        (None, None) => "no slot",
+        (Some(one), Some(other)) if one == other => "two alike",
+        (Some(_), None) => "file 1",
+        (Some(one), Some(other)) if one > other => "file 1",
+        _ => "file 2",
+    }
+}
