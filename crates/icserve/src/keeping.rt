@@ -130,8 +130,12 @@ fn begin_in<'a>(
 fn look_at_second(rt: &HostRuntime, path: &str, notes: &Notes) -> Result<(), Failure> {
     match open_second(rt, path, false, notes) {
         Ok(mut second) => check_empty(&mut second),
-        Err(Failure::Disk(_)) if is_missing(notes.last()) => Ok(()),
-        Err(failure) => Err(failure),
+        Err(failure) => {
+            if is_missing(notes.last()) {
+                return Ok(());
+            }
+            Err(failure)
+        }
     }
 }
 

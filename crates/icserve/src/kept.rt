@@ -44,13 +44,22 @@ pub(crate) fn read_fronts(
     if !has_format(&first) {
         return Ok(None);
     }
-    let second = format!(in rt.alloc(); "{path}.2").map_err(|_| memory())?;
-    let second = match read_front(rt, second.as_str(), Target::Second, notes) {
-        Ok(bytes) => Some(bytes),
-        Err(_) if is_missing(notes.last()) => None,
-        Err(failure) => return Err(failure),
-    };
+    let second = read_second(rt, path, notes)?;
     Ok(Some(Fronts { first, second }))
+}
+
+/// The first bytes of the second file of this path, if it is there.
+fn read_second(rt: &HostRuntime, path: &str, notes: &Notes) -> Result<Option<Vec<u8>>, Failure> {
+    let second = format!(in rt.alloc(); "{path}.2").map_err(|_| memory())?;
+    match read_front(rt, second.as_str(), Target::Second, notes) {
+        Ok(bytes) => Ok(Some(bytes)),
+        Err(failure) => {
+            if is_missing(notes.last()) {
+                return Ok(None);
+            }
+            Err(failure)
+        }
+    }
 }
 
 /// Whether a state stands in a file that begins with these bytes.
