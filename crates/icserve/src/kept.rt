@@ -143,7 +143,10 @@ fn see(rt: &HostRuntime, bytes: &[u8]) -> Result<Seen, AllocError> {
     let Some(front) = front_of(bytes) else {
         return Ok(Seen::CutOff);
     };
-    match head_of(rt.alloc(), &bytes[HEAD as usize..]) {
+    let Some(state) = bytes.get(HEAD as usize..) else {
+        return Ok(Seen::CutOff);
+    };
+    match head_of(rt.alloc(), state) {
         Ok(head) => Ok(Seen::State(front, head)),
         Err(StateFault::NotAState) => Ok(Seen::NoState(front)),
         Err(StateFault::Memory) => Err(AllocError),
