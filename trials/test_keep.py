@@ -137,8 +137,12 @@ class Keep(Stops):
             run("reduce", "--resume", self.file, "--steps", most)
             told = self.inspected()
             self.equals(self.file, "what is told", (most, most == total), (told["interactions"], told["ended"]))
-        self.second.unlink()
-        self.runs("inspect", "--disk", self.file, out=[seen(1, self.contents()[0])[0], "file 2: missing", "held: file 1"])
+        # A file whose second one isn't there, as F.2 itself.
+        alone = "it is one of the two files of a reduction, and no disk: `icserve reduce --resume F` goes on with both"
+        for path in (self.second, self.file):
+            lines = [seen(1, path.read_bytes())[0], "file 2: missing", "held: file 1"]
+            self.runs("inspect", "--disk", path, out=lines, err=[f"{path}: {alone}"])
+            self.second.unlink(missing_ok=True)
 
     def test_what_is_not_asked_for_is_not_printed(self):
         self.runs("reduce", "--keep", self.file, "--quiet-answer", given=ackermann(2))
@@ -246,7 +250,7 @@ class Keep(Stops):
             ran = run("reduce", "--keep", self.file, given=text)
             told = (ran.status, ran.err, ran.behind.decode(), self.file.exists())
             process.kill()
-        wanted = (6, b"icserve: locked\n", f"{self.second}: lock: another server has it open\n", False)
+        wanted = (6, b"icserve: locked\n", f"{self.second}: lock: another process has it open\n", False)
         self.equals(ran.command, "the end", wanted, told)
 
     def test_the_file_is_named_of_which_a_call_has_failed(self):

@@ -89,7 +89,7 @@ pub enum Failure {
 impl Failure {
     /// The exit status of the program: 1 for a refused text, round, script or job and for a net that
     /// is too large, 2 for refused words, 3 for a disk, 5 for rounds or interactions that didn't
-    /// suffice, 6 for a disk that another server has, and 4 for all else.
+    /// suffice, 6 for a disk that another process has, and 4 for all else.
     pub fn status(&self) -> u8
         ensures { result ≡ status_of self.now }
     {

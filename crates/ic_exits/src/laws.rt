@@ -54,7 +54,7 @@ ghost use Rattle.ic_causes.specs.Causes.{cause_line, shown_path};
 
 /// The exit status is 2 for refused words, 1 for a refused text, round, script or job and for a net
 /// that is too large, 3 for a disk that isn't made or opened, 5 for rounds or interactions that
-/// didn't suffice, 6 for a disk that another server has, and 4 for all else.
+/// didn't suffice, 6 for a disk that another process has, and 4 for all else.
 pub fn statuses_are(text: &String)
     ensures words { status_of (Words (words.Words text.now)) ≡ 2 }
     ensures text { (fault : TextFault) → status_of (Stream (stream.Text fault)) ≡ 1 }

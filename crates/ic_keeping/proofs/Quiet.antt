@@ -44,5 +44,5 @@ pub quiet_too : QuietLaws → (rs : Rules) (c : Configuration) → HasNames c �
 quiet_too laws rs c is set over low quiet next =
     let net = laws.renumbered c low in
     quiet_from laws rs.rules next (raised net.others (renumbered c))
-        (laws.same rs (raised net.more c) (raised net.others (renumbered c)) set over (raised_names net.more c is) net.same
-        (quiet_from laws rs.rules (c.next + net.more) c quiet))
+    (laws.same rs (raised net.more c) (raised net.others (renumbered c)) set over (raised_names net.more c is) net.same
+    (quiet_from laws rs.rules (c.next + net.more) c quiet))

@@ -157,8 +157,8 @@ module _ (naming : NamingLaws) (laws : ReachingLaws) (s t : SystemParts) (sound 
 
   over : end ≡ Nodes → bounds.nodes < places + left
   over ended =
-      let more = r.reached.over ended in
-      omega (arith, more, r.reached.held.all, r.equations)
+      let entries = r.reached.over ended in
+      omega (arith, entries, r.reached.held.all, r.equations)
 
   pub answer_of : (most : Bounds) → most.nodes ≡ bounds.nodes → (end ≡ Steps → most.steps ≤ new.interactions) → IsAnswer s most end places left new
   answer_of most nodes steps = record {

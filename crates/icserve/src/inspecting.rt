@@ -38,7 +38,8 @@ pub(crate) fn inspect(
     Err(Failure::Inspect(InspectFault::Changed))
 }
 
-/// Prints what two files hold in which a reduction is kept, if two readings in turn give the same.
+/// Prints what two files hold in which a reduction is kept, if two readings in turn give the same. Standard error is told
+/// where the second file isn't there, as of one who names the second.
 fn inspect_kept(
     rt: &HostRuntime,
     path: &str,
@@ -52,7 +53,11 @@ fn inspect_kept(
             continue;
         };
         if kept::are_same(&seen, &again) {
-            return kept::tell(rt, &again, format, notes);
+            kept::tell(rt, &again, format, notes)?;
+            if again.is_alone() {
+                tell_other(rt, path);
+            }
+            return Ok(());
         }
         seen = again;
     }

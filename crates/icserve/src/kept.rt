@@ -25,6 +25,13 @@ pub(crate) struct Fronts {
     second: Option<Vec<u8>>,
 }
 
+impl Fronts {
+    /// Whether the second file isn't there.
+    pub(crate) fn is_alone(&self) -> bool {
+        self.second.is_none()
+    }
+}
+
 /// What is seen of a file.
 #[derive(Clone, Copy, Debug)]
 enum Seen {
