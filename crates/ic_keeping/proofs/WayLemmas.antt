@@ -1,5 +1,5 @@
 -- A reduction goes on: what was reached, and what is reached from there.
-use Rattle.std.proofs.Common.{◌≡◌, ℕ, ◌+◌, ◌<◌, ◌≤◌, ◌==◌, List, [], ◌∷◌, ◌++◌, true, false, Ok, length, count_by, refl, sym, ap, subst, ◌∙◌, arith}
+use Rattle.std.proofs.Common.{◌≡◌, ℕ, ◌+◌, ◌<◌, ◌≤◌, ◌==◌, List, [], ◌∷◌, ◌++◌, true, false, Ok, length, max, count_by, refl, sym, ap, subst, ◌∙◌, arith}
 use Rattle.std.proofs.lemmas.List.{length-append}
 use Rattle.std.proofs.lemmas.List.Sums.{sum_by-append}
 use Rattle.std.specs.Prelude.{◌↔◌, Bool, IsTrue, slice_index_or}
@@ -128,12 +128,12 @@ module _ (naming : NamingLaws) (laws : ReachingLaws) (s t : SystemParts) (sound 
 
 -- a piece within some bounds has ended so, and these are the bounds of the run
 ends_within : (rs : List Rule) (piece most : Bounds) (c : Configuration) (j entries n : ℕ) (end : End) → EndsBy rs piece c j end → (end ≡ Nodes → most.nodes < entries)
-    → (end ≡ Steps → most.steps ≤ n) → EndsWithin rs most c n entries end
-ends_within rs piece most c j entries n Quiet is nodes steps = is.0
-ends_within rs piece most c j entries n Steps is nodes steps = (is.1, steps refl)
-ends_within rs piece most c j entries n Nodes is nodes steps = nodes refl
-ends_within rs piece most c j entries n Limit is nodes steps = tt
-ends_within rs piece most c j entries n Memory is nodes steps = tt
+    → (end ≡ Steps → most.steps ≤ n) → (j < piece.steps → n < most.steps) → EndsWithin rs most c n entries end
+ends_within rs piece most c j entries n Quiet is nodes steps early = is.0
+ends_within rs piece most c j entries n Steps is nodes steps early = (is.1, steps refl)
+ends_within rs piece most c j entries n Nodes is nodes steps early = (nodes refl, early is.0)
+ends_within rs piece most c j entries n Limit is nodes steps early = early is
+ends_within rs piece most c j entries n Memory is nodes steps early = tt
 
 -- A state, a system that has its configuration, and the state after a piece.
 module _ (naming : NamingLaws) (laws : ReachingLaws) (s t : SystemParts) (sound : IsSound s) (k new : Kept) (is : IsStateOf s k)
@@ -160,13 +160,16 @@ module _ (naming : NamingLaws) (laws : ReachingLaws) (s t : SystemParts) (sound 
       let entries = r.reached.over ended in
       omega (arith, entries, r.reached.held.all, r.equations)
 
-  pub answer_of : (most : Bounds) → most.nodes ≡ bounds.nodes → (end ≡ Steps → most.steps ≤ new.interactions) → IsAnswer s most end places left new
-  answer_of most nodes steps = record {
+  pub answer_of : (most : Bounds) → most.nodes ≡ bounds.nodes → k.interactions + bounds.steps ≤ max most.steps k.interactions → (end ≡ Steps → most.steps ≤ new.interactions)
+      → IsAnswer s most end places left new
+  answer_of most nodes few steps = record {
     sound = sound;
     answer = answer;
     way = on_way;
-    ended = ends_within s.rules.rules bounds most answer j (places + left) new.interactions end ended_by (λ ended. omega (arith, over ended, nodes)) steps;
+    ended = ends_within s.rules.rules bounds most answer j (places + left) new.interactions end ended_by (λ ended. omega (arith, over ended, nodes)) steps
+        (λ early. omega (arith, few, sum, early));
     together = together;
+    ends = r.ends;
     written = new_written;
   }
 

@@ -17,7 +17,7 @@ use Rattle.ic_in_place.specs.declared.running.Bounds.{Bounds}
 use Rattle.ic_in_place.specs.declared.running.End.{End}
 use Rattle.ic_in_place.specs.declared.running.End.TheVariants.{Quiet, Steps, Nodes, Limit, Memory}
 use Rattle.ic_in_place.specs.Counting.{AreCounts}
-use Rattle.ic_in_place.specs.Reducing.{CanInteract, IsPutTogether}
+use Rattle.ic_in_place.specs.Reducing.{CanInteract, HasEnds, IsPutTogether}
 use Rattle.ic_state.specs.State.{Kept, IsKept, state_bytes}
 
 -- each of these counts is the sum of two others
@@ -63,12 +63,14 @@ abbrev pub EndsWithin : List Rule → Bounds → Configuration → (interactions
 EndsWithin rs bounds c interactions entries Quiet = IsQuiet rs c
 EndsWithin rs bounds c interactions entries Steps =
     CanInteract rs c × (bounds.steps ≤ interactions)
-EndsWithin rs bounds c interactions entries Nodes = bounds.nodes < entries
-EndsWithin rs bounds c interactions entries Limit = Unit {0}
+EndsWithin rs bounds c interactions entries Nodes =
+    (bounds.nodes < entries) × (interactions < bounds.steps)
+EndsWithin rs bounds c interactions entries Limit = interactions < bounds.steps
 EndsWithin rs bounds c interactions entries Memory = Unit {0}
 
 -- What a run ends with: the words of an answer with its names numbered anew, which is reached from the system's
--- configuration by the interactions that are told. This is why it ended.
+-- configuration by the interactions that are told. This is why it ended. Where no interaction is possible, or as many were
+-- made as may be, so many of its equations are no circles.
 pub record IsAnswer (s : SystemParts) (bounds : Bounds) (end : End) (places left : ℕ) (k : Kept)
     : Type 0 where
   pub sound : IsSound s
@@ -76,6 +78,7 @@ pub record IsAnswer (s : SystemParts) (bounds : Bounds) (end : End) (places left
   pub way : IsOnWay s answer k.interactions k.by_rule
   pub ended : EndsWithin s.rules.rules bounds answer k.interactions (places + left) end
   pub together : IsPutTogether answer
+  pub ends : (end ≡ Quiet) ⊎ (end ≡ Steps) → HasEnds answer left
   pub written : configuration_of k.words k.terms (MAX_NAME + 1) ≡ renumbered answer
 
 -- the bytes of a state of the reduction of this system

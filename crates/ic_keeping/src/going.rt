@@ -103,6 +103,7 @@ fn run_piece<C: Clock, V: Watch>(
         → IsStateOf s (kept_by state.old) → OnOk result (IsStateOf s (kept_by state.new)) }
     ensures answer { (s : SystemParts) (most : Bounds) → IsSound s → arc_value rules.now ≡ s.rules
         → IsStateOf s (kept_by state.old) → most.nodes ≡ bounds.nodes
+        → state.old.interactions + bounds.steps ≤ max most.steps state.old.interactions
         → IfOk result (λ piece. (piece.end ≡ End.Steps → most.steps ≤ state.new.interactions)
         → IsAnswer s most piece.end piece.places piece.left (kept_by state.new)) }
     ensures later { OnOk result (state.old.interactions ≤ state.new.interactions) }

@@ -93,7 +93,8 @@ returns-then-ends_run-clause-answer g c s is =
     let rules = c.in_ok-rules.ensures.rules s reads in
     let new = kept_by c.run_piece.new.state in
     let is_new : IsStateOf s new = c.in_ok-run.ensures.goes_on s sound rules (c.loop.invariant.state s is) in
-    c.in_ok-run.ensures.answer s c.args.bounds sound rules (c.loop.invariant.state s is) refl (c.ends_run.ensures c.if-ends_run.true)
+    c.in_ok-run.ensures.answer s c.args.bounds sound rules (c.loop.invariant.state s is) refl
+    (omega (arith, c.min.ensures, c.saturating_sub-left.ensures)) (c.ends_run.ensures c.if-ends_run.true)
 
 pub returns-then-ends_run-clause-state : goal.returns-then-ends_run-clause-state
 returns-then-ends_run-clause-state g c s is =

@@ -41,7 +41,7 @@ returns-clause-goes_on g c s sound rules is =
     piece.text piece.words piece.terms piece.interactions piece.by_rule quiet_laws piece.ended
 
 pub returns-clause-answer : goal.returns-clause-answer
-returns-clause-answer g c s most sound rules is nodes = λ steps.
+returns-clause-answer g c s most sound rules is nodes few = λ steps.
     let naming : NamingLaws = record {
       next = c.a_name_step_leads_to_one_net.ensures.next;
       net = c.a_renumbered_net_is_the_same_net.ensures.net;
@@ -67,7 +67,7 @@ returns-clause-answer g c s most sound rules is nodes = λ steps.
     (subst (λ (n : ℕ). IsAnswer s most reduced.end reduced.places n (kept_by c.take_in.new.state)) (sym piece.left)
     (answer_of naming laws s t sound (kept_by old) (kept_by c.take_in.new.state) is (c.in_ok-system.ensures.rules ∙ rules) interface equations c.in_ok-system.ensures.names c.in_ok-system.ensures.low
     c.args.bounds answer.0 reduced.end reduced.interactions reduced.places reduced.left reduced.by_rule.items answer.1 answer.2 reduced.words.items reduced.terms answer.4.written
-    piece.text piece.words piece.terms piece.interactions piece.by_rule most nodes (λ ended. steps (piece.end ∙ ended)))))
+    piece.text piece.words piece.terms piece.interactions piece.by_rule most nodes few (λ ended. steps (piece.end ∙ ended)))))
 
 pub returns-clause-within : goal.returns-clause-within
 returns-clause-within g c = omega (arith, c.in_ok-piece.ensures.interactions, c.in_ok-reduced.ensures.1.reached.within)
