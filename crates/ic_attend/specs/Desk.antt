@@ -6,7 +6,7 @@ use Rattle.ic_disk.specs.Images.{Within}
 use Rattle.ic_frames.specs.Fields.{IsMade}
 use Rattle.ic_term.specs.Configuration.{Configuration}
 use Rattle.ic_rules.specs.RuleSet.{Rules}
-use Rattle.ic_pool.specs.Flight.{FlightParts}
+use Rattle.ic_flights.specs.Flight.{FlightParts}
 use Rattle.ic_jobs.specs.declared.command.Command.{Command}
 use Rattle.ic_jobs.specs.declared.event.Entry.{Entry}
 use Rattle.ic_jobs.specs.declared.landed.Landed.{Landed}

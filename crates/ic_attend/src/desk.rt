@@ -1,14 +1,14 @@
 //! A book that threads share.
 
 ghost use Rattle.std.specs.Prelude.{IsTrue};
-ghost use Rattle.ic_pool.specs.Flight.{is_blocked};
+ghost use Rattle.ic_flights.specs.Flight.{is_blocked};
 ghost use Rattle.ic_jobs.specs.declared.reply.Reply.TheVariants as reply;
 ghost use Rattle.ic_attend.specs.Desk.{IsCommanded, IsLanded, IsTaken};
 
 use ic_book::{Book, BookFault};
 use ic_disk::Disk;
+use ic_flights::{Flight, Played};
 use ic_jobs::{Command, Landed, Reply};
-use ic_pool::{Flight, Played};
 use std::alloc::Global;
 use std::sync::{Mutex, Wait};
 

@@ -1,7 +1,7 @@
 //! A runner: it takes rounds, has its crew make them outside the lock, and lands them.
 
 ghost use Rattle.std.specs.Prelude.{◌≡◌, ◌≤◌, ◌+◌, IfErr, OnOk, true, false, if◌then◌else◌};
-ghost use Rattle.ic_pool.specs.Flight.{is_blocked};
+ghost use Rattle.ic_flights.specs.Flight.{is_blocked};
 ghost use Rattle.ic_attend.specs.declared.attended.RunnerEnd.TheVariants.{Pool as by_pool};
 ghost use Rattle.ic_attend.specs.Ends.{EndMayBe};
 ghost use Rattle.ic_attend.specs.inner.Crews.{EndMayBeWith, IsReadyFor, IsUnspent, StaysReady};
@@ -11,8 +11,9 @@ use crate::desk::Desk;
 use crate::signs::Signs;
 use ic_crew::Crew;
 use ic_disk::Disk;
+use ic_flights::{Flight, Played};
 use ic_jobs::Landed;
-use ic_pool::{Flight, Gate, Played, PoolFault};
+use ic_pool::{Gate, PoolFault};
 use std::alloc::Global;
 use std::sync::Wait;
 use std::thread;

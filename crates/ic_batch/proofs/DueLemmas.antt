@@ -3,7 +3,7 @@ use Rattle.std.proofs.Common.{◌≡◌, ⊎_elim, ℕ, ◌<◌, ◌≤◌, List
 use Rattle.std.specs.Prelude.{◌↔◌, IfNone, IfSome, nat_lt, slice_get}
 use Rattle.std.proofs.lemmas.Bool.{cases_lt}
 use Rattle.ic_disk.specs.declared.disk.Disk.{Ghosts}
-use Rattle.ic_pool.specs.Flight.{FlightParts}
+use Rattle.ic_flights.specs.Flight.{FlightParts}
 use Rattle.ic_jobs.specs.declared.event.Event.TheVariants.{Round}
 use Rattle.ic_jobs.specs.declared.state.State.{State}
 use Rattle.ic_jobs.specs.declared.state.State.TheVariants.{Running, Paused, Done, Halted, Spent}

@@ -1,7 +1,7 @@
 //! Entries that are added to a history, with the change of the table that they tell.
 
 ghost use Rattle.std.specs.Prelude.{◌≡◌, ◌<◌, ◌++◌, ◌∷◌, [], Ok, IfOk, OnErr, IsTrue, vec_len, vec_capacity};
-ghost use Rattle.ic_pool.specs.Flight.{is_blocked};
+ghost use Rattle.ic_flights.specs.Flight.{is_blocked};
 ghost use Rattle.ic_jobs.specs.Landing.{Awaits};
 ghost use Rattle.ic_jobs.specs.declared.event.Event.TheVariants.{Command as by_command};
 ghost use Rattle.ic_jobs.specs.declared.landed.Landed.TheVariants.{Moved};
@@ -9,8 +9,8 @@ ghost use Rattle.ic_jobs.specs.declared.reply.Reply.TheVariants as reply;
 ghost use Rattle.ic_book.specs.Entries.{AddsCommand, round_entry};
 ghost use Rattle.ic_book.specs.inner.Entering.{EntersRound};
 
+use ic_flights::{Flight, Played};
 use ic_jobs::{Command, Entry, Event, Landed, Reply, Table};
-use ic_pool::{Flight, Played};
 use ic_rules::JobName;
 use std::alloc::{AllocError, Global};
 

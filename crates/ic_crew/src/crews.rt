@@ -18,7 +18,8 @@ use crate::parcels::{Parcel, Returned};
 use crate::posts::{Line, Post, line_and_post};
 use ic_flat::Flat;
 use ic_flat_round::{filled, settle, works};
-use ic_pool::{Flight, MAX_ROUNDS, MAX_THREADS, Played, PoolFault, made_for};
+use ic_flights::{Flight, MAX_ROUNDS, Played, made_for};
+use ic_pool::{MAX_THREADS, PoolFault};
 use ic_round::{Fired, Work};
 use ic_rules::RuleSet;
 use std::alloc::{AllocError, Global};
@@ -47,7 +48,8 @@ impl Model for Crew {
 
 impl Crew {
     ghost use Rattle.std.specs.Prelude.{Err, min, false, ◌||◌};
-    ghost use Rattle.ic_pool.specs.Played.{played, round_of};
+    ghost use Rattle.ic_flights.specs.Played.{round_of};
+    ghost use Rattle.ic_pool.specs.Played.{played};
     ghost use Rattle.ic_pool.specs.declared.limits.TheConstants.{MAX_THREADS};
     ghost use Rattle.ic_crew.specs.Crews.{IsCrew, new_crew, crew_refusal, is_spent_by};
 

@@ -1,7 +1,8 @@
 //! A crew with its threads, as one value.
 
 use crate::threads::Standing;
-use ic_pool::{Flight, Played, PoolFault, play_alone};
+use ic_flights::{Flight, Played};
+use ic_pool::{PoolFault, play_alone};
 use std::alloc::Global;
 use std::marker::Model;
 use std::sync::Wait;
@@ -25,7 +26,7 @@ impl Model for Team {
 
 impl Team {
     ghost use Rattle.std.specs.Prelude.{◌≡◌, IfOk, OnOk};
-    ghost use Rattle.ic_pool.specs.Played.{round_of};
+    ghost use Rattle.ic_flights.specs.Played.{round_of};
     ghost use Rattle.ic_pool.specs.Workers.{ByWorkers, played_by};
     ghost use Rattle.ic_crew.specs.Teams.{standing_behind};
 

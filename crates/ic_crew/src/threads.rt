@@ -5,7 +5,8 @@ ghost use Rattle.std.specs.Prelude.{◌≡◌, ◌+◌, ◌≤◌, false, vec_le
 use crate::crews::Crew;
 use crate::posts::Post;
 use crate::standing::stand;
-use ic_pool::{Flight, OpenGate, Played, PoolFault};
+use ic_flights::{Flight, Played};
+use ic_pool::{OpenGate, PoolFault};
 use std::alloc::Global;
 use std::sync::Wait;
 use std::thread::{self, JoinHandle, Threads};
@@ -20,7 +21,8 @@ pub(crate) struct Standing {
 
 impl Standing {
     ghost use Rattle.std.specs.Prelude.{◌⊎◌, ◌<◌, min, IfOk, IfErr, OnOk};
-    ghost use Rattle.ic_pool.specs.Played.{played, round_of};
+    ghost use Rattle.ic_flights.specs.Played.{round_of};
+    ghost use Rattle.ic_pool.specs.Played.{played};
     ghost use Rattle.ic_pool.specs.declared.limits.TheConstants.{MAX_THREADS};
     ghost use Rattle.ic_pool.specs.declared.fault.PoolFault.TheVariants.{NoThread, Memory};
     ghost use Rattle.ic_crew.specs.Crews.{ByCrew};

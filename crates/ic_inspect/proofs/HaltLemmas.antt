@@ -5,7 +5,7 @@ use Rattle.ic_term.specs.Configuration.{configuration_nodes}
 use Rattle.ic_term.specs.declared.limits.TheConstants.{MAX_NEXT, MAX_NODES}
 use Rattle.ic_round.specs.Firing.{fired}
 use Rattle.ic_round.specs.Rounds.{has_names, is_small}
-use Rattle.ic_pool.specs.declared.limits.TheConstants.{MAX_ROUNDS}
+use Rattle.ic_flights.specs.declared.limits.TheConstants.{MAX_ROUNDS}
 use Rattle.ic_jobs.specs.Job.{JobParts, can_move}
 use Rattle.ic_jobs.specs.declared.state.State.{State}
 use Rattle.ic_jobs.specs.declared.state.State.TheVariants.{Running, Paused, Done, Halted, Spent}

@@ -4,7 +4,7 @@ use Rattle.std.specs.Prelude.{ℕ, ◌==◌, if◌then◌else◌, List, Option, 
 use Rattle.ic_term.specs.Configuration.{Configuration}
 use Rattle.ic_rules.specs.Rule.{Rule}
 use Rattle.ic_round.specs.Rounds.{has_names, is_small}
-use Rattle.ic_pool.specs.declared.limits.TheConstants.{MAX_ROUNDS}
+use Rattle.ic_flights.specs.declared.limits.TheConstants.{MAX_ROUNDS}
 use Rattle.ic_jobs.specs.declared.state.State.{State}
 use Rattle.ic_jobs.specs.declared.state.State.TheVariants as state
 use Rattle.ic_jobs.specs.Job.{JobParts}

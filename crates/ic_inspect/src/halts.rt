@@ -4,8 +4,8 @@ ghost use Rattle.std.specs.Prelude.{◌≡◌, IfOk};
 ghost use Rattle.ic_inspect.specs.Halts.{blocked_by, halt_of, halt_words, refused_by};
 
 use ic_flat_round::{fits, works};
+use ic_flights::MAX_ROUNDS;
 use ic_jobs::{Job, State};
-use ic_pool::MAX_ROUNDS;
 use ic_round::RoundFault;
 use std::alloc::{AllocError, Global};
 

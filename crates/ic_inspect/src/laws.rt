@@ -8,7 +8,7 @@ ghost use Rattle.ic_term.specs.Tree.{Pair};
 ghost use Rattle.ic_rules.specs.Rule.{Rule};
 ghost use Rattle.ic_round.specs.Firing.{fired, rule_of_sides};
 ghost use Rattle.ic_term.specs.declared.limits.TheConstants.{MAX_NEXT, MAX_NODES};
-ghost use Rattle.ic_pool.specs.declared.limits.TheConstants.{MAX_ROUNDS};
+ghost use Rattle.ic_flights.specs.declared.limits.TheConstants.{MAX_ROUNDS};
 ghost use Rattle.ic_jobs.specs.declared.state.State.TheVariants.{Done, Halted};
 ghost use Rattle.ic_disk.specs.Images.{Torn};
 ghost use Rattle.ic_codec.specs.Tables.{IsFormOf};

@@ -14,9 +14,10 @@ use crate::scripts::command_of;
 use ic_book::{Book, BookFault};
 use ic_commands::print_reply;
 use ic_disk::{Blow, FuseDisk, MemDisk, Then};
+use ic_flights::Flight;
 use ic_jobs::{Command, Entry, Event, Landed, Reply, Table};
 use ic_notation::{Trouble, bytes_of};
-use ic_pool::{Flight, play_alone};
+use ic_pool::play_alone;
 use ic_slots::create;
 use std::alloc::{AllocError, Global};
 

@@ -3,8 +3,8 @@
 use crate::answers::number_first;
 use crate::rounds::first_flight;
 use ic_crew::Crew;
+use ic_flights::Flight;
 use ic_notation::Trouble;
-use ic_pool::Flight;
 use std::alloc::{AllocError, Global};
 use std::sync::Wait;
 

@@ -11,7 +11,7 @@ use Rattle.ic_round.specs.Rounds.{fits, round, IsQuiet}
 use Rattle.ic_round.specs.Quiet.{is_quiet}
 use Rattle.ic_round.specs.lemmas.QuietLemmas.{no_step, is_quiet_where}
 use Rattle.ic_round.specs.lemmas.RoundLemmas.{round_is_configuration, round_is_over}
-use Rattle.ic_pool.specs.declared.limits.TheConstants.{MAX_ROUNDS}
+use Rattle.ic_flights.specs.declared.limits.TheConstants.{MAX_ROUNDS}
 use Rattle.ic_jobs.specs.declared.state.State.{State}
 use Rattle.ic_jobs.specs.declared.state.State.TheVariants.{Running, Paused, Done, Halted, Spent}
 use Rattle.ic_jobs.specs.inner.States.{is_done, is_spent, is_finished, may_be}

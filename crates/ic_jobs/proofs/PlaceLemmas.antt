@@ -12,9 +12,9 @@ use Rattle.ic_rules.specs.RuleSet.{Rules, rules_eq}
 use Rattle.ic_rules.specs.lemmas.RuleLaws.{rules_eq-Decides}
 use Rattle.ic_rules.specs.System.{SystemParts}
 use Rattle.ic_round.specs.Rounds.{fits, round}
-use Rattle.ic_pool.specs.Flight.{FlightParts, is_blocked}
-use Rattle.ic_pool.specs.Played.{PlayedParts, IsPlayed}
-use Rattle.ic_pool.specs.declared.limits.TheConstants.{MAX_ROUNDS}
+use Rattle.ic_flights.specs.Flight.{FlightParts, is_blocked}
+use Rattle.ic_flights.specs.Played.{PlayedParts, IsPlayed}
+use Rattle.ic_flights.specs.declared.limits.TheConstants.{MAX_ROUNDS}
 use Rattle.ic_jobs.specs.declared.limits.TheConstants.{MAX_JOBS}
 use Rattle.ic_jobs.specs.declared.state.State.{State}
 use Rattle.ic_jobs.specs.declared.state.State.TheVariants as state

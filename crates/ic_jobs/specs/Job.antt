@@ -9,7 +9,7 @@ use Rattle.ic_rules.specs.JobName.{is_job_name}
 use Rattle.ic_rules.specs.RuleSet.{Rules, AreServed, IsRuleSet, rules_eq, coded_rules}
 use Rattle.ic_rules.specs.System.{SystemParts}
 use Rattle.ic_round.specs.Rounds.{fits, round, IsQuiet}
-use Rattle.ic_pool.specs.declared.limits.TheConstants.{MAX_ROUNDS}
+use Rattle.ic_flights.specs.declared.limits.TheConstants.{MAX_ROUNDS}
 use Rattle.ic_jobs.specs.declared.state.State.{State}
 use Rattle.ic_jobs.specs.declared.state.State.TheVariants.{Running, Done, Spent}
 use Rattle.ic_jobs.specs.State.{state_eq}

@@ -4,7 +4,7 @@ use Rattle.std.specs.List.{position_from}
 use Rattle.std.specs.Option.{option_map, option_or}
 use Rattle.ic_term.specs.Configuration.{Configuration, configuration_eq}
 use Rattle.ic_rules.specs.RuleSet.{Rules, rules_eq}
-use Rattle.ic_pool.specs.Flight.{FlightParts}
+use Rattle.ic_flights.specs.Flight.{FlightParts}
 use Rattle.ic_jobs.specs.declared.state.State.TheVariants.{Running}
 use Rattle.ic_jobs.specs.State.{is_running}
 use Rattle.ic_jobs.specs.Job.{JobParts}

@@ -2,7 +2,7 @@
 use Rattle.std.specs.Prelude.{◌≡◌, ℕ, List, Some, slice_get}
 use Rattle.ic_term.specs.Configuration.{Configuration}
 use Rattle.ic_rules.specs.RuleSet.{Rules}
-use Rattle.ic_pool.specs.Flight.{FlightParts}
+use Rattle.ic_flights.specs.Flight.{FlightParts}
 use Rattle.ic_jobs.specs.declared.state.State.TheVariants.{Running}
 use Rattle.ic_jobs.specs.Job.{JobParts}
 use Rattle.ic_jobs.specs.Landing.{flight_of}

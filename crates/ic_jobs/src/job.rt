@@ -9,7 +9,7 @@ use crate::shown::ShownJob;
 use crate::state::State;
 use ic_flat::{Flat, FlatSystem, over};
 use ic_flat_round::{FlatRules, quiet};
-use ic_pool::{Flight, MAX_ROUNDS};
+use ic_flights::{Flight, MAX_ROUNDS};
 use ic_rules::{JobName, RuleSet};
 use std::alloc::{AllocError, Global};
 use std::marker::Model;

@@ -2,7 +2,7 @@
 
 ghost use Rattle.std.specs.Prelude.{◌≡◌, ◌↔◌, ◌+◌, ◌<◌, ◌≤◌, ℕ, List, [], ◌∷◌, ◌++◌, Option, Result, Ok, Err, None, Some, false, true, length, map, take};
 ghost use Rattle.std.specs.List.{flat_map, list_all, AllByRecursion};
-ghost use Rattle.ic_pool.specs.Flight.{FlightParts};
+ghost use Rattle.ic_flights.specs.Flight.{FlightParts};
 ghost use Rattle.ic_jobs.specs.declared.command.Command.{Command};
 ghost use Rattle.ic_jobs.specs.declared.event.Event.{Event};
 ghost use Rattle.ic_jobs.specs.declared.event.Event.TheVariants.{Round};

@@ -1,11 +1,12 @@
 -- What may be answered in place of a round or of its first refusal.
 use Rattle.std.proofs.Common.{◌≡◌, ◌↔◌, ◌⊎◌, inl, inr, ℕ, ◌<◌, Bool, true, false, not, ◌&&◌, ◌||◌, cond, Result, Ok, Err, IsTrue, is_ok, nat_eq, refl, sym, ap, subst, ◌∙◌, arith}
-use Rattle.ic_pool.specs.Flight.{FlightParts, is_blocked}
-use Rattle.ic_pool.specs.Played.{PlayedParts, played, round_of}
+use Rattle.ic_flights.specs.Flight.{FlightParts, is_blocked}
+use Rattle.ic_flights.specs.Played.{PlayedParts, round_of}
+use Rattle.ic_pool.specs.Played.{played}
 use Rattle.ic_pool.specs.PoolFault.{Answers, OfWorkers, asks_memory, is_of_workers}
 use Rattle.ic_pool.specs.Workers.{ByWorkers, played_by}
 use Rattle.ic_round.specs.Rounds.{is_small, has_names}
-use Rattle.ic_pool.specs.declared.limits.TheConstants.{MAX_ROUNDS}
+use Rattle.ic_flights.specs.declared.limits.TheConstants.{MAX_ROUNDS}
 use Rattle.ic_pool.specs.declared.fault.PoolFault.{PoolFault}
 use Rattle.ic_pool.specs.declared.fault.PoolFault.TheVariants.{NoWorkers, Overgrown, NamesOut, NoThread, Memory, Lost, Stranger, RoundsOut}
 use Rattle.ic_pool.proofs.Refusals.{answer, unequal_where}

@@ -3,11 +3,12 @@ use Rattle.std.proofs.Common.{◌≡◌, ◌≤◌, ◌<◌, ◌↔◌, ◌⊎�
 use Rattle.std.proofs.lemmas.Grind.{common_steps}
 use Rattle.std.specs.Cmp.{unsigned_Decides}
 use Rattle.ic_round.specs.Rounds.{is_small, has_names}
-use Rattle.ic_pool.specs.Flight.{FlightParts, is_blocked}
-use Rattle.ic_pool.specs.Played.{PlayedParts, played, round_of}
+use Rattle.ic_flights.specs.Flight.{FlightParts, is_blocked}
+use Rattle.ic_flights.specs.Played.{PlayedParts, round_of}
+use Rattle.ic_pool.specs.Played.{played}
 use Rattle.ic_pool.specs.PoolFault.{Answers, is_of_flight, is_of_workers}
 use Rattle.ic_pool.specs.Workers.{ByWorkers, played_by}
-use Rattle.ic_pool.specs.declared.limits.TheConstants.{MAX_ROUNDS}
+use Rattle.ic_flights.specs.declared.limits.TheConstants.{MAX_ROUNDS}
 use Rattle.ic_pool.specs.declared.fault.PoolFault.{PoolFault}
 use Rattle.ic_pool.specs.declared.fault.PoolFault.TheVariants.{NoWorkers, Overgrown, NamesOut, NoThread, Memory, Lost, Stranger, RoundsOut}
 

@@ -1,4 +1,3 @@
-pub mod Flight
 pub mod Played
 pub mod PoolFault
 pub mod Workers

@@ -1,6 +1,6 @@
 -- The refusals of a flight, and what the call that plays it in one thread answers.
 use Rattle.std.specs.Prelude.{◌≡◌, ℕ, List, [], ◌∷◌, Bool, true, false, not, Result, Ok, Err, IsTrue}
-use Rattle.ic_pool.specs.Played.{PlayedParts}
+use Rattle.ic_flights.specs.Played.{PlayedParts}
 use Rattle.ic_round.specs.declared.round_fault.RoundFault.{RoundFault}
 use Rattle.ic_round.specs.declared.round_fault.RoundFault.TheVariants as of_round
 use Rattle.ic_pool.specs.declared.fault.PoolFault.{PoolFault}

@@ -3,8 +3,9 @@ use Rattle.std.specs.Prelude.{◌≡◌, ℕ, List, Result, Ok, Err, IsTrue, is_
 use Rattle.ic_term.specs.Configuration.{Configuration}
 use Rattle.ic_rules.specs.Rule.{Rule}
 use Rattle.ic_round.specs.Rounds.{round, is_small, has_names}
-use Rattle.ic_pool.specs.Flight.{FlightParts}
-use Rattle.ic_pool.specs.Played.{PlayedParts, played}
+use Rattle.ic_flights.specs.Flight.{FlightParts}
+use Rattle.ic_flights.specs.Played.{PlayedParts}
+use Rattle.ic_pool.specs.Played.{played}
 use Rattle.ic_pool.specs.PoolFault.{asks_memory}
 use Rattle.ic_pool.specs.declared.fault.PoolFault.{PoolFault}
 use Rattle.ic_pool.specs.declared.fault.WorkerFault.{WorkerFault}

@@ -4,10 +4,8 @@ ghost use Rattle.ic_pool.specs.Played.{played};
 ghost use Rattle.ic_pool.specs.PoolFault.{Answers};
 
 use crate::fault::PoolFault;
-use crate::flight::Flight;
-use crate::limits::MAX_ROUNDS;
-use crate::played::Played;
 use ic_flat_round::Workspace;
+use ic_flights::{Flight, MAX_ROUNDS, Played, made_for};
 use std::alloc::Global;
 
 /// The round of a flight, made by the calling thread alone. Its faults are tried in the order
@@ -31,8 +29,5 @@ pub fn play_in(
         return Err(PoolFault::RoundsOut);
     }
     let after = workspace.next(alloc, flight.shared_rules(), flight.config())?;
-    let before = flight.shared_config().clone()?;
-    let rules = flight.shared_rules().clone()?;
-    let rounds = flight.rounds();
-    Ok(Played::new(alloc, flight.name(), rules, before, after, rounds)?)
+    Ok(made_for(alloc, flight, after)?)
 }

@@ -2,20 +2,20 @@
 
 ghost use Rattle.std.specs.Prelude.{◌≡◌, ◌^◌, ◌<◌, ◌≤◌, ◌↔◌, ◌⊎◌, ℕ, [], ◌∷◌, Result, Ok, Err, IsTrue, false, map};
 ghost use Rattle.std.specs.List.{Contains};
-ghost use Rattle.ic_pool.specs.Flight.{FlightParts, is_blocked};
+ghost use Rattle.ic_flights.specs.Flight.{FlightParts, is_blocked};
 ghost use Rattle.ic_term.specs.Configuration.{configuration_nodes};
 ghost use Rattle.ic_round.specs.Firing.{fired};
 ghost use Rattle.ic_round.specs.Rounds.{round};
-ghost use Rattle.ic_pool.specs.Played.{PlayedParts, played, round_of};
+ghost use Rattle.ic_flights.specs.Played.{PlayedParts, round_of};
+ghost use Rattle.ic_pool.specs.Played.{played};
 ghost use Rattle.ic_pool.specs.PoolFault.{Answers, OfWorkers, is_of_flight, is_of_workers, fault_number, all_faults};
 ghost use Rattle.ic_pool.specs.Workers.{ByWorkers, played_by};
 ghost use Rattle.ic_pool.specs.declared.fault.PoolFault.{PoolFault};
 ghost use Rattle.ic_pool.specs.declared.fault.PoolFault.TheVariants.{NoWorkers, Overgrown, NamesOut, Memory, RoundsOut};
-ghost use Rattle.ic_pool.specs.declared.limits.TheConstants.{MAX_ROUNDS, MAX_THREADS};
+ghost use Rattle.ic_pool.specs.declared.limits.TheConstants.{MAX_THREADS};
 
-/// The limits of rounds.
+/// The limit of threads.
 pub fn limits_are()
-    ensures rounds { MAX_ROUNDS ≡ 2 ^ 62 }
     ensures threads { MAX_THREADS ≡ 64 }
 {}
 

@@ -1,7 +1,4 @@
-//! Limits of rounds.
-
-/// Rounds of a job.
-pub const MAX_ROUNDS: u64 = 1 << 62;
+//! The limit of threads.
 
 /// Threads of one round.
 pub const MAX_THREADS: usize = 64;

@@ -2,19 +2,17 @@
 
 ghost use Rattle.std.specs.Prelude.{◌≡◌, ◌<◌, Err, IsTrue, IfOk};
 ghost use Rattle.ic_term.specs.Symbol.{is_over};
-ghost use Rattle.ic_pool.specs.Played.{round_of};
+ghost use Rattle.ic_flights.specs.Played.{round_of};
 ghost use Rattle.ic_pool.specs.Workers.{ByWorkers, played_by, round_or_refusal};
 ghost use Rattle.ic_pool.specs.declared.fault.PoolFault.TheVariants.{NoWorkers};
 
 use crate::batches::batches_of;
 use crate::fault::PoolFault;
-use crate::flight::Flight;
 use crate::gate::Gate;
-use crate::limits::MAX_ROUNDS;
-use crate::played::Played;
 use crate::workers::fire_by_workers;
 use ic_flat::Flat;
 use ic_flat_round::{filled, settle, works};
+use ic_flights::{Flight, MAX_ROUNDS, Played, made_for};
 use ic_rules::RuleSet;
 use ic_term::Config;
 use std::alloc::Global;
@@ -46,10 +44,7 @@ pub fn play<R: Threads + Wait, G: Gate>(
         return Err(PoolFault::RoundsOut);
     }
     let after = flat_round_by_workers(rt, alloc, flight.rules(), flight.config(), workers, gate)?;
-    let before = flight.shared_config().clone()?;
-    let rules = flight.shared_rules().clone()?;
-    let rounds = flight.rounds();
-    Ok(Played::new(alloc, flight.name(), rules, before, after, rounds)?)
+    Ok(made_for(alloc, flight, after)?)
 }
 
 /// The configuration after one round under these rules, made by threads of its own, as many as for

@@ -1,13 +1,14 @@
 //! Who makes the rounds of a serving, or of a loop of one's own.
 
 ghost use Rattle.std.specs.Prelude.{◌≡◌, ◌≤◌, IfOk};
-ghost use Rattle.ic_pool.specs.Played.{round_of};
+ghost use Rattle.ic_flights.specs.Played.{round_of};
 ghost use Rattle.ic_pool.specs.Workers.{ByWorkers, played_by};
 
 use crate::limits::FEW;
 use ic_crew::Team;
 use ic_flat_round::Workspace;
-use ic_pool::{Flight, Played, PoolFault, play_in};
+use ic_flights::{Flight, Played};
+use ic_pool::{PoolFault, play_in};
 use std::alloc::Global;
 use std::sync::Wait;
 use std::thread::Threads;

@@ -20,7 +20,7 @@ use crate::fault::ServeFault;
 use crate::makers::Makers;
 use ic_book::{Book, MAX_ENTRIES};
 use ic_disk::Disk;
-use ic_pool::Flight;
+use ic_flights::Flight;
 use std::alloc::Global;
 use std::sync::Wait;
 use std::thread::Threads;

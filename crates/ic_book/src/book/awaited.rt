@@ -1,7 +1,7 @@
 //! Rounds and halts that are awaited: nothing is compared as they come.
 
 ghost use Rattle.std.specs.Prelude.{◌≡◌, IfOk, IsTrue};
-ghost use Rattle.ic_pool.specs.Flight.{is_blocked};
+ghost use Rattle.ic_flights.specs.Flight.{is_blocked};
 ghost use Rattle.ic_jobs.specs.declared.landed.Landed.TheVariants.{Moved};
 ghost use Rattle.ic_jobs.specs.declared.reply.Reply.TheVariants as reply;
 ghost use Rattle.ic_jobs.specs.Landing.{Awaits};
@@ -15,8 +15,8 @@ use super::Book;
 use crate::BookFault;
 use crate::enter::{halt_entered, land_entered};
 use ic_disk::Disk;
+use ic_flights::{Flight, Played};
 use ic_jobs::Landed;
-use ic_pool::{Flight, Played};
 
 impl<D: Disk> Book<D> {
     /// Puts a round that is awaited, and answers `Moved`. Nothing is compared: who has held the book

@@ -8,7 +8,7 @@ ghost use Rattle.ic_book.specs.Calls.{TellsBroken};
 use super::Book;
 use crate::BookFault;
 use ic_disk::Disk;
-use ic_pool::Flight;
+use ic_flights::Flight;
 
 impl<D: Disk> Book<D> {
     /// The round that is due: the first running job at this place or after it, or else the first

@@ -1,7 +1,7 @@
 //! Halting a job whose round can't be made.
 
 ghost use Rattle.std.specs.Prelude.{IsTrue};
-ghost use Rattle.ic_pool.specs.Flight.{is_blocked};
+ghost use Rattle.ic_flights.specs.Flight.{is_blocked};
 ghost use Rattle.ic_jobs.specs.declared.reply.Reply.TheVariants as reply;
 ghost use Rattle.ic_jobs.specs.Landing.{Awaits};
 ghost use Rattle.ic_book.specs.Entries.{round_entry};
@@ -14,8 +14,8 @@ use super::Book;
 use crate::BookFault;
 use crate::enter::enter_halted;
 use ic_disk::Disk;
+use ic_flights::Flight;
 use ic_jobs::Landed;
-use ic_pool::Flight;
 
 impl<D: Disk> Book<D> {
     /// Halts a job whose round can't be made, if it is still as it was; else the flight is stale,

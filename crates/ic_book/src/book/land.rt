@@ -12,8 +12,8 @@ use super::Book;
 use crate::BookFault;
 use crate::enter::enter_played;
 use ic_disk::Disk;
+use ic_flights::Played;
 use ic_jobs::Landed;
-use ic_pool::Played;
 
 impl<D: Disk> Book<D> {
     /// Puts a round that was made, if its job is still as it was before the round; else the round

@@ -1,7 +1,7 @@
 //! Rounds of a table: which is due, and what lands.
 
 ghost use Rattle.std.specs.Prelude.{◌≡◌, ◌↔◌, IfOk, IsTrue, Some};
-ghost use Rattle.ic_pool.specs.Flight.{is_blocked};
+ghost use Rattle.ic_flights.specs.Flight.{is_blocked};
 ghost use Rattle.ic_jobs.specs.declared.event.Event.TheVariants.{Round};
 ghost use Rattle.ic_jobs.specs.declared.reply.Reply.TheVariants as reply;
 ghost use Rattle.ic_jobs.specs.declared.landed.Landed.TheVariants.{Moved, Stale};
@@ -13,7 +13,7 @@ use super::places::{awaited_place, due_place, place_of};
 use crate::landed::Landed;
 use crate::state::State;
 use ic_flat::Flat;
-use ic_pool::{Flight, Played};
+use ic_flights::{Flight, Played};
 use ic_rules::{JobName, RuleSet};
 use std::alloc::AllocError;
 

@@ -3,9 +3,10 @@ use Rattle.ic_term.specs.Configuration.{configuration_nodes}
 use Rattle.ic_term.specs.declared.limits.TheConstants.{MAX_NODES, MAX_NEXT}
 use Rattle.ic_round.specs.Firing.{fired}
 use Rattle.ic_round.specs.Rounds.{is_small, has_names}
-use Rattle.ic_pool.specs.Flight.{FlightParts}
-use Rattle.ic_pool.specs.Played.{PlayedParts, played, round_of}
-use Rattle.ic_pool.specs.declared.limits.TheConstants.{MAX_ROUNDS}
+use Rattle.ic_flights.specs.Flight.{FlightParts}
+use Rattle.ic_flights.specs.Played.{PlayedParts, round_of}
+use Rattle.ic_pool.specs.Played.{played}
+use Rattle.ic_flights.specs.declared.limits.TheConstants.{MAX_ROUNDS}
 use Rattle.ic_pool.proofs.Refusals.{out_where, overgrown_where, names_out_where, ok_is, equal_where, unequal_where, small_where, large_where}
 use Rattle.ic_pool.proofs.laws.refusals_come_in_order.Goals as goal
 

@@ -1,5 +1,5 @@
 use Rattle.std.proofs.Common.{subst, sym, ◌∙◌}
-use Rattle.ic_pool.specs.Played.{PlayedParts}
+use Rattle.ic_flights.specs.Played.{PlayedParts}
 use Rattle.ic_jobs.specs.Landing.{Awaits}
 use Rattle.ic_book.specs.Book.{table_of}
 use Rattle.ic_jobs.specs.declared.reply.Reply.TheVariants.{Moved, Halted}

@@ -24,7 +24,7 @@ pub struct Flight {
 
 impl Model for Flight {
     ghost use Rattle.std.specs.Arc.{arc_value};
-    ghost use Rattle.ic_pool.specs.Flight.{FlightParts, IsFlight, coded_flight};
+    ghost use Rattle.ic_flights.specs.Flight.{FlightParts, IsFlight, coded_flight};
 
     ghost Value = { FlightParts };
 
@@ -48,7 +48,7 @@ impl Model for Flight {
 }
 
 impl Flight {
-    ghost use Rattle.ic_pool.specs.Flight.{IsFlight, is_blocked};
+    ghost use Rattle.ic_flights.specs.Flight.{IsFlight, is_blocked};
 
     pub fn new(
         place: usize,

@@ -24,7 +24,7 @@ pub struct Played {
 
 impl Model for Played {
     ghost use Rattle.std.specs.Arc.{arc_value};
-    ghost use Rattle.ic_pool.specs.Played.{PlayedParts, IsPlayed, coded_played};
+    ghost use Rattle.ic_flights.specs.Played.{PlayedParts, IsPlayed, coded_played};
 
     ghost Value = { PlayedParts };
 
@@ -48,7 +48,7 @@ impl Model for Played {
 }
 
 impl Played {
-    ghost use Rattle.ic_pool.specs.Played.{IsPlayed};
+    ghost use Rattle.ic_flights.specs.Played.{IsPlayed};
 
     pub(crate) fn new(
         alloc: Global,

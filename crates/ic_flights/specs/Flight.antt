@@ -5,7 +5,7 @@ use Rattle.ic_term.specs.Symbol.{is_over}
 use Rattle.ic_term.specs.Configuration.{Configuration, coded_configuration}
 use Rattle.ic_rules.specs.RuleSet.{Rules, coded_rules}
 use Rattle.ic_round.specs.Rounds.{fits}
-use Rattle.ic_pool.specs.declared.limits.TheConstants.{MAX_ROUNDS}
+use Rattle.ic_flights.specs.declared.limits.TheConstants.{MAX_ROUNDS}
 
 -- A job's place in its table and its name, its rules and configuration, and how many rounds it has
 -- made.

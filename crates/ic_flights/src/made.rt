@@ -3,8 +3,8 @@
 ghost use Rattle.std.specs.Prelude.{◌≡◌, ◌<◌, IsTrue, IfOk};
 ghost use Rattle.ic_term.specs.Symbol.{is_over};
 ghost use Rattle.ic_round.specs.Rounds.{fits, round};
-ghost use Rattle.ic_pool.specs.Played.{round_of};
-ghost use Rattle.ic_pool.specs.declared.limits.TheConstants.{MAX_ROUNDS};
+ghost use Rattle.ic_flights.specs.Played.{round_of};
+ghost use Rattle.ic_flights.specs.declared.limits.TheConstants.{MAX_ROUNDS};
 
 use crate::flight::Flight;
 use crate::played::Played;

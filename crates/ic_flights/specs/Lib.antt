@@ -1,0 +1,2 @@
+pub mod Flight
+pub mod Played
