@@ -14,8 +14,8 @@ WORD = re.compile(rb"([A-Za-z0-9-]*)[ \t\r\n]*")
 COMMAND = "submit|copy|pause|resume|cancel|fetch|list|run"
 NAME = "[a-z][a-z0-9-]*"
 NUMBER = "0|[1-9][0-9]*"
-# What stands behind the first word of a line, word by word.
-BEHIND = {"submit": ["name", "budget", "system"], "copy": ["name", "name"], "list": [], "run": ["number"]}
+# What stands after the first word of a line, word by word.
+AFTER = {"submit": ["name", "budget", "system"], "copy": ["name", "name"], "list": [], "run": ["number"]}
 WORDS = {"command": COMMAND, "name": NAME, "budget": NUMBER, "number": NUMBER}
 SOUGHT = {
     "command": "a command is looked for here: submit, copy, pause, resume, cancel, fetch, list or run; a file with one text begins with { or <",
@@ -82,7 +82,7 @@ def own_words(line):
         if not re.fullmatch(WORDS[due[0]], word):
             return words, at, due[0]
         words.append((at, due[0], word))
-        due = BEHIND.get(word, ["name"]) if due[0] == "command" else due[1:]
+        due = AFTER.get(word, ["name"]) if due[0] == "command" else due[1:]
         at = found.end()
     return words, at, due[0] if due else "nothing"
 

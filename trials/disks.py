@@ -37,8 +37,8 @@ def table_by_hand():
 
 def old_form(table):
     """The old form of a table of one job without a budget, from the form that is written."""
-    behind_rounds = 4 + 1 + 1 + table[5] + 1 + 8
-    return b"ICT1" + table[4:behind_rounds] + table[behind_rounds + 8 :]
+    after_rounds = 4 + 1 + 1 + table[5] + 1 + 8
+    return b"ICT1" + table[4:after_rounds] + table[after_rounds + 8 :]
 
 
 def newest(data):

@@ -1,5 +1,5 @@
 """A small model of what several clients and runners leave together over one disk: which tables may be kept, one after the
-other, each behind one line of a client and any rounds. Clients use no job of another; a job that ends isn't paused."""
+other, each after one line of a client and any rounds. Clients use no job of another; a job that ends isn't paused."""
 
 from known import LOOP, STILL, TWO, Job, answered
 
@@ -52,8 +52,8 @@ def next_change(table, lines):
 
 
 def kept_next(table, rests, found):
-    """What is left of each client's lines where another table was kept behind this one; None where it can't have been. It is
-    kept behind a line that changed it, or at the end behind rounds alone."""
+    """What is left of each client's lines where another table was kept after this one; None where it can't have been. It is
+    kept after a line that changed it, or at the end after rounds alone."""
     before = moved_to(table, found)
     for place, lines in enumerate(rests):
         change = next_change(table, lines)

@@ -320,7 +320,7 @@ def read_system(text):
 
 
 def read_line(text, in_script=False):
-    """What a line asks: its first word, or `blank`, and what stands behind it. A script has no runs."""
+    """What a line asks: its first word, or `blank`, and what stands after it. A script has no runs."""
     reader = Reader(text)
     if reader.passes(""):
         return ("blank",)

@@ -1,5 +1,5 @@
 """A model of where in a text its refusal stands, and of what is told of it: a fault of syntax is at the first word, mark or other
-byte with which no text can go on, or at the end; a text that is too long is refused behind the last byte that it may have; a limit
+byte with which no text can go on, or at the end; a text that is too long is refused after the last byte that it may have; a limit
 is passed at the first word that does so, which may be the first of a rule or a term too many, or a node too many. A symbol has two
 arities at its first use with another one than before. A name that doesn't stand twice in a rule is told where it stands only there,
 or for the third time; a name of the configuration where it stands for the third time; a second rule of two symbols and a lopsided
@@ -24,12 +24,12 @@ FORMS = {"configuration": "<INTERFACE|EQUATIONS>", "system": "{RULES} <INTERFACE
 NO_ARGUMENTS = "a name has no arguments: names begin with a to z, and symbols, which may have them, with A to Z or 0 to 9"
 
 TERM = "a term is looked for here"
-BEHIND = {"(": TERM, ",": TERM, "=": TERM, "|": "a term or > is looked for here"}
-BEHIND_OF = {
+AFTER = {"(": TERM, ",": TERM, "=": TERM, "|": "a term or > is looked for here"}
+AFTER_OF = {
     "configuration": {"<": "a term or | is looked for here", ">": "nothing is looked for after a configuration"},
     "system": {"{": "a symbol or } is looked for here", ";": "a symbol is looked for here", "}": "< is looked for here"},
 }
-BEHIND_OF["system"] |= BEHIND_OF["configuration"]
+AFTER_OF["system"] |= AFTER_OF["configuration"]
 COMMENTS, NO_COMMENTS = (b"#", b"//", b"/*", b"--", b"(*"), "there are no comments; `icserve expand` takes out those that begin with #"
 ORDER_MARK, MARKED = b"\xef\xbb\xbf", "a byte order mark stands before the text: take it out"
 EQUATED = "the interface and | come before the equations: <r|Add(r,Z)=Z>"
@@ -124,7 +124,7 @@ class Reader:
 
 
 def limit_at(word, symbols):
-    """The sentence of the limit that a word passes behind these symbols, if it passes one."""
+    """The sentence of the limit that a word passes after these symbols, if it passes one."""
     _, text, form, arguments = word
     if form is NAME:
         number = 26 * int(text[1:] or b"0") + text[0] - ord("a")
@@ -221,21 +221,21 @@ def slip_of(text, at, front, word):
         return SYMBOLS
     if due and small and (stand_of(front) or " ")[0] in ("{", ";", "><"):
         return EXPANDED if re.match(rb"(copy|erase)[ \t\r\n]+[A-Za-z0-9-]", text[at:]) else RULE_SYMBOLS
-    behind = text[at + len(word) :].lstrip(b" \t\r\n")
+    after = text[at + len(word) :].lstrip(b" \t\r\n")
     named = re.search(r"(?<![A-Za-z0-9-])[a-z][A-Za-z0-9-]*$", front)
-    if due and small and behind.startswith(b"(") or text.startswith(b"(", at) and named:
+    if due and small and after.startswith(b"(") or text.startswith(b"(", at) and named:
         return NO_ARGUMENTS
     return NAMES if is_joined or due and small and not NAME.fullmatch(word) else None
 
 
-def sought_behind(front):
-    """What is looked for behind a term that ends a text, or None where no term stands there."""
+def sought_after(front):
+    """What is looked for after a term that ends a text, or None where no term stands there."""
     opens = "( or " if re.search(SYMBOL_LAST, front) else ""
     stand = stand_of(front)
     if not stand:
         return opens + ", or )"
-    mark, behind = stand
-    if mark == "=" and "," not in behind:
+    mark, after = stand
+    if mark == "=" and "," not in after:
         return opens + ", or >"
     sought = {"{": "><", ";": "><", "><": "; or }", "<": ", or |", "|": "=", "=": "="}.get(mark)
     return sought and opens + sought
@@ -243,7 +243,7 @@ def sought_behind(front):
 
 def sentence_of_syntax(text, at, kind):
     """What is said at the place of a fault of syntax. A text that begins otherwise may be of another kind, there are no comments,
-    and a word may be amiss. Rules are separated by semicolons, of which none ends them. Behind a mark and behind a term the sentence
+    and a word may be amiss. Rules are separated by semicolons, of which none ends them. After a mark and after a term the sentence
     tells what is looked for."""
     if at == len(text):
         if not text.strip(b" \t\r\n"):
@@ -275,7 +275,7 @@ def sentence_of_syntax(text, at, kind):
             return "rules are separated by ;"
         if here == "=" and stand[0] == "<":
             return EQUATED
-        sought = sought_behind(front)
+        sought = sought_after(front)
         return f"{sought} is looked for here" if sought else f"no {kind} goes on with this"
     if front[-1] + here == ">{" and not re.search(r"[{;][^{}<>|=;]*>$", front):
         return "the rules come before the configuration"
@@ -283,7 +283,7 @@ def sentence_of_syntax(text, at, kind):
         return "a symbol is looked for here"
     if re.search(r"[{;][^{}<>|=;]*>$", front):
         return "< is looked for here"
-    return (BEHIND | BEHIND_OF[kind]).get(front[-1], f"no {kind} goes on with this")
+    return (AFTER | AFTER_OF[kind]).get(front[-1], f"no {kind} goes on with this")
 
 
 def found(text, kind):
@@ -301,7 +301,7 @@ def found(text, kind):
 
 
 def told_at(text, at):
-    """Where a place is told: one at the end of a text behind its last byte that is no blank."""
+    """Where a place is told: one at the end of a text after its last byte that is no blank."""
     return len(text.rstrip(b" \t\r\n")) if at == len(text) else at
 
 
@@ -310,7 +310,7 @@ def shown(data):
 
 
 def told(text, kind):
-    """What stands on standard error behind the line of a text's refusal; nothing where it isn't refused. Of a text that is too
+    """What stands on standard error after the line of a text's refusal; nothing where it isn't refused. Of a text that is too
     long no more than one byte too many is read."""
     text = text[: MOST_BYTES + 1]
     fault = found(text, kind)
@@ -319,10 +319,10 @@ def told(text, kind):
     _, at, sentence = fault
     at = told_at(text, at)
     line, column = text[:at].count(b"\n") + 1, text[:at].split(b"\n")[-1]
-    behind = re.split(rb"\r?\n", text[at:])[0]
+    after = re.split(rb"\r?\n", text[at:])[0]
     before = shown(column) if len(column) <= 60 else b"..." + shown(column[-57:])
-    behind = shown(behind) if len(behind) <= 20 else shown(behind[:17]) + b"..."
+    after = shown(after) if len(after) <= 20 else shown(after[:17]) + b"..."
     characters = sum(not 128 <= it < 192 for it in column)
     head = f"line {line}, column {characters + 1}\n".encode()
     mark = b" " * len(before) + b"^"
-    return head + b"    " + before + behind + b"\n    " + mark + b"\n" + sentence.encode() + b"\n"
+    return head + b"    " + before + after + b"\n    " + mark + b"\n" + sentence.encode() + b"\n"

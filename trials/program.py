@@ -33,22 +33,22 @@ PATIENCE = float(os.environ.get("PATIENCE") or 120)
 
 class Ran(NamedTuple):
     """A run of the program that has ended. A signal that ended it is a negative status, as of `subprocess`. What stands on
-    standard error behind the line of a disk, of a text, of a net or of standard input stands by itself."""
+    standard error after the line of a disk, of a text, of a net or of standard input stands by itself."""
 
     command: str
     status: int
     out: bytes
     err: bytes
-    behind: bytes = b""
+    after: bytes = b""
 
 
-# The lines of standard error behind which a line tells of the disk's file.
+# The lines of standard error after which a line tells of the disk's file.
 OF_DISKS = [f"icserve: {it}\n".encode() for it in ("device", "locked", "broken", "no slot", "two alike", "damaged", "not empty", "full")]
 
-# The lines behind which a line tells how far a net has come that was reduced in place.
+# The lines after which a line tells how far a net has come that was reduced in place.
 OF_NETS = [b"icserve: overgrown", b"icserve: table full", b"icserve: memory"]
 
-# The lines behind which a line tells which round is refused.
+# The lines after which a line tells which round is refused.
 OF_ROUNDS = [b"icserve: overgrown", b"icserve: names out"]
 
 
@@ -62,17 +62,17 @@ def ran_with(command, status, out, err):
     place in a text."""
     if OF_BAD in err:
         ran = ran_with(command, status, out, err.replace(OF_BAD, b"", 1))
-        return ran._replace(behind=OF_BAD + ran.behind)
-    line, feed, behind = err.partition(b"\n")
-    of_disk = (line + feed in OF_DISKS or line.startswith(b"icserve: taken ")) and behind.count(b"\n") in (1, 2)
-    of_input = line == b"icserve: read" and behind.startswith(b"standard input: ") and behind.count(b"\n") == 1
-    of_text = line.startswith(b"icserve: bad ") and behind.startswith(b"line ") and behind.count(b"\n") == 4
-    of_net = line in OF_NETS and behind.startswith(b"interactions ") and behind.count(b"\n") in (1, 2)
-    of_round = line in OF_ROUNDS and behind.startswith(b"round ") and behind.count(b"\n") == 1
-    of_script = line.startswith(b"icserve: script ") and behind.count(b"\n") == 1
-    of_history = line == b"icserve: log full" and behind.startswith(b"the history holds ") and behind.count(b"\n") == 1
+        return ran._replace(after=OF_BAD + ran.after)
+    line, feed, after = err.partition(b"\n")
+    of_disk = (line + feed in OF_DISKS or line.startswith(b"icserve: taken ")) and after.count(b"\n") in (1, 2)
+    of_input = line == b"icserve: read" and after.startswith(b"standard input: ") and after.count(b"\n") == 1
+    of_text = line.startswith(b"icserve: bad ") and after.startswith(b"line ") and after.count(b"\n") == 4
+    of_net = line in OF_NETS and after.startswith(b"interactions ") and after.count(b"\n") in (1, 2)
+    of_round = line in OF_ROUNDS and after.startswith(b"round ") and after.count(b"\n") == 1
+    of_script = line.startswith(b"icserve: script ") and after.count(b"\n") == 1
+    of_history = line == b"icserve: log full" and after.startswith(b"the history holds ") and after.count(b"\n") == 1
     if of_disk or of_text or of_input or of_net or of_round or of_script or of_history:
-        return Ran(command, status, out, line + feed, behind)
+        return Ran(command, status, out, line + feed, after)
     return Ran(command, status, out, err)
 
 

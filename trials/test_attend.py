@@ -60,7 +60,7 @@ class Attend(Attending):
         words = self.attends(path, runners=1, turns=1_000_000)
         ran = self.refuses(*words, out=["client 0", *["jobs"] * 65_520, "accepted"], line="log full", status=4)
         told = "the history holds 65536 commands and rounds; all that was answered is kept, and a further call goes on from there\n"
-        self.equals(ran.command, "the second line", told, ran.behind.decode())
+        self.equals(ran.command, "the second line", told, ran.after.decode())
         self.leaves(words, loop=15)
 
     def test_64_scripts_and_scripts_of_no_command_and_of_the_most_are_answered(self):
@@ -145,7 +145,7 @@ class Attend(Attending):
                 ran = self.refuses(*self.attends(self.paths[0], path, disk=disk), line=line, status=1)
                 told, _ = of_line(path, number, lines[number - 1].encode(), in_script=True)
                 told = told or [f"{path}:{number}: bad limit: a script has at most 65536 commands"]
-                self.equals(ran.command, "the second line", "\n".join(told) + "\n", ran.behind.decode())
+                self.equals(ran.command, "the second line", "\n".join(told) + "\n", ran.after.decode())
         self.leaves(ran.command)
 
     def test_a_terminal_is_told_where_turns_may_pass_what_the_history_holds(self):

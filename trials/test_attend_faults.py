@@ -34,9 +34,9 @@ class AttendFaults(Attending):
         return number
 
     def end_of(self, ran):
-        """The status and the word of an end. Behind `read` stand the path of a script and the cause."""
-        word, _, behind = ran.err.decode()[9:-1].partition("\n")
-        is_of_script = word == "read" and any(behind.startswith(f"{it}: ") for it in self.paths)
+        """The status and the word of an end. After `read` stand the path of a script and the cause."""
+        word, _, after = ran.err.decode()[9:-1].partition("\n")
+        is_of_script = word == "read" and any(after.startswith(f"{it}: ") for it in self.paths)
         return ran.status, word if is_of_script else ran.err.decode()[9:-1]
 
     def have_come(self, *ends):
@@ -75,7 +75,7 @@ class AttendFaults(Attending):
                 self.equals(self.id(), f"at least 20 calls, came {number}", True, number > 20)
         self.have_come(*ends[:3], "stopped device", "stopped broken")
 
-    def test_a_keep_at_the_end_that_fails_is_device_behind_all_answers(self):
+    def test_a_keep_at_the_end_that_fails_is_device_after_all_answers(self):
         """With one client and one runner the calls on the disk come in a fixed order, the last of them those of the keep."""
         words = self.attends(self.script("loop", [f"submit loop {LOOP.text}"]), runners=1, turns=3)
         self.attended(words, env=shimmed(f"disk {10**9} once", self.log))

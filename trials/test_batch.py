@@ -98,8 +98,8 @@ class Batch(Trial):
                 self.refuses(*self.words(lines), line=line, status=1)
                 self.equals(line, "whether a disk was made", False, self.path.exists())
         ran = run("batch", "--disk", self.path, self.room / "none")
-        behind = f"{self.room / 'none'}: open: no such file or folder\n".encode()
-        self.equals(ran.command, "how it ends", (4, b"", b"icserve: read\n" + behind), (ran.status, ran.out, ran.err))
+        after = f"{self.room / 'none'}: open: no such file or folder\n".encode()
+        self.equals(ran.command, "how it ends", (4, b"", b"icserve: read\n" + after), (ran.status, ran.out, ran.err))
 
     def test_a_name_that_another_job_has(self):
         budget, rules, begin = (f"its job of this name {it}" for it in ("has another budget", "has other rules", "begins with another configuration"))
@@ -114,7 +114,7 @@ class Batch(Trial):
         ):
             with self.subTest(lines=lines):
                 ran = self.refuses(*self.words(lines), line=f"taken {name}", status=1)
-                self.equals(ran.command, "what is told behind", f"{self.path}: {words}\n".encode(), ran.behind)
+                self.equals(ran.command, "what is told after it", f"{self.path}: {words}\n".encode(), ran.after)
                 self.holds(self.path, begun)
         self.brings([submitted("two", TWO, 9), submitted("still", STILL)], [end_of("two", TWO, 9), end_of("still", STILL, 9)])
 
@@ -127,7 +127,7 @@ class Batch(Trial):
         ran = self.refuses(*self.words(lines), line="full", status=1)
         self.holds(self.path, before)
         words = f"{self.path}: it has jobs of other names, and no disk has more than 32\n"
-        self.equals(ran.command, "what is told behind", words.encode(), ran.behind)
+        self.equals(ran.command, "what is told after it", words.encode(), ran.after)
         self.serves(self.path, "cancel j7", ["ok"])
         self.brings(lines, [end_of("two", TWO, 9), end_of("loop", LOOP, 9)], "--rounds", "9")
 
@@ -136,7 +136,7 @@ class Batch(Trial):
         with Server(path) as server:
             self.answers(server, "list", "jobs")
             ran = self.refuses(*self.words([submitted("two", TWO)]), line="locked", status=6)
-            self.equals(ran.command, "what is told behind", f"{path}: lock: another process has it open\n".encode(), ran.behind)
+            self.equals(ran.command, "what is told after it", f"{path}: lock: another process has it open\n".encode(), ran.after)
             self.ends(server)
         self.brings([submitted("two", TWO)], [end_of("two", TWO, 9)])
 

@@ -1,4 +1,4 @@
-"""What standard error tells behind the line of a disk: the path, and why a call to the file has failed or what is wrong with
+"""What standard error tells after the line of a disk: the path, and why a call to the file has failed or what is wrong with
 it. The first lines and the statuses are tried in test_statuses.py and test_faults.py."""
 
 import os
@@ -16,9 +16,9 @@ NOT_AS_LEFT = "something else has changed the file, or it was copied in part"
 
 
 class Causes(Trial):
-    def tells(self, ran, line, behind):
-        """Fails unless a run ended with this line on standard error, and this one behind it."""
-        self.equals(ran.command, "standard error", (f"icserve: {line}\n", behind + "\n"), (ran.err.decode(), ran.behind.decode()))
+    def tells(self, ran, line, after):
+        """Fails unless a run ended with this line on standard error, and this one after it."""
+        self.equals(ran.command, "standard error", (f"icserve: {line}\n", after + "\n"), (ran.err.decode(), ran.after.decode()))
 
     def isnt_opened(self, path, cause, **how):
         """Fails unless the disk of this path is neither served nor dumped, with `device` and this cause, and nothing is printed."""
@@ -129,8 +129,8 @@ class Causes(Trial):
             ran = run("serve", "--disk", path, given=f"submit two {TWO.text}", env=shimmed(f"disk {number} once", log))
             if not was_refused(log):
                 break
-            if ran.behind:
-                told.add(ran.behind.decode().removeprefix(f"{path}: ").rstrip("\n"))
+            if ran.after:
+                told.add(ran.after.decode().removeprefix(f"{path}: ").rstrip("\n"))
         calls = {f"{call}: input/output error of the device" for call in ("open", "lock", "length", "seek", "read", "sync")}
         self.equals(ran.command, "what was told", {"write: no room left on the device", *calls}, told)
 
@@ -148,11 +148,11 @@ class Causes(Trial):
             for word in ("serve", "attend", "dump"):
                 self.tells(run(word, "--disk", path, given="list"), line, f"{path}: {NOT_AS_LEFT}")
 
-    def test_nothing_is_told_behind_other_lines(self):
+    def test_nothing_is_told_after_other_lines(self):
         path = self.disk()
         overgrown = "{A><B(C(C(D)))} <|A=B(P)," + "C(" * 8187 + "D" + ")" * 8187 + "=Q>"
         for words, given in ((["once"], overgrown), (["serve", "--disk", path], "x" * 300_000)):
             ran = run(*words, given=given)
-            self.equals(ran.command, "lines on standard error", (1, b""), (ran.err.count(b"\n"), ran.behind))
+            self.equals(ran.command, "lines on standard error", (1, b""), (ran.err.count(b"\n"), ran.after))
         with subprocess.Popen([PROGRAM, "serve"], stderr=subprocess.PIPE) as started:
             self.equals("serve", "the words", b"error: ", started.communicate()[1][:7])

@@ -218,13 +218,13 @@ class Check(Trial):
         folder = [f"{self.room}: read: is a folder"]
         pipe = [f"{self.room}/pipe: open: is a pipe"]
         told, _ = checked(faulty, text)
-        for paths, out, behind in (
+        for paths, out, after in (
             ([self.room / "missing"], [], missing),
             ([fine, self.room], [], folder),
             ([self.room / "pipe", faulty], told, pipe),
             ([self.room / "missing", faulty, self.room, fine, faulty], told + told, missing + folder),
         ):
-            self.runs("check", *paths, out=out, err=["icserve: read", *behind], status=4)
+            self.runs("check", *paths, out=out, err=["icserve: read", *after], status=4)
         how = self.without_rights()
         os.chmod(fine, 0o000)
         os.chmod(faulty, 0o444)

@@ -31,7 +31,7 @@ class Devices(Trial):
         """Fails unless each word refuses what looks as a device, and leaves it as it is. The file of a device is `path`."""
         for words, given in GIVEN:
             ran = run(*words, path, given=given, env=env)
-            told = (ran.status, ran.out, ran.err.decode(), ran.behind.decode())
+            told = (ran.status, ran.out, ran.err.decode(), ran.after.decode())
             wanted = (3, b"", "icserve: device\n", f"{path}: open: is a device\n")
             self.equals(ran.command, "how it ends", wanted, told)
             with open(path, "rb") as file:
@@ -91,7 +91,7 @@ class Standing(Trial):
         path, new = self.disk(), self.room / "new"
         self.runs("serve", "--disk", path, given=["list"], out=["jobs"], **opens_few(4))
         ran = run("create", "--disk", new, **opens_few(4))
-        told = (ran.status, ran.err.decode(), ran.behind.decode(), new.exists())
+        told = (ran.status, ran.err.decode(), ran.after.decode(), new.exists())
         wanted = (3, "icserve: device\n", f"{new}: open: error 24 of the system\n", False)
         self.equals(ran.command, "how it ends", wanted, told)
 
@@ -102,7 +102,7 @@ class Standing(Trial):
             ran = run(words, "--disk", path, env=shimmed("disk 1 once", log))
             self.equals(ran.command, "whether a call went wrong", True, was_refused(log))
             told = f"{path}{place}: open: input/output error of the device\n"
-            self.equals(ran.command, "what is told", (3, told), (ran.status, ran.behind.decode()))
+            self.equals(ran.command, "what is told", (3, told), (ran.status, ran.after.decode()))
 
     def test_what_stands_for_a_closed_stream_is_named_where_it_cant_be_opened(self):
         path, log = self.disk(), self.room / "log"
@@ -111,7 +111,7 @@ class Standing(Trial):
                 env = shimmed("disk 1 once", log)
                 ran = self.closed(closing, word, "--disk", path, env=env)
                 told = f"icserve: device\n{STAND_IN}: open: input/output error of the device\n"
-                self.equals(ran.command, "how it ends", (3, b"", told), (ran.status, ran.out, (ran.err + ran.behind).decode()))
+                self.equals(ran.command, "how it ends", (3, b"", told), (ran.status, ran.out, (ran.err + ran.after).decode()))
 
     def test_a_disk_is_never_opened_in_the_place_of_a_closed_stream(self):
         """Also where two are closed, and all three. What is written there goes nowhere."""

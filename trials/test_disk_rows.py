@@ -13,7 +13,7 @@ which bytes are a table, what servings find and leave on a disk, and what client
   has, `slot NUMBER` gate, number and length of a slot, `dump NAME ..` and `inspect` what the program tells, with `~n` between
   lines.
 - `stopped CHOICES WORD ; .. | LINE ; ..`: what is found where the power goes before each write and each sync of these lines over
-  a disk, or behind all: a letter of the table for each of these choices of what it leaves of the ranges written since the last
+  a disk, or after all: a letter of the table for each of these choices of what it leaves of the ranges written since the last
   sync, as `synced` for nothing, `written` for all, `fill255` for this byte everywhere, `front13` for so many bytes.
 - `crew WORKERS COUNT SYSTEM + ..`: the text and `next` after each of so many rounds, made by workers that stand. `each`: the same
   by 1, 2, 3, 7 and 64 workers.
@@ -77,7 +77,7 @@ def image_of(moment, choice):
 
 
 def moments_of(begun, calls):
-    """The moments before each write and each sync, and behind all."""
+    """The moments before each write and each sync, and after all."""
     synced, pending = begun, []
     yield Moment(synced, pending)
     for call in calls:
@@ -131,8 +131,8 @@ class Commands(Rows):
     def submitted(self):
         """The only job, as a line that submits it, without its rules."""
         ran = run("dump", "--disk", self.path)
-        head, _, behind = ran.out.decode().rstrip("\n").partition("{")
-        return head + behind.partition("}")[2].lstrip()
+        head, _, after = ran.out.decode().rstrip("\n").partition("{")
+        return head + after.partition("}")[2].lstrip()
 
     def done_by(self, line):
         """What a line does over a table in which one job runs and another is paused, in the words of a row."""

@@ -179,7 +179,7 @@ class DrawnAttend(ModelTrial):
             self.ended(ran, ["client 0", *("accepted" for _ in ending)])
             came = self.asks(self.path, [f"fetch {name}" for name in ending])
             wanted = [courses[name].shown[-1] for name in ending]
-            self.agrees(ran.command, "the jobs behind it", "\n".join(wanted), "\n".join(came))
+            self.agrees(ran.command, "the jobs after it", "\n".join(wanted), "\n".join(came))
 
     def test_scripts_with_faults(self):
         drawn = self.draws()

@@ -1,4 +1,4 @@
-"""Served lines in drawn order, over tables of all sizes and through stops: each answer, and the disk behind it."""
+"""Served lines in drawn order, over tables of all sizes and through stops: each answer, and the disk after it."""
 
 import draws
 import model

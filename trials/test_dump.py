@@ -97,7 +97,7 @@ class Dump(ModelTrial):
         with Server(self.path) as server:
             self.answers(server, "list", "jobs two:done:2 long:done:1")
             ran = self.refuses("dump", "--disk", self.path, line="locked", status=6)
-            self.equals(ran.command, "that the lock is told", True, b"another process has it open" in ran.behind)
+            self.equals(ran.command, "that the lock is told", True, b"another process has it open" in ran.after)
             self.ends(server)
         ran = self.refuses("dump", "--disk", self.room / "none", line="device", status=3)
         self.equals(ran.command, "that the file is missing", False, (self.room / "none").exists())

@@ -60,7 +60,7 @@ WORKED = {
 # A text, the place of its fault, and what is told of it.
 REFUSED = {
     "a line": ("submit two {A><B} <|A=B>", (1, 1), "text"),
-    "a line behind a comment": ("# a session\n\tlist # all\nrun 3\n", (2, 2), "text"),
+    "a line after a comment": ("# a session\n\tlist # all\nrun 3\n", (2, 2), "text"),
     "another byte": (" =<|>", (1, 2), "text"),
     "an unknown copier": ("{copy D} <|A=B>", (1, 7), "symbol"),
     "an unknown eraser": ("{ erase\nE} <|A=B>", (2, 1), "symbol"),
@@ -244,7 +244,7 @@ class Worked(Trial):
             with self.subTest(name=name_of):
                 ran = run("expand", given=text)
                 self.equals(ran.command, "how it ends", (1, b"", b"icserve: bad syntax\n"), (ran.status, ran.out, ran.err))
-                lines = ran.behind.decode().splitlines(keepends=True)
+                lines = ran.after.decode().splitlines(keepends=True)
                 self.equals(ran.command, "place and sentence", told(place, what), (lines[0], lines[-1]))
 
     def test_the_example_multiplies(self):
@@ -315,7 +315,7 @@ class Places(Trial):
                 word = "settle" if "{" not in text else "reduce"
                 ran = run(word, given=plain.out)
                 self.equals(ran.command, "the fault", f"icserve: {fault}\n".encode(), ran.err)
-                self.equals(ran.command, "its line", f"line {line},".encode(), ran.behind[: len(f"line {line},")])
+                self.equals(ran.command, "its line", f"line {line},".encode(), ran.after[: len(f"line {line},")])
 
 
 class Model(Trial):
@@ -332,7 +332,7 @@ class Model(Trial):
             body = re.sub(rb"#[^\n]*", b"", data)
             front = body[:at]
             column = len(front.rpartition(b"\n")[2].decode()) + 1
-            lines = ran.behind.decode().splitlines(keepends=True) or [""]
+            lines = ran.after.decode().splitlines(keepends=True) or [""]
             self.equals(ran.command, "how it ends", (1, b"", b"icserve: bad syntax\n"), (ran.status, ran.out, ran.err))
             self.equals(ran.command, "place and sentence", told((front.count(b"\n") + 1, column), what), (lines[0], lines[-1]))
             return False

@@ -98,7 +98,7 @@ class Faults(Stops):
         return self.in_turn("growth", ("once", "on"), attempt)
 
     def test_each_growth_over_a_file_of_a_text_is_refused_in_turn(self):
-        """A text that is answered, one that is refused, and a file that is missing: lines behind the first may be wanting."""
+        """A text that is answered, one that is refused, and a file that is missing: lines after the first may be wanting."""
         answered, refused = self.room / "answered", self.room / "refused"
         answered.write_text("<r|r=S(s),s=Z>")
         refused.write_text("<x|x=A(x)>")
@@ -264,8 +264,8 @@ class Faults(Stops):
             put(disk, slot(1, EMPTY))
             ran = run(*words, given=LOOPING, env=env)
             calls = [it.kind for it in noted(self.log)]
-            behind = calls[calls.index("E") + 1 :] if "E" in calls else []
-            self.equals(ran.command, f"writes and syncs after it went wrong: {call}", [], [it for it in behind if it in "WS"])
+            after = calls[calls.index("E") + 1 :] if "E" in calls else []
+            self.equals(ran.command, f"writes and syncs after it went wrong: {call}", [], [it for it in after if it in "WS"])
 
         for words in (["create", "--overwrite"], ["serve"], ["attend", "--runners", 0, script]):
             self.are(10, self.in_turn("disk", ["once"], lambda *it, words=words: attempt([*words, "--disk", disk], *it)))

@@ -67,13 +67,13 @@ class Files(Trial):
             alone = run(word, given=path.read_text())
             ran = run(word, path)
             self.equals(ran.command, "status", (1, b""), (ran.status, ran.out))
-            self.agrees(ran.command, "standard error", alone.err + f"{path}, ".encode() + alone.behind, ran.err)
+            self.agrees(ran.command, "standard error", alone.err + f"{path}, ".encode() + alone.after, ran.err)
         path = self.text("{A><B} <|A=")
         for words in (["once"], ["reduce"], ["reduce", "--rounds", "1"], ["trace"]):
             alone = run(*words, given=path.read_text())
             ran = run(*words, path)
             self.equals(ran.command, "status", (1, b""), (ran.status, ran.out))
-            self.agrees(ran.command, "standard error", alone.err + f"{path}, ".encode() + alone.behind, ran.err)
+            self.agrees(ran.command, "standard error", alone.err + f"{path}, ".encode() + alone.after, ran.err)
 
     def test_a_file_that_isnt_read_is_told_with_its_cause(self):
         within = self.text(CHAIN) / "more"
@@ -125,5 +125,5 @@ class Files(Trial):
         folder = os.open(self.room, os.O_RDONLY)
         self.addCleanup(os.close, folder)
         ran = run("check", "-", stdin=folder)
-        told = (ran.status, ran.out, ran.err, ran.behind)
+        told = (ran.status, ran.out, ran.err, ran.after)
         self.equals(ran.command, "how it ends", (4, b"", b"icserve: read\n", b"standard input: read: is a folder\n"), told)

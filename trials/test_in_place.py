@@ -173,10 +173,10 @@ class Bounds(InPlace):
         """A net that grows without end is cut by its bound of what it holds. Hands on what was printed."""
         ran = run("reduce", "--nodes", most, *words, given=DOUBLES, **how)
         self.equals(ran.command, "status and line", (1, b"icserve: overgrown\n"), (ran.status, ran.err))
-        told = REACHED.fullmatch(ran.behind)
+        told = REACHED.fullmatch(ran.after)
         made, places, left, bound = map(int, told.groups())
-        self.equals(ran.command, f"it is cut at the first look that finds too much: {ran.behind}", (0, most), (made % PIECE, bound))
-        self.equals(ran.command, f"there is more, but no more than a piece of a run adds: {ran.behind}", True, most < places + left <= most + 9 * PIECE + 8)
+        self.equals(ran.command, f"it is cut at the first look that finds too much: {ran.after}", (0, most), (made % PIECE, bound))
+        self.equals(ran.command, f"there is more, but no more than a piece of a run adds: {ran.after}", True, most < places + left <= most + 9 * PIECE + 8)
         return ran
 
     def test_a_net_that_grows_without_end_is_cut_by_its_bound(self):
@@ -188,18 +188,18 @@ class Bounds(InPlace):
         for most in (0, 20_000, 200_000):
             ran = run("reduce", "--nodes", most, given=PILES)
             self.equals(ran.command, "how it ends", (1, b"", b"icserve: overgrown\n"), (ran.status, ran.out, ran.err))
-            made, places, left, bound = map(int, REACHED.fullmatch(ran.behind).groups())
-            self.equals(ran.command, f"few places, and all equations: {ran.behind}", (True, 2 * made + 1, most), (places < 10, left, bound))
+            made, places, left, bound = map(int, REACHED.fullmatch(ran.after).groups())
+            self.equals(ran.command, f"few places, and all equations: {ran.after}", (True, 2 * made + 1, most), (places < 10, left, bound))
             before = places + 2 * (made - PIECE) + 1
             is_first = made % PIECE == 0 and most < places + left and (made == PIECE or before <= most)
-            self.equals(ran.command, f"it is cut at the first look that finds too much: {ran.behind}", True, is_first)
+            self.equals(ran.command, f"it is cut at the first look that finds too much: {ran.after}", True, is_first)
         whole = run("reduce", "--quiet-answer", "--steps", 30_000, given=PILES)
         self.equals(whole.command, "how it ends", (5, b"icserve: not done\n"), (whole.status, whole.err))
 
     def test_what_is_reached_is_printed_where_it_is_asked_for(self):
         ran = self.grows("--partial", most=20_000)
         interface, equations = nets.phrases_of(ran.out)
-        made = int(REACHED.fullmatch(ran.behind)[1])
+        made = int(REACHED.fullmatch(ran.after)[1])
         self.equals(ran.command, "terms of the interface and equations", (0, made + 1), (len(interface), len(equations)))
         again = self.grows("--partial", most=20_000)
         self.agrees(ran.command, "the same bytes a second time", ran.out, again.out)
@@ -211,8 +211,8 @@ class Bounds(InPlace):
             self.equals(ran.command, "status and line", (4, b"icserve: memory\n"), (ran.status, ran.err))
             if ran.out or not words:
                 self.agrees(ran.command, "standard output", b"", ran.out)
-                told = REACHED.fullmatch(ran.behind)
-                self.equals(ran.command, f"how far it came: {ran.behind}", True, bool(told) and int(told[1]) > 100_000)
+                told = REACHED.fullmatch(ran.after)
+                self.equals(ran.command, f"how far it came: {ran.after}", True, bool(told) and int(told[1]) > 100_000)
 
     def test_rounds_and_reducing_in_place_exclude_each_other(self):
         two = f"{ADD} <r|Add(r,S(Z))=S(Z)>"
@@ -360,8 +360,8 @@ class HardNets(InPlace):
             told, rest = figures_of(lines.err)
             for more in ([], ["--partial"], ["--quiet-answer"]):
                 ran = run("reduce", *more, "--format", "json", "--stats", *words, given=text)
-                came, behind = object_of(ran.err)
-                self.equals(ran.command, "status, end and what else is said", (status, end, rest), (ran.status, came["end"], behind))
+                came, after = object_of(ran.err)
+                self.equals(ran.command, "status, end and what else is said", (status, end, rest), (ran.status, came["end"], after))
                 self.equals(ran.command, "figures", told, {name: came[name] for name in told})
                 self.equals(ran.command, "fields", [it for it in fields if it in came], list(came)[:-1])
                 self.equals(ran.command, "whether name steps are told", end == "quiet", "name_steps" in came)
@@ -387,7 +387,7 @@ class HardNets(InPlace):
                 told = run("reduce", *words, *more, given=text)
                 quiet = run("reduce", "--quiet-answer", *words, *more, given=text)
                 self.equals(quiet.command, "standard output", b"", quiet.out)
-                self.equals(quiet.command, "status and what is told", (told.status, told.err, told.behind), (quiet.status, quiet.err, quiet.behind))
+                self.equals(quiet.command, "status and what is told", (told.status, told.err, told.after), (quiet.status, quiet.err, quiet.after))
                 self.equals(told.command, "status", status, told.status)
                 counted = run("reduce", "--quiet-answer", "--stats", *words, *more, given=text)
                 self.equals(counted.command, "standard output", b"", counted.out)
@@ -398,7 +398,7 @@ class HardNets(InPlace):
         for text in ("{A><B}", "<x|x=y>{", f"{ADD} <r|Add(r)=Z>"):
             told = run("reduce", given=text)
             ran = run("reduce", "--quiet-answer", "--stats", "--format=json", given=text)
-            self.equals(ran.command, "how it ends", (1, b"", told.err, told.behind), (ran.status, ran.out, ran.err, ran.behind))
+            self.equals(ran.command, "how it ends", (1, b"", told.err, told.after), (ran.status, ran.out, ran.err, ran.after))
 
     def test_places_are_used_again(self):
         """A net that stays small takes few places, however many interactions it makes."""
@@ -460,11 +460,11 @@ class Growths(InPlace):
                 told["well"] += 1
                 return
             self.equals(ran.command, f"status and line, where it went wrong: {call}", (4, b"icserve: memory\n"), (ran.status, ran.err))
-            told["between" if ran.behind else "before"] += 1
-            self.equals(ran.command, f"how far it came: {ran.behind}", True, not ran.behind or bool(REACHED.fullmatch(ran.behind)))
+            told["between" if ran.after else "before"] += 1
+            self.equals(ran.command, f"how far it came: {ran.after}", True, not ran.after or bool(REACHED.fullmatch(ran.after)))
             if ran.out:
                 told["printed"] += 1
-                self.equals(ran.command, "whether a net may be printed", True, bool(words and ran.behind))
+                self.equals(ran.command, "whether a net may be printed", True, bool(words and ran.after))
                 self.runs("reduce", given=f"{POWER} ".encode() + ran.out, out=answer)
 
         for words in ([], ["--partial"]):

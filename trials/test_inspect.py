@@ -112,7 +112,7 @@ class Inspect(ModelTrial):
     def isnt_read(self, path, cause, **how):
         """Fails unless the file of this path is refused, with `device` and this cause."""
         ran = self.refuses("inspect", "--disk", path, line="device", status=3, **how)
-        self.equals(ran.command, "the cause", f"{path}: {cause}\n", ran.behind.decode())
+        self.equals(ran.command, "the cause", f"{path}: {cause}\n", ran.after.decode())
 
     def test_disks_by_hand(self):
         self.runs("create", "--disk", self.path)
@@ -137,7 +137,7 @@ class Inspect(ModelTrial):
         )
 
     def test_done_jobs_are_told_with_the_first_pair_that_is_stuck(self):
-        """Jobs that are done with a pair without a rule: one from the start, and one after rounds, behind a free name. Of one that
+        """Jobs that are done with a pair without a rule: one from the start, and one after rounds, after a free name. Of one that
         is done without such a pair, and of those that aren't done, no pair is told."""
         self.runs("create", "--disk", self.path)
         lines = ["submit a {} <r|s=Z,B(x)=C(D),A=E>", "submit b {A><B(E)} <|x=A,A=B(F)>", "submit c {} <A,r|r=B(C)>"]
@@ -241,13 +241,13 @@ class Inspect(ModelTrial):
         self.path.write_bytes(whole[:SECOND])
         self.serves(self.path, ["list"], ["jobs"])
 
-    def test_bytes_behind_both_slots_are_not_looked_at(self):
+    def test_bytes_after_both_slots_are_not_looked_at(self):
         put(self.path, slot(1, EMPTY))
         lines = report(self.path.read_bytes())
         with open(self.path, "r+b") as file:
             file.truncate(LIMIT)
             file.seek(LIMIT)
-            file.write(b"behind both slots")
+            file.write(b"after both slots")
         self.tells(lines)
         with open(self.path, "r+b") as file:
             file.truncate(2**40)
@@ -288,7 +288,7 @@ class Inspect(ModelTrial):
                 break
             if ran.status:
                 self.equals(ran.command, "how it ends", (3, b"icserve: device\n", b""), (ran.status, ran.err, ran.out))
-                ends.add(ran.behind.decode().removeprefix(f"{self.path}: ").rstrip("\n"))
+                ends.add(ran.after.decode().removeprefix(f"{self.path}: ").rstrip("\n"))
         calls = {f"{call}: input/output error of the device" for call in ("open", "length", "read")}
         self.equals(ran.command, "what was told", calls, ends)
         self.ended(ran, out=lines)

@@ -151,7 +151,7 @@ class Keep(Stops):
             ran = run("reduce", "--keep", self.file, *words, given=church(14))
             self.equals(ran.command, "the end", (1, b"icserve: overgrown\n"), (ran.status, ran.err))
             told = b"the net is kept: `icserve reduce --resume F` goes on with it, given a greater --nodes\n"
-            self.equals(ran.command, "whether it is told that the net is kept", True, ran.behind.endswith(b"\n" + told))
+            self.equals(ran.command, "whether it is told that the net is kept", True, ran.after.endswith(b"\n" + told))
             self.equals(ran.command, "whether a line is printed", "--partial" in words, ran.out.count(b"\n") == 1)
         self.agree(run("reduce", "--resume", self.file, *FIGURES), self.whole(church(14)))
 
@@ -180,13 +180,13 @@ class Keep(Stops):
         before = self.contents()
         ran = run("reduce", "--keep", self.file, given=ackermann(2))
         self.equals(ran.command, "the end", (3, b"icserve: not empty\n"), (ran.status, ran.err))
-        self.equals(ran.command, "whether --resume is told of", True, b"`--resume F`" in ran.behind)
+        self.equals(ran.command, "whether --resume is told of", True, b"`--resume F`" in ran.after)
         self.equals(ran.command, "what the files hold", before, self.contents())
 
     def test_a_refused_text_makes_no_file(self):
         ran = run("reduce", "--keep", self.file, given="<r|r=")
         self.equals(ran.command, "the end", (1, b"icserve: bad syntax\n"), (ran.status, ran.err))
-        self.equals(ran.command, "whether its place is told", True, ran.behind.startswith(b"line 1"))
+        self.equals(ran.command, "whether its place is told", True, ran.after.startswith(b"line 1"))
         self.equals(ran.command, "files", [None, None], self.contents())
 
     def test_files_that_hold_no_reduction_are_refused(self):
@@ -196,12 +196,12 @@ class Keep(Stops):
         ran = run("reduce", "--resume", disk)
         self.equals(ran.command, "the end", (3, b"icserve: device\n"), (ran.status, ran.err))
         told = f"{disk}.2: open: no such file or folder\n{disk}: no reduction is kept in it, since its second file isn't there; "
-        self.equals(ran.command, "what is told of the second file", f"{told}--resume takes F, and not F.2\n", ran.behind.decode())
+        self.equals(ran.command, "what is told of the second file", f"{told}--resume takes F, and not F.2\n", ran.after.decode())
         for contents in ((b"", b""), (bytes(HEAD), bytes(HEAD)), (b"\1" * 40, b""), (b"\1" * 40, bytes(HEAD)), (b"text", b"text")):
             self.put(contents)
             ran = run("reduce", "--resume", self.file)
             self.equals(ran.command, f"status of {contents}; it said {ran.err}", 3, ran.status)
-            self.equals(ran.command, "whether it is told to begin again", True, ran.behind.endswith(b"begin again\n"))
+            self.equals(ran.command, "whether it is told to begin again", True, ran.after.endswith(b"begin again\n"))
             self.equals(ran.command, "what the files hold", list(contents), self.contents())
         # What is kept is read whole: a file that was cut, or whose state is another.
         self.clear()
@@ -222,7 +222,7 @@ class Keep(Stops):
                 ran = run(*words, path)
                 self.equals(ran.command, f"status; it said {ran.err}", 3, ran.status)
                 is_told = path.read_bytes()[HEAD : HEAD + 8] == b"ICKEPT01"
-                self.equals(ran.command, "whether --resume is told of", is_told, b"`icserve reduce --resume F`" in ran.behind)
+                self.equals(ran.command, "whether --resume is told of", is_told, b"`icserve reduce --resume F`" in ran.after)
         self.equals(self.file, "what the files hold", before, self.contents())
 
     def test_one_process_at_a_time(self):
@@ -248,7 +248,7 @@ class Keep(Stops):
             while not (self.second.exists() and self.second.stat().st_size > HEAD) and time.monotonic() < end:
                 time.sleep(0.01)
             ran = run("reduce", "--keep", self.file, given=text)
-            told = (ran.status, ran.err, ran.behind.decode(), self.file.exists())
+            told = (ran.status, ran.err, ran.after.decode(), self.file.exists())
             process.kill()
         wanted = (6, b"icserve: locked\n", f"{self.second}: lock: another process has it open\n", False)
         self.equals(ran.command, "the end", wanted, told)
@@ -263,7 +263,7 @@ class Keep(Stops):
             if not was_refused(self.log):
                 break
             if ran.status in (3, 4):
-                named.add(ran.behind.decode().split(": ")[0])
+                named.add(ran.after.decode().split(": ")[0])
         self.equals("the files", "those that are named", {str(self.file), str(self.second)}, named)
 
     def test_what_has_ended_is_answered_on_a_full_device(self):

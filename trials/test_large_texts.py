@@ -22,7 +22,7 @@ TOO_MANY_RULES = f"a system has at most {RULES} rules"
 TOO_LONG_RULES = f"the arguments of all rules together have at most {RULE_NODES} nodes"
 TOO_LONG_RULE = f"the arguments of one rule have at most {RULE_NODES} nodes"
 
-# Where a fault is and what it is, behind the first line of a refusal.
+# Where a fault is and what it is, after the first line of a refusal.
 PLACE = re.compile(rb"line (\d+), column (\d+)\n(?:.*\n){2}(.*)\n")
 
 
@@ -78,7 +78,7 @@ class Large(Trial):
         """Fails unless a text is refused at a limit, and the sentence of the limit is told at this place."""
         ran = run(*words, given=text)
         self.equals(ran.command, "status and first line", (1, b"icserve: bad limit\n", b""), (ran.status, ran.err, ran.out))
-        told = PLACE.fullmatch(ran.behind)
+        told = PLACE.fullmatch(ran.after)
         self.equals(ran.command, "line and sentence", (line, sentence.encode()), (int(told[1]), told[3]))
         if column is not None:
             self.equals(ran.command, "column", column, int(told[2]))
@@ -106,10 +106,10 @@ class Large(Trial):
         spoilt = lines + "\n;"
         ran = run("reduce", given=spoilt)
         self.equals(ran.command, "status and first line", (1, b"icserve: bad syntax\n"), (ran.status, ran.err))
-        told = PLACE.fullmatch(ran.behind)
+        told = PLACE.fullmatch(ran.after)
         self.equals(ran.command, "where it is", (spoilt.count("\n") + 1, 1), (int(told[1]), int(told[2])))
         ran = run("reduce", given="".join(text.split()) + ";")
-        self.equals(ran.command, "where it is", (1, len("".join(text.split())) + 1), tuple(map(int, PLACE.fullmatch(ran.behind).groups()[:2])))
+        self.equals(ran.command, "where it is", (1, len("".join(text.split())) + 1), tuple(map(int, PLACE.fullmatch(ran.after).groups()[:2])))
 
     def test_a_million_agents_one_in_the_other(self):
         for deep in (numeral(1_000_000), "P(" * 500_000 + "Z" + ",Z)" * 500_000):
@@ -205,7 +205,7 @@ class Large(Trial):
         text = "{} <" + ",".join(names + names) + ",a|>"
         ran = run("reduce", given=text)
         self.equals(ran.command, "status and first line", (1, b"icserve: bad name a\n"), (ran.status, ran.err))
-        self.equals(ran.command, "the column", len(text) - 2, int(PLACE.fullmatch(ran.behind)[2]))
+        self.equals(ran.command, "the column", len(text) - 2, int(PLACE.fullmatch(ran.after)[2]))
 
     def test_names_near_each_other_and_far_apart(self):
         drawn = self.draws()
@@ -235,7 +235,7 @@ class Large(Trial):
         wrong = next(it for it in symbols if arities[it] == 1 and f"{it}(" in text)
         ran = run("reduce", given=f"{{}} {text[:-2]},{wrong}|>")
         self.equals(ran.command, "status and first line", (1, b"icserve: bad arity\n"), (ran.status, ran.err))
-        self.equals(ran.command, "the column", len(text) + 3, int(PLACE.fullmatch(ran.behind)[2]))
+        self.equals(ran.command, "the column", len(text) + 3, int(PLACE.fullmatch(ran.after)[2]))
 
     def test_a_text_of_more_bytes_than_are_served(self):
         for count in (BYTES, BYTES + 1, 10 * BYTES):

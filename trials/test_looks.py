@@ -32,7 +32,7 @@ REFUSED = re.compile(rb"(.*)(overgrown|names out): (round \d+, nodes \d+(?:, at 
 # The formats of a trace, by the kinds of rows.
 SHOWN = {"trace": "tsv", "picture": "svg", "objects": "json"}
 
-# What a row tells behind the line of a reduced system.
+# What a row tells after the line of a reduced system.
 ENDS = re.compile(rb"(<.*>)\n(?:done \d+(?: stuck (?P<pair>.*))?|(?P<rest>not done))")
 
 
@@ -87,7 +87,7 @@ class Rows(Trial):
                 told = REFUSED.fullmatch(answer)
                 if told:
                     self.ended(ran, out=told[1], err=b"icserve: " + told[2] + b"\n", status=1)
-                    self.equals(ran.command, "which round is refused", told[3] + b"\n", ran.behind)
+                    self.equals(ran.command, "which round is refused", told[3] + b"\n", ran.after)
                 elif answer.startswith((b"round\t", b"<svg", b"{")):
                     self.ended(ran, out=answer)
                 else:
@@ -107,10 +107,10 @@ class Rows(Trial):
                     continue
                 refused += 1
                 self.ended(ran, out=told[1], err=b"icserve: " + told[2] + b"\n", status=1)
-                self.equals(ran.command, "which round is refused", told[3] + b"\n", ran.behind)
+                self.equals(ran.command, "which round is refused", told[3] + b"\n", ran.after)
                 plain = run("reduce", "--rounds", count, given=text)
                 self.ended(plain, err=ran.err, status=1)
-                self.equals(plain.command, "which round is refused", ran.behind, plain.behind)
+                self.equals(plain.command, "which round is refused", ran.after, plain.after)
                 made = int(told[3].split(b",")[0].split()[1]) - 1
                 self.runs("reduce", "--rounds", made, given=text, out=ran.out, err=["icserve: not done"], status=5)
         self.equals("reduce --partial", "how many rounds are refused", 2, refused)
@@ -123,7 +123,7 @@ class Rows(Trial):
                 word, *options = words
                 ran = run(word, "--rounds", 10**6, *options, given=text)
                 before = run(word, "--rounds", made, *options, given=text)
-                ends = (ran.status, ran.err, ran.out == before.out, ran.behind.startswith(f"round {made + 1}, nodes ".encode()))
+                ends = (ran.status, ran.err, ran.out == before.out, ran.after.startswith(f"round {made + 1}, nodes ".encode()))
                 self.equals(ran.command, "how it ends", (1, b"icserve: overgrown\n", True, True), ends)
                 self.equals(before.command, "status", 5 if word == "reduce" else 0, before.status)
 

@@ -23,7 +23,7 @@ def blocks_of(page):
 
 
 def typed_in(block):
-    """The commands of a block of a terminal, each with the lines that stand behind it."""
+    """The commands of a block of a terminal, each with the lines that stand after it."""
     commands = []
     for line in block:
         if line.startswith("$ "):
@@ -108,7 +108,7 @@ class Pages(Trial):
         block = next(it for it in blocks_of("docs/cluster.md") if it[0] == "#!/bin/sh")
         self.holds(TOP / "cluster/array.sbatch", "".join(f"{it}\n" for it in block))
 
-    def test_each_line_of_a_session_on_a_page_has_the_answer_behind_it(self):
+    def test_each_line_of_a_session_on_a_page_has_the_answer_after_it(self):
         for page in ("docs/serving.md", "docs/jobs.md"):
             block = next(it for it in blocks_of(page) if it[0].startswith("submit "))
             lines, answers = zip(*(re.split(r" {2,}", it, maxsplit=1) for it in block))

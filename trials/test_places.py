@@ -1,4 +1,4 @@
-"""What standard error tells behind the line of a refused text: the line and the column, the line of the text with a mark under
+"""What standard error tells after the line of a refused text: the line and the column, the line of the text with a mark under
 the place, and what is amiss there. The model of `places.py` says what is to be told. The first lines are tried in
 test_statuses.py."""
 
@@ -42,8 +42,8 @@ class Places(Trial):
         """Fails unless a text that this word refuses has the place of the model told, and another nothing."""
         kind = WORDS.get(word) or ("system" if text.lstrip(b" \t\r\n").startswith(b"{") else "configuration")
         ran = run(word, *(["--limits", "served"] if word == "reduce" else []), given=text)
-        self.agrees(ran.command, "what stands behind the first line", places.told(text, kind), ran.behind)
-        if ran.behind:
+        self.agrees(ran.command, "what stands after the first line", places.told(text, kind), ran.after)
+        if ran.after:
             first = b" ".join(ran.err.split(b" ")[:3]).strip()
             line = f"icserve: bad {places.found(text, kind)[0]}".encode()
             self.equals(ran.command, "status and first line", (1, line, b""), (ran.status, first, ran.out))
@@ -115,10 +115,10 @@ class Places(Trial):
         drawn = self.draws()
         for _ in range(100):
             rule_set, config = draws.system(drawn, drawn.choice([1, 2, 5]), drawn.choice([2, 3, 6]))
-            rules, behind, rest = draws.system_text(rule_set, config).partition("}")
+            rules, after, rest = draws.system_text(rule_set, config).partition("}")
             if drawn.random() < 0.3:
                 rules += (";" if rules.strip() != "{" else "") + drawn.choice(rules.strip(" {").split(";") + ["A(x,y)><A(x,y)"])
-            text = rules + behind + rest
+            text = rules + after + rest
             names = list(re.finditer(r"(?<![A-Za-z0-9])[a-z][0-9]*", text))
             for name in sorted(drawn.sample(names, min(len(names), drawn.choice([0, 1, 1, 2]))), key=lambda it: -it.start()):
                 text = text[: name.start()] + drawn.choice(names).group() + text[name.end() :]
@@ -138,10 +138,10 @@ class Places(Trial):
             text = b"<|" + end * 100_000 + b"\tA=B, " + b"Add(A,B)" * 20 + b">" + end
             ran = run("settle", given=text)
             line, column = (1, 100_017) if end == b"\r" else (100_001, 15)
-            self.agrees(ran.command, "the place", f"line {line}, column {column}", ran.behind.split(b"\n")[0])
+            self.agrees(ran.command, "the place", f"line {line}, column {column}", ran.after.split(b"\n")[0])
             self.tells("settle", text)
 
     def test_nothing_is_told_of_a_refused_round_and_of_other_faults(self):
         deep = "C(" * 8187 + "D" + ")" * 8187
         ran = run("once", given=f"{{A><B(C(C(D)))}} <|A=B(P),{deep}=Q>")
-        self.equals(ran.command, "status and lines", (1, 1, b""), (ran.status, ran.err.count(b"\n"), ran.behind))
+        self.equals(ran.command, "status and lines", (1, 1, b""), (ran.status, ran.err.count(b"\n"), ran.after))

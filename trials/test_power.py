@@ -114,7 +114,7 @@ class Power(Stops):
         self.file = self.room / "image.disk"
 
     def life(self, draw, begun, table):
-        """A life over a disk that holds a table: the run, the tables that it keeps in turn, how many of them are kept behind
+        """A life over a disk that holds a table: the run, the tables that it keeps in turn, how many of them are kept after
         each answer, and the moments."""
         every, disk, log = draw.choice((1, 2, 100)), self.room / "life.disk", self.room / "log"
         lines = [drawn_line(draw, 6, (0, 1, 2, 7)) for _ in range(LINES)]
@@ -125,15 +125,15 @@ class Power(Stops):
                 if line and server.answer() is None:
                     break
             ran = server.end()
-        kept, behind, answers = [table], [1], []
+        kept, after, answers = [table], [1], []
         for line in lines:
             more, table, answer = answered(table, line, every)
             kept += more
             if answer is not None:
                 answers.append(answer)
-                behind.append(len(kept))
+                after.append(len(kept))
         self.ended(ran, out=answers)
-        return ran, kept, behind, list(moments_of(begun, noted(log)))
+        return ran, kept, after, list(moments_of(begun, noted(log)))
 
     def attended_life(self, draw, begun, table):
         """A life in which scripts are attended, with runners beside them. The tables that it keeps are those that the program
@@ -155,7 +155,7 @@ class Power(Stops):
                 kept.append(self.table_in(moment.content()))
                 rests = kept_next(kept[-2], rests, kept[-1])
                 if rests is None:
-                    self.told(ran.command, f"what is kept of {scripts} behind", listed(kept[-2]), listed(kept[-1]))
+                    self.told(ran.command, f"what is kept of {scripts} afterwards", listed(kept[-2]), listed(kept[-1]))
         changes = [it for it in rests if next_change(kept[-1], it)]
         self.equals(ran.command, "lines that were told and aren't kept", [], changes)
         return ran, kept, [1] + [len(kept)] * ran.out.count(b"\n"), moments
@@ -182,27 +182,27 @@ class Power(Stops):
         content.write(self.file)
         return self.found(ran, self.file, tables)
 
-    def may_be_found(self, ran, moment, before, kept, behind):
+    def may_be_found(self, ran, moment, before, kept, after):
         """The tables that a loss of power at this moment may leave: the one that is kept, and the next while its slot is being
         opened. Until a life has made its first sync, those that were left to it."""
         if not moment.has_synced and moment.lines:
             self.told(ran.command, "a line was answered over what isn't there for good", "a sync first", moment.lines)
-        if moment.has_synced and moment.keeps + 1 < behind[moment.lines]:
-            wanted = f"{behind[moment.lines] - 1} keeps at {moment.lines} answers"
+        if moment.has_synced and moment.keeps + 1 < after[moment.lines]:
+            wanted = f"{after[moment.lines] - 1} keeps at {moment.lines} answers"
             self.told(ran.command, "a line was answered before what it left was kept for good", wanted, moment.keeps)
         return kept[moment.keeps :][: 1 + moment.is_opening] if moment.has_synced else before
 
     def lives(self, count, a_life):
-        """Life after life: each begins with what a loss of power has left, or a kill, behind which writes aren't there for
+        """Life after life: each begins with what a loss of power has left, or a kill, after which writes aren't there for
         good yet. Every image that a loss of power may leave holds what was answered."""
         draw, opened = self.draws(), 0
         begun, before, table = Moment(Content(slot(1, EMPTY), bytes(13), SECOND + 13), []), [()], ()
         for _ in range(count):
-            ran, kept, behind, moments = a_life(draw, begun, table)
+            ran, kept, after, moments = a_life(draw, begun, table)
             self.equals(ran.command, "how often it kept", len(kept) - 1, moments[-1].keeps)
             following = []
             for moment in moments:
-                tables = self.may_be_found(ran, moment, before, kept, behind)
+                tables = self.may_be_found(ran, moment, before, kept, after)
                 for _ in range(IMAGES if moment.pending else 1):
                     image = image_of(draw, moment)
                     found = self.found_in(ran, image, tables)

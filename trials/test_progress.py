@@ -118,7 +118,7 @@ class Progress(Trial):
         self.equals(self.command, f"no word of rounds in {shown}", False, b"rounds" in shown)
 
     def test_a_line_is_wiped_before_an_answer_or_a_fault_is_written(self):
-        """Standard output and error are one terminal: behind the answer of a run that showed a line stands no line."""
+        """Standard output and error are one terminal: after the answer of a run that showed a line stands no line."""
         status, _, _, shown, _ = self.shows(["serve", "--disk", self.jobs], [*LONG, "x" * 262_145])
         wanted = as_lines([*ANSWERS, "icserve: long line"])
         self.equals(self.command, "status", 4, status)

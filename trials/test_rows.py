@@ -73,7 +73,7 @@ class Texts(Trial):
         for name, kind, text, answer in rows("texts", "settle_told", "once_told"):
             with self.subTest(name=name, kind=kind):
                 ran = run(kind.removesuffix("_told"), given=expanded(text))
-                self.agrees(ran.command, "what is told after the first line", answer, ran.behind or b"nothing")
+                self.agrees(ran.command, "what is told after the first line", answer, ran.after or b"nothing")
 
     def test_each_row_that_is_read(self):
         for name, kind, text, answer in rows("texts", "config", "system"):
@@ -118,7 +118,7 @@ class Texts(Trial):
                 self.agrees(text, "the bytes", answer, dropped + (b" " + kept if kind == "byte" else b""))
 
     def test_each_row_of_a_place(self):
-        """Where a text ends too early, the place behind its last word is told."""
+        """Where a text ends too early, the place after its last word is told."""
         for name, kind, text, answer in rows("texts", "config_place", "system_place"):
             with self.subTest(name=name, kind=kind):
                 text = expanded(text)
@@ -128,7 +128,7 @@ class Texts(Trial):
                     place = len(text.rstrip()) if int(at) == len(text) else int(at)
                     line = text[:place].count(b"\n") + 1
                     wanted = b"line %d, column %d" % (line, place - text.rfind(b"\n", 0, place))
-                    self.agrees(ran.command, "the place", wanted, ran.behind.split(b"\n")[0])
+                    self.agrees(ran.command, "the place", wanted, ran.after.split(b"\n")[0])
                 self.agrees(ran.command, "the fault", fault.replace(b"none", b""), ran.err.removeprefix(b"icserve: ").rstrip())
 
     def test_each_row_that_is_checked(self):

@@ -79,7 +79,7 @@ class Session(Trial):
         self.serves(self.jobs, f"submit bad {TWO.text}", ["accepted"])
         for lines, is_told in ((["list", "fetch bad", "fetch b", "run 3", "fetch bad"], False), (["lists", "lists"], True), (["run 1001"], True)):
             ran = run("serve", "--disk", self.jobs, given=lines)
-            self.equals(ran.command, "what is told", (b"", OF_BAD if is_told else b""), (ran.err, ran.behind))
+            self.equals(ran.command, "what is told", (b"", OF_BAD if is_told else b""), (ran.err, ran.after))
 
     def test_help_is_told_the_lines_there_are(self):
         told = [f"line {number}, column {column}: bad syntax: {LINES}" for number, column in ((1, 1), (2, 3), (4, 1))]

@@ -22,7 +22,7 @@ class Standing(Stops):
 
     def asked(self, server, lines):
         """Gives lines to a server that runs, and fails unless they are answered as the small model has it. The numbers of its
-        threads behind each answer."""
+        threads after each answer."""
         threads = []
         for line, answer in zip(lines, self.answers_to(lines, 100)):
             self.answers(server, line, answer)
@@ -34,7 +34,7 @@ class Standing(Stops):
             with Server(self.disk(f"{workers}.disk"), "--workers", workers) as server:
                 threads = self.asked(server, LINES)
                 self.equals(server.said(), "threads before a round of 4,000 equations", [[server.process.pid]] * 3, threads[:3])
-                self.equals(server.said(), "threads behind it", workers + 1, len(threads[3]))
+                self.equals(server.said(), "threads after it", workers + 1, len(threads[3]))
                 self.equals(server.said(), "threads from then on", [threads[3]] * (len(LINES) - 3), threads[3:])
                 self.ends(server)
 
@@ -42,7 +42,7 @@ class Standing(Stops):
         for lines, words in ((SMALL, ("--workers", 64)), (LINES, ("--workers", 1))):
             with Server(self.disk(f"{len(lines)}.disk"), *words) as server:
                 threads = self.asked(server, lines)
-                self.equals(server.said(), "threads behind each answer", [[server.process.pid]] * len(lines), threads)
+                self.equals(server.said(), "threads after each answer", [[server.process.pid]] * len(lines), threads)
                 self.ends(server)
 
     def begun_and_joined(self, refused, workers, *ends):

@@ -212,7 +212,7 @@ class Disks(Trial):
             with self.subTest(case=i):
                 path = self.file("disk", data)
                 ran = self.refuses("create", "--disk", path, line="not empty", status=3)
-                self.agrees(ran.command, "what is told behind", f"{path}: {NOT_EMPTY}\n", ran.behind)
+                self.agrees(ran.command, "what is told after it", f"{path}: {NOT_EMPTY}\n", ran.after)
                 self.holds(path, data)
                 self.runs("create", "--disk", path, "--overwrite")
                 self.serves(path, "list", ["jobs"])
@@ -301,8 +301,8 @@ class Disks(Trial):
 
 class Servings(Trial):
     def isnt_read(self, ran, cause, out=b""):
-        """Fails unless a run ended with `read`, and this cause behind it, and had answered this."""
-        told = (ran.status, ran.out, ran.err.decode(), ran.behind.decode())
+        """Fails unless a run ended with `read`, and this cause after it, and had answered this."""
+        told = (ran.status, ran.out, ran.err.decode(), ran.after.decode())
         self.equals(ran.command, "how it ends", (4, out, "icserve: read\n", f"standard input: read: {cause}\n"), told)
 
     def test_read_where_standard_input_cant_be_read(self):
@@ -358,7 +358,7 @@ class Servings(Trial):
         for long in (" " * 262_141 + "list\nlist\n", " " * 262_145, "x" * 10_000_000):
             self.refuses("serve", "--disk", disk, given=f"list\n{long}", out=["jobs"], line="long line", status=4)
 
-    def test_too_many_lines_behind_the_1000000th(self):
+    def test_too_many_lines_after_the_1000000th(self):
         disk = self.disk()
         self.serves(disk, "\n" * 999_999 + "list\n", ["jobs"])
         for more in ("list\n", "list", "x" * 300_000):

@@ -78,7 +78,7 @@ class Slow(Trial):
         self.equals(ran.command, f"{writes} writes, at most 200", True, writes <= 200)
 
     def test_answers_go_out_before_a_run_and_before_a_command_that_is_kept(self):
-        """Of lines that were read together. The disk is written and synced behind what was answered before."""
+        """Of lines that were read together. The disk is written and synced after what was answered before."""
         log = self.room / "log"
         lines = [f"submit loop {LOOP.text}", "list", "run 7", "fetch loop", "pause loop", "no", "resume loop", "run 3", "list"]
         ran = run("serve", "--disk", self.disk(), given=lines, env=shimmed(log=log))
@@ -112,7 +112,7 @@ class Closed(Trial):
         self.closed([1], "serve", "--disk", disk, given=b"\n\n")
 
     def test_the_disk_is_never_opened_in_the_place_of_a_closed_stream(self):
-        """Whatever is closed: the disk is a disk behind it, and holds what it held and what was asked."""
+        """Whatever is closed: the disk is a disk after it, and holds what it held and what was asked."""
         for streams in ([0], [1], [2], [0, 1], [0, 2], [1, 2], [0, 1, 2]):
             disk = self.room / "closed.disk"
             self.closed(streams, "create", "--disk", disk, "--overwrite")

@@ -20,7 +20,7 @@ use Rattle.clap.specs.declared.error.ErrorKind.TheVariants as kind
 use Rattle.clap.specs.declared.parser.matches.ValueSource.TheVariants.{CommandLine}
 use Rattle.ic_args.specs.Lines.{HasNoHyphen}
 use Rattle.ic_args.specs.Words.{file_named}
-use Rattle.ic_args.proofs.LineRows.{IsFoundRow, found_in, found_last, found_more, row_behind}
+use Rattle.ic_args.proofs.LineRows.{IsFoundRow, found_in, found_last, found_more, row_after}
 use Rattle.ic_args.proofs.OneValue.{Each, Good, Passes, at_end}
 use Rattle.ic_args.proofs.Options.{Fits, no_default, other_values}
 use Rattle.ic_args.proofs.OptionLines.{found_all, is_held, none_stays}
@@ -105,7 +105,7 @@ found_after id before rows (inr grew) name value found =
 pub none_after : (id : Text) (before rows : List Row) → Grew id before rows → (name : Text) → bytes_eq id name ≡ false → has_row name before ≡ false → has_row name rows ≡ false
 none_after id before rows (inl same) name other none = ap (has_row name) same ∙ none
 none_after id before rows (inr grew) name other none =
-    ap (has_row name) grew.2 ∙ row_behind name before grew.0 none (ap (λ (t : Text). bytes_eq t name) grew.1 ∙ other)
+    ap (has_row name) grew.2 ∙ row_after name before grew.0 none (ap (λ (t : Text). bytes_eq t name) grew.1 ∙ other)
 
 -- ---- what is found of it at the end
 

@@ -99,7 +99,7 @@ one_of_all (y ∷ ys) p q x is all = go (p y) (one_of_all ys p q x) is
 pub apart_other_way : (a b : Text) → bytes_eq a b ≡ false → bytes_eq b a ≡ false
 apart_other_way a b is = other_texts b a (λ same. true≢false (sym (same_texts a b (sym same)) ∙ is))
 
--- an option differs from those behind it, and from what stands after them
+-- an option differs from those after it, and from what stands after them
 pub apart_parts : (x : Choice) (xs : List Choice) (aside : Text) → are_apart (x ∷ xs) aside ≡ true
     → (differ (name_of x) xs ≡ true) × (bytes_eq (name_of x) aside ≡ false) × (are_apart xs aside ≡ true)
 apart_parts x xs aside apart =
@@ -191,15 +191,15 @@ module _ (more : List Rule) where
   rule_by_long (an_option n kind default needed ∷ xs) name y is =
       pick_long (bytes_eq n name) (an_option n kind default needed) y (choice_named name xs) _ (rule_by_long xs name y) is
 
-  -- what stands after the options is found behind them
+  -- what stands after the options is found after them
   pub rule_by_index : (options : List Choice) → arg_by_index (map built_choice options ++ more) 1 ≡ arg_by_index more 1
   rule_by_index [] = refl
   rule_by_index (a_flag n ∷ xs) = rule_by_index xs
   rule_by_index (an_option n kind default needed ∷ xs) = rule_by_index xs
 
-  pub rule_behind : (options : List Choice) (aside : Text) → differ aside options ≡ true → arg_by_id (map built_choice options ++ more) aside ≡ arg_by_id more aside
-  rule_behind [] aside apart = refl
-  rule_behind (x ∷ xs) aside apart =
+  pub rule_after : (options : List Choice) (aside : Text) → differ aside options ≡ true → arg_by_id (map built_choice options ++ more) aside ≡ arg_by_id more aside
+  rule_after [] aside apart = refl
+  rule_after (x ∷ xs) aside apart =
       let parts = differ_parts aside x xs apart in
       ap (λ (b : Bool). cond b (Some (built_choice x)) (arg_by_id (map built_choice xs ++ more) aside)) (ap (λ (t : Text). bytes_eq t aside) (id_is x) ∙ parts.0)
-      ∙ rule_behind xs aside parts.1
+      ∙ rule_after xs aside parts.1

@@ -19,7 +19,7 @@ use Rattle.ic_args.specs.Lines.{ArePlain, AreWrittenBy, Given, Gives, HasFlag, H
 use Rattle.ic_args.specs.inner.Asking.{IsMet}
 use Rattle.ic_args.proofs.Accepted.{accepted}
 use Rattle.ic_args.proofs.Arguments.{HaveNoDefault, IsGivenBy, IsPlainWord, ReadsArgument, first_shown, found_after, hyphen_alone, many_read, no_hyphen, none_after, none_first, none_kept, none_read, one_argument, one_read, plain_word, range_none, range_some, same_id, several_argument, shown_of}
-use Rattle.ic_args.proofs.Entries.{IsSound, after_options, apart_parts, are_apart, aside_differs, both_true, built_choice, choice_named, chosen, default_of, default_passes, default_value, differ, differ_parts, id_is, kind_fits, name_is, name_of, reader, rule_behind, rule_by_id, rule_by_index, rule_by_long, rules_of, tail_name}
+use Rattle.ic_args.proofs.Entries.{IsSound, after_options, apart_parts, are_apart, aside_differs, both_true, built_choice, choice_named, chosen, default_of, default_passes, default_value, differ, differ_parts, id_is, kind_fits, name_is, name_of, reader, rule_after, rule_by_id, rule_by_index, rule_by_long, rules_of, tail_name}
 use Rattle.ic_args.proofs.Flags.{built_flag, flag_free, flag_grown, flag_row, flag_unset, unset_row}
 use Rattle.ic_args.proofs.LineEnds.{IsHarmless, either_none, entered_after, given_row, given_there, last_found, or_none, text}
 use Rattle.ic_args.proofs.LineRows.{default_found, first_value, found_in, fresh_first, given_found, named_apart, not_given}
@@ -82,7 +82,7 @@ module _ (base : Shape) (c : List Rule) (name : Text) (by_long : arg_by_long c n
       let free = ap (λ (n : Text). has_row n (settled c h).rows) (sym named) ∙ none in
       let is_word : words ≡ word ∷ [] = written ∙ ap (λ (n : Text). (45 ∷ 45 ∷ n) ∷ []) named in
       record {
-        behind = flagged h;
+        after = flagged h;
         row = flag_row name;
         leads = subst (λ (ws : List Text). Leads base c ws (at base c h) (at base c (flagged h))) (sym is_word)
             (one_turn base c word (at base c h) (at base c (flagged h)) (flag_turns h settles free) (flag_walks h));
@@ -101,10 +101,10 @@ module _ (more : List Rule) (name : Text) (plain : HaveNoDefault name more) wher
   no_defaults (x ∷ xs) apart = let parts = differ_parts name x xs apart in (inl (ap (λ (t : Text). bytes_eq t name) (id_is x) ∙ parts.0), no_defaults xs parts.1)
 
   -- where no row has the name, its default is found
-  shown_default : (options : List Choice) (n v : Text) (behind : List Row) (r : Row) → n ≡ name → found_in n behind ≡ Some r → r.values ≡ v ∷ []
-      → first_of name (fold with_default behind (map built_choice options ++ more)) ≡ Some v
-  shown_default options n v behind r is found values =
-      first_value name v _ r (found_all (map built_choice options ++ more) name behind r (ap (λ (t : Text). found_in t behind) (sym is) ∙ found)) values
+  shown_default : (options : List Choice) (n v : Text) (beyond : List Row) (r : Row) → n ≡ name → found_in n beyond ≡ Some r → r.values ≡ v ∷ []
+      → first_of name (fold with_default beyond (map built_choice options ++ more)) ≡ Some v
+  shown_default options n v beyond r is found values =
+      first_value name v _ r (found_all (map built_choice options ++ more) name beyond r (ap (λ (t : Text). found_in t beyond) (sym is) ∙ found)) values
 
   own_default : (x : Choice) (xs : List Choice) (rows : List Row) → name_of x ≡ name → differ (name_of x) xs ≡ true → has_row name rows ≡ false
       → first_of name (fold with_default (with_default rows (built_choice x)) (map built_choice xs ++ more)) ≡ default_of x
@@ -128,10 +128,10 @@ module _ (more : List Rule) (name : Text) (plain : HaveNoDefault name more) wher
       go rest false other = rest (with_default rows (built_choice x)) (none_stays (built_choice x) name rows (ap (λ (t : Text). bytes_eq t name) (id_is x) ∙ other) none)
 
 -- defaults are no mistakes
-module _ (more : List Rule) (behind : AllByRecursion IsHarmless more) where
+module _ (more : List Rule) (beyond : AllByRecursion IsHarmless more) where
   pub harmless_all : (options : List Choice) → AllByRecursion IsSound options → AllByRecursion IsHarmless (map built_choice options ++ more)
   unfolding clap_on_literals
-  harmless_all [] sound = behind
+  harmless_all [] sound = beyond
   harmless_all (a_flag n ∷ xs) sound = ((λ rows. or_none _ _ refl), harmless_all xs sound.1)
   harmless_all (an_option n kind None needed ∷ xs) sound = ((λ rows. either_none _ _), harmless_all xs sound.1)
   harmless_all (an_option n kind (Some v) needed ∷ xs) sound =
@@ -161,9 +161,9 @@ HasNeeded given (a_flag name ∷ more) = HasNeeded given more
 HasNeeded given (an_option name kind default true ∷ more) = ((value : Text) × Gives given name value) × HasNeeded given more
 HasNeeded given (an_option name kind default false ∷ more) = HasNeeded given more
 
-module _ (given : List Given) (rows : List Row) (gives : (name value : Text) → Gives given name value → is_given name rows ≡ true) (more : List Rule) (behind : AllByRecursion (IsThere rows) more) where
+module _ (given : List Given) (rows : List Row) (gives : (name value : Text) → Gives given name value → is_given name rows ≡ true) (more : List Rule) (beyond : AllByRecursion (IsThere rows) more) where
   all_there : (options : List Choice) → HasNeeded given options → AllByRecursion (IsThere rows) (map built_choice options ++ more)
-  all_there [] needed = behind
+  all_there [] needed = beyond
   all_there (a_flag n ∷ xs) needed = (inl refl, all_there xs needed)
   all_there (an_option n kind default true ∷ xs) needed = (inr (gives n needed.0.0 needed.0.1), all_there xs needed.1)
   all_there (an_option n kind default false ∷ xs) needed = (inl refl, all_there xs needed)
@@ -204,36 +204,36 @@ tail_there c (many_words name false) rest rows some given = (inl refl, (inl refl
 tail_there c (many_words name true) rest rows some given = (inr (given_word c name rest rows (some refl) given), (inl refl, tt))
 
 module _ (base : Shape) (options : List Choice) where
-  abbrev behind_options : Tail → List Rule
-  behind_options tail = map built_choice options ++ after_options tail
+  abbrev options_and_tail : Tail → List Rule
+  options_and_tail tail = map built_choice options ++ after_options tail
 
   nothing_read : (tail : Tail) → differ (tail_name tail) options ≡ true → (rest : List Text) → rest ≡ [] → (before : List Row) (h : Held)
-      → settle_fault (behind_options tail) false h ≡ [] → (settled (behind_options tail) h).rows ≡ before → has_row (tail_name tail) before ≡ false
-      → ReadsArgument base (behind_options tail) (tail_name tail) before h rest
+      → settle_fault (options_and_tail tail) false h ≡ [] → (settled (options_and_tail tail) h).rows ≡ before → has_row (tail_name tail) before ≡ false
+      → ReadsArgument base (options_and_tail tail) (tail_name tail) before h rest
   nothing_read tail apart rest empty before h settles are none =
-      subst (ReadsArgument base (behind_options tail) (tail_name tail) before h) (sym empty)
-      (none_read base (behind_options tail) (tail_name tail) (no_defaults (after_options tail) (tail_name tail) (tail_plain tail (tail_name tail)) options apart) before h settles are none)
+      subst (ReadsArgument base (options_and_tail tail) (tail_name tail) before h) (sym empty)
+      (none_read base (options_and_tail tail) (tail_name tail) (no_defaults (after_options tail) (tail_name tail) (tail_plain tail (tail_name tail)) options apart) before h settles are none)
 
   tail_read : (tail : Tail) → differ (tail_name tail) options ≡ true → (rest : List Text) → IsRest tail rest → (before : List Row) (h : Held) → is_held (tail_name tail) h ≡ false
-      → settle_fault (behind_options tail) false h ≡ [] → (settled (behind_options tail) h).rows ≡ before → has_row (tail_name tail) before ≡ false
-      → ReadsArgument base (behind_options tail) (tail_name tail) before h rest
+      → settle_fault (options_and_tail tail) false h ≡ [] → (settled (options_and_tail tail) h).rows ≡ before → has_row (tail_name tail) before ≡ false
+      → ReadsArgument base (options_and_tail tail) (tail_name tail) before h rest
   tail_read no_words apart rest is before h aside settles are none = nothing_read no_words apart rest is before h settles are none
   tail_read (one_word name needed) apart rest (inl empty) before h aside settles are none = nothing_read (one_word name needed) apart rest empty before h settles are none
   tail_read (one_word name needed) apart rest (inr word) before h aside settles are none =
       let tail = one_word name needed in
-      subst (ReadsArgument base (behind_options tail) name before h) (sym word.1)
-      (one_read base (behind_options tail) name needed (rule_by_index (after_options tail) options)
-      (rule_behind (after_options tail) options name apart ∙ ap (λ (b : Bool). cond b (Some (one_argument name needed)) (arg_by_id (help ∷ []) name)) (same_id name))
+      subst (ReadsArgument base (options_and_tail tail) name before h) (sym word.1)
+      (one_read base (options_and_tail tail) name needed (rule_by_index (after_options tail) options)
+      (rule_after (after_options tail) options name apart ∙ ap (λ (b : Bool). cond b (Some (one_argument name needed)) (arg_by_id (help ∷ []) name)) (same_id name))
       word.0 before h word.2 aside settles are none)
   tail_read (many_words name false) apart rest words before h aside settles are none =
       let tail = many_words name false in
-      many_read base (behind_options tail) name 0 false (rule_by_index (after_options tail) options)
-      (rule_behind (after_options tail) options name apart ∙ ap (λ (b : Bool). cond b (Some (several_argument name 0 false)) (arg_by_id (help ∷ []) name)) (same_id name))
+      many_read base (options_and_tail tail) name 0 false (rule_by_index (after_options tail) options)
+      (rule_after (after_options tail) options name apart ∙ ap (λ (b : Bool). cond b (Some (several_argument name 0 false)) (arg_by_id (help ∷ []) name)) (same_id name))
       refl (λ count some few. range_none count few) (no_defaults (after_options tail) name (tail_plain tail name) options apart) rest before h words.0 words.1 aside settles are none
   tail_read (many_words name true) apart rest words before h aside settles are none =
       let tail = many_words name true in
-      many_read base (behind_options tail) name 1 true (rule_by_index (after_options tail) options)
-      (rule_behind (after_options tail) options name apart ∙ ap (λ (b : Bool). cond b (Some (several_argument name 1 true)) (arg_by_id (help ∷ []) name)) (same_id name))
+      many_read base (options_and_tail tail) name 1 true (rule_by_index (after_options tail) options)
+      (rule_after (after_options tail) options name apart ∙ ap (λ (b : Bool). cond b (Some (several_argument name 1 true)) (arg_by_id (help ∷ []) name)) (same_id name))
       refl range_some (no_defaults (after_options tail) name (tail_plain tail name) options apart) rest before h words.0 words.1 aside settles are none
 
 -- ---- a line
@@ -305,13 +305,13 @@ module _ (entry : Entry) (known : IsKnown entry) where
     taken line needed is_rest some =
         let all = all_read base c aside Any (IsOneOf options) one_read_by given (any given) line.once line.front line.written nothing_held refl (fresh_first given) refl in
         let apart = not_given given all.more aside all.of (all_apart given line.front line.written) in
-        let argument = tail_read base options entry.tail (aside_differs options aside known.apart) rest is_rest all.more all.behind all.apart all.settles all.rows apart in
+        let argument = tail_read base options entry.tail (aside_differs options aside known.apart) rest is_rest all.more all.after all.apart all.settles all.rows apart in
         let rows = argument.rows in
         let last = fold with_default rows c in
         let found = λ (name value : Text) (g : Gives given name value). last_found c name value rows (found_after aside all.more rows argument.grew name value (given_found given all.more name value all.of line.once g)) in
         let there = all_there given last (λ name value g. given_there name value last (found name value g)) after (tail_there c entry.tail rest rows some argument.given) options needed in
         let checked : check_fault (level base c) last false ≡ [] = ap check_by (none_missing last c there) in
-        let entered = entered_after entry.name base c known.command (harmless_all after (tail_harmless entry.tail) options known.sound) aside words line.front rest all.more all.behind line.begins all.leads argument checked in
+        let entered = entered_after entry.name base c known.command (harmless_all after (tail_harmless entry.tail) options known.sound) aside words line.front rest all.more all.after line.begins all.leads argument checked in
         record {
           free = entered.free;
           named = entered.named;

@@ -39,19 +39,19 @@ AreRowsOf (g ∷ gs) (r ∷ rs) = IsRowOf g r × AreRowsOf gs rs
 abbrev pub AreFresh : List Row → List Given → Type 0
 AreFresh rows gs = AllByRecursion (λ g. has_row g.name rows ≡ false) gs
 
-pub row_behind : (id : Text) (rows : List Row) (r : Row) → has_row id rows ≡ false → bytes_eq r.id id ≡ false → has_row id (rows ++ r ∷ []) ≡ false
-row_behind id [] r none other = ap (λ b. b || false) other
-row_behind id (x ∷ xs) r none other = go (row_behind id xs r) (bytes_eq x.id id) none
+pub row_after : (id : Text) (rows : List Row) (r : Row) → has_row id rows ≡ false → bytes_eq r.id id ≡ false → has_row id (rows ++ r ∷ []) ≡ false
+row_after id [] r none other = ap (λ b. b || false) other
+row_after id (x ∷ xs) r none other = go (row_after id xs r) (bytes_eq x.id id) none
   where
     go : (has_row id xs ≡ false → bytes_eq r.id id ≡ false → has_row id (xs ++ r ∷ []) ≡ false) → (b : Bool) → (b || has_row id xs) ≡ false → (b || has_row id (xs ++ r ∷ [])) ≡ false
     go rest true is = is
     go rest false is = rest is other
 
-pub fresh_behind : (rows : List Row) (r : Row) (g : Given) (gs : List Given) → r.id ≡ g.name → AreFresh rows gs → AllByRecursion (λ other. g.name ≢ other.name) gs
+pub fresh_after : (rows : List Row) (r : Row) (g : Given) (gs : List Given) → r.id ≡ g.name → AreFresh rows gs → AllByRecursion (λ other. g.name ≢ other.name) gs
     → AreFresh (rows ++ r ∷ []) gs
-fresh_behind rows r g [] is fresh others = tt
-fresh_behind rows r g (x ∷ xs) is fresh others =
-    (row_behind x.name rows r fresh.0 (ap (λ n. bytes_eq n x.name) is ∙ other_texts g.name x.name others.0), fresh_behind rows r g xs is fresh.1 others.1)
+fresh_after rows r g [] is fresh others = tt
+fresh_after rows r g (x ∷ xs) is fresh others =
+    (row_after x.name rows r fresh.0 (ap (λ n. bytes_eq n x.name) is ∙ other_texts g.name x.name others.0), fresh_after rows r g xs is fresh.1 others.1)
 
 pub fresh_first : (gs : List Given) → AreFresh [] gs
 fresh_first [] = tt

@@ -1,4 +1,4 @@
--- Options that are written one behind the other, in any order: what they leave behind, whichever command has them.
+-- Options that are written one after the other, in any order: what they leave, whichever command has them.
 use Rattle.std.proofs.Common.{◌≡◌, List, [], ◌∷◌, ◌++◌, Bool, true, false, cond, Option, None, Some, fold, refl, sym, ◌∙◌, ap, subst, append-nil, append_assoc}
 use Rattle.std.specs.List.{AllByRecursion}
 use Rattle.std.specs.Option.{option_map_or}
@@ -14,7 +14,7 @@ use Rattle.clap.specs.declared.parser.matches.ValueSource.TheVariants.{DefaultVa
 use Rattle.ic_args.specs.Lines.{AreOnce, AreWrittenBy, Given, IsWritten}
 use Rattle.ic_args.proofs.OneValue.{at_end, one_value}
 use Rattle.ic_args.proofs.Steps.{Leads, at, dashes, leads_more, leads_none, reads_one, row_with}
-use Rattle.ic_args.proofs.LineRows.{AreFresh, AreRowsOf, IsRowOf, found_in, found_more, fresh_behind, row_behind}
+use Rattle.ic_args.proofs.LineRows.{AreFresh, AreRowsOf, IsRowOf, found_in, found_more, fresh_after, row_after}
 
 -- the argument has a value that isn't settled yet
 abbrev pub is_held : Text → Held → Bool
@@ -23,13 +23,13 @@ is_held id h = option_map_or (λ (q : Text × List Text). bytes_eq q.0 id) h.pen
 module _ (base : Shape) (c : List Rule) (aside : Text) where
   -- one more option is read, and this is its row
   pub record ReadsGiven (g : Given) (words : List Text) (h : Held) : Type 0 where
-    pub behind : Held
+    pub after : Held
     pub row : Row
-    pub leads : Leads base c words (at base c h) (at base c behind)
-    pub settles : settle_fault c false behind ≡ []
-    pub rows : (settled c behind).rows ≡ (settled c h).rows ++ row ∷ []
+    pub leads : Leads base c words (at base c h) (at base c after)
+    pub settles : settle_fault c false after ≡ []
+    pub rows : (settled c after).rows ≡ (settled c h).rows ++ row ∷ []
     pub of : IsRowOf g row
-    pub apart : is_held aside behind ≡ false
+    pub apart : is_held aside after ≡ false
 
   -- an option of the level, which takes one value
   module _ (id : Text) (default : Option Text) (parser : ValueParser) (required : Bool)
@@ -45,24 +45,24 @@ module _ (base : Shape) (c : List Rule) (aside : Text) where
         let there : IsWritten (record { name = id; value = g.value }) words = subst (λ (n : Text). IsWritten (record { name = n; value = g.value }) words) is written in
         let one = reads_one base c id default parser required by_long by_id same one_word two_words words g.value h there settles
         (ap (λ (n : Text). has_row n (settled c h).rows) (sym is) ∙ none) accepted in
-        record { behind = one.behind; row = row_with id g.value parser; leads = one.leads; settles = one.read.settles; rows = one.read.rows; of = (sym is, refl, refl); apart = one.aside aside other }
+        record { after = one.after; row = row_with id g.value parser; leads = one.leads; settles = one.read.settles; rows = one.read.rows; of = (sym is, refl, refl); apart = one.aside aside other }
 
   module _ (IsOption : Given → Type 0) (Writes : Given → List Text → Type 0)
       (reads : (g : Given) → IsOption g → (words : List Text) → Writes g words → (h : Held) → settle_fault c false h ≡ []
       → has_row g.name (settled c h).rows ≡ false → ReadsGiven g words h) where
     pub record ReadsAll (gs : List Given) (words : List Text) (h : Held) : Type 0 where
-      pub behind : Held
+      pub after : Held
       pub more : List Row
-      pub leads : Leads base c words (at base c h) (at base c behind)
-      pub settles : settle_fault c false behind ≡ []
-      pub rows : (settled c behind).rows ≡ (settled c h).rows ++ more
+      pub leads : Leads base c words (at base c h) (at base c after)
+      pub settles : settle_fault c false after ≡ []
+      pub rows : (settled c after).rows ≡ (settled c h).rows ++ more
       pub of : AreRowsOf gs more
-      pub apart : is_held aside behind ≡ false
+      pub apart : is_held aside after ≡ false
 
     pub all_read : (gs : List Given) → AllByRecursion IsOption gs → AreOnce gs → (words : List Text) → AreWrittenBy Writes gs words → (h : Held) → settle_fault c false h ≡ []
         → AreFresh (settled c h).rows gs → is_held aside h ≡ false → ReadsAll gs words h
     all_read [] sorts once words written h settles fresh apart = record {
-      behind = h;
+      after = h;
       more = [];
       leads = subst (λ (ws : List Text). Leads base c ws (at base c h) (at base c h)) (sym written) (leads_none base c (at base c h));
       settles = settles;
@@ -72,21 +72,21 @@ module _ (base : Shape) (c : List Rule) (aside : Text) where
     }
     all_read (g ∷ gs) sorts once words written h settles fresh apart =
         let one = reads g sorts.0 written.0 written.3 h settles fresh.0 in
-        let next : AreFresh (settled c one.behind).rows gs =
-        subst (λ (rs : List Row). AreFresh rs gs) (sym one.rows) (fresh_behind (settled c h).rows one.row g gs one.of.0 fresh.1 once.0) in
-        let all = all_read gs sorts.1 once.1 written.1 written.4 one.behind one.settles next one.apart in
+        let next : AreFresh (settled c one.after).rows gs =
+        subst (λ (rs : List Row). AreFresh rs gs) (sym one.rows) (fresh_after (settled c h).rows one.row g gs one.of.0 fresh.1 once.0) in
+        let all = all_read gs sorts.1 once.1 written.1 written.4 one.after one.settles next one.apart in
         record {
-          behind = all.behind;
+          after = all.after;
           more = one.row ∷ all.more;
-          leads = subst (λ (ws : List Text). Leads base c ws (at base c h) (at base c all.behind)) (sym written.2)
-              (leads_more base c written.0 written.1 (at base c h) (at base c one.behind) (at base c all.behind) one.leads all.leads);
+          leads = subst (λ (ws : List Text). Leads base c ws (at base c h) (at base c all.after)) (sym written.2)
+              (leads_more base c written.0 written.1 (at base c h) (at base c one.after) (at base c all.after) one.leads all.leads);
           settles = all.settles;
           rows = all.rows ∙ ap (λ (rs : List Row). rs ++ all.more) one.rows ∙ append_assoc (settled c h).rows (one.row ∷ []) all.more;
           of = (one.of, all.of);
           apart = all.apart;
         }
 
--- ---- rows behind the defaults
+-- ---- rows after the defaults
 
 -- a row that is found stays
 pub found_stays : (a : Rule) (id : Text) (rows : List Row) (r : Row) → found_in id rows ≡ Some r → found_in id (with_default rows a) ≡ Some r
@@ -111,7 +111,7 @@ none_stays a id rows other none = go (has_row a.id rows) refl (of_default a.defa
   where
     of_default : (vs : List Text) → has_row a.id rows ≡ false → has_row id (default_rows a.id (reading_by a) vs rows) ≡ false
     of_default [] e = none
-    of_default (v ∷ vs) e = ap (has_row id) (at_end a.id (more_values DefaultValue (v ∷ vs)) _ rows e) ∙ row_behind id rows _ none other
+    of_default (v ∷ vs) e = ap (has_row id) (at_end a.id (more_values DefaultValue (v ∷ vs)) _ rows e) ∙ row_after id rows _ none other
 
     go : (b : Bool) → has_row a.id rows ≡ b → (has_row a.id rows ≡ false → has_row id (default_rows a.id (reading_by a) a.defaults rows) ≡ false)
         → has_row id (cond b rows (default_rows a.id (reading_by a) a.defaults rows)) ≡ false

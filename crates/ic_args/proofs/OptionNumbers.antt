@@ -20,13 +20,13 @@ use Rattle.ic_args.proofs.WordsExact.{level_by, met_by}
 
 -- ---- the other arguments leave the rows of an option as they are
 
-module _ (name : Text) (kind : Kind) (more : List Rule) (behind : AllFit name (reader kind) more) where
+module _ (name : Text) (kind : Kind) (more : List Rule) (after : AllFit name (reader kind) more) where
   choice_fits : (x : Choice) → bytes_eq (name_of x) name ≡ false → Fits name (reader kind) (built_choice x)
   choice_fits (a_flag n) other = flag_fits name (reader kind) n other
   choice_fits (an_option n k default needed) other = option_fits name (reader kind) n default (reader k) needed (λ same. absurd (true≢false (sym same ∙ other)))
 
   others_fit : (options : List Choice) → differ name options ≡ true → AllFit name (reader kind) (map built_choice options ++ more)
-  others_fit [] apart = behind
+  others_fit [] apart = after
   others_fit (x ∷ xs) apart = let parts = differ_parts name x xs apart in (choice_fits x parts.0, others_fit xs parts.1)
 
   all_fit : (aside : Text) (options : List Choice) → are_apart options aside ≡ true → (default : Option Text) (needed : Bool)
@@ -107,11 +107,11 @@ module _ (entry : Entry) (known : IsKnown entry) (words : List Text) (none : fau
 
   module _ (name : Text) (least most : ℕ) (default : Option Text) (needed : Bool)
       (is : choice_named name entry.options ≡ Some (an_option name (a_number least most) default needed)) where
-    behind : AllFit name (reader (a_number least most)) (after_options entry.tail)
-    behind = tail_fits name (reader (a_number least most)) entry.tail (tail_apart (tail_name entry.tail) entry.options known.apart name _ refl is)
+    after : AllFit name (reader (a_number least most)) (after_options entry.tail)
+    after = tail_fits name (reader (a_number least most)) entry.tail (tail_apart (tail_name entry.tail) entry.options known.apart name _ refl is)
 
     fits : AllFit name (reader (a_number least most)) c
-    fits = all_fit name (a_number least most) (after_options entry.tail) behind (tail_name entry.tail) entry.options known.apart default needed is
+    fits = all_fit name (a_number least most) (after_options entry.tail) after (tail_name entry.tail) entry.options known.apart default needed is
 
     there : has_row name rows ≡ true → IsSpelt name least most words
     there has = spelt_words (reader (a_number least most)) least most (in_range least most) name entry.name rows words met
@@ -122,7 +122,7 @@ module _ (entry : Entry) (known : IsKnown entry) (words : List Text) (none : fau
 
   pub spelt : (name : Text) (least most : ℕ) (v : Text) → choice_named name entry.options ≡ Some (an_option name (a_number least most) (Some v) false) → IsSpelt name least most words
   spelt name least most v is =
-      there name least most (Some v) false is (default_row name (a_number least most) (after_options entry.tail) (behind name least most (Some v) false is) entry.options v false is _)
+      there name least most (Some v) false is (default_row name (a_number least most) (after_options entry.tail) (after name least most (Some v) false is) entry.options v false is _)
 
 -- ---- the numbers of each command
 

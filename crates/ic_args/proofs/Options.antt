@@ -15,7 +15,7 @@ use Rattle.ic_args.proofs.OneValue.{Each, Good, IsFound, Passes, Typed, at_end, 
 use Rattle.ic_args.proofs.Walks.{settled_good, walk_good}
 use Rattle.ic_args.proofs.WordsExact.{help}
 
--- what is said of rows is said of them behind an argument without a default
+-- what is said of rows is said of them after an argument without a default
 pub no_default : (id : Text) (P : List Row → Type 0) (rows : List Row) → P rows → P (cond (has_row id rows) rows rows)
 no_default id P rows holds = go (has_row id rows)
   where

@@ -1,4 +1,4 @@
--- Options that are written one behind the other, word by word.
+-- Options that are written one after the other, word by word.
 use Rattle.std.proofs.Common.{◌≡◌, List, [], ◌∷◌, ◌++◌, Bool, true, false, ◌&&◌, cond, ne_eqb, Option, None, Some, fold, refl, sym, ◌∙◌, ap, ap₂, append-nil, append_assoc, inl, inr, subst}
 use Rattle.std.specs.Prelude.{option_and_then}
 use Rattle.std.specs.Option.{option_map_or}
@@ -66,9 +66,9 @@ module _ (base : Shape) (c : List Rule) where
   pub leads_more : (a b : List Text) (u v w : Walk) → Leads a u v → Leads b v w → Leads (a ++ b) u w
   leads_more a b u v w first second rest =
       let there = first (b ++ rest) in
-      let behind = second rest in
+      let after = second rest in
       let same = append_assoc a b rest in
-      (ap (walk_fault level [] u) same ∙ there.0 ∙ behind.0, ap (fold (walked c []) u) same ∙ there.1 ∙ behind.1)
+      (ap (walk_fault level [] u) same ∙ there.0 ∙ after.0, ap (fold (walked c []) u) same ∙ there.1 ∙ after.1)
 
   -- ---- one option of the level, which takes one value
 
@@ -172,10 +172,10 @@ module _ (base : Shape) (c : List Rule) where
 
     -- one more option is read, and this is its row
     pub record ReadsOne (words : List Text) (v : Text) (h : Held) : Type 0 where
-      pub behind : Held
-      pub leads : Leads words (at h) (at behind)
-      pub read : IsRead v h behind
-      pub aside : (other : Text) → bytes_eq id other ≡ false → option_map_or (λ (q : Text × List Text). bytes_eq q.0 other) behind.pending false ≡ false
+      pub after : Held
+      pub leads : Leads words (at h) (at after)
+      pub read : IsRead v h after
+      pub aside : (other : Text) → bytes_eq id other ≡ false → option_map_or (λ (q : Text × List Text). bytes_eq q.0 other) after.pending false ≡ false
 
     module _ (one_word_is : (v : Text) → (bytes_eq (45 ∷ 45 ∷ id ++ 61 ∷ v) dashes ≡ false) × (long_of (45 ∷ 45 ∷ id ++ 61 ∷ v) ≡ Some (id, Some v)))
         (two_words_are : (bytes_eq (45 ∷ 45 ∷ id) dashes ≡ false) × (long_of (45 ∷ 45 ∷ id) ≡ Some (id, None))) where
@@ -184,7 +184,7 @@ module _ (base : Shape) (c : List Rule) where
       reads_one words v h (inl alone) settles none accepted =
           let is = one_word_is v in
           let r = one_word (45 ∷ 45 ∷ id ++ 61 ∷ v) v h is.0 is.1 settles none accepted in
-          record { behind = reacted c a (v ∷ []) h; leads = subst (λ (ws : List Text). Leads ws (at h) (at (reacted c a (v ∷ []) h))) (sym alone) r.0; read = r.1; aside = λ other e. refl }
+          record { after = reacted c a (v ∷ []) h; leads = subst (λ (ws : List Text). Leads ws (at h) (at (reacted c a (v ∷ []) h))) (sym alone) r.0; read = r.1; aside = λ other e. refl }
       reads_one words v h (inr parted) settles none accepted =
           let r = two_words (45 ∷ 45 ∷ id) v h two_words_are.0 two_words_are.1 parted.1 settles none accepted in
-          record { behind = valued v h; leads = subst (λ (ws : List Text). Leads ws (at h) (at (valued v h))) (sym parted.0) r.0; read = r.1; aside = λ other e. e }
+          record { after = valued v h; leads = subst (λ (ws : List Text). Leads ws (at h) (at (valued v h))) (sym parted.0) r.0; read = r.1; aside = λ other e. e }

@@ -4,7 +4,7 @@ use Rattle.std.specs.Prelude.{◌≡◌, ℕ, List, [], ◌∷◌, ◌++◌, cod
 use Rattle.std.specs.List.{flat_map}
 use Rattle.clap.specs.Words.{Text}
 
--- lines, each with a line feed behind it
+-- lines, each with a line feed after it
 abbrev pub text_of : List Text → Text
 text_of lines = flat_map (λ line. line ++ 10 ∷ []) lines
 

@@ -30,7 +30,7 @@ abbrev pub IsWritten : Given → List Text → Type 0
 IsWritten given words = (words ≡ (45 ∷ 45 ∷ given.name ++ 61 ∷ given.value) ∷ [])
     ⊎ ((words ≡ (45 ∷ 45 ∷ given.name) ∷ given.value ∷ []) × HasNoHyphen given.value)
 
--- options are written one behind the other, each as `Writes` says
+-- options are written one after the other, each as `Writes` says
 abbrev pub AreWrittenBy : (Given → List Text → Type 0) → List Given → List Text → Type 0
 AreWrittenBy Writes [] words = words ≡ []
 AreWrittenBy Writes (given ∷ more) words = (first : List Text) × (rest : List Text)
@@ -73,7 +73,7 @@ IsFormatText text = (text ≡ codes "tsv") ⊎ (text ≡ codes "svg") ⊎ (text 
 abbrev pub IsReportText : Text → Type 0
 IsReportText text = (text ≡ codes "text") ⊎ (text ≡ codes "json")
 
--- no option has the name of one behind it
+-- no option has the name of one after it
 abbrev pub AreOnce : List Given → Type 0
 AreOnce [] = Unit {0}
 AreOnce (given ∷ more) = AllByRecursion (λ other. given.name ≢ other.name) more × AreOnce more
@@ -132,7 +132,7 @@ pub record IsServeLine (words : List Text) (path threads rounds : Text) (told : 
   pub every : HasValue given (codes "every") (codes "100") rounds
   pub explain : HasFlag given (codes "explain") told
 
--- `attend --disk F`, with `--runners R`, `--turns T` and `--workers N` or without, and behind them
+-- `attend --disk F`, with `--runners R`, `--turns T` and `--workers N` or without, and after them
 -- the scripts
 pub record IsAttendLine (words : List Text) (path r t n : Text) (scripts : List Text) : Type 0 where
   pub given : List Given
@@ -143,7 +143,7 @@ pub record IsAttendLine (words : List Text) (path r t n : Text) (scripts : List 
   pub workers : HasValue given (codes "workers") (codes "2") n
   pub plain : ArePlain scripts
 
--- `dump --disk F`, and behind it the names of jobs
+-- `dump --disk F`, and after it the names of jobs
 pub record IsDumpLine (words : List Text) (path : Text) (names : List Text) : Type 0 where
   pub given : List Given
   pub line : IsLine dump_entry words given names
@@ -169,7 +169,7 @@ pub record IsCheckLine (words : List Text) (shown : Text) (paths : List Text) (t
   pub some : paths ≢ []
   pub plain : ArePlain paths
 
--- `batch --disk F`, with `--rounds N`, `--every K` and `--workers W` or without, and behind them the
+-- `batch --disk F`, with `--rounds N`, `--every K` and `--workers W` or without, and after them the
 -- path of lines, which begins with no hyphen
 pub record IsBatchLine (words : List Text) (path r k n lines : Text) : Type 0 where
   pub given : List Given

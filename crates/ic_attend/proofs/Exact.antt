@@ -23,7 +23,7 @@ use Rattle.ic_attend.specs.declared.fault.AttendFault.{AttendFault}
 use Rattle.ic_attend.specs.declared.fault.AttendFault.TheVariants.{Open, NoThread, Memory, Torn}
 use Rattle.ic_book.specs.Book.{start_of, log_of}
 use Rattle.ic_attend.specs.Parts.{answer_to, part, AreOfClients}
-use Rattle.ic_attend.specs.Clients.{MayStandBehind}
+use Rattle.ic_attend.specs.Clients.{MayStandAfter}
 use Rattle.ic_attend.specs.Faults.{IfTorn, IsTorn, Differs}
 use Rattle.ic_attend.specs.OneHistory.{Agrees, IsOneHistory}
 use Rattle.ic_attend.proofs.PartLemmas.{answer_to-own, part-append, runs_counted}
@@ -98,13 +98,13 @@ pub last_round : (front : List Entry) (last : Entry) → AreRounds (front ++ las
 last_round [] last rounds = rounds.0
 last_round (e ∷ front) last rounds = last_round front last rounds.1
 
--- the last of what may stand behind is a round, or of a client that a failing disk has ended
-pub last_behind : (runs : List ClientRun) (es front : List Entry) (last : Entry) → es ≡ front ++ last ∷ []
-    → is_round last.event ≡ false → MayStandBehind runs es
+-- the last of what may stand after it is a round, or of a client that a failing disk has ended
+pub last_after : (runs : List ClientRun) (es front : List Entry) (last : Entry) → es ≡ front ++ last ∷ []
+    → is_round last.event ≡ false → MayStandAfter runs es
     → (run : ClientRun) × (slice_get runs last.who ≡ Some run) × (run.end ≡ Some Device) × IsSomeAnd run.refused (λ c. last.event ≡ by_command c)
-last_behind runs es front last is no_round (inl rounds) =
+last_after runs es front last is no_round (inl rounds) =
     let yes : is_round last.event ≡ true = last_round front last (subst AreRounds is rounds) in absurd (let no : true ≡ false = sym yes ∙ no_round in cc)
-last_behind runs es front last is no_round (inr ends) =
+last_after runs es front last is no_round (inr ends) =
     let same : ends.last ≡ last = same_last ends.front front ends.last last (sym ends.entries ∙ is) in (
       ends.client,
       ap (λ (e : Entry). slice_get runs e.who) (sym same) ∙ ends.sender,
@@ -121,7 +121,7 @@ agrees_of opening scripts runners turns a start history =
       start = start;
       clients = subst (λ (n : ℕ). AreOfClients n (log_of a.book)) (sym counted) history.clients;
       answers = history.answers;
-      behind = history.behind;
+      after = history.after;
       failed = history.failed;
       ends = history.ends;
     }

@@ -74,16 +74,16 @@ refused_is : (E : Command → Type 0) (o : Option Command) → IsSomeAnd o E →
 refused_is E None some = absurd some
 refused_is E (Some c) some = (c, refl, some)
 
--- all commands, where none stand behind those that are kept, or one
+-- all commands, where none stand after those that are kept, or one
 goes_on_alike : (script kept unkept all rest : List Command) → all ≡ kept ++ unkept → unkept ≡ [] → script ≡ kept ++ rest → script ≡ all ++ rest
 goes_on_alike script kept unkept all rest parts empty is =
     is ∙ ap (λ (l : List Command). l ++ rest) (sym (parts ∙ ap (λ (l : List Command). kept ++ l) empty ∙ append-nil kept))
 
-goes_on_behind : (script kept unkept all rest : List Command) (command : Command) → all ≡ kept ++ unkept → unkept ≡ command ∷ [] → script ≡ kept ++ command ∷ rest → script ≡ all ++ rest
-goes_on_behind script kept unkept all rest command parts one is =
+goes_on_after : (script kept unkept all rest : List Command) (command : Command) → all ≡ kept ++ unkept → unkept ≡ command ∷ [] → script ≡ kept ++ command ∷ rest → script ≡ all ++ rest
+goes_on_after script kept unkept all rest command parts one is =
     is ∙ sym (append_assoc kept (command ∷ []) rest) ∙ ap (λ (l : List Command). l ++ rest) (sym (parts ∙ ap (λ (l : List Command). kept ++ l) one))
 
--- a list is shorter than what goes on behind it
+-- a list is shorter than what goes on after it
 goes_on : (xs rest : List Command) (c : Command) → xs ≡ xs ++ c ∷ rest → ⊥
 goes_on xs rest c is = let count : length xs ≡ length xs + length (c ∷ rest) = ap length is ∙ length-append xs (c ∷ rest) in absurd (omega (arith, count))
 
@@ -151,7 +151,7 @@ module _ {D : Type 0} {ghosts : Ghosts D} (a : Attended D ghosts) where
         λ well. sym same ∙ found.2.finished well,
       )
 
-  -- a client that has an end was refused the command behind those that are kept
+  -- a client that has an end was refused the command after those that are kept
   pub refused_next : (scripts : List (List Command)) (runners turns who : ℕ) (script : List Command) (run : ClientRun) (fault : BookFault)
       → IsOneHistory scripts runners turns a → slice_get scripts who ≡ Some script → slice_get a.answers.items who ≡ Some run → run.end ≡ Some fault
       → (c : Command) × (rest : List Command) × (run.refused ≡ Some c) × (script ≡ commands_in who (kept_log a) ++ c ∷ rest)
@@ -192,7 +192,7 @@ module _ {D : Type 0} {ghosts : Ghosts D} (a : Attended D ghosts) where
         kept.2.0,
         goes_on_alike script (commands_in who (kept_log a)) (commands_in who (unkept_log a)) (commands_in who (log_of a.book)) kept.2.0 parts empty kept.2.1,
       ) in
-      elim history.behind [
+      elim history.after [
         | inl rounds ↦ none (ap (map (λ (p : Command × Reply). p.0)) (rounds_no_part who (unkept_log a) rounds))
         | inr ends ↦ elim (last_part who a.answers.items (unkept_log a) ends) [
           | inl other ↦ none (ap (map (λ (p : Command × Reply). p.0)) other)
@@ -205,7 +205,7 @@ module _ {D : Type 0} {ghosts : Ghosts D} (a : Attended D ghosts) where
               (subst (λ (r : ClientRun). IfSome r.refused (λ c. (rest : List Command) × (script ≡ asked found.0 ++ c ∷ rest))) same found.2.follows.next)) ends.refused in
               let mine : commands_in who (unkept_log a) ≡ next.0 ∷ [] = own.1 next.0 next.1 in (
                 next.2,
-                goes_on_behind script (commands_in who (kept_log a)) (commands_in who (unkept_log a)) (commands_in who (log_of a.book)) next.2 next.0 parts mine next.3,
+                goes_on_after script (commands_in who (kept_log a)) (commands_in who (unkept_log a)) (commands_in who (log_of a.book)) next.2 next.0 parts mine next.3,
               )
         ]
       ]

@@ -102,7 +102,7 @@ pub record HasPlace (who : ℕ) (h : List Entry) (before after : List (Command �
   pub earlier : part who front ≡ before
   pub later : part who back ≡ after
 
--- the first item, or another where there is none; and what stands behind it
+-- the first item, or another where there is none; and what stands after it
 abbrev first_or : {X : Type 0} → X → List X → X
 first_or d [] = d
 first_or d (x ∷ xs) = x

@@ -67,5 +67,5 @@ FailuresStandLast runs es =
     (who : ℕ) (run : ClientRun) → slice_get runs who ≡ Some run → FailureStandsLast es who run
 
 -- What may follow the kept entries: rounds alone, or one last command that wasn't answered.
-abbrev pub MayStandBehind : List ClientRun → List Entry → Type 0
-MayStandBehind runs es = AreRounds es ⊎ EndsUnanswered runs es
+abbrev pub MayStandAfter : List ClientRun → List Entry → Type 0
+MayStandAfter runs es = AreRounds es ⊎ EndsUnanswered runs es

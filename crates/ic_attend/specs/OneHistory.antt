@@ -9,7 +9,7 @@ use Rattle.ic_jobs.specs.History.{replay, IsLegal}
 use Rattle.ic_book.specs.Book.{start_of, log_of, table_of, kept_of}
 use Rattle.ic_attend.specs.declared.attended.Attended.{Attended}
 use Rattle.ic_attend.specs.Parts.{AreOfClients}
-use Rattle.ic_attend.specs.Clients.{AreParts, FailuresStandLast, KeepsTo, MayStandBehind}
+use Rattle.ic_attend.specs.Clients.{AreParts, FailuresStandLast, KeepsTo, MayStandAfter}
 use Rattle.ic_attend.specs.Runners.{EndHolds}
 
 -- the entries that are kept, and those after them
@@ -26,7 +26,7 @@ pub record Agrees {D : Type 0} {ghosts : Ghosts D} (opening : List JobParts) (tu
   pub start : start_of a.book ≡ opening
   pub clients : AreOfClients (length a.answers.items) (log_of a.book)
   pub answers : AreParts (kept_log a) a.answers.items
-  pub behind : MayStandBehind a.answers.items (unkept_log a)
+  pub after : MayStandAfter a.answers.items (unkept_log a)
   pub failed : FailuresStandLast a.answers.items (unkept_log a)
   pub ends : All (EndHolds turns (table_of a.book) (log_of a.book)) a.ends.items
 
@@ -37,7 +37,7 @@ pub record IsOneHistory {D : Type 0} {ghosts : Ghosts D} (scripts : List (List C
   pub replayed : replay (start_of a.book) (log_of a.book) ≡ table_of a.book
   pub clients : AreOfClients (length scripts) (log_of a.book)
   pub answers : AreParts (kept_log a) a.answers.items
-  pub behind : MayStandBehind a.answers.items (unkept_log a)
+  pub after : MayStandAfter a.answers.items (unkept_log a)
   pub failed : FailuresStandLast a.answers.items (unkept_log a)
   pub scripts_kept : AllZip KeepsTo scripts a.answers.items
   pub counted : length a.ends.items ≡ runners

@@ -7,7 +7,7 @@ ghost use Rattle.ic_book.specs.declared.fault.BookFault.TheVariants.{Device as b
 ghost use Rattle.ic_book.specs.Entries.{is_round, AreRounds};
 ghost use Rattle.ic_attend.specs.declared.attended.ClientRun.{ClientRun as Run};
 ghost use Rattle.ic_attend.specs.Parts.{part, AreOfClients};
-ghost use Rattle.ic_attend.specs.Clients.{AreParts, FailureStandsLast, FailuresStandLast, MayStandBehind, StandsLast};
+ghost use Rattle.ic_attend.specs.Clients.{AreParts, FailureStandsLast, FailuresStandLast, MayStandAfter, StandsLast};
 ghost use Rattle.ic_attend.specs.Runners.{NoneRuns, rounds_among, EndHolds};
 ghost use Rattle.ic_attend.specs.OneHistory.{Agrees};
 ghost use Rattle.ic_attend.specs.Ends.{EndsTell};
@@ -39,7 +39,7 @@ impl<D: Disk> Attended<D> {
         *self.book.start() == *opening
             && are_of_clients(log, answers.len())
             && are_parts(kept, answers)
-            && may_stand_behind(unkept, answers)
+            && may_stand_after(unkept, answers)
             && failures_stand_last(unkept, answers)
             && ends_hold(ends, turns, self.book.table().jobs(), log)
     }
@@ -106,9 +106,9 @@ fn is_answer(entry: &Entry, answer: &(Command, Reply)) -> bool
 
 /// Whether these entries are rounds, or rounds and one last command at which a failing disk has ended
 /// its client.
-fn may_stand_behind(entries: &[Entry], runs: &[ClientRun]) -> bool
+fn may_stand_after(entries: &[Entry], runs: &[ClientRun]) -> bool
     requires { AreRounds (take (length entries.now - 1) entries.now) }
-    ensures { IsTrue result ↔ MayStandBehind runs.now entries.now }
+    ensures { IsTrue result ↔ MayStandAfter runs.now entries.now }
 {
     match entries.split_last() {
         None => true,

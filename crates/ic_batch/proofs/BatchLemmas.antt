@@ -107,22 +107,22 @@ module _ {D : Type 0} {ghosts : Ghosts D} (most : ℕ) (jobs : List NewJob) wher
   }
 
   -- the text was written, or a front of it
-  pub brings_all : {T : Type 0} (r : Result T BatchFault) (old new : Book D ghosts) (before behind : Option (List ℕ)) (text : List ℕ) → text ≡ fetched_all jobs (table_of new)
-      → HaveEnded most jobs (table_of old) (table_of new) → IsAllKept new → OnOk r (Appends before behind text) → OnErr r (AppendsFront before behind [] text)
-      → IfErr r (λ fault. fault ≡ Serve Write) → Leads (IsUnderWay most jobs (table_of old)) old new → Brings r most jobs old new before behind
-  brings_all (Ok value) old new before behind text is ended all written cut refused leads = record {
+  pub brings_all : {T : Type 0} (r : Result T BatchFault) (old new : Book D ghosts) (before after : Option (List ℕ)) (text : List ℕ) → text ≡ fetched_all jobs (table_of new)
+      → HaveEnded most jobs (table_of old) (table_of new) → IsAllKept new → OnOk r (Appends before after text) → OnErr r (AppendsFront before after [] text)
+      → IfErr r (λ fault. fault ≡ Serve Write) → Leads (IsUnderWay most jobs (table_of old)) old new → Brings r most jobs old new before after
+  brings_all (Ok value) old new before after text is ended all written cut refused leads = record {
     table = leads.table;
     last = leads.kept;
     crash = leads.crash;
     ended = ended;
     kept = all;
-    written = subst (λ (l : List ℕ). Appends before behind l) is written;
+    written = subst (λ (l : List ℕ). Appends before after l) is written;
     ended_at_cut = λ e. cc;
     kept_at_cut = λ e. cc;
     cut = λ e. cc;
     silent = tt;
   }
-  brings_all (Err fault) old new before behind text is ended all written cut refused leads = record {
+  brings_all (Err fault) old new before after text is ended all written cut refused leads = record {
     table = leads.table;
     last = leads.kept;
     crash = leads.crash;
@@ -131,7 +131,7 @@ module _ {D : Type 0} {ghosts : Ghosts D} (most : ℕ) (jobs : List NewJob) wher
     written = tt;
     ended_at_cut = λ e. ended;
     kept_at_cut = λ e. all;
-    cut = λ e. subst (λ (l : List ℕ). AppendsFront before behind [] l) is cut;
+    cut = λ e. subst (λ (l : List ℕ). AppendsFront before after [] l) is cut;
     silent = λ not. absurd (not refused);
   }
 
@@ -140,8 +140,8 @@ on_ok (Ok value) P Q so is = so is
 on_ok (Err fault) P Q so is = tt
 
 -- where jobs were on their way
-module _ {T : Type 0} {D : Type 0} {ghosts : Ghosts D} (r : Result T BatchFault) (most : ℕ) (jobs : List NewJob) (old new : Book D ghosts) (before behind : Option (List ℕ))
-    (distinct : IsDistinct bytes_eq (names jobs)) (on : IsOnWay most jobs old) (brings : Brings r most jobs old new before behind) where
+module _ {T : Type 0} {D : Type 0} {ghosts : Ghosts D} (r : Result T BatchFault) (most : ℕ) (jobs : List NewJob) (old new : Book D ghosts) (before after : Option (List ℕ))
+    (distinct : IsDistinct bytes_eq (names jobs)) (on : IsOnWay most jobs old) (brings : Brings r most jobs old new before after) where
   still : (u : List JobParts) → IsUnderWay most jobs (table_of old) u → AreOnWay most jobs u
   still u under = keeps_on_way most jobs (table_of old) u under distinct on.table
 

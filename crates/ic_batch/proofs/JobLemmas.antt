@@ -1,4 +1,4 @@
--- The job of a name, behind a round and a submit.
+-- The job of a name, after a round and a submit.
 use Rattle.std.proofs.Common.{◌≡◌, ℕ, List, [], ◌∷◌, ◌++◌, Bool, true, false, Option, None, Some, refl, sym, ap, subst, ◌∙◌, true≢false}
 use Rattle.std.specs.Prelude.{IsSome, find, if◌then◌else◌, option_map}
 use Rattle.std.specs.List.{AllByRecursion, IsDistinct}
@@ -28,7 +28,7 @@ named_changed name f keeps (j ∷ js) = go (named_changed name f keeps js) (is_n
     go rest true is = rw (is, ap (bytes_eq name) (keeps j) ∙ is) refl
     go rest false is = rw (is, is) rest
 
--- the table behind a round of a running job
+-- the table after a round of a running job
 round_table : (t : List JobParts) (name : List ℕ) (j : JobParts) → job_named name t ≡ Some j → is_running j.state ≡ true
     → table_after t (Round name) ≡ (after_round t name j).table
 round_table t name j there runs =
@@ -60,7 +60,7 @@ changed_is false j = refl
 pub change_is : (j : JobParts) → change j j ≡ after_event j
 change_is j = changed_is (can_move j) j
 
--- the job behind its round
+-- the job after its round
 pub named_round : (t : List JobParts) (name : List ℕ) (j : JobParts) → job_named name t ≡ Some j → is_running j.state ≡ true
     → job_named name (table_after t (Round name)) ≡ Some (after_event j)
 named_round t name j there runs =
@@ -106,5 +106,5 @@ one_named name (x ∷ xs) j distinct there =
         let first : x ≡ j = (let e = sym found ∙ there in cc) in
         (λ named. first, subst (λ (k : JobParts). AllByRecursion (λ y. is_named name y ≡ true → y ≡ k) xs) first (apart name x xs (same_name name x.name is) none))
     go none rest false is =
-        let behind : job_named name xs ≡ Some j = (let found : job_named name (x ∷ xs) ≡ job_named name xs = rw is refl in sym found ∙ there) in
-        (λ named. absurd (true≢false (sym named ∙ is)), rest behind)
+        let after : job_named name xs ≡ Some j = (let found : job_named name (x ∷ xs) ≡ job_named name xs = rw is refl in sym found ∙ there) in
+        (λ named. absurd (true≢false (sym named ∙ is)), rest after)

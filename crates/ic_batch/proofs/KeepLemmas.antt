@@ -1,4 +1,4 @@
--- Jobs on their way are so behind a batch, and at its end their text is told.
+-- Jobs on their way are so after a batch, and at its end their text is told.
 use Rattle.std.proofs.Common.{◌≡◌, ℕ, List, [], ◌∷◌, ◌++◌, Bool, true, false, not, Option, None, Some, map, refl, sym, ap, subst, ◌∙◌, true≢false}
 use Rattle.std.specs.Prelude.{IfSome, IsSome, is_some}
 use Rattle.std.specs.List.{AllByRecursion, IsDistinct}

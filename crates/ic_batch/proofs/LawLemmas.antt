@@ -114,16 +114,16 @@ pub none_other : (most : ℕ) (jobs : List NewJob) (t : List JobParts) → AreOn
 none_other most [] t ways = tt
 none_other most (new ∷ jobs) t ways = (same_or_none most new (job_named new.name t) ways.0, none_other most jobs t ways.1)
 
-among : (P : NewJob → Type 0) (before : List NewJob) (new : NewJob) (behind : List NewJob) → AllByRecursion P (before ++ new ∷ behind) → P new
-among P [] new behind all = all.0
-among P (x ∷ xs) new behind all = among P xs new behind all.1
+among : (P : NewJob → Type 0) (before : List NewJob) (new : NewJob) (rest : List NewJob) → AllByRecursion P (before ++ new ∷ rest) → P new
+among P [] new rest all = all.0
+among P (x ∷ xs) new rest all = among P xs new rest all.1
 
 -- another job and the same one don't go together
 pub not_same : (jobs : List NewJob) (t : List JobParts) (name : List ℕ) (is : Difference) → AreSame jobs t → ¬ HasAnother jobs t name is
 not_same jobs t name is same another =
     let new = another.new in
     let all = subst (λ (l : List NewJob). AreSame l t) another.among same in
-    let one = among (λ k. IfSome (job_named k.name t) (IsSame k)) another.before new another.behind all in
+    let one = among (λ k. IfSome (job_named k.name t) (IsSame k)) another.before new another.after all in
     let there : job_named new.name t ≡ Some another.job = ap (λ (n : List ℕ). job_named n t) another.named ∙ another.there in
     let on = subst (λ (o : Option JobParts). IfSome o (IsSame new)) there one in
     on is another.differs

@@ -16,11 +16,11 @@ use Rattle.ic_batch.specs.inner.Staying.{Leads}
 
 -- a table within one event
 part_such : (such : List JobParts → Type 0) (t : List JobParts) (e : Event) (u : List JobParts) → such t → such (table_after t e) → IsPart t (e ∷ []) u → such u
-part_such such t e u before behind part = go part.front part.rest part.parted part.leaves
+part_such such t e u before after part = go part.front part.rest part.parted part.leaves
   where
     go : (front rest : List Event) → e ∷ [] ≡ front ++ rest → u ≡ after_events t front → such u
     go [] rest parted leaves = subst such (sym leaves) before
-    go (x ∷ []) rest parted leaves = (let same : e ≡ x = cc in subst such (sym (leaves ∙ ap (table_after t) (sym same))) behind)
+    go (x ∷ []) rest parted leaves = (let same : e ≡ x = cc in subst such (sym (leaves ∙ ap (table_after t) (sym same))) after)
     go (x ∷ y ∷ ys) rest parted leaves = cc
 
 pub kept_weaker : (kept : List JobParts) (such other : List JobParts → Type 0) → ((u : List JobParts) → such u → other u) → (u : List JobParts) → IsKeptOr kept such u → IsKeptOr kept other u
@@ -37,8 +37,8 @@ module _ {D : Type 0} {ghosts : Ghosts D} where
   -- a table within one event
   within_way : (such : List JobParts → Type 0) (old mid : Book D ghosts) (e : Event) → Leads such old mid → such (table_after (table_of mid) e) → (u : List JobParts)
       → IsKeptWithin (table_of mid) (last_kept mid) (e ∷ []) u → IsKeptOr (last_kept old) such u
-  within_way such old mid e first behind u (inl same) = subst (IsKeptOr (last_kept old) such) (sym same) first.kept
-  within_way such old mid e first behind u (inr part) = inr (part_such such (table_of mid) e u first.table behind part)
+  within_way such old mid e first after u (inl same) = subst (IsKeptOr (last_kept old) such) (sym same) first.kept
+  within_way such old mid e first after u (inr part) = inr (part_such such (table_of mid) e u first.table after part)
 
   -- a call that makes one table of another, of which none or the old one is kept
   pub leads_on : (such : List JobParts → Type 0) (old mid new : Book D ghosts) → Leads such old mid → such (table_of new)
@@ -52,20 +52,20 @@ module _ {D : Type 0} {ghosts : Ghosts D} where
   -- a command that was begun, or done
   pub leads_begun : (such : List JobParts → Type 0) (old mid new : Book D ghosts) (e : Event) → Leads such old mid → such (table_after (table_of mid) e)
       → Begins (e ∷ []) mid new → Leaves mid new (IsKeptWithin (table_of mid) (last_kept mid) (e ∷ [])) → Leads such old new
-  leads_begun such old mid new e first behind begins crash = record {
-    table = part_such such (table_of mid) e (table_of new) first.table behind begins.table;
-    kept = within_way such old mid e first behind (last_kept new) begins.kept;
+  leads_begun such old mid new e first after begins crash = record {
+    table = part_such such (table_of mid) e (table_of new) first.table after begins.table;
+    kept = within_way such old mid e first after (last_kept new) begins.kept;
     crash = leaves_then old mid new (IsKeptOr (last_kept old) such) (IsKeptWithin (table_of mid) (last_kept mid) (e ∷ [])) first.crash crash
-        (within_way such old mid e first behind);
+        (within_way such old mid e first after);
   }
 
   pub leads_done : (such : List JobParts → Type 0) (old mid new : Book D ghosts) (e : Event) → Leads such old mid → such (table_after (table_of mid) e)
       → table_of new ≡ table_after (table_of mid) e → last_kept new ≡ table_of new → Leaves mid new (IsKeptWithin (table_of mid) (last_kept mid) (e ∷ [])) → Leads such old new
-  leads_done such old mid new e first behind table kept crash = record {
-    table = subst such (sym table) behind;
-    kept = inr (subst such (sym (kept ∙ table)) behind);
+  leads_done such old mid new e first after table kept crash = record {
+    table = subst such (sym table) after;
+    kept = inr (subst such (sym (kept ∙ table)) after);
     crash = leaves_then old mid new (IsKeptOr (last_kept old) such) (IsKeptWithin (table_of mid) (last_kept mid) (e ∷ [])) first.crash crash
-        (within_way such old mid e first behind);
+        (within_way such old mid e first after);
   }
 
   -- more tables

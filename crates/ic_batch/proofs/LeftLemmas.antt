@@ -30,8 +30,8 @@ left_less : (most : ℕ) (j : JobParts) → goes_on most j ≡ true → left mos
 left_less most j goes =
     let below : j.rounds < most = ltb-true j.rounds most (few most j goes) in
     let now : left most j ≡ most - j.rounds = ap (λ (b : Bool). if b then most - j.rounds else 0) goes in
-    let behind = event_less most j (can_move j) below in
-    omega (arith, now, behind)
+    let after = event_less most j (can_move j) below in
+    omega (arith, now, after)
 
 -- each job of the name has fewer rounds left
 abbrev AreFewer : ℕ → (JobParts → JobParts) → List ℕ → List JobParts → Type 0
@@ -55,14 +55,14 @@ left_changed most f name (x ∷ xs) fewer there = go (left_changed most f name x
   where
     go : (IsSome (job_named name xs) → left_in most (with_changed name f xs) < left_in most xs) → (b : Bool) → is_named name x ≡ b
         → left_in most (with_changed name f (x ∷ xs)) < left_in most (x ∷ xs)
-    go behind true is =
+    go after true is =
         let first = fewer.0 is in
         let rest = no_more most f name xs fewer.1 in
         let head : left most (if is_named name x then f x else x) ≡ left most (f x) = ap (λ (b : Bool). left most (if b then f x else x)) is in
         omega (arith, first, rest, head)
-    go behind false is =
+    go after false is =
         let still : IsSome (job_named name xs) = (let e : job_named name (x ∷ xs) ≡ job_named name xs = rw is refl in subst (λ (o : Option JobParts). IsSome o) e there) in
-        let rest = behind still in
+        let rest = after still in
         let head : left most (if is_named name x then f x else x) ≡ left most x = ap (λ (b : Bool). left most (if b then f x else x)) is in
         omega (arith, rest, head)
 

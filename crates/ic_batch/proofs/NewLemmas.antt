@@ -129,7 +129,7 @@ module _ (jobs : List NewJob) (t : List JobParts) (new : NewJob) (rest : List Ne
         others = others_stay law rest apart so_far.others.1;
       }
 
--- the jobs behind one have other names
+-- the jobs after one have other names
 apart_from : (x : List ℕ) (jobs : List NewJob) → AllByRecursion (λ y. bytes_eq x y ≡ false) (names jobs) → AllByRecursion (λ k. bytes_eq k.name x ≡ false) jobs
 apart_from x [] none = tt
 apart_from x (k ∷ jobs) none = (swapped_not x k.name none.0, apart_from x jobs none.1)
@@ -139,9 +139,9 @@ distinct_from jobs zero distinct = distinct
 distinct_from [] (suc i) distinct = distinct
 distinct_from (x ∷ xs) (suc i) distinct = distinct_from xs i (IsDistinct-tail bytes_eq x.name (names xs) distinct)
 
-pub behind_apart : (jobs : List NewJob) (i : ℕ) (new : NewJob) (rest : List NewJob) → drop i jobs ≡ new ∷ rest → IsDistinct bytes_eq (names jobs)
+pub after_apart : (jobs : List NewJob) (i : ℕ) (new : NewJob) (rest : List NewJob) → drop i jobs ≡ new ∷ rest → IsDistinct bytes_eq (names jobs)
     → AllByRecursion (λ k. bytes_eq k.name new.name ≡ false) rest
-behind_apart jobs i new rest split distinct =
+after_apart jobs i new rest split distinct =
     let is = subst (λ (l : List NewJob). IsDistinct bytes_eq (names l)) split (distinct_from jobs i distinct) in
     apart_from new.name rest (IsDistinct-head bytes_eq new.name (names rest) is)
 
@@ -158,4 +158,4 @@ module _ (jobs : List NewJob) (t : List JobParts) (i : ℕ) (new : NewJob) (u : 
   submitted_here law distinct room is command same =
       let more : length t + length (missing t jobs) ≤ MAX_JOBS = omega (arith, room) in
       subst (λ (k : Command). AreSubmitted jobs t (drop (i + 1) jobs) (table_after u (by_command k))) (sym same)
-      (submitted jobs t new (drop (i + 1) jobs) u next law is (behind_apart jobs i new (drop (i + 1) jobs) split distinct) more)
+      (submitted jobs t new (drop (i + 1) jobs) u next law is (after_apart jobs i new (drop (i + 1) jobs) split distinct) more)

@@ -1,4 +1,4 @@
--- Jobs that are read one behind the other.
+-- Jobs that are read one after the other.
 use Rattle.std.proofs.Common.{◌≡◌, ℕ, ◌≤◌, List, [], ◌∷◌, ◌++◌, Bool, true, false, ◌||◌, Ok, Option, Some, length, map, refl, sym, ap, subst, ◌∙◌, append_assoc, arith, length-append}
 use Rattle.std.specs.Prelude.{is_some, nat_lt, if◌then◌else◌}
 use Rattle.std.specs.List.{AllByRecursion, IsDistinct, list_any}
@@ -30,7 +30,7 @@ apart_more : (x : List ℕ) (jobs : List NewJob) (new : NewJob) → AllByRecursi
 apart_more x [] new none other = (other, tt)
 apart_more x (k ∷ jobs) new none other = (none.0, apart_more x jobs new none.1 other)
 
--- a job of another name goes behind them
+-- a job of another name goes after them
 pub distinct_more : (jobs : List NewJob) (new : NewJob) → list_any (λ job. bytes_eq job.name new.name) jobs ≡ false → IsDistinct bytes_eq (names jobs)
     → IsDistinct bytes_eq (names (jobs ++ new ∷ []))
 distinct_more [] new none distinct = IsDistinct-cons bytes_eq new.name [] tt distinct
@@ -60,7 +60,7 @@ pub stops_at : (text : List ℕ) (jobs : List NewJob) (command : Command) (rest 
 stops_at text jobs command rest is refused so_far = record {
   jobs = jobs;
   command = command;
-  behind = rest;
+  after = rest;
   read = so_far.read;
   distinct = so_far.distinct;
   few = so_far.few;

@@ -20,7 +20,7 @@ use Rattle.ic_batch.proofs.WayLemmas.{runs, ways_more}
 abbrev pub GoesAt : ℕ → List JobParts → ℕ → Type 0
 GoesAt most t place = (job : JobParts) × (slice_get t place ≡ Some job) × (goes_on most job ≡ true)
 
--- jobs on their ways are so behind a round
+-- jobs on their ways are so after a round
 ways_made : (most : ℕ) (from t u : List JobParts) → IsTable t → IsMade most t u → AreWays most from t → AreWays most from u
 ways_made most from t u is_table is ways =
     let same : u ≡ with_changed is.name (change is.job) t = is.table ∙ round_changes t is.name is.job is.there (runs most is.job is.goes) in

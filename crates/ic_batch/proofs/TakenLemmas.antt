@@ -23,7 +23,7 @@ use Rattle.ic_commands.specs.ReplyText.{reply_text}
 use Rattle.ic_commands.specs.ScriptSense.{ReadsScriptLine, script_sense, without_run}
 use Rattle.ic_lines.specs.Answers.{Reading, after, after_line, answer, out}
 use Rattle.ic_lines.specs.Lines.{ended, lines}
-use Rattle.ic_lines.specs.Script.{ScriptLine, commands, fault_behind, first_fault, numbered, unless_refused}
+use Rattle.ic_lines.specs.Script.{ScriptLine, commands, fault_after, first_fault, numbered, unless_refused}
 use Rattle.ic_lines.specs.declared.script.ScriptFault.{ScriptFault}
 use Rattle.ic_lines.specs.Serving.{AreRead, IsServed}
 use Rattle.ic_batch.specs.declared.jobs.NewJob.{NewJob}
@@ -81,7 +81,7 @@ lines_read before [] [] read none = tt
 lines_read before [] (r ∷ rs) read none = absurd read
 lines_read before (line ∷ ls) [] read none = absurd read
 lines_read before (line ∷ ls) (Ok a ∷ rs) read none =
-    let parts = or_none (option_map (numbered before) (fault_behind (length (commands before)) (Ok a))) (first_fault (before ++ Ok a ∷ []) rs) none in
+    let parts = or_none (option_map (numbered before) (fault_after (length (commands before)) (Ok a))) (first_fault (before ++ Ok a ∷ []) rs) none in
     (line_read line a read.0, lines_read (before ++ Ok a ∷ []) ls rs read.1 parts.1)
 lines_read before (line ∷ ls) (Err fault ∷ rs) read none =
     let parts = or_none (option_map (numbered before) (Some fault)) (first_fault (before ++ Err fault ∷ []) rs) none in
@@ -95,10 +95,10 @@ out_is : (t : List JobParts) (before : List ScriptLine) (rs : List ScriptLine) �
     → (out t (map as_reading rs) ≡ out t (map asks (commands rs))) × (after t (map as_reading rs) ≡ after t (map asks (commands rs)))
 out_is t before [] none = (refl, refl)
 out_is t before (Ok None ∷ rs) none =
-    let parts = or_none (option_map (numbered before) (fault_behind (length (commands before)) (Ok None))) (first_fault (before ++ Ok None ∷ []) rs) none in
+    let parts = or_none (option_map (numbered before) (fault_after (length (commands before)) (Ok None))) (first_fault (before ++ Ok None ∷ []) rs) none in
     out_is t (before ++ Ok None ∷ []) rs parts.1
 out_is t before (Ok (Some c) ∷ rs) none =
-    let parts = or_none (option_map (numbered before) (fault_behind (length (commands before)) (Ok (Some c)))) (first_fault (before ++ Ok (Some c) ∷ []) rs) none in
+    let parts = or_none (option_map (numbered before) (fault_after (length (commands before)) (Ok (Some c)))) (first_fault (before ++ Ok (Some c) ∷ []) rs) none in
     let rest = out_is (after_line t (Ok (Asks c))) (before ++ Ok (Some c) ∷ []) rs parts.1 in
     (ap (λ (l : List ℕ). answer t (Ok (Asks c)) ++ l) rest.0, rest.1)
 out_is t before (Err fault ∷ rs) none =

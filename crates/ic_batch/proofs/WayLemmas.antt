@@ -33,7 +33,7 @@ pub after_more : (most : ℕ) (from : JobParts) (n k : ℕ) → after most (k + 
 after_more most from n zero = (let e : zero + n ≡ n = omega arith in ap (λ (m : ℕ). after most m from) e)
 after_more most from n (suc k) = (let e : suc k + n ≡ suc (k + n) = omega arith in ap (λ (m : ℕ). after most m from) e ∙ ap (gone_on most) (after_more most from n k))
 
--- a way behind a way
+-- a way after a way
 pub way_then : (most : ℕ) (from mid j : JobParts) → IsOnWay most from mid → IsOnWay most mid j → IsOnWay most from j
 way_then most from mid j first second =
     (second.0 + first.0, second.1 ∙ ap (after most second.0) first.1 ∙ sym (after_more most from first.0 second.0))

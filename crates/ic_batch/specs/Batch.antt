@@ -20,18 +20,18 @@ use Rattle.ic_batch.specs.Way.{fetched_all, AreOnWay, HaveEnded, IsKeptOr, IsTex
 -- of the jobs that were to be there. At a fault of the writer it is the same, except that only a front
 -- of this is written. At any other fault nothing is written.
 pub record Brings {T : Type 0} {D : Type 0} {ghosts : Ghosts D} (result : Result T BatchFault) (most : ℕ)
-    (jobs : List NewJob) (old new : Book D ghosts) (before behind : Option (List ℕ)) : Type 0 where
+    (jobs : List NewJob) (old new : Book D ghosts) (before after : Option (List ℕ)) : Type 0 where
   pub table : IsUnderWay most jobs (table_of old) (table_of new)
   pub last : IsKeptOr (last_kept old) (IsUnderWay most jobs (table_of old)) (last_kept new)
   pub crash : Leaves old new (IsKeptOr (last_kept old) (IsUnderWay most jobs (table_of old)))
   pub ended : OnOk result (HaveEnded most jobs (table_of old) (table_of new))
   pub kept : OnOk result (IsAllKept new)
-  pub written : OnOk result (Appends before behind (fetched_all jobs (table_of new)))
+  pub written : OnOk result (Appends before after (fetched_all jobs (table_of new)))
   pub ended_at_cut : result ≡ Err (Serve Write) → HaveEnded most jobs (table_of old) (table_of new)
   pub kept_at_cut : result ≡ Err (Serve Write) → IsAllKept new
   pub cut : result ≡ Err (Serve Write)
-      → AppendsFront before behind [] (fetched_all jobs (table_of new))
-  pub silent : IfErr result (λ fault. fault ≢ Serve Write → Keeps before behind)
+      → AppendsFront before after [] (fetched_all jobs (table_of new))
+  pub silent : IfErr result (λ fault. fault ≢ Serve Write → Keeps before after)
 
 -- a book's table and the one that was kept last have jobs on their way
 pub record IsOnWay {D : Type 0} {ghosts : Ghosts D} (most : ℕ) (jobs : List NewJob)

@@ -41,8 +41,8 @@ IsRefused jobs command (cause.Refused why) = (is_submit command ≡ true)
 pub record StopsAt (text : List ℕ) (is : JobsCause) : Type 0 where
   pub jobs : List NewJob
   pub command : Command
-  pub behind : List Command
-  pub read : ReadsScript text (Ok (map submit_of jobs ++ command ∷ behind))
+  pub after : List Command
+  pub read : ReadsScript text (Ok (map submit_of jobs ++ command ∷ after))
   pub distinct : IsDistinct bytes_eq (names jobs)
   pub few : length jobs ≤ MAX_JOBS
   pub refused : IsRefused jobs command is
@@ -90,8 +90,8 @@ pub record HasAnother (jobs : List NewJob) (t : List JobParts) (name : List ℕ)
     (is : Difference) : Type 0 where
   pub before : List NewJob
   pub new : NewJob
-  pub behind : List NewJob
-  pub among : jobs ≡ before ++ new ∷ behind
+  pub after : List NewJob
+  pub among : jobs ≡ before ++ new ∷ after
   pub first : AreSame before t
   pub named : new.name ≡ name
   pub job : JobParts

@@ -33,7 +33,7 @@ pub fn read_jobs(alloc: Global, text: &[u8]) -> Result<Vec<NewJob>, JobsFault>
     for command in commands {
         let new = match next_job(&jobs, command) {
             Ok(new) => new,
-            Err(cause) => return Err(JobsFault::Line(line_behind(text, jobs.len()), cause)),
+            Err(cause) => return Err(JobsFault::Line(line_after(text, jobs.len()), cause)),
         };
         jobs.push(new)?;
     }
@@ -76,7 +76,7 @@ fn is_taken(jobs: &[NewJob], new: &NewJob) -> bool
 
 /// The number, from 1, of the first line that isn't blank after so many that aren't blank; where
 /// there is none, of the last line.
-fn line_behind(text: &[u8], many: usize) -> usize {
+fn line_after(text: &[u8], many: usize) -> usize {
     let mut line: usize = 1;
     let mut left = many;
     let mut is_begun = false;

@@ -87,21 +87,21 @@ module _ (start : List JobParts) (log : List Entry) (table : List JobParts) (kep
   pub round_anywhere : (front back : List Entry) (e : Entry) (name : List ℕ) → log ≡ front ++ e ∷ back → e.event ≡ Round name → IsRoundEntry e
   round_anywhere front back e name at event = round_at start log front back e name is.legal is.by_nobody at event
 
-  round_behind : (front back : List Entry) (e : Entry) → drop kept log ≡ front ++ e ∷ back → IsTrue (is_round e.event) → IsRoundEntry e
-  round_behind front back e at round =
+  round_after : (front back : List Entry) (e : Entry) → drop kept log ≡ front ++ e ∷ back → IsTrue (is_round e.event) → IsRoundEntry e
+  round_after front back e at round =
       let n = named e.event round in
       let place : log ≡ (take kept log ++ front) ++ e ∷ back =
       sym (take-append-drop kept log) ∙ ap (λ (es : List Entry). take kept log ++ es) at ∙ sym (append_assoc (take kept log) front (e ∷ back)) in
       round_anywhere (take kept log ++ front) back e n.0 place n.1
 
-  pub behind_unbroken : broken ≡ false → (front back : List Entry) (e : Entry) → drop kept log ≡ front ++ e ∷ back → IsRoundEntry e
-  behind_unbroken ready front back e at = round_behind front back e at
-      (all_at (λ (x : Entry). IsTrue (is_round x.event)) front back e (subst AreRounds at (is.behind.unbroken ready)))
+  pub after_unbroken : broken ≡ false → (front back : List Entry) (e : Entry) → drop kept log ≡ front ++ e ∷ back → IsRoundEntry e
+  after_unbroken ready front back e at = round_after front back e at
+      (all_at (λ (x : Entry). IsTrue (is_round x.event)) front back e (subst AreRounds at (is.after.unbroken ready)))
 
-  pub behind_broken : (front back : List Entry) (e last : Entry) → drop kept log ≡ (front ++ e ∷ back) ++ last ∷ [] → IsRoundEntry e
-  behind_broken front back e last at =
-      let rounds : AreRounds (front ++ e ∷ back) = subst AreRounds (ap (λ (es : List Entry). take (length es - 1) es) at ∙ but_last_push (front ++ e ∷ back) last) is.behind.but_last in
-      round_behind front (back ++ last ∷ []) e (at ∙ append_assoc front (e ∷ back) (last ∷ [])) (all_at (λ (x : Entry). IsTrue (is_round x.event)) front back e rounds)
+  pub after_broken : (front back : List Entry) (e last : Entry) → drop kept log ≡ (front ++ e ∷ back) ++ last ∷ [] → IsRoundEntry e
+  after_broken front back e last at =
+      let rounds : AreRounds (front ++ e ∷ back) = subst AreRounds (ap (λ (es : List Entry). take (length es - 1) es) at ∙ but_last_push (front ++ e ∷ back) last) is.after.but_last in
+      round_after front (back ++ last ∷ []) e (at ∙ append_assoc front (e ∷ back) (last ∷ [])) (all_at (λ (x : Entry). IsTrue (is_round x.event)) front back e rounds)
 
 -- ---- one entry more
 

@@ -38,9 +38,9 @@ but_last_push {X} xs x =
 none_unkept : (broken : Bool) → MayBeUnkept broken []
 none_unkept broken = record { unbroken = λ _. tt; but_last = tt }
 
--- nothing stands behind where all is kept
-all_behind : (log : List Entry) (broken : Bool) → MayBeUnkept broken (drop (length log) log)
-all_behind log broken = subst (λ (es : List Entry). MayBeUnkept broken es) (sym (drop_all (length log) log (omega arith))) (none_unkept broken)
+-- nothing follows where all is kept
+all_after : (log : List Entry) (broken : Bool) → MayBeUnkept broken (drop (length log) log)
+all_after log broken = subst (λ (es : List Entry). MayBeUnkept broken es) (sym (drop_all (length log) log (omega arith))) (none_unkept broken)
 
 -- rounds alone, where nothing is broken
 pub unkept_unbroken : (es : List Entry) → MayBeUnkept false es ↔ AreRounds es
@@ -98,19 +98,19 @@ module _ (start : List JobParts) (log new_log : List Entry) (table new : List Jo
   sound_after = subst IsTable (sym table_kept_after) is.sound
 
   rounds : AreRounds (drop kept log)
-  rounds = is.behind.unbroken ready
+  rounds = is.after.unbroken ready
 
   but_last_after : AreRounds (take (length (drop kept new_log) - 1) (drop kept new_log))
   but_last_after = subst (λ (es : List Entry). AreRounds (take (length es - 1) es)) (sym dropped_after)
       (subst AreRounds (sym (but_last_push (drop kept log) e)) rounds)
 
   unkept_after : (now : Bool) → MayBeUnkept now (drop kept new_log) → IsHistory start new_log new kept now
-  unkept_after now behind = record {
+  unkept_after now after = record {
     legal = legal_after;
     replayed = replayed_after;
     short = omega (arith, room, length_after);
     within = omega (arith, is.within, length_after);
-    behind = behind;
+    after = after;
     by_nobody = nobody_after;
     sound = sound_after;
   }
@@ -139,7 +139,7 @@ module _ (start : List JobParts) (log new_log : List Entry) (table new : List Jo
     replayed = replayed_after;
     short = omega (arith, room, length_after);
     within = omega arith;
-    behind = subst (λ (k : ℕ). MayBeUnkept now (drop k new_log)) (sym count) (all_behind new_log now);
+    after = subst (λ (k : ℕ). MayBeUnkept now (drop k new_log)) (sym count) (all_after new_log now);
     by_nobody = nobody_after;
     sound = subst IsTable (sym (table_all_after n count)) sound;
   }
@@ -200,7 +200,7 @@ module _ (start : List JobParts) (log : List Entry) (table : List JobParts) (kep
     replayed = is.replayed;
     short = is.short;
     within = omega arith;
-    behind = all_behind log now;
+    after = all_after log now;
     by_nobody = is.by_nobody;
     sound = subst IsTable (sym table_all) sound;
   }
@@ -212,7 +212,7 @@ module _ (start : List JobParts) (log : List Entry) (table : List JobParts) (kep
     replayed = is.replayed;
     short = is.short;
     within = is.within;
-    behind = record { unbroken = λ whole. let never : true ≡ false = sym broke ∙ whole in cc; but_last = is.behind.but_last };
+    after = record { unbroken = λ whole. let never : true ≡ false = sym broke ∙ whole in cc; but_last = is.after.but_last };
     by_nobody = is.by_nobody;
     sound = is.sound;
   }
@@ -224,7 +224,7 @@ page_begun table broken sound = record {
   replayed = refl;
   short = omega arith;
   within = omega arith;
-  behind = none_unkept broken;
+  after = none_unkept broken;
   by_nobody = tt;
   sound = sound;
 }

@@ -35,7 +35,7 @@ pub record IsHistory (start : List JobParts) (log : List Entry) (table : List Jo
   pub replayed : replay start log ≡ table
   pub short : length log ≤ MAX_ENTRIES
   pub within : kept ≤ length log
-  pub behind : MayBeUnkept broken (drop kept log)
+  pub after : MayBeUnkept broken (drop kept log)
   pub by_nobody : AllByRecursion IsSentByNobody log
   pub sound : IsTable (table_kept start log kept)
 

@@ -69,7 +69,7 @@ pub fn an_entry_is_added()
 /// Each entry of a book that is of a round was sent by nobody, and answered by what became of its
 /// job. What follows the kept entries is such entries, and one last entry of any kind where a call
 /// to the disk has failed.
-pub fn rounds_stand_behind()
+pub fn rounds_follow_what_is_kept()
     ensures unbroken { (start : List JobParts) (log : List Entry) (table : List JobParts)
         (kept : ℕ) (front back : List Entry) (e : Entry) → IsHistory start log table kept false
         → drop kept log ≡ front ++ e ∷ back → IsRoundEntry e }

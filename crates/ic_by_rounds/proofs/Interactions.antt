@@ -12,12 +12,12 @@ use Rattle.ic_term.specs.Configuration.{Configuration}
 use Rattle.ic_rules.specs.Rule.{Rule}
 use Rattle.ic_settle.specs.NameSteps.{NameStep}
 use Rattle.ic_settle.specs.Settling.{occurs, Choice, first_choice, applied, settled_in, settled}
-use Rattle.ic_round.specs.Firing.{Active, active, active_from, active_pair, products_by, count_of, names_taken, fired_pair, fired_from, next_behind, fired}
+use Rattle.ic_round.specs.Firing.{Active, active, active_from, active_pair, products_by, count_of, names_taken, fired_pair, fired_from, next_after, fired}
 use Rattle.ic_round.specs.Steps.{interaction, indirection, collect, Steps, no_steps, then_step}
 use Rattle.ic_round.specs.Rounds.{iterate}
 use Rattle.ic_round.specs.lemmas.SettledLemmas.{choice_step}
 use Rattle.ic_by_rounds.specs.Interacting.{interactions_of}
-use Rattle.ic_by_rounds.specs.Tracing.{active_count, row_behind, rows_of}
+use Rattle.ic_by_rounds.specs.Tracing.{active_count, row_after, rows_of}
 use Rattle.ic_by_rounds.specs.declared.row.Row.{Row}
 
 -- a chain of steps of which so many are interactions
@@ -76,15 +76,15 @@ actives_cons rs p ps None e = sum_by-cons (λ q. cond (is_some (active_pair rs q
 actives_cons rs p ps (Some a) e = sum_by-cons (λ q. cond (is_some (active_pair rs q)) 1 0) p ps ∙ ap (λ o. cond (is_some o) 1 0 + actives rs ps) e
 
 all_fired : (rs : List Rule) (c : Configuration) (ts : List Tree) (done ps : List Pair) (base n : ℕ) → Interacts rs c (way ts done ps base) n
-    → Interacts rs c (way ts (done ++ fired_from rs base ps) [] (next_behind rs base ps)) (actives rs ps + n)
+    → Interacts rs c (way ts (done ++ fired_from rs base ps) [] (next_after rs base ps)) (actives rs ps + n)
 all_fired rs c ts done [] base n chain =
     let Q : ℕ → Type 0 = λ k. Interacts rs c (way ts (done ++ []) [] base) k in
     let count : n ≡ 0 + n = omega arith in
     subst Q count (regrouped rs c ts done [] [] base n chain)
 all_fired rs c ts done (p ∷ ps) base n chain =
     let more = all_fired rs c ts (done ++ fired_pair rs base p) ps (base + names_taken rs p) (one_of (active_pair rs p) + n) (one_fired rs c ts done p ps base n (active_pair rs p) refl chain) in
-    let P : List Pair → Type 0 = λ es. Interacts rs c (way ts es [] (next_behind rs (base + names_taken rs p) ps)) (actives rs ps + (one_of (active_pair rs p) + n)) in
-    let Q : ℕ → Type 0 = λ k. Interacts rs c (way ts (done ++ fired_from rs base (p ∷ ps)) [] (next_behind rs base (p ∷ ps))) k in
+    let P : List Pair → Type 0 = λ es. Interacts rs c (way ts es [] (next_after rs (base + names_taken rs p) ps)) (actives rs ps + (one_of (active_pair rs p) + n)) in
+    let Q : ℕ → Type 0 = λ k. Interacts rs c (way ts (done ++ fired_from rs base (p ∷ ps)) [] (next_after rs base (p ∷ ps))) k in
     let each = actives_cons rs p ps (active_pair rs p) refl in
     let count : actives rs ps + (one_of (active_pair rs p) + n) ≡ actives rs (p ∷ ps) + n = omega (arith, each) in
     subst Q count (subst P (append_assoc done (fired_pair rs base p) (fired_from rs (base + names_taken rs p) ps)) more)
@@ -150,14 +150,14 @@ rounds_interact rs c (suc n) =
     let before = rounds_interact rs c n in
     let sum = sum_by (λ row. row.pairs) (rows_of rs c n) in
     let there = settled_interacts rs c (fired rs (iterate rs n c)) (active_count rs (iterate rs n c) + sum) (fired_interacts rs c (iterate rs n c) sum before) in
-    let pushed = sum_by_push (λ (row : Row). row.pairs) (rows_of rs c n) (row_behind rs c n) in
+    let pushed = sum_by_push (λ (row : Row). row.pairs) (rows_of rs c n) (row_after rs c n) in
     let count : active_count rs (iterate rs n c) + sum ≡ sum_by (λ row. row.pairs) (rows_of rs c (suc n)) = omega (arith, pushed) in
     let Q : ℕ → Type 0 = λ k. Interacts rs c (iterate rs (suc n) c) k in
     subst Q count there
 
 pub as_many_rows : (rs : List Rule) (c : Configuration) (n : ℕ) → length (rows_of rs c n) ≡ n
 as_many_rows rs c zero = refl
-as_many_rows rs c (suc n) = let before = as_many_rows rs c n in omega (arith, length_push (rows_of rs c n) (row_behind rs c n))
+as_many_rows rs c (suc n) = let before = as_many_rows rs c n in omega (arith, length_push (rows_of rs c n) (row_after rs c n))
 
 active_count_from : (rs : List Rule) (i : ℕ) (ps : List Pair) → actives rs ps ≡ length (active_from rs i ps)
 active_count_from rs i [] = refl

@@ -25,17 +25,17 @@ pub quiet_stays_on : (rs : List Rule) (c : Configuration) (n : ℕ) → IsQuiet 
 quiet_stays_on rs c zero quiet = refl
 quiet_stays_on rs c (suc n) quiet = ap (round rs) (quiet_stays_on rs c n quiet) ∙ quiet_stays rs c quiet
 
--- ---- rounds behind rounds
+-- ---- rounds after rounds
 
-pub rounds_behind : (rs : List Rule) (c : Configuration) (m n : ℕ) → iterate rs n (iterate rs m c) ≡ iterate rs (m + n) c
-rounds_behind rs c m zero = ap (λ k. iterate rs k c) (sym (add-zero m))
-rounds_behind rs c m (suc n) = ap (round rs) (rounds_behind rs c m n) ∙ ap (λ k. iterate rs k c) (sym (add-suc m n))
+pub rounds_after : (rs : List Rule) (c : Configuration) (m n : ℕ) → iterate rs n (iterate rs m c) ≡ iterate rs (m + n) c
+rounds_after rs c m zero = ap (λ k. iterate rs k c) (sym (add-zero m))
+rounds_after rs c m (suc n) = ap (round rs) (rounds_after rs c m n) ∙ ap (λ k. iterate rs k c) (sym (add-suc m n))
 
--- behind a quiet configuration nothing changes
+-- after a quiet configuration nothing changes
 pub quiet_then : (rs : List Rule) (c : Configuration) (m n : ℕ) → IsQuiet rs (iterate rs m c) → m ≤ n → iterate rs m c ≡ iterate rs n c
 quiet_then rs c m n quiet low =
     let more : m + (n - m) ≡ n = omega arith in
-    sym (quiet_stays_on rs (iterate rs m c) (n - m) quiet) ∙ rounds_behind rs c m (n - m) ∙ ap (λ k. iterate rs k c) more
+    sym (quiet_stays_on rs (iterate rs m c) (n - m) quiet) ∙ rounds_after rs c m (n - m) ∙ ap (λ k. iterate rs k c) more
 
 pub quiet_later : (rs : List Rule) (c : Configuration) (m n : ℕ) → IsQuiet rs (iterate rs m c) → m ≤ n → IsQuiet rs (iterate rs n c)
 quiet_later rs c m n quiet low = let P : Configuration → Type 0 = λ d. IsQuiet rs d in subst P (quiet_then rs c m n quiet low) quiet
@@ -91,12 +91,12 @@ unfit rs d e fault refused = by (is_small rs d) (has_names rs d) refused
     by false named r f = cc
 
 -- a round that is refused isn't made
-not_behind : (rs : List Rule) (c : Configuration) (most m n : ℕ) (fault : RoundFault) → IsRefusedAfter rs c most m fault → AreMade rs c n → ¬ (m < n)
-not_behind rs c most m n fault is made low = unfit rs (iterate rs m c) (iterate rs (suc m) c) fault is.refused (made.fitting m low)
+not_after : (rs : List Rule) (c : Configuration) (most m n : ℕ) (fault : RoundFault) → IsRefusedAfter rs c most m fault → AreMade rs c n → ¬ (m < n)
+not_after rs c most m n fault is made low = unfit rs (iterate rs m c) (iterate rs (suc m) c) fault is.refused (made.fitting m low)
 
 pub not_both : (rs : List Rule) (c : Configuration) (most m n : ℕ) (fault : RoundFault) → IsReducedBy rs c most m → ¬ IsRefusedAfter rs c most n fault
 not_both rs c most m n fault is refused =
-    by is.ended (cases_lt m n) (not_behind rs c most n m fault refused is.made)
+    by is.ended (cases_lt m n) (not_after rs c most n m fault refused is.made)
   where
     quiet_at : IsQuiet rs (iterate rs m c) → m ≡ n → ⊥
     quiet_at quiet same = let P : ℕ → Type 0 = λ k. IsQuiet rs (iterate rs k c) in refused.going (subst P same quiet)
@@ -116,7 +116,7 @@ same_refusal rs d x e f p q = let both = sym p ∙ q in cc
 
 pub same_fault : (rs : List Rule) (c : Configuration) (most m n : ℕ) (e f : RoundFault) → IsRefusedAfter rs c most m e → IsRefusedAfter rs c most n f → (m ≡ n) × (e ≡ f)
 same_fault rs c most m n e f is also =
-    by (cases_lt m n) (cases_lt n m) (not_behind rs c most m n e is also.made) (not_behind rs c most n m f also is.made)
+    by (cases_lt m n) (cases_lt n m) (not_after rs c most m n e is also.made) (not_after rs c most n m f also is.made)
   where
     with_same : m ≡ n → (m ≡ n) × (e ≡ f)
     with_same same =
@@ -170,22 +170,22 @@ some_way rs c (suc most) = by (some_way rs c most)
 
 -- ---- going on
 
--- rounds that are made, and more behind them
+-- rounds that are made, and more after them
 made_on : (rs : List Rule) (c : Configuration) (m n : ℕ) → AreMade rs c m → AreMade rs (iterate rs m c) n → AreMade rs c (m + n)
 made_on rs c m n made more = record { going = λ k low. going k low (cases_lt k m); fitting = λ k low. fitting k low (cases_lt k m) }
   where
-    behind : (k : ℕ) → m ≤ k → iterate rs (k - m) (iterate rs m c) ≡ iterate rs k c
-    behind k high = let same : m + (k - m) ≡ k = omega arith in rounds_behind rs c m (k - m) ∙ ap (λ j. iterate rs j c) same
+    after : (k : ℕ) → m ≤ k → iterate rs (k - m) (iterate rs m c) ≡ iterate rs k c
+    after k high = let same : m + (k - m) ≡ k = omega arith in rounds_after rs c m (k - m) ∙ ap (λ j. iterate rs j c) same
 
     going : (k : ℕ) → k < m + n → (k < m) ⊎ (m ≤ k) → ¬ IsQuiet rs (iterate rs k c)
     going k low (inl early) = made.going k early
     going k low (inr late) =
         let P : Configuration → Type 0 = λ d. ¬ IsQuiet rs d in
-        subst P (behind k late) (more.going (k - m) (omega arith))
+        subst P (after k late) (more.going (k - m) (omega arith))
 
     fitting : (k : ℕ) → k < m + n → (k < m) ⊎ (m ≤ k) → fits rs (iterate rs k c) ≡ true
     fitting k low (inl early) = made.fitting k early
-    fitting k low (inr late) = ap (fits rs) (sym (behind k late)) ∙ more.fitting (k - m) (omega arith)
+    fitting k low (inr late) = ap (fits rs) (sym (after k late)) ∙ more.fitting (k - m) (omega arith)
 
 -- no round is made of a quiet configuration
 none_of_quiet : (rs : List Rule) (c : Configuration) (n : ℕ) → IsQuiet rs c → AreMade rs c n → n ≡ 0
@@ -200,7 +200,7 @@ reduced_on rs c most more m n is then = record {
 }
   where
     by : (m ≡ most) ⊎ IsQuiet rs (iterate rs m c) → (n ≡ more) ⊎ IsQuiet rs (iterate rs n (iterate rs m c)) → (m + n ≡ most + more) ⊎ IsQuiet rs (iterate rs (m + n) c)
-    by a (inr quiet) = let P : Configuration → Type 0 = λ d. IsQuiet rs d in inr (subst P (rounds_behind rs c m n) quiet)
+    by a (inr quiet) = let P : Configuration → Type 0 = λ d. IsQuiet rs d in inr (subst P (rounds_after rs c m n) quiet)
     by (inl all) (inl also) = inl (omega arith)
     by (inr quiet) (inl also) =
         inr (quiet_later rs c m (m + n) quiet (omega arith))
@@ -208,7 +208,7 @@ reduced_on rs c most more m n is then = record {
 pub refused_on : (rs : List Rule) (c : Configuration) (most more m n : ℕ) (fault : RoundFault) → IsReducedBy rs c most m → IsRefusedAfter rs (iterate rs m c) more n fault
     → IsRefusedAfter rs c (most + more) (m + n) fault
 refused_on rs c most more m n fault is then =
-    let here = rounds_behind rs c m n in
+    let here = rounds_after rs c m n in
     let P : Configuration → Type 0 = λ d. ¬ IsQuiet rs d in
     let Q : Configuration → Type 0 = λ d. unless_unfit rs d (round rs d) ≡ Err fault in
     record {

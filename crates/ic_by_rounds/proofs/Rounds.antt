@@ -53,7 +53,7 @@ answer_by true true a b e = cc
 answer_by true false a b e = cc
 answer_by false named a b e = cc
 
--- what is answered behind so many rounds is the configuration behind one more
+-- what is answered after so many rounds is the configuration after one more
 pub answered_next : (rs : List Rule) (c now after : Configuration) (n : ℕ) → now ≡ iterate rs n c → Answers (Ok after) (unless_unfit rs now (round rs now)) → after ≡ iterate rs (n + 1) c
 answered_next rs c now after n is answer =
     answer_by (is_small rs now) (has_names rs now) after (round rs now) answer ∙ ap (round rs) is ∙ ap (λ k. iterate rs k c) (sym (add-one n))
@@ -65,10 +65,10 @@ answered_fault Memory answer e apart = absurd (apart refl)
 
 -- so many rounds were made of a configuration, in which a step is possible, and the next one was refused:
 -- so it is told
-pub refusal_behind : (rs : List Rule) (c now : Configuration) (most n nodes : ℕ) (fault : RoundFault) (refusal : Refusal) → refusal ≡ record { fault = fault; round = n + 1; nodes = nodes }
+pub refusal_after : (rs : List Rule) (c now : Configuration) (most n nodes : ℕ) (fault : RoundFault) (refusal : Refusal) → refusal ≡ record { fault = fault; round = n + 1; nodes = nodes }
     → n < most → AreMade rs c n → now ≡ iterate rs n c → ¬ IsQuiet rs now → Answers {T = Configuration} (Err fault) (unless_unfit rs now (round rs now))
     → fault ≢ Memory → nodes ≡ configuration_nodes now → IsRefusal rs c most n refusal
-refusal_behind rs c now most n nodes fault refusal told left made is going answer apart counted =
+refusal_after rs c now most n nodes fault refusal told left made is going answer apart counted =
     let Going : Configuration → Type 0 = λ d. ¬ IsQuiet rs d in
     let after : IsRefusedAfter rs c most n fault = record {
       left = left;

@@ -23,13 +23,13 @@ row_between rs number before after = record {
 }
 
 -- the row of the round after so many others
-abbrev pub row_behind : List Rule → Configuration → ℕ → Row
-row_behind rs c n = row_between rs (n + 1) (iterate rs n c) (iterate rs (suc n) c)
+abbrev pub row_after : List Rule → Configuration → ℕ → Row
+row_after rs c n = row_between rs (n + 1) (iterate rs n c) (iterate rs (suc n) c)
 
 -- the rows of so many rounds, the first one first
 abbrev pub rows_of : List Rule → Configuration → ℕ → List Row
 rows_of rs c zero = []
-rows_of rs c (suc n) = rows_of rs c n ++ row_behind rs c n ∷ []
+rows_of rs c (suc n) = rows_of rs c n ++ row_after rs c n ∷ []
 
 -- the rows of the rounds that are made of a configuration, at most so many, and how they ended
 pub record AreRows (rs : List Rule) (c : Configuration) (most : ℕ) (rows : List Row)

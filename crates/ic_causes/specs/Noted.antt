@@ -33,7 +33,7 @@ cause_of_kind target (Ok about) = option_map
     (reason_of_mode (metadata_mode about))
 cause_of_kind target (Err error) = None
 
--- what stands noted behind a call, of which this is noted: the last cause
+-- what stands noted after a call, of which this is noted: the last cause
 abbrev pub noted_after : Option Cause → Option Cause → Option Cause
 noted_after before None = before
 noted_after before (Some cause) = Some cause

@@ -81,7 +81,7 @@ pub fn cause_of_kind(target: Target, answer: &io::Result<Metadata>) -> Option<Ca
     })
 }
 
-/// What stands noted behind a call of which this is noted.
+/// What stands noted after a call of which this is noted.
 fn noted_after(before: Option<Cause>, cause: Option<Cause>) -> Option<Cause>
     ensures { result ≡ noted_after before cause }
 {

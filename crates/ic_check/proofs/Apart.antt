@@ -56,10 +56,10 @@ tokens-blanks (b ∷ bs) z all =
 
 -- ---- places between words and marks
 
-apart_behind : (z x : Bool) → (z || not (x && false)) ≡ true
-apart_behind true x = refl
-apart_behind false true = refl
-apart_behind false false = refl
+apart_after : (z x : Bool) → (z || not (x && false)) ≡ true
+apart_after true x = refl
+apart_after false true = refl
+apart_after false false = refl
 
 apart_before : (z x : Bool) → (z || not (false && x)) ≡ true
 apart_before true x = refl
@@ -70,21 +70,21 @@ pub between_front : (a b : List ℕ) → IsApart b → is_between (a ++ b) (leng
 between_front a [] apart =
     let other = is_word_byte (get_or (a ++ []) (length a - 1) 0) in
     let end : is_word_byte (get_or (a ++ []) (length a) 0) ≡ false = ap is_word_byte (get_or_past (a ++ []) (length a) 0 (omega (arith, length-append a []))) in
-    ap (λ w. eqb (length a) 0 || not (other && w)) end ∙ apart_behind (eqb (length a) 0) other
+    ap (λ w. eqb (length a) 0 || not (other && w)) end ∙ apart_after (eqb (length a) 0) other
 between_front a (c ∷ b) apart =
     let other = is_word_byte (get_or (a ++ c ∷ b) (length a - 1) 0) in
     let here : is_word_byte (get_or (a ++ c ∷ b) (length a) 0) ≡ false = ap is_word_byte (get_or-append_seam a c b 0) ∙ apart in
-    ap (λ w. eqb (length a) 0 || not (other && w)) here ∙ apart_behind (eqb (length a) 0) other
+    ap (λ w. eqb (length a) 0 || not (other && w)) here ∙ apart_after (eqb (length a) 0) other
 
--- nor is one behind a byte that no word holds
-pub between_behind : (a b : List ℕ) (c : ℕ) → is_word_byte c ≡ false → is_between (a ++ c ∷ b) (length a + 1) ≡ true
-between_behind a b c apart =
+-- nor is one after a byte that no word holds
+pub between_after : (a b : List ℕ) (c : ℕ) → is_word_byte c ≡ false → is_between (a ++ c ∷ b) (length a + 1) ≡ true
+between_after a b c apart =
     let back : length a + 1 - 1 ≡ length a = omega arith in
     let other = is_word_byte (get_or (a ++ c ∷ b) (length a + 1) 0) in
-    let behind : is_word_byte (get_or (a ++ c ∷ b) (length a + 1 - 1) 0) ≡ false = ap (λ i. is_word_byte (get_or (a ++ c ∷ b) i 0)) back ∙ ap is_word_byte (get_or-append_seam a c b 0) ∙ apart in
-    ap (λ w. eqb (length a + 1) 0 || not (w && other)) behind ∙ apart_before (eqb (length a + 1) 0) other
+    let after : is_word_byte (get_or (a ++ c ∷ b) (length a + 1 - 1) 0) ≡ false = ap (λ i. is_word_byte (get_or (a ++ c ∷ b) i 0)) back ∙ ap is_word_byte (get_or-append_seam a c b 0) ∙ apart in
+    ap (λ w. eqb (length a + 1) 0 || not (w && other)) after ∙ apart_before (eqb (length a + 1) 0) other
 
--- a place of the text behind a front is one of the whole
+-- a place of the text after a front is one of the whole
 pub between_within : (a b : List ℕ) (at : ℕ) → 0 < at → is_between (a ++ b) (length a + at) ≡ is_between b at
 between_within a b at some =
     let back : length a + at - 1 ≡ length a + (at - 1) = omega arith in

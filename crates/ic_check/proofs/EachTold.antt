@@ -27,8 +27,8 @@ module _ (place words : List ℕ) where
   alone : (told : List ℕ) → told ≡ warning_line place words → IsWarned place words told
   alone told is = ([], [], is ∙ sym (append-nil (warning_line place words)))
 
-  behind : (a b : List ℕ) → AreOf Any place a → IsWarned place words b → IsWarned place words (a ++ b)
-  behind a b (ws, any, first) (before, after, is) = (
+  later : (a b : List ℕ) → AreOf Any place a → IsWarned place words b → IsWarned place words (a ++ b)
+  later a b (ws, any, first) (before, after, is) = (
     ws ++ before,
     after,
     (λ i. first i ++ is i) ∙ sym (lines_append place ws (before ++ words ∷ after))
@@ -54,7 +54,7 @@ each_ruleless place rs (e ∷ es) zero a b p at is none =
     ahead place words (ruleless_line place rs e.left e.right) (ruleless_lines place rs es) (alone place words (ruleless_line place rs e.left e.right) told)
     (all_ruleless_of Any place rs (any_words rs) es)
 each_ruleless place rs (e ∷ es) (suc i) a b p at is none =
-    behind place (codes "no rule for " ++ pair_text rs.symbols a b) (ruleless_line place rs e.left e.right) (ruleless_lines place rs es)
+    later place (codes "no rule for " ++ pair_text rs.symbols a b) (ruleless_line place rs e.left e.right) (ruleless_lines place rs es)
     (ruleless_of Any place rs (any_words rs) e.left e.right) (each_ruleless place rs es i a b p at is none)
 
 any_once : (place all : List ℕ) (k : ℕ) (ss : List Symbol) → AreOf Any place (once_lines place all k ss)
@@ -75,7 +75,7 @@ each_once place all (x ∷ xs) k zero n s is at once =
     let told : once_line place all k x.text ≡ warning_line place words = (λ i. once_line place all (number i) (same i).text) ∙ once_told place all n s.text once in
     ahead place words (once_line place all k x.text) (once_lines place all (k + 1) xs) (alone place words (once_line place all k x.text) told) (any_once place all (k + 1) xs)
 each_once place all (x ∷ xs) k (suc i) n s is at once =
-    behind place (s.text ++ codes " stands only once") (once_line place all k x.text) (once_lines place all (k + 1) xs)
+    later place (s.text ++ codes " stands only once") (once_line place all k x.text) (once_lines place all (k + 1) xs)
     (told_of Any place (x.text ++ codes " stands only once") tt (count_of all k == 1)) (each_once place all xs (k + 1) i n s (omega (arith, is)) at once)
 
 each_unused : (place : List ℕ) (among : ℕ → Bool) (rs : Rules) (ls : List Rule) (k i n : ℕ) (r : Rule) → n ≡ k + i → slice_get ls i ≡ Some r → (among r.left && among r.right) ≡ false
@@ -91,7 +91,7 @@ each_unused place among rs (x ∷ xs) k zero n r is at not =
     ahead place words (unused_line place among rs.symbols k x) (unused_lines place among rs.symbols (k + 1) xs)
     (alone place words (unused_line place among rs.symbols k x) told) (all_unused_of Any place rs (any_words rs) among (k + 1) xs)
 each_unused place among rs (x ∷ xs) k (suc i) n r is at not =
-    behind place (unused_words rs.symbols n r) (unused_line place among rs.symbols k x) (unused_lines place among rs.symbols (k + 1) xs)
+    later place (unused_words rs.symbols n r) (unused_line place among rs.symbols k x) (unused_lines place among rs.symbols (k + 1) xs)
     (either_of Any place (unused_words rs.symbols k x) tt (among x.left && among x.right)) (each_unused place among rs xs (k + 1) i n r (omega (arith, is)) at not)
 
 each_free : (place all : List ℕ) (ns : List ℕ) (i n : ℕ) → slice_get ns i ≡ Some n → StandsOnce n all
@@ -104,7 +104,7 @@ each_free place all (x ∷ xs) zero n at once =
     let told : free_line place all x ≡ warning_line place words = ap (free_line place all) same ∙ once_told place all n (codes "the name " ++ name_text n) once in
     ahead place words (free_line place all x) (free_lines place all xs) (alone place words (free_line place all x) told) (all_free_of Any place all (λ m. tt) xs)
 each_free place all (x ∷ xs) (suc i) n at once =
-    behind place (codes "the name " ++ name_text n ++ codes " stands only once") (free_line place all x) (free_lines place all xs)
+    later place (codes "the name " ++ name_text n ++ codes " stands only once") (free_line place all x) (free_lines place all xs)
     (told_of Any place (codes "the name " ++ name_text x ++ codes " stands only once") tt (count_of all x == 1)) (each_free place all xs i n at once)
 
 -- ---- among all warnings of a system
@@ -144,14 +144,14 @@ module _ (place : List ℕ) (rs : Rules) (c : Configuration) (told : List ℕ) (
   in_first words is there = in_three words is (ahead place words (first ++ second) third (ahead place words first second there second_any) third_any)
 
   in_second : (words : List ℕ) → AreAll → IsWarned place words second → IsWarned place words told
-  in_second words is there = in_three words is (ahead place words (first ++ second) third (behind place words first second first_any there) third_any)
+  in_second words is there = in_three words is (ahead place words (first ++ second) third (later place words first second first_any there) third_any)
 
   in_third : (words : List ℕ) → AreAll → IsWarned place words third → IsWarned place words told
-  in_third words is there = in_three words is (behind place words (first ++ second) third (both_of Any place first second first_any second_any) there)
+  in_third words is there = in_three words is (later place words (first ++ second) third (both_of Any place first second first_any second_any) there)
 
   in_fourth : (words : List ℕ) → AreAll → IsWarned place words fourth → IsWarned place words told
   in_fourth words is there = subst (IsWarned place words) (sym is)
-      (behind place words (first ++ second ++ third) fourth (both_of Any place (first ++ second) third (both_of Any place first second first_any second_any) third_any) there)
+      (later place words (first ++ second ++ third) fourth (both_of Any place (first ++ second) third (both_of Any place first second first_any second_any) third_any) there)
 
 pub begins : (place words : List ℕ) → warning_line place words ≡ place ++ codes ": warning: " ++ words ++ 10 ∷ []
 begins place words =

@@ -7,22 +7,22 @@ use Rattle.ic_text.specs.Places.{IsWordPlace, is_between}
 use Rattle.ic_text.specs.Token.{Token, word, is_blank, is_word_byte, before, tokens, words_among}
 use Rattle.ic_diagnostics.specs.Sights.{first_word}
 use Rattle.ic_check.specs.LinePlaces.{IsDue, IsWhole, first_at}
-use Rattle.ic_check.specs.inner.Fronts.{IsFilled, IsFront, IsPassed, behind, behind_blanks, behind_word, earlier, first_of, passed_at, passed_in}
+use Rattle.ic_check.specs.inner.Fronts.{IsFilled, IsFront, IsPassed, after_blanks, after_word, due_after, earlier, first_of, passed_at, passed_in}
 use Rattle.ic_check.specs.declared.due.Due.{Due}
 use Rattle.ic_check.specs.declared.due.Due.TheVariants.{Command, SubmitName, Budget, System, OldName, NewName, VerbName, Number, Nothing}
 use Rattle.ic_check.specs.declared.due.LineLimit.{LineLimit}
-use Rattle.ic_check.proofs.Apart.{IsApart, before-before, before-none, between_behind, between_front, blank_apart, tokens-blanks, tokens-word}
-use Rattle.ic_check.proofs.OwnWords.{KnownVerbs, due_behind, first_of-assoc, none_isnt}
+use Rattle.ic_check.proofs.Apart.{IsApart, before-before, before-none, between_after, between_front, blank_apart, tokens-blanks, tokens-word}
+use Rattle.ic_check.proofs.OwnWords.{KnownVerbs, due_then, first_of-assoc, none_isnt}
 use Rattle.ic_check.proofs.Stops.{parted, word_here}
 
 -- ---- blanks
 
--- a text is blanks, and what is left behind them
+-- a text is blanks, and what is left after them
 record IsCut (text : List ℕ) : Type 0 where
   blanks : List ℕ
-  whole : text ≡ blanks ++ behind_blanks text
+  whole : text ≡ blanks ++ after_blanks text
   all : list_all is_blank blanks ≡ true
-  filled : IsFilled (behind_blanks text)
+  filled : IsFilled (after_blanks text)
 
 cut : (text : List ℕ) → IsCut text
 cut [] = record { blanks = []; whole = refl; all = refl; filled = tt }
@@ -30,7 +30,7 @@ cut (b ∷ bs) = by (is_blank b) refl (cut bs)
   where
     by : (x : Bool) → is_blank b ≡ x → IsCut bs → IsCut (b ∷ bs)
     by true e rest =
-        let same : behind_blanks (b ∷ bs) ≡ behind_blanks bs = ap (λ y. if y then behind_blanks bs else b ∷ bs) e in
+        let same : after_blanks (b ∷ bs) ≡ after_blanks bs = ap (λ y. if y then after_blanks bs else b ∷ bs) e in
         record {
           blanks = b ∷ rest.blanks;
           whole = ap (λ l. b ∷ l) rest.whole ∙ ap (λ l. (b ∷ rest.blanks) ++ l) (sym same);
@@ -38,19 +38,19 @@ cut (b ∷ bs) = by (is_blank b) refl (cut bs)
           filled = subst IsFilled (sym same) rest.filled;
         }
     by false e rest =
-        let same : behind_blanks (b ∷ bs) ≡ b ∷ bs = ap (λ y. if y then behind_blanks bs else b ∷ bs) e in
+        let same : after_blanks (b ∷ bs) ≡ b ∷ bs = ap (λ y. if y then after_blanks bs else b ∷ bs) e in
         record { blanks = []; whole = sym same; all = refl; filled = subst IsFilled (sym same) e }
 
--- a place behind blanks is between words
+-- a place after blanks is between words
 between_blanks : (a bs r : List ℕ) (b : ℕ) → list_all is_blank (b ∷ bs) ≡ true → is_between (a ++ ((b ∷ bs) ++ r)) (length a + length (b ∷ bs)) ≡ true
-between_blanks a [] r b all = between_behind a r b (blank_apart b (and_parts (is_blank b) true all).0)
+between_blanks a [] r b all = between_after a r b (blank_apart b (and_parts (is_blank b) true all).0)
 between_blanks a (c ∷ cs) r b all =
     let assoc : (a ++ b ∷ []) ++ ((c ∷ cs) ++ r) ≡ a ++ ((b ∷ c ∷ cs) ++ r) = append_assoc a (b ∷ []) ((c ∷ cs) ++ r) in
     let size : length (a ++ b ∷ []) + length (c ∷ cs) ≡ length a + length (b ∷ c ∷ cs) = omega (arith, length-append a (b ∷ [])) in
     let later = between_blanks (a ++ b ∷ []) cs r c (and_parts (is_blank b) (list_all is_blank (c ∷ cs)) all).1 in
     (λ i. is_between (sym assoc i) (sym size i)) ∙ later
 
--- and so is one behind a word and blanks
+-- and so is one after a word and blanks
 between_both : (a bs r : List ℕ) → list_all is_blank bs ≡ true → IsApart (bs ++ r) → is_between (a ++ (bs ++ r)) (length a + length bs) ≡ true
 between_both a [] r all apart = let e : length a + 0 ≡ length a = omega arith in ap (is_between (a ++ r)) e ∙ between_front a r apart
 between_both a (b ∷ bs) r all apart = between_blanks a bs r b all
@@ -63,8 +63,8 @@ apart_cut (b ∷ bs) x y apart = apart
 
 -- ---- words
 
--- nothing is due behind no word
-no_empty : (due next : Due) → behind due [] ≡ Some next → ⊥
+-- nothing is due after no word
+no_empty : (due next : Due) → due_after due [] ≡ Some next → ⊥
 no_empty Command next e = none_isnt next e
 no_empty SubmitName next e = none_isnt next e
 no_empty Budget next e = none_isnt next e
@@ -111,15 +111,15 @@ passed_more line k at (Some f) None limit there is = absurd is
 passed_more line k at (Some f) (Some p) limit there is = is
 
 -- before the first word
-pub sets_out : (line : List ℕ) → IsFront line Command (behind_blanks line) None
+pub sets_out : (line : List ℕ) → IsFront line Command (after_blanks line) None
 sets_out line =
     let c = cut line in
-    let r = behind_blanks line in
+    let r = after_blanks line in
     record {
       front = c.blanks;
       whole = c.whole;
       filled = c.filled;
-      between = ap (λ l. is_between l (length c.blanks)) c.whole ∙ behind_all c.blanks r c.all;
+      between = ap (λ l. is_between l (length c.blanks)) c.whole ∙ after_all c.blanks r c.all;
       words = [];
       parts = λ x y e. tokens-blanks c.blanks x c.all ∙ sym (before-none (tokens x));
       stands = refl;
@@ -128,19 +128,19 @@ sets_out line =
       placed = tt;
     }
   where
-    behind_all : (bs r : List ℕ) → list_all is_blank bs ≡ true → is_between (bs ++ r) (length bs) ≡ true
-    behind_all [] r all = refl
-    behind_all (b ∷ bs) r all =
+    after_all : (bs r : List ℕ) → list_all is_blank bs ≡ true → is_between (bs ++ r) (length bs) ≡ true
+    after_all [] r all = refl
+    after_all (b ∷ bs) r all =
         let e : 0 + length (b ∷ bs) ≡ length (b ∷ bs) = omega arith in
         ap (is_between ((b ∷ bs) ++ r)) (sym e) ∙ between_blanks [] bs r b all
 
 -- a word more
 module _ (known : KnownVerbs) (line : List ℕ) (due next : Due) (rest : List ℕ) (passed : Option (ℕ × LineLimit)) (is : IsFront line due rest passed) where
   abbrev z : List ℕ
-  z = behind_word rest
+  z = after_word rest
 
   abbrev r : List ℕ
-  r = behind_blanks z
+  r = after_blanks z
 
   abbrev bl : List ℕ
   bl = (cut z).blanks
@@ -148,7 +148,7 @@ module _ (known : KnownVerbs) (line : List ℕ) (due next : Due) (rest : List �
   at_front : length line - length rest ≡ length is.front
   at_front = let whole : length line ≡ length is.front + length rest = ap length is.whole ∙ length-append is.front rest in omega (arith, whole)
 
-  module _ (w : ℕ) (ws : List ℕ) (first : first_word rest ≡ w ∷ ws) (e : behind due (w ∷ ws) ≡ Some next) where
+  module _ (w : ℕ) (ws : List ℕ) (first : first_word rest ≡ w ∷ ws) (e : due_after due (w ∷ ws) ≡ Some next) where
     abbrev step : List ℕ
     step = w ∷ ws
 
@@ -215,16 +215,16 @@ module _ (known : KnownVerbs) (line : List ℕ) (due next : Due) (rest : List �
       between = new_between;
       words = is.words ++ word step ∷ [];
       parts = new_parts;
-      stands = due_behind known due next is.words step is.stands e;
+      stands = due_then known due next is.words step is.stands e;
       found = first_of is.found (first_at k (passed_at due step) None);
       so_far = new_so_far;
       placed = passed_more line k (length line - length rest) is.found passed (passed_at due step) place_here is.placed;
     }
 
-  pub word_more : behind due (first_word rest) ≡ Some next → IsFront line next r (earlier passed (length line - length rest) (passed_at due (first_word rest)))
+  pub word_more : due_after due (first_word rest) ≡ Some next → IsFront line next r (earlier passed (length line - length rest) (passed_at due (first_word rest)))
   word_more e = by (first_word rest) refl e
     where
-      by : (run : List ℕ) → first_word rest ≡ run → behind due run ≡ Some next → IsFront line next r (earlier passed (length line - length rest) (passed_at due (first_word rest)))
+      by : (run : List ℕ) → first_word rest ≡ run → due_after due run ≡ Some next → IsFront line next r (earlier passed (length line - length rest) (passed_at due (first_word rest)))
       by [] first f = absurd (no_empty due next f)
       by (w ∷ ws) first f =
           subst (λ (l : List ℕ). IsFront line next r (earlier passed (length line - length rest) (passed_at due l))) (sym first) (goes_on w ws first f)

@@ -32,7 +32,7 @@ use Rattle.ic_text.specs.declared.misread.Limit.TheVariants.{TextBytes, SymbolBy
 use Rattle.ic_text.specs.lemmas.ReadOnce.{none_is_some, some-injective}
 use Rattle.ic_diagnostics.specs.Sights.{first_word}
 use Rattle.ic_check.specs.LinePlaces.{IsDue, IsInSystem, IsLinePlace, IsOwnPlace, IsSought, IsSystemPlace, IsWhole, first_at, is_system_due, own_passed, submit_front}
-use Rattle.ic_check.specs.inner.Fronts.{IsFilled, IsFront, IsPassed, behind, first_of, passed_in}
+use Rattle.ic_check.specs.inner.Fronts.{IsFilled, IsFront, IsPassed, due_after, first_of, passed_in}
 use Rattle.ic_check.specs.inner.Inner.{IsInner, IsInnerOf, place_of}
 use Rattle.ic_check.specs.declared.due.Due.{Due}
 use Rattle.ic_check.specs.declared.due.Due.TheVariants.{Command, SubmitName, Budget, System, OldName, NewName, VerbName, Number, Nothing}
@@ -262,7 +262,7 @@ all_heads b bs filled =
     (heads (b ∷ bs) (length (b ∷ bs)) filled (omega arith) (omega arith) (all_between (b ∷ bs)))
 
 module _ (known : KnownVerbs) (line : List ℕ) (fault : TextFault) (reads : ReadsLine line (Err fault)) (short : length line ≤ MAX_TEXT) (due : Due) (rest : List ℕ) (passed : Option (ℕ × LineLimit))
-    (is : IsFront line due rest passed) (stop : behind due (first_word rest) ≡ None) where
+    (is : IsFront line due rest passed) (stop : due_after due (first_word rest) ≡ None) where
   abbrev at : ℕ
   at = length is.front
 
@@ -306,7 +306,7 @@ module _ (known : KnownVerbs) (line : List ℕ) (fault : TextFault) (reads : Rea
     words : system_words system ≡ t ∷ ts
 
   marked : (t : Token) (ts : List Token) (p : LinePhrase) → HeadIs (first_word rest) t → IsLine p → line_words p ≡ is.words ++ t ∷ ts → IsMarked t ts
-  marked (word w) ts p head one same = absurd (takes known due is.words p (word w) ts is.stands one same (ap (behind due) head ∙ stop))
+  marked (word w) ts p head one same = absurd (takes known due is.words p (word w) ts is.stands one same (ap (due_after due) head ∙ stop))
   marked (mark m) ts p head one same = let (so, s, phrase, e) = takes known due is.words p (mark m) ts is.stands one same in record { wants = so; system = s; phrase = phrase; words = e }
 
   -- a line that is spelled ends here, or a system is what is left

@@ -10,7 +10,7 @@ use Rattle.ic_check.specs.Symbols.{symbols, symbols_of}
 pub from_place : {X : Type 0} (xs : List X) (i : ℕ) (x : X) → i < length xs → x ≡ get_or xs i x → drop i xs ≡ x ∷ drop (i + 1) xs
 from_place xs i x below is = rw add-one (drop-cons xs i x below ∙ ap (λ y. y ∷ drop (suc i) xs) (sym is))
 
--- one item more is written, and those behind it are left
+-- one item more is written, and those after it are left
 pub next : {X Z : Type 0} (g : List X → List Z) (h : X → List Z) → ((x : X) (xs : List X) → g (x ∷ xs) ≡ h x ++ g xs)
     → (i : ℕ) (xs : List X) (x : X) (out new whole : List Z) → i < length xs → x ≡ get_or xs i x → new ≡ out ++ h x
     → out ++ g (drop i xs) ≡ whole → new ++ g (drop (i + 1) xs) ≡ whole

@@ -17,12 +17,12 @@ use Rattle.ic_text.specs.Token.{Token, word, mark, words_among}
 use Rattle.ic_diagnostics.specs.Sights.{is_command}
 use Rattle.ic_check.specs.LinePlaces.{IsDue, first_at, is_system_due, own_passed}
 use Rattle.ic_check.specs.Meanings.{BeginsLine, GoesWith, Passes, is_looked_for}
-use Rattle.ic_check.specs.inner.Fronts.{behind, if_stands, opened}
+use Rattle.ic_check.specs.inner.Fronts.{due_after, if_stands, opened}
 use Rattle.ic_check.specs.declared.due.Due.{Due}
 use Rattle.ic_check.specs.declared.due.Due.TheVariants.{Command, SubmitName, Budget, System, OldName, NewName, VerbName, Number, Nothing}
 use Rattle.ic_check.specs.declared.due.LineLimit.{LineLimit}
 use Rattle.ic_check.specs.declared.due.LineLimit.TheVariants.{NameBytes, BudgetRounds, RunRounds}
-use Rattle.ic_check.proofs.OwnWords.{KnownVerbs, begins, due_behind, same_bytes, takes}
+use Rattle.ic_check.proofs.OwnWords.{KnownVerbs, begins, due_then, same_bytes, takes}
 use Rattle.ic_check.proofs.LinePlacing.{submit_of}
 
 -- ---- words
@@ -54,8 +54,8 @@ known_opens w is = by (bytes_eq w (codes "submit")) (bytes_eq w (codes "pause"))
     by false false false false false false false true p q r s t u v x is = opens_as (codes "copy") OldName x refl
     by false false false false false false false false p q r s t u v x is = absurd (false≢true is)
 
--- what is due behind a word that is looked for
-due_next : (due : Due) (w : List ℕ) → is_looked_for due w ≡ true → (d : Due) × (behind due w ≡ Some d)
+-- what is due after a word that is looked for
+due_next : (due : Due) (w : List ℕ) → is_looked_for due w ≡ true → (d : Due) × (due_after due w ≡ Some d)
 due_next Command w is = known_opens w is
 due_next SubmitName w is = (Budget, ap (λ (b : Bool). if_stands b Budget) is)
 due_next Budget w is = (System, ap (λ (b : Bool). if_stands b System) is)
@@ -70,7 +70,7 @@ module _ (known : KnownVerbs) where
   pub goes_with_word : (due : Due) (front : List Token) (w : List ℕ) → IsDue due front → is_looked_for due w ≡ true → GoesWith front (word w)
   goes_with_word due front w is looked =
       let (d, e) = due_next due w looked in
-      let (p, rest, one, same) = begins known d (front ++ word w ∷ []) (due_behind known due d front w is e) in
+      let (p, rest, one, same) = begins known d (front ++ word w ∷ []) (due_then known due d front w is e) in
       (p, one, rest, same ∙ append_assoc front (word w ∷ []) rest)
 
   module _ (commands : (w : List ℕ) → BeginsLine w → is_command w ≡ true) (texts : (p : LinePhrase) → words_among (line_words p) ≡ phrase_texts p) where

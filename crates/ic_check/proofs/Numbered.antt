@@ -17,7 +17,7 @@ use Rattle.ic_check.specs.declared.due.LineLimit.TheVariants.{LineBytes, NameByt
 use Rattle.ic_check.specs.declared.line_places.LineDetail.{LineDetail}
 use Rattle.ic_check.specs.declared.line_places.LineDetail.TheVariants.{Sought, Passed, Within}
 
--- ---- a line stands behind those above it
+-- ---- a line stands after those above it
 
 -- where each line of a text stands
 abbrev pub IsParted : List ℕ → Type 0
@@ -105,9 +105,9 @@ has_feed_in : (a b : List ℕ) → list_any is_feed (a ++ 10 ∷ b) ≡ true
 has_feed_in [] b = refl
 has_feed_in (x ∷ xs) b = or_true (is_feed x) (list_any is_feed (xs ++ 10 ∷ b)) (has_feed_in xs b)
 
-last_behind : (a b : List ℕ) → last_line (a ++ 10 ∷ b) ≡ last_line b
-last_behind [] b = refl
-last_behind (x ∷ xs) b = ap (λ (t : Bool). if t then last_line (xs ++ 10 ∷ b) else x ∷ (xs ++ 10 ∷ b)) (has_feed_in (x ∷ xs) b) ∙ last_behind xs b
+last_after : (a b : List ℕ) → last_line (a ++ 10 ∷ b) ≡ last_line b
+last_after [] b = refl
+last_after (x ∷ xs) b = ap (λ (t : Bool). if t then last_line (xs ++ 10 ∷ b) else x ∷ (xs ++ 10 ∷ b)) (has_feed_in (x ∷ xs) b) ∙ last_after xs b
 
 last_alone : (b : List ℕ) → has_feed b ≡ false → last_line b ≡ b
 last_alone [] e = refl
@@ -117,7 +117,7 @@ last_of : (above : List (List ℕ)) (front : List ℕ) → last_line (flat_map e
 last_of [] front = refl
 last_of (l ∷ ls) front =
     let rest : List ℕ = flat_map ended ls in
-    ap last_line (append_assoc (l ++ 10 ∷ []) rest front ∙ append_assoc l (10 ∷ []) (rest ++ front)) ∙ last_behind l (rest ++ front) ∙ last_of ls front
+    ap last_line (append_assoc (l ++ 10 ∷ []) rest front ∙ append_assoc l (10 ∷ []) (rest ++ front)) ∙ last_after l (rest ++ front) ∙ last_of ls front
 
 -- ---- the place that is told
 

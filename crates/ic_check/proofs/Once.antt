@@ -42,9 +42,9 @@ once_there s (t ∷ ts) one = by (t == s) refl (λ e. once_there s ts e)
     only none zero at = refl
     only none (suc j) at = absurd (none_there s ts none j at)
 
-    behind : (t == s) ≡ false → (i : ℕ) → ((j : ℕ) → slice_get ts j ≡ Some s → j ≡ i) → (j : ℕ) → slice_get (t ∷ ts) j ≡ Some s → j ≡ suc i
-    behind e i later zero at = let bad = sym e ∙ eq-eqb t s (same_some t s at) in cc
-    behind e i later (suc j) at = ap suc (later j at)
+    after : (t == s) ≡ false → (i : ℕ) → ((j : ℕ) → slice_get ts j ≡ Some s → j ≡ i) → (j : ℕ) → slice_get (t ∷ ts) j ≡ Some s → j ≡ suc i
+    after e i later zero at = let bad = sym e ∙ eq-eqb t s (same_some t s at) in cc
+    after e i later (suc j) at = ap suc (later j at)
 
     by : (b : Bool) → (t == s) ≡ b → (count_of ts s ≡ 1 → StandsOnce s ts) → StandsOnce s (t ∷ ts)
     by true e later =
@@ -54,7 +54,7 @@ once_there s (t ∷ ts) one = by (t == s) refl (λ e. once_there s ts e)
     by false e later =
         let same = counted s t ts false e in
         let rest = later (omega (arith, same, one)) in
-        (suc rest.0, rest.1, behind e rest.0 rest.2)
+        (suc rest.0, rest.1, after e rest.0 rest.2)
 
 once_counted : (s : ℕ) (all : List ℕ) (i : ℕ) → slice_get all i ≡ Some s → ((j : ℕ) → slice_get all j ≡ Some s → j ≡ i) → count_of all s ≡ 1
 once_counted s [] zero at only = cc

@@ -25,9 +25,9 @@ use Rattle.ic_text.specs.declared.misread.Limit.TheVariants as bound
 use Rattle.ic_causes.specs.Causes.{is_printable, shown_byte, shown_path}
 use Rattle.ic_diagnostics.specs.Lines.{column, last_line, line_number, told_at}
 use Rattle.ic_diagnostics.specs.Sights.{first_word, is_again, is_joined, opens_comment, opens_order_mark, sight_at}
-use Rattle.ic_diagnostics.specs.Telling.{argument_sentence, behind_in_config, behind_in_system, behind_mark, config_sentence, count_words, limit_sentence, namecount_sentence, of_rule, opened, order_mark_sentence, plain_sentence, sentence, sight_sentence, stand_sentence, syntax_sentence, system_sentence, wants_term}
+use Rattle.ic_diagnostics.specs.Telling.{after_in_config, after_in_system, after_mark, argument_sentence, config_sentence, count_words, limit_sentence, namecount_sentence, of_rule, opened, order_mark_sentence, plain_sentence, sentence, sight_sentence, stand_sentence, syntax_sentence, system_sentence, wants_term}
 use Rattle.ic_diagnostics.specs.declared.sights.Sight.{Sight}
-use Rattle.ic_diagnostics.specs.declared.sights.Sight.TheVariants.{Blank, End, SystemMark, ConfigMark, CommandWord, Comment, OrderMark, NoName, NoSymbol, Small, Expanded, Applied, Empty, Ended, Trailing, Listed, Equated, Late, Argument, After, Crossing, Crossed, Front, Behind}
+use Rattle.ic_diagnostics.specs.declared.sights.Sight.TheVariants.{Blank, End, SystemMark, ConfigMark, CommandWord, Comment, OrderMark, NoName, NoSymbol, Small, Expanded, Applied, Empty, Ended, Trailing, Listed, Equated, Late, Argument, After, Crossing, Crossed, Front, AfterMark}
 use Rattle.ic_diagnostics.specs.declared.stands.Stand.{Stand}
 use Rattle.ic_diagnostics.specs.declared.stands.Stand.TheVariants as standing
 use Rattle.ic_diagnostics.specs.declared.telling.Kind.{Kind}
@@ -104,31 +104,31 @@ symbol_free (b ∷ bs) is =
     or_from (b == 10) (has_feed bs) (no_feed_by (λ x. is_ascii_uppercase x || is_ascii_digit x) refl b parts.0) (further_free bs parts.1)
 
 -- ---- sentences and refusals
-behind_mark_free : (other : List ℕ) (b : ℕ) → has_feed other ≡ false → has_feed (behind_mark other b) ≡ false
-behind_mark_free other b free =
+after_mark_free : (other : List ℕ) (b : ℕ) → has_feed other ≡ false → has_feed (after_mark other b) ≡ false
+after_mark_free other b free =
     let more = codes "a term or > is looked for here" in
     either_free (wants_term b) (codes "a term is looked for here") (if b == 124 then more else other) refl (either_free (b == 124) more other refl free)
 
-in_config_free : (b : ℕ) → has_feed (behind_in_config b) ≡ false
+in_config_free : (b : ℕ) → has_feed (after_in_config b) ≡ false
 in_config_free b =
     let other = codes "no configuration goes on with this" in
     let over = codes "nothing is looked for after a configuration" in
-    either_free (b == 60) (codes "a term or | is looked for here") (if b == 62 then over else behind_mark other b) refl
-    (either_free (b == 62) over (behind_mark other b) refl (behind_mark_free other b refl))
+    either_free (b == 60) (codes "a term or | is looked for here") (if b == 62 then over else after_mark other b) refl
+    (either_free (b == 62) over (after_mark other b) refl (after_mark_free other b refl))
 
-in_system_free : (b : ℕ) → has_feed (behind_in_system b) ≡ false
+in_system_free : (b : ℕ) → has_feed (after_in_system b) ≡ false
 in_system_free b =
     let other = codes "no system goes on with this" in
     let symbol = codes "a symbol is looked for here" in
     let less = codes "< is looked for here" in
     let term = codes "a term or | is looked for here" in
     let over = codes "nothing is looked for after a configuration" in
-    let fifth = if b == 62 then over else behind_mark other b in
+    let fifth = if b == 62 then over else after_mark other b in
     let fourth = if b == 60 then term else fifth in
     let third = if b == 125 then less else fourth in
     either_free (b == 123) (codes "a symbol or } is looked for here") (if b == 59 then symbol else third) refl
     (either_free (b == 59) symbol third refl (either_free (b == 125) less fourth refl (either_free (b == 60) term fifth refl
-    (either_free (b == 62) over (behind_mark other b) refl (behind_mark_free other b refl)))))
+    (either_free (b == 62) over (after_mark other b) refl (after_mark_free other b refl)))))
 
 opened_free : (opens : Bool) (words : List ℕ) → has_feed words ≡ false → has_feed (opened opens words) ≡ false
 opened_free false words free = free
@@ -171,7 +171,7 @@ config_free (After s opens) = stand_free (codes "no configuration goes on with t
 config_free Crossing = refl
 config_free Crossed = refl
 config_free Front = refl
-config_free (Behind b) = in_config_free b
+config_free (AfterMark b) = in_config_free b
 
 system_free : (sight : Sight) → has_feed (system_sentence sight) ≡ false
 system_free Blank = refl
@@ -197,7 +197,7 @@ system_free (After s opens) = stand_free (codes "no system goes on with this") s
 system_free Crossing = refl
 system_free Crossed = refl
 system_free Front = refl
-system_free (Behind b) = in_system_free b
+system_free (AfterMark b) = in_system_free b
 
 syntax_free : (kind : Kind) (sight : Sight) → has_feed (syntax_sentence kind sight) ≡ false
 syntax_free Config sight = config_free sight

@@ -39,7 +39,7 @@ counts_more front all ts w same =
     ap (λ (l : List Token). length (words_among l)) same ∙ ap length (among_both front (word w ∷ ts)) ∙ length-append (words_among front) (w ∷ words_among ts) in
     omega (arith, count)
 
--- behind the place of a word a text goes on with a word
+-- after the place of a word a text goes on with a word
 module _ (text : List ℕ) (k a : ℕ) (first : IsWordPlace text k a) (b : ℕ) (less : a < b) (most : b ≤ length text) (apart : is_between text b ≡ true) where
   size : length (take a text) ≡ a
   size = length-take-le a text (omega (arith, first.inside))
@@ -77,7 +77,7 @@ word_next text k a first all e =
     let end : is_between text (length text) ≡ true = ap (λ l. is_between l (length text)) (sym (append-nil text)) ∙ between_front text [] tt in
     later text k a first (length text) first.inside (omega arith) end all (ap tokens (take_all (length text) text (omega arith)) ∙ e)
 
--- no place behind that of a word is that of the same word
+-- no place after that of a word is that of the same word
 no_later : (text : List ℕ) (k a b : ℕ) → IsWordPlace text k a → IsWordPlace text k b → a < b → ⊥
 no_later text k a b first second less =
     let (w, ts, same) = later text k a first b less (omega (arith, second.inside)) second.between second.front second.tokens in

@@ -1,4 +1,4 @@
--- What is due in a line behind the words before its system, and which of them pass a limit.
+-- What is due in a line after the words before its system, and which of them pass a limit.
 use Rattle.std.proofs.Common.{◌≡◌, ℕ, Bool, true, false, ◌||◌, List, [], ◌∷◌, ◌++◌, Option, None, Some, codes, if◌then◌else◌, refl, sym, ap, ◌∙◌, subst, append_assoc, append-nil}
 use Rattle.std.specs.Cmp.Lexicographic.{bytes_decides}
 use Rattle.std.specs.List.{AllByRecursion}
@@ -8,8 +8,8 @@ use Rattle.ic_commands.specs.LineSource.{LinePhrase, nothing, submit, copy, abou
 use Rattle.ic_text.specs.SystemSource.{SystemPhrase, IsSystemPhrase, system_words}
 use Rattle.ic_text.specs.Token.{Token, word, mark}
 use Rattle.ic_check.specs.LinePlaces.{IsDue, IsWhole, is_system_due, is_verb, own_passed, submit_front}
-use Rattle.ic_check.specs.Meanings.{IsSubmitBehind}
-use Rattle.ic_check.specs.inner.Fronts.{behind, first_of, if_stands, opened, passed_in}
+use Rattle.ic_check.specs.Meanings.{IsSubmitWithSystem}
+use Rattle.ic_check.specs.inner.Fronts.{due_after, first_of, if_stands, opened, passed_in}
 use Rattle.ic_check.specs.declared.due.Due.{Due}
 use Rattle.ic_check.specs.declared.due.Due.TheVariants.{Command, SubmitName, Budget, System, OldName, NewName, VerbName, Number, Nothing}
 use Rattle.ic_check.specs.declared.due.LineLimit.{LineLimit}
@@ -67,30 +67,30 @@ opened_due w next e = by (bytes_eq w (codes "submit")) (bytes_eq w (codes "copy"
     by false false false false true p q r s t e = due_is VerbName next _ (some_same VerbName next e) (w, t, refl)
     by false false false false false p q r s t e = absurd (none_isnt next e)
 
--- what is due behind a word where this was due
-pub due_behind : KnownVerbs → (due next : Due) (ts : List Token) (w : List ℕ) → IsDue due ts → behind due w ≡ Some next → IsDue next (ts ++ word w ∷ [])
-due_behind known Command next ts w is e = subst (λ (l : List Token). IsDue next (l ++ word w ∷ [])) (sym is) (opened_due w next e)
-due_behind known SubmitName next ts w is e =
+-- what is due after a word where this was due
+pub due_then : KnownVerbs → (due next : Due) (ts : List Token) (w : List ℕ) → IsDue due ts → due_after due w ≡ Some next → IsDue next (ts ++ word w ∷ [])
+due_then known Command next ts w is e = subst (λ (l : List Token). IsDue next (l ++ word w ∷ [])) (sym is) (opened_due w next e)
+due_then known SubmitName next ts w is e =
     let so = stands (is_job_word w) Budget next e in
     due_is Budget next _ so.1 (w, so.0, ap (λ (l : List Token). l ++ word w ∷ []) is)
-due_behind known Budget next ts w (name, named, is) e =
+due_then known Budget next ts w (name, named, is) e =
     let so = stands (is_number w) System next e in
     due_is System next _ so.1 (name, named, w, so.0, ap (λ (l : List Token). l ++ word w ∷ []) is)
-due_behind known System next ts w is e = absurd (none_isnt next e)
-due_behind known OldName next ts w is e =
+due_then known System next ts w is e = absurd (none_isnt next e)
+due_then known OldName next ts w is e =
     let so = stands (is_job_word w) NewName next e in
     due_is NewName next _ so.1 (w, so.0, ap (λ (l : List Token). l ++ word w ∷ []) is)
-due_behind known NewName next ts w (old, named, is) e =
+due_then known NewName next ts w (old, named, is) e =
     let so = stands (is_job_word w) Nothing next e in
     due_is Nothing next _ so.1 (copy old w, (named, so.0), ap (λ (l : List Token). l ++ word w ∷ []) is)
-due_behind known VerbName next ts w (v, verb, is) e =
+due_then known VerbName next ts w (v, verb, is) e =
     let so = stands (is_job_word w) Nothing next e in
     let (asks, same) = verb_of known v verb in
     due_is Nothing next _ so.1 (about asks w, so.0, ap (λ (l : List Token). l ++ word w ∷ []) is ∙ ap (λ (x : List ℕ). word x ∷ word w ∷ []) (sym same))
-due_behind known Number next ts w is e =
+due_then known Number next ts w is e =
     let so = stands (is_number w) Nothing next e in
     due_is Nothing next _ so.1 (run w, so.0, ap (λ (l : List Token). l ++ word w ∷ []) is)
-due_behind known Nothing next ts w is e = absurd (none_isnt next e)
+due_then known Nothing next ts w is e = absurd (none_isnt next e)
 
 -- ---- some line begins so
 
@@ -174,9 +174,9 @@ rest_same t u ts us e = cc
 nothing_more : {A : Type 0} (t : Token) (ts : List Token) → [] ≡ t ∷ ts → A
 nothing_more t ts e = cc
 
--- where this is due a token may stand, and behind it the others
+-- where this is due a token may stand, and after it the others
 abbrev pub Takes : Due → Token → List Token → Type 0
-Takes due (word w) ts = behind due w ≡ None → ⊥
+Takes due (word w) ts = due_after due w ≡ None → ⊥
 Takes due (mark m) ts = (is_system_due due ≡ true) × (s : SystemPhrase) × IsSystemPhrase s × (system_words s ≡ mark m ∷ ts)
 
 taken_if : (is : Bool) (next : Due) → is ≡ true → if_stands is next ≡ None → ⊥
@@ -184,7 +184,7 @@ taken_if true next e none = none_isnt next (sym none)
 taken_if false next e none = cc
 
 -- a word is taken, by what it is
-takes_word : (due : Due) (w : List ℕ) (t : Token) (ts us : List Token) → (behind due w ≡ None → ⊥) → word w ∷ us ≡ t ∷ ts → Takes due t ts
+takes_word : (due : Due) (w : List ℕ) (t : Token) (ts us : List Token) → (due_after due w ≡ None → ⊥) → word w ∷ us ≡ t ∷ ts → Takes due t ts
 takes_word due w t ts us taken e = subst (λ (x : Token). Takes due x ts) (first_same (word w) t us ts e) taken
 
 takes_mark : (due : Due) (s : SystemPhrase) (t : Token) (ts : List Token) → is_system_due due ≡ true → IsSystemPhrase s → system_words s ≡ t ∷ ts → Takes due t ts
@@ -312,56 +312,56 @@ opens_whole (about verb name) whole = (VerbName, refl)
 opens_whole list whole = (Nothing, refl)
 opens_whole (run digits) whole = (Number, refl)
 
-behind_tokens : (p : LinePhrase) (ts us rest : List Token) → line_words p ≡ ts ++ rest → ts ≡ us → line_words p ≡ us ++ rest
-behind_tokens p ts us rest e same = e ∙ ap (λ (l : List Token). l ++ rest) same
+after_tokens : (p : LinePhrase) (ts us rest : List Token) → line_words p ≡ ts ++ rest → ts ≡ us → line_words p ≡ us ++ rest
+after_tokens p ts us rest e same = e ∙ ap (λ (l : List Token). l ++ rest) same
 
 -- what a line goes on with where this is due
 pub takes : KnownVerbs → (due : Due) (us : List Token) (p : LinePhrase) (t : Token) (ts : List Token) → IsDue due us → IsLine p → line_words p ≡ us ++ t ∷ ts → Takes due t ts
-takes known Command us p t ts is line e = takes_command known p t ts (behind_tokens p us _ (t ∷ ts) e is)
+takes known Command us p t ts is line e = takes_command known p t ts (after_tokens p us _ (t ∷ ts) e is)
 takes known SubmitName us p t ts is line e =
-    let f = behind_tokens p us _ (t ∷ ts) e is in takes_submit p t ts line (opened_so known p _ f) f
+    let f = after_tokens p us _ (t ∷ ts) e is in takes_submit p t ts line (opened_so known p _ f) f
 takes known Budget us p t ts (name, named, is) line e =
-    let f = behind_tokens p us _ (t ∷ ts) e is in takes_budget name p t ts line (opened_so known p _ f) f
+    let f = after_tokens p us _ (t ∷ ts) e is in takes_budget name p t ts line (opened_so known p _ f) f
 takes known System us p t ts (name, named, digits, number, is) line e =
-    let f = behind_tokens p us _ (t ∷ ts) e is in takes_system name digits p t ts line (opened_so known p _ f) f
+    let f = after_tokens p us _ (t ∷ ts) e is in takes_system name digits p t ts line (opened_so known p _ f) f
 takes known OldName us p t ts is line e =
-    let f = behind_tokens p us _ (t ∷ ts) e is in takes_old p t ts line (opened_so known p _ f) f
+    let f = after_tokens p us _ (t ∷ ts) e is in takes_old p t ts line (opened_so known p _ f) f
 takes known NewName us p t ts (old, named, is) line e =
-    let f = behind_tokens p us _ (t ∷ ts) e is in takes_new old p t ts line (opened_so known p _ f) f
+    let f = after_tokens p us _ (t ∷ ts) e is in takes_new old p t ts line (opened_so known p _ f) f
 takes known VerbName us p t ts (v, verb, is) line e =
-    let f = behind_tokens p us _ (t ∷ ts) e is in takes_verb v p t ts line (opened_so known p _ f ∙ verb_opened known v verb) f
+    let f = after_tokens p us _ (t ∷ ts) e is in takes_verb v p t ts line (opened_so known p _ f ∙ verb_opened known v verb) f
 takes known Number us p t ts is line e =
-    let f = behind_tokens p us _ (t ∷ ts) e is in takes_run p t ts line (opened_so known p _ f) f
+    let f = after_tokens p us _ (t ∷ ts) e is in takes_run p t ts line (opened_so known p _ f) f
 takes known Nothing us p t ts (q, whole, is) line e =
-    let f : line_words p ≡ line_words q ++ t ∷ ts = behind_tokens p us _ (t ∷ ts) e is in
+    let f : line_words p ≡ line_words q ++ t ∷ ts = after_tokens p us _ (t ∷ ts) e is in
     let (d, o) = opens_whole q whole in
     let same : opens p ≡ opens q = opened_so known p _ f ∙ opening_more (line_words q) (t ∷ ts) d (opening-line known q ∙ o) ∙ opening-line known q in
     absurd (takes_whole q p t ts whole same f)
 
--- ---- behind a mark of a system
+-- ---- after a mark of a system
 
 word_mark : {A : Type 0} (w : List ℕ) (m : _) → word w ≡ mark m → A
 word_mark w m e = cc
 
-submit_behind : (name : List ℕ) (most : Option (List ℕ)) (m : _) (ts : List Token) (p : LinePhrase) → opens p ≡ Some SubmitName
-    → line_words p ≡ word (codes "submit") ∷ word name ∷ (number_words most ++ mark m ∷ ts) → IsSubmitBehind p (mark m) ts
-submit_behind name None m ts (submit n None s) o e = (n, None, s, refl, rest_same _ _ _ _ (rest_same _ _ _ _ e))
-submit_behind name None m ts (submit n (Some ds) s) o e = word_mark ds m (first_same _ _ _ _ (rest_same _ _ _ _ (rest_same _ _ _ _ e)))
-submit_behind name (Some d) m ts (submit n None s) o e = mark_isnt s d (mark m ∷ ts) (rest_same _ _ _ _ (rest_same _ _ _ _ e))
-submit_behind name (Some d) m ts (submit n (Some ds) s) o e = (n, Some ds, s, refl, rest_same _ _ _ _ (rest_same _ _ _ _ (rest_same _ _ _ _ e)))
-submit_behind name most m ts nothing o e = let wrong : ⊥ = cc in absurd wrong
-submit_behind name most m ts (copy x y) o e = let wrong : ⊥ = cc in absurd wrong
-submit_behind name most m ts (about verb n) o e = let wrong : ⊥ = cc in absurd wrong
-submit_behind name most m ts list o e = let wrong : ⊥ = cc in absurd wrong
-submit_behind name most m ts (run ds) o e = let wrong : ⊥ = cc in absurd wrong
+submit_after : (name : List ℕ) (most : Option (List ℕ)) (m : _) (ts : List Token) (p : LinePhrase) → opens p ≡ Some SubmitName
+    → line_words p ≡ word (codes "submit") ∷ word name ∷ (number_words most ++ mark m ∷ ts) → IsSubmitWithSystem p (mark m) ts
+submit_after name None m ts (submit n None s) o e = (n, None, s, refl, rest_same _ _ _ _ (rest_same _ _ _ _ e))
+submit_after name None m ts (submit n (Some ds) s) o e = word_mark ds m (first_same _ _ _ _ (rest_same _ _ _ _ (rest_same _ _ _ _ e)))
+submit_after name (Some d) m ts (submit n None s) o e = mark_isnt s d (mark m ∷ ts) (rest_same _ _ _ _ (rest_same _ _ _ _ e))
+submit_after name (Some d) m ts (submit n (Some ds) s) o e = (n, Some ds, s, refl, rest_same _ _ _ _ (rest_same _ _ _ _ (rest_same _ _ _ _ e)))
+submit_after name most m ts nothing o e = let wrong : ⊥ = cc in absurd wrong
+submit_after name most m ts (copy x y) o e = let wrong : ⊥ = cc in absurd wrong
+submit_after name most m ts (about verb n) o e = let wrong : ⊥ = cc in absurd wrong
+submit_after name most m ts list o e = let wrong : ⊥ = cc in absurd wrong
+submit_after name most m ts (run ds) o e = let wrong : ⊥ = cc in absurd wrong
 
--- what goes on behind a mark of a submit's system is a submit
+-- what goes on after a mark of a submit's system is a submit
 pub submit_only : KnownVerbs → (front : List Token) (name : List ℕ) (most : Option (List ℕ)) (m : _) (ts rest : List Token) (p : LinePhrase)
-    → front ≡ submit_front name most ++ mark m ∷ ts → line_words p ≡ front ++ rest → IsSubmitBehind p (mark m) (ts ++ rest)
+    → front ≡ submit_front name most ++ mark m ∷ ts → line_words p ≡ front ++ rest → IsSubmitWithSystem p (mark m) (ts ++ rest)
 submit_only known front name most m ts rest p same e =
     let f : line_words p ≡ word (codes "submit") ∷ word name ∷ (number_words most ++ mark m ∷ (ts ++ rest)) =
     e ∙ ap (λ (l : List Token). l ++ rest) same ∙ append_assoc (submit_front name most) (mark m ∷ ts) rest in
-    submit_behind name most m (ts ++ rest) p (opened_so known p _ f) f
+    submit_after name most m (ts ++ rest) p (opened_so known p _ f) f
 
 -- ---- where a line may end
 

@@ -137,8 +137,8 @@ line_warnings_of file line told number is = warned_of (place_text file (Some num
 
 -- ---- each line of a file is told by its own number
 
-behind_of : (file : List ℕ) (number : ℕ) (line first more told : List ℕ) → told ≡ first ++ more → IsToldAt file number line more → IsToldAt file number line told
-behind_of file number line first more told e (before, this, rest, faulty, is, f) =
+after_of : (file : List ℕ) (number : ℕ) (line first more told : List ℕ) → told ≡ first ++ more → IsToldAt file number line more → IsToldAt file number line told
+after_of file number line first more told e (before, this, rest, faulty, is, f) =
     (first ++ before, this, rest, faulty, is, e ∙ ap (λ (l : List ℕ). first ++ l) f ∙ sym (append_assoc first before (this ++ rest)))
 
 at_number : (file : List ℕ) (number place : ℕ) (above below : List (List ℕ)) (line told : List ℕ) (faulty : Bool) → place ≡ number + length above
@@ -147,7 +147,7 @@ at_number file number place [] below line told faulty at (first, wrong, is, rest
     let same : number ≡ place = omega (arith, at) in
     ([], first, rest, wrong, subst (λ (n : ℕ). TellsLine file n line first wrong) same is, e)
 at_number file number place (l ∷ ls) below line told faulty at (first, wrong, is, rest, later, others, e, f) =
-    behind_of file place line first rest told e (at_number file (number + 1) place ls below line rest later (omega (arith, at)) others)
+    after_of file place line first rest told e (at_number file (number + 1) place ls below line rest later (omega (arith, at)) others)
 
 pub numbered : (file : List ℕ) (above below : List (List ℕ)) (line told : List ℕ) (faulty : Bool) → TellsLines file 1 (above ++ line ∷ below) told faulty
     → IsToldAt file (length above + 1) line told

@@ -24,10 +24,10 @@ nothing_told number line asked old reads = ([], (Ok asked, reads, refl), sym (ap
 abbrev pub RefusalsGoOn : (text rest : List ℕ) (number next : ℕ) (so_far : List ℕ) → Type 0
 RefusalsGoOn text rest number next so_far = (more : List ℕ) → TellsRefusals next (lines rest) more → TellsRefusals number (lines text) (so_far ++ more)
 
-pub refusal_more : (text rest line behind so_far told : List ℕ) (number next : ℕ) → lines rest ≡ line ∷ lines behind → TellsRefusal next line told
-    → RefusalsGoOn text rest number next so_far → RefusalsGoOn text behind number (next + 1) (so_far ++ told)
-refusal_more text rest line behind so_far told number next split tells goes more is =
-    let whole : TellsRefusals next (line ∷ lines behind) (told ++ more) = (told, more, tells, is, refl) in
+pub refusal_more : (text rest line after so_far told : List ℕ) (number next : ℕ) → lines rest ≡ line ∷ lines after → TellsRefusal next line told
+    → RefusalsGoOn text rest number next so_far → RefusalsGoOn text after number (next + 1) (so_far ++ told)
+refusal_more text rest line after so_far told number next split tells goes more is =
+    let whole : TellsRefusals next (line ∷ lines after) (told ++ more) = (told, more, tells, is, refl) in
     let there = goes (told ++ more) (subst (λ (ls : List (List ℕ)). TellsRefusals next ls (told ++ more)) (sym split) whole) in
     subst (λ (l : List ℕ). TellsRefusals number (lines text) l) (sym (append_assoc so_far told more)) there
 

@@ -22,7 +22,7 @@ use Rattle.ic_diagnostics.specs.Sights.{first_word}
 use Rattle.ic_check.specs.Checking.{TellsAnswer}
 use Rattle.ic_check.specs.Scripts.{TellsByRun, TellsScriptLine}
 use Rattle.ic_check.specs.Telling.{blanks_before}
-use Rattle.ic_check.specs.inner.Fronts.{IsFilled, behind_blanks, behind_word}
+use Rattle.ic_check.specs.inner.Fronts.{IsFilled, after_blanks, after_word}
 use Rattle.ic_check.proofs.Apart.{tokens-apart, tokens-blanks, tokens-word}
 use Rattle.ic_check.proofs.Stops.{no_more, one_more, parted}
 
@@ -62,7 +62,7 @@ begins (c ∷ cs) filled = by (is_word_byte c) refl
     by true e =
         let parts = parted (c ∷ cs) in
         let grows : first_word (c ∷ cs) ≡ c ∷ first_word cs = one_more c cs e in
-        let z : List ℕ = behind_word (c ∷ cs) in
+        let z : List ℕ = after_word (c ∷ cs) in
         let split : tokens (c ∷ cs) ≡ before (word_of (first_word (c ∷ cs))) (tokens z) = ap tokens parts.whole ∙ tokens-word (first_word (c ∷ cs)) z parts.bytes parts.apart in
         let named : before (word_of (first_word (c ∷ cs))) (tokens z) ≡ before (word (c ∷ first_word cs) ∷ []) (tokens z) = ap (λ (l : List ℕ). before (word_of l) (tokens z)) grows in
         subst (Begins (first_word (c ∷ cs))) (sym (split ∙ named)) (begins_word (first_word (c ∷ cs)) (tokens z) c (first_word cs) (sym grows))
@@ -70,27 +70,27 @@ begins (c ∷ cs) filled = by (is_word_byte c) refl
 
 -- ---- blanks before it
 
-rest_tokens : (line : List ℕ) → tokens line ≡ tokens (behind_blanks line)
+rest_tokens : (line : List ℕ) → tokens line ≡ tokens (after_blanks line)
 rest_tokens [] = refl
 rest_tokens (b ∷ bs) = by (is_blank b) refl (rest_tokens bs)
   where
-    by : (x : Bool) → is_blank b ≡ x → tokens bs ≡ tokens (behind_blanks bs) → tokens (b ∷ bs) ≡ tokens (if x then behind_blanks bs else b ∷ bs)
+    by : (x : Bool) → is_blank b ≡ x → tokens bs ≡ tokens (after_blanks bs) → tokens (b ∷ bs) ≡ tokens (if x then after_blanks bs else b ∷ bs)
     by true e later = tokens-blanks (b ∷ []) bs (and_from (is_blank b) true e refl) ∙ later
     by false e later = refl
 
-rest_filled : (line : List ℕ) → IsFilled (behind_blanks line)
+rest_filled : (line : List ℕ) → IsFilled (after_blanks line)
 rest_filled [] = tt
 rest_filled (b ∷ bs) = by (is_blank b) refl (rest_filled bs)
   where
-    by : (x : Bool) → is_blank b ≡ x → IsFilled (behind_blanks bs) → IsFilled (if x then behind_blanks bs else b ∷ bs)
+    by : (x : Bool) → is_blank b ≡ x → IsFilled (after_blanks bs) → IsFilled (if x then after_blanks bs else b ∷ bs)
     by true e later = later
     by false e later = e
 
-rest_dropped : (line : List ℕ) → drop (blanks_before line) line ≡ behind_blanks line
+rest_dropped : (line : List ℕ) → drop (blanks_before line) line ≡ after_blanks line
 rest_dropped [] = refl
 rest_dropped (b ∷ bs) = by (is_blank b) (rest_dropped bs)
   where
-    by : (x : Bool) → drop (blanks_before bs) bs ≡ behind_blanks bs → drop (if x then blanks_before bs + 1 else 0) (b ∷ bs) ≡ (if x then behind_blanks bs else b ∷ bs)
+    by : (x : Bool) → drop (blanks_before bs) bs ≡ after_blanks bs → drop (if x then blanks_before bs + 1 else 0) (b ∷ bs) ≡ (if x then after_blanks bs else b ∷ bs)
     by true later =
         let next : blanks_before bs + 1 ≡ suc (blanks_before bs) = omega arith in
         ap (λ n. drop n (b ∷ bs)) next ∙ later
@@ -102,7 +102,7 @@ is_run line = bytes_eq (first_word (drop (blanks_before line) line)) (codes "run
 
 line_begins : (line : List ℕ) → Begins (first_word (drop (blanks_before line) line)) (tokens line)
 line_begins line =
-    let rest : List ℕ = behind_blanks line in
+    let rest : List ℕ = after_blanks line in
     subst (λ (w : List ℕ). Begins w (tokens line)) (sym (ap first_word (rest_dropped line)))
     (subst (Begins (first_word rest)) (sym (rest_tokens line)) (begins rest (rest_filled line)))
 

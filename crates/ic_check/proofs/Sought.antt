@@ -15,7 +15,7 @@ use Rattle.ic_text.specs.declared.misread.Detail.{Detail}
 use Rattle.ic_text.specs.declared.misread.Detail.TheVariants.{Nothing as Plain, Passed as Bound, Arities}
 use Rattle.ic_text.specs.lemmas.ReadOnce.{some-injective}
 use Rattle.ic_check.specs.LinePlaces.{IsDue, IsLinePlace, IsOwnPlace, first_at, own_passed}
-use Rattle.ic_check.specs.Meanings.{IsSubmitBehind, Passes}
+use Rattle.ic_check.specs.Meanings.{IsSubmitWithSystem, Passes}
 use Rattle.ic_check.specs.declared.due.Due.{Due}
 use Rattle.ic_check.specs.declared.due.LineLimit.{LineLimit}
 use Rattle.ic_check.specs.declared.due.LineLimit.TheVariants.{LineBytes, NameBytes, BudgetRounds, RunRounds}
@@ -32,7 +32,7 @@ due_there line at due front is same =
     let (words, e, stands) = is.1 in subst (λ (ts : List Token). IsDue due ts) (some-injective words front (sym e ∙ same)) stands
 
 pub within_submit : KnownVerbs → (line : List ℕ) (at : ℕ) (detail : Detail) (front rest : List Token) (p : LinePhrase) → IsLinePlace line Syntax at (Within detail)
-    → tokens (take at line) ≡ Some front → line_words p ≡ front ++ rest → (m : _) × (ts : List Token) × IsSubmitBehind p (mark m) (ts ++ rest)
+    → tokens (take at line) ≡ Some front → line_words p ≡ front ++ rest → (m : _) × (ts : List Token) × IsSubmitWithSystem p (mark m) (ts ++ rest)
 within_submit known line at Plain front rest p is same goes =
     let (name, most, m, ts, e) = is.1 in
     (m, ts, submit_only known front name most m ts rest p (some-injective front _ (sym same ∙ e)) goes)

@@ -1,4 +1,4 @@
--- Where a text stops to go on to a phrase, behind a front of it.
+-- Where a text stops to go on to a phrase, after a front of it.
 use Rattle.std.proofs.Common.{◌≡◌, ℕ, zero, suc, ◌+◌, ◌-◌, ◌<◌, ◌≤◌, Bool, true, false, not, ◌&&◌, ◌||◌, eqb, List, [], ◌∷◌, ◌++◌, Option, None, Some, if◌then◌else◌, length, get_or, take, drop, refl, sym, ap, ◌∙◌, subst, append_assoc, append-nil, arith, ⊎_elim, length-append}
 use Rattle.std.specs.List.{list_all}
 use Rattle.std.proofs.lemmas.Bool.{false≢true, and_from, and_parts, cases_lt}
@@ -9,7 +9,7 @@ use Rattle.ic_text.specs.Token.{Token, word, mark, is_blank, is_word_byte, mark_
 use Rattle.ic_text.specs.Places.{GoesOn, IsLastPlace, IsSyntaxPlace, IsWordPlace, is_between}
 use Rattle.ic_text.specs.lemmas.ReadOnce.{none_is_some, some-injective}
 use Rattle.ic_diagnostics.specs.Sights.{first_word}
-use Rattle.ic_check.specs.inner.Fronts.{IsFilled, behind_word}
+use Rattle.ic_check.specs.inner.Fronts.{IsFilled, after_word}
 use Rattle.ic_check.proofs.Apart.{IsApart, between_front, between_within, tokens-apart, tokens-word}
 
 -- ---- the word with which a text begins
@@ -21,17 +21,17 @@ module _ (b : ℕ) (bs : List ℕ) where
   pub no_more : is_word_byte b ≡ false → first_word (b ∷ bs) ≡ []
   no_more is = ap (λ x. if x then b ∷ first_word bs else []) is
 
-  behind_more : is_word_byte b ≡ true → behind_word (b ∷ bs) ≡ behind_word bs
-  behind_more is = ap (λ x. if x then behind_word bs else b ∷ bs) is
+  after_more : is_word_byte b ≡ true → after_word (b ∷ bs) ≡ after_word bs
+  after_more is = ap (λ x. if x then after_word bs else b ∷ bs) is
 
-  behind_none : is_word_byte b ≡ false → behind_word (b ∷ bs) ≡ b ∷ bs
-  behind_none is = ap (λ x. if x then behind_word bs else b ∷ bs) is
+  after_none : is_word_byte b ≡ false → after_word (b ∷ bs) ≡ b ∷ bs
+  after_none is = ap (λ x. if x then after_word bs else b ∷ bs) is
 
 -- a text is its first word and what is apart from it
 pub record IsParted (text : List ℕ) : Type 0 where
-  pub whole : text ≡ first_word text ++ behind_word text
+  pub whole : text ≡ first_word text ++ after_word text
   pub bytes : list_all is_word_byte (first_word text) ≡ true
-  pub apart : IsApart (behind_word text)
+  pub apart : IsApart (after_word text)
 
 pub parted : (text : List ℕ) → IsParted text
 parted [] = record { whole = refl; bytes = refl; apart = tt }
@@ -39,14 +39,14 @@ parted (b ∷ bs) = by (is_word_byte b) refl (parted bs)
   where
     by : (x : Bool) → is_word_byte b ≡ x → IsParted bs → IsParted (b ∷ bs)
     by true e rest = record {
-      whole = ap (λ l. b ∷ l) rest.whole ∙ (λ i. sym (one_more b bs e) i ++ sym (behind_more b bs e) i);
+      whole = ap (λ l. b ∷ l) rest.whole ∙ (λ i. sym (one_more b bs e) i ++ sym (after_more b bs e) i);
       bytes = ap (list_all is_word_byte) (one_more b bs e) ∙ and_from (is_word_byte b) (list_all is_word_byte (first_word bs)) e rest.bytes;
-      apart = subst IsApart (sym (behind_more b bs e)) rest.apart;
+      apart = subst IsApart (sym (after_more b bs e)) rest.apart;
     }
     by false e rest = record {
-      whole = λ i. sym (no_more b bs e) i ++ sym (behind_none b bs e) i;
+      whole = λ i. sym (no_more b bs e) i ++ sym (after_none b bs e) i;
       bytes = ap (list_all is_word_byte) (no_more b bs e);
-      apart = subst IsApart (sym (behind_none b bs e)) e;
+      apart = subst IsApart (sym (after_none b bs e)) e;
     }
 
 begins_so : (text : List ℕ) (w : ℕ) (ws : List ℕ) → first_word text ≡ w ∷ ws → (0 < length text) × (is_word_byte (get_or text 0 0) ≡ true)
@@ -78,9 +78,9 @@ apart_front zero (c ∷ z) apart = tt
 apart_front (suc k) [] apart = tt
 apart_front (suc k) (c ∷ z) apart = apart
 
--- a place of a word and what is apart from it, that isn't within the word, is behind the word
-behind_run : (run z : List ℕ) (at : ℕ) → list_all is_word_byte run ≡ true → 0 < at → is_between (run ++ z) at ≡ true → length run ≤ at
-behind_run run z at all some between = ⊎_elim within (λ le. le) (cases_lt at (length run))
+-- a place of a word and what is apart from it, that isn't within the word, is after the word
+after_run : (run z : List ℕ) (at : ℕ) → list_all is_word_byte run ≡ true → 0 < at → is_between (run ++ z) at ≡ true → length run ≤ at
+after_run run z at all some between = ⊎_elim within (λ le. le) (cases_lt at (length run))
   where
     within : at < length run → length run ≤ at
     within less =
@@ -97,7 +97,7 @@ heads_run : (w : ℕ) (ws z : List ℕ) (at : ℕ) → list_all is_word_byte (w 
     → Heads (w ∷ ws) (tokens (take at ((w ∷ ws) ++ z)))
 heads_run w ws z at all apart some between =
     let run : List ℕ = w ∷ ws in
-    let le : length run ≤ at = behind_run run z at all some between in
+    let le : length run ≤ at = after_run run z at all some between in
     let k : ℕ = at - length run in
     let sum : at ≡ length run + k = omega (arith, le) in
     let cut : take at (run ++ z) ≡ run ++ take k z = ap (λ n. take n (run ++ z)) sum ∙ take-append-add run z k in
@@ -114,7 +114,7 @@ heads_apart c z apart filled = subst (Heads []) (sym (tokens-apart c z apart)) (
     by (Some m) = heads_mark m (tokens z)
     by None = subst (λ (x : Bool). Heads [] (followed (if x then Some [] else None) (tokens z))) (sym filled) tt
 
--- what a text begins with, as far as a place behind its beginning
+-- what a text begins with, as far as a place after its beginning
 pub heads : (text : List ℕ) (at : ℕ) → IsFilled text → 0 < at → at ≤ length text → is_between text at ≡ true → Heads (first_word text) (tokens (take at text))
 heads [] at filled some most between = absurd (omega arith)
 heads (c ∷ cs) at filled some most between = by (is_word_byte c) refl
@@ -123,7 +123,7 @@ heads (c ∷ cs) at filled some most between = by (is_word_byte c) refl
     by true e =
         let parts = parted (c ∷ cs) in
         let run : first_word (c ∷ cs) ≡ c ∷ first_word cs = one_more c cs e in
-        let z : List ℕ = behind_word (c ∷ cs) in
+        let z : List ℕ = after_word (c ∷ cs) in
         let whole : (c ∷ first_word cs) ++ z ≡ c ∷ cs = ap (λ (l : List ℕ). l ++ z) (sym run) ∙ sym parts.whole in
         let bytes : list_all is_word_byte (c ∷ first_word cs) ≡ true = ap (list_all is_word_byte) (sym run) ∙ parts.bytes in
         let all = heads_run c (first_word cs) z at bytes parts.apart some (ap (λ (l : List ℕ). is_between l at) whole ∙ between) in
@@ -136,7 +136,7 @@ heads (c ∷ cs) at filled some most between = by (is_word_byte c) refl
         subst (λ (r : List ℕ). Heads r (tokens (take at (c ∷ cs)))) (sym (no_more c cs e))
         (subst (λ (l : List ℕ). Heads [] (tokens l)) (sym cut) (heads_apart c (take k cs) e filled))
 
--- ---- behind a front with these tokens
+-- ---- after a front with these tokens
 
 pub among_both : (ts us : List Token) → words_among (ts ++ us) ≡ words_among ts ++ words_among us
 among_both [] us = refl
@@ -164,7 +164,7 @@ module _ (a b : List ℕ) (front : List Token) (parts : (x y : List ℕ) → b �
   between_at zero is = let e : length a + 0 ≡ length a = omega arith in ap (is_between (a ++ b)) e ∙ seam
   between_at (suc at) is = between_within a b (suc at) (omega arith) ∙ is
 
-  -- a later place is one of the text behind the front
+  -- a later place is one of the text after the front
   record IsLater (later : ℕ) : Type 0 where
     at : ℕ
     place : later ≡ length a + at
@@ -190,7 +190,7 @@ module _ (a b : List ℕ) (front : List Token) (parts : (x y : List ℕ) → b �
       }
 
   module _ {P : Type 0} (IsOne : P → Type 0) (words : P → List Token) where
-    -- what goes on behind the front goes on with the first token there
+    -- what goes on after the front goes on with the first token there
     goes_with : (later : ℕ) (is : IsLater later) (o : Option (List Token)) → tokens (take is.at b) ≡ o → Heads (first_word b) o → GoesOn IsOne words (take later (a ++ b))
         → (t : Token) × (ts : List Token) × (rest : List Token) × (p : P) × HeadIs (first_word b) t × (tokens (take is.at b) ≡ Some (t ∷ ts)) × IsOne p × (words p ≡ front ++ t ∷ (ts ++ rest))
     goes_with later is None e begins goes = absurd (none_is_some goes.front (sym (is.tokens ∙ ap (before front) e) ∙ goes.tokens))
@@ -213,7 +213,7 @@ module _ (a b : List ℕ) (front : List Token) (parts : (x y : List ℕ) → b �
           none t (ts ++ rest) q head one same;
     }
 
-    -- phrases of a further kind stand behind the front
+    -- phrases of a further kind stand after the front
     module _ {Q : Type 0} (IsIn : Q → Type 0) (words_in : Q → List Token)
         (into : (q : Q) → IsIn q → (p : P) × IsOne p × (words p ≡ front ++ words_in q))
         (out : (t : Token) (ts : List Token) (p : P) → HeadIs (first_word b) t → IsOne p → words p ≡ front ++ t ∷ ts → (q : Q) × IsIn q × (words_in q ≡ t ∷ ts)) where
@@ -243,7 +243,7 @@ module _ (a b : List ℕ) (front : List Token) (parts : (x y : List ℕ) → b �
             (record { front = t ∷ ts; tokens = e; phrase = q; is = is_in; rest = rest; goes_on = words_q });
       }
 
-  -- a word of the text behind the front is one of the whole, behind the front's words
+  -- a word of the text after the front is one of the whole, after the front's words
   pub word_there : (k at : ℕ) → IsWordPlace b k at → IsWordPlace (a ++ b) (length (words_among front) + k) (length a + at)
   word_there k at is = record {
     inside = omega (arith, is.inside, length-append a b);
@@ -254,7 +254,7 @@ module _ (a b : List ℕ) (front : List Token) (parts : (x y : List ℕ) → b �
     before = ap length (among_both front is.front) ∙ length-append (words_among front) (words_among is.front) ∙ ap (λ n. length (words_among front) + n) is.before;
   }
 
-  -- the first word behind the front stands there
+  -- the first word after the front stands there
   pub word_here : (w : ℕ) (ws : List ℕ) → first_word b ≡ w ∷ ws → IsWordPlace (a ++ b) (length (words_among front)) (length a)
   word_here w ws e =
       let begins = begins_so b w ws e in

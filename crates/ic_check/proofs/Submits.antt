@@ -1,4 +1,4 @@
--- A submit is refused where its system is, behind the words before it.
+-- A submit is refused where its system is, after the words before it.
 use Rattle.std.proofs.Common.{◌≡◌, ℕ, ◌+◌, ◌-◌, ◌≤◌, Bool, true, false, not, ◌&&◌, ◌||◌, eqb, if◌then◌else◌, List, [], ◌∷◌, ◌++◌, Option, None, Some, IfSome, IsTrue, get_or, length, length-append, refl, sym, ap, ◌∙◌, subst, append_assoc, append-nil, arith}
 use Rattle.std.specs.Prelude.{nat_le}
 use Rattle.std.proofs.lemmas.Bool.{and_parts, false≢true}
@@ -22,7 +22,7 @@ use Rattle.ic_text.specs.lemmas.WordRuns.{tokens-parted}
 use Rattle.ic_diagnostics.specs.Sights.{first_word}
 use Rattle.ic_check.specs.LinePlaces.{IsDue, IsLinePlace, IsSystemPlace, first_at, own_passed, submit_front}
 use Rattle.ic_check.specs.Meanings.{IsSubmitFront}
-use Rattle.ic_check.specs.inner.Fronts.{IsFilled, behind, if_stands}
+use Rattle.ic_check.specs.inner.Fronts.{IsFilled, due_after, if_stands}
 use Rattle.ic_check.specs.declared.due.Due.{Due}
 use Rattle.ic_check.specs.declared.due.Due.TheVariants.{Budget, System}
 use Rattle.ic_check.specs.declared.due.LineLimit.TheVariants.{NameBytes, BudgetRounds}
@@ -34,9 +34,9 @@ use Rattle.ic_check.proofs.Stops.{HeadIs, stops_in, word_there}
 
 -- ---- tokens on both sides of a place between words
 
-nothing_behind : (o : Option (List Token)) → followed o (Some []) ≡ o
-nothing_behind None = refl
-nothing_behind (Some ts) = ap Some (append-nil ts)
+nothing_after : (o : Option (List Token)) → followed o (Some []) ≡ o
+nothing_after None = refl
+nothing_after (Some ts) = ap Some (append-nil ts)
 
 followed-followed : (a b c : Option (List Token)) → followed (followed a b) c ≡ followed a (followed b c)
 followed-followed None b c = refl
@@ -60,8 +60,8 @@ snoc : (b : ℕ) (bs : List ℕ) → IsSnoc (b ∷ bs)
 snoc b [] = record { front = []; last = b; whole = refl }
 snoc b (c ∷ cs) = let rest = snoc c cs in record { front = b ∷ rest.front; last = rest.last; whole = ap (λ (l : List ℕ). b ∷ l) rest.whole }
 
-behind_last : (ys : List ℕ) (d c : ℕ) (x : List ℕ) → is_word_byte c ≡ true → is_between ((ys ++ d ∷ []) ++ c ∷ x) (length (ys ++ d ∷ [])) ≡ true → is_word_byte d ≡ false
-behind_last ys d c x is between =
+after_last : (ys : List ℕ) (d c : ℕ) (x : List ℕ) → is_word_byte c ≡ true → is_between ((ys ++ d ∷ []) ++ c ∷ x) (length (ys ++ d ∷ [])) ≡ true → is_word_byte d ≡ false
+after_last ys d c x is between =
     let size : length (ys ++ d ∷ []) ≡ length ys + 1 = omega (arith, length-append ys (d ∷ [])) in
     let first : eqb (length (ys ++ d ∷ [])) 0 ≡ false = grind (arith, nat_tests) in
     let text : List ℕ = (ys ++ d ∷ []) ++ c ∷ x in
@@ -74,19 +74,19 @@ joined_last : (ys : List ℕ) (d : ℕ) (x : List ℕ) → is_word_byte d ≡ fa
 joined_last ys d x apart =
     let at = tokens_at d (mark_of d) in
     ap tokens (append_assoc ys (d ∷ []) x) ∙ tokens-parted ys x d apart
-    ∙ ap (λ o. followed (tokens ys) (followed o (tokens x))) (sym (nothing_behind at))
+    ∙ ap (λ o. followed (tokens ys) (followed o (tokens x))) (sym (nothing_after at))
     ∙ sym (followed-followed (tokens ys) (followed at (Some [])) (tokens x))
     ∙ ap (λ o. followed o (tokens x)) (sym (tokens-parted ys [] d apart))
 
 pub tokens_joined : (a b : List ℕ) → is_between (a ++ b) (length a) ≡ true → (x y : List ℕ) → b ≡ x ++ y → tokens (a ++ x) ≡ followed (tokens a) (tokens x)
-tokens_joined a b between [] y e = ap tokens (append-nil a) ∙ sym (nothing_behind (tokens a))
+tokens_joined a b between [] y e = ap tokens (append-nil a) ∙ sym (nothing_after (tokens a))
 tokens_joined a b between (c ∷ x) y e = by (is_word_byte c) refl
   where
     by_last : (text : List ℕ) → is_word_byte c ≡ true → is_between (text ++ c ∷ (x ++ y)) (length text) ≡ true → tokens (text ++ c ∷ x) ≡ followed (tokens text) (tokens (c ∷ x))
     by_last [] is at = sym (before-none (tokens (c ∷ x)))
     by_last (d ∷ ds) is at =
         let s = snoc d ds in
-        let apart = behind_last s.front s.last c (x ++ y) is (ap (λ l. is_between (l ++ c ∷ (x ++ y)) (length l)) (sym s.whole) ∙ at) in
+        let apart = after_last s.front s.last c (x ++ y) is (ap (λ l. is_between (l ++ c ∷ (x ++ y)) (length l)) (sym s.whole) ∙ at) in
         ap (λ l. tokens (l ++ c ∷ x)) s.whole ∙ joined_last s.front s.last (c ∷ x) apart ∙ ap (λ l. followed (tokens l) (tokens (c ∷ x))) (sym s.whole)
 
     by : (is : Bool) → is_word_byte c ≡ is → tokens (a ++ c ∷ x) ≡ followed (tokens a) (tokens (c ∷ x))
@@ -132,7 +132,7 @@ module _ (known : KnownVerbs) (front text name : List ℕ) (most : Option (List 
   record IsAt : Type 0 where
     due : Due
     stands : IsDue due words
-    stop : behind due (first_word text) ≡ None
+    stop : due_after due (first_word text) ≡ None
 
   at_due : IsAt
   at_due = by most refl
@@ -145,7 +145,7 @@ module _ (known : KnownVerbs) (front text name : List ℕ) (most : Option (List 
   line_of s phrase = (submit name most s, (is.named, is.numbered, phrase), refl)
 
   goes : (t : Token) (ts : List Token) (p : LinePhrase) → HeadIs (first_word text) t → IsLine p → line_words p ≡ words ++ t ∷ ts → (s : SystemPhrase) × IsSystemPhrase s × (system_words s ≡ t ∷ ts)
-  goes (word w) ts p head one same = absurd (takes known at_due.due words p (word w) ts at_due.stands one same (ap (behind at_due.due) head ∙ at_due.stop))
+  goes (word w) ts p head one same = absurd (takes known at_due.due words p (word w) ts at_due.stands one same (ap (due_after at_due.due) head ∙ at_due.stop))
   goes (mark m) ts p head one same = let (wants, s, phrase, e) = takes known at_due.due words p (mark m) ts at_due.stands one same in (s, phrase, e)
 
   pub submit_syntax : (at : ℕ) → IsSyntaxPlace IsSystemPhrase system_words text at → IsSyntaxPlace IsLine line_words (front ++ text) (length front + at)

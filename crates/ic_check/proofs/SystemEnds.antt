@@ -1,4 +1,4 @@
--- No system goes on to another: behind its `|` there is one `>`, and that ends it.
+-- No system goes on to another: after its `|` there is one `>`, and that ends it.
 use Rattle.std.proofs.Common.{◌≡◌, ℕ, Bool, true, false, not, ◌&&◌, eqb, List, [], ◌∷◌, ◌++◌, map, if◌then◌else◌, refl, sym, ap, ◌∙◌, append_assoc, append-nil}
 use Rattle.std.specs.List.{flat_map, list_all}
 use Rattle.std.proofs.lemmas.Bool.{and_from, and_parts, false≢true}
@@ -7,7 +7,7 @@ use Rattle.ic_text.specs.Source.{Source, leaf, node, Sources, no_sources, more_s
 use Rattle.ic_text.specs.SystemSource.{RulePhrase, SystemPhrase, agent_source, rule_words, system_words}
 use Rattle.ic_text.specs.Token.{Token, word, mark, mark_byte}
 
--- ---- behind a mark
+-- ---- after a mark
 
 abbrev byte_of : Token → ℕ
 byte_of (word w) = 0
@@ -17,30 +17,30 @@ byte_of (mark m) = mark_byte m
 abbrev other : ℕ → Token → Bool
 other b t = not (eqb (byte_of t) b)
 
--- what stands behind the first mark of this byte
-behind : ℕ → List Token → List Token
-behind b [] = []
-behind b (t ∷ ts) = if eqb (byte_of t) b then ts else behind b ts
+-- what stands after the first mark of this byte
+after : ℕ → List Token → List Token
+after b [] = []
+after b (t ∷ ts) = if eqb (byte_of t) b then ts else after b ts
 
 untrue : (is : Bool) → not is ≡ true → is ≡ false
 untrue true e = absurd (false≢true e)
 untrue false e = refl
 
-stop : (b : ℕ) (t : Token) (ts : List Token) → eqb (byte_of t) b ≡ true → behind b (t ∷ ts) ≡ ts
-unfolding behind
-stop b t ts is = ap (λ (x : Bool). if x then ts else behind b ts) is
+stop : (b : ℕ) (t : Token) (ts : List Token) → eqb (byte_of t) b ≡ true → after b (t ∷ ts) ≡ ts
+unfolding after
+stop b t ts is = ap (λ (x : Bool). if x then ts else after b ts) is
 
-pass : (b : ℕ) (t : Token) (ts : List Token) → other b t ≡ true → behind b (t ∷ ts) ≡ behind b ts
-unfolding behind
-pass b t ts is = ap (λ (x : Bool). if x then ts else behind b ts) (untrue (eqb (byte_of t) b) is)
+pass : (b : ℕ) (t : Token) (ts : List Token) → other b t ≡ true → after b (t ∷ ts) ≡ after b ts
+unfolding after
+pass b t ts is = ap (λ (x : Bool). if x then ts else after b ts) (untrue (eqb (byte_of t) b) is)
 
-skip : (b : ℕ) (ts rest : List Token) → list_all (other b) ts ≡ true → behind b (ts ++ rest) ≡ behind b rest
+skip : (b : ℕ) (ts rest : List Token) → list_all (other b) ts ≡ true → after b (ts ++ rest) ≡ after b rest
 skip b [] rest all = refl
 skip b (t ∷ ts) rest all =
     let parts = and_parts (other b t) (list_all (other b) ts) all in pass b t (ts ++ rest) parts.0 ∙ skip b ts rest parts.1
 
-skips : (b : ℕ) (ts us rest : List Token) → list_all (other b) ts ≡ true → behind b ((ts ++ us) ++ rest) ≡ behind b (us ++ rest)
-skips b ts us rest all = ap (behind b) (append_assoc ts us rest) ∙ skip b ts (us ++ rest) all
+skips : (b : ℕ) (ts us rest : List Token) → list_all (other b) ts ≡ true → after b ((ts ++ us) ++ rest) ≡ after b (us ++ rest)
+skips b ts us rest all = ap (after b) (append_assoc ts us rest) ∙ skip b ts (us ++ rest) all
 
 -- ---- lists of tokens without a mark
 
@@ -101,12 +101,12 @@ sides_greater e = joined (other 62) (words e.left) _ (no_greater e.left) (no_gre
 whole : (l r s b g : _) (rules interface equations rest : List Token) → other 124 (mark l) ≡ true → other 124 (mark r) ≡ true → other 124 (mark s) ≡ true
     → eqb (mark_byte b) 124 ≡ true → eqb (mark_byte g) 62 ≡ true
     → list_all (other 124) rules ≡ true → list_all (other 124) interface ≡ true → list_all (other 62) equations ≡ true
-    → behind 62 (behind 124 ((mark l ∷ (rules ++ mark r ∷ mark s ∷ (interface ++ mark b ∷ (equations ++ mark g ∷ [])))) ++ rest)) ≡ rest
+    → after 62 (after 124 ((mark l ∷ (rules ++ mark r ∷ mark s ∷ (interface ++ mark b ∷ (equations ++ mark g ∷ [])))) ++ rest)) ≡ rest
 whole l r s b g rules interface equations rest is_l is_r is_s is_b is_g of_rules of_interface of_equations =
     let third : List Token = equations ++ mark g ∷ [] in
     let second : List Token = interface ++ mark b ∷ third in
     let first : List Token = rules ++ mark r ∷ mark s ∷ second in
-    ap (behind 62) (
+    ap (after 62) (
     pass 124 (mark l) (first ++ rest) is_l
     ∙ skips 124 rules (mark r ∷ mark s ∷ second) rest of_rules
     ∙ pass 124 (mark r) (mark s ∷ (second ++ rest)) is_r
@@ -117,7 +117,7 @@ whole l r s b g rules interface equations rest is_l is_r is_s is_b is_g of_rules
     ∙ skips 62 equations (mark g ∷ []) rest of_equations
     ∙ stop 62 (mark g) rest is_g
 
-ends : (s : SystemPhrase) (rest : List Token) → behind 62 (behind 124 (system_words s ++ rest)) ≡ rest
+ends : (s : SystemPhrase) (rest : List Token) → after 62 (after 124 (system_words s ++ rest)) ≡ rest
 ends s rest =
     whole _ _ _ _ _ _ _ _ rest refl refl refl refl refl
     (separated_by (other 124) rule_words _ refl rule_bar s.rules)
@@ -126,4 +126,4 @@ ends s rest =
 
 pub no_system_more : (s t : SystemPhrase) (rest : List Token) → system_words s ≡ system_words t ++ rest → rest ≡ []
 no_system_more s t rest e =
-    sym (ends t rest) ∙ ap (λ (l : List Token). behind 62 (behind 124 l)) (sym e ∙ sym (append-nil (system_words s))) ∙ ends s []
+    sym (ends t rest) ∙ ap (λ (l : List Token). after 62 (after 124 l)) (sym e ∙ sym (append-nil (system_words s))) ∙ ends s []

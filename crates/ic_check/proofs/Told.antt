@@ -60,7 +60,7 @@ system_warned file text s rs c old new reads are is warned =
     subst (λ (d : Configuration). Warns file s.rules d warned.0) is (subst (λ (r : Rules). Warns file r c warned.0) are warned.1) in
     (warned.0, (Ok s, reads, (warns, refl)), warned.2)
 
--- the four kinds of warnings, one behind the other
+-- the four kinds of warnings, one after the other
 pub warned : {T E : Type 0} (place : List ℕ) (rs : Rules) (c : Configuration) (all seen ns old one two three new : List ℕ) (r : Result T E) → all ≡ text_symbols rs.rules c
     → IsReach rs.rules c (holds seen) → ns ≡ configuration_names c → one ≡ old ++ ruleless_lines place rs c.equations → two ≡ one ++ once_lines place all 0 rs.symbols
     → three ≡ two ++ unused_lines place (holds seen) rs.symbols 0 rs.rules
@@ -99,10 +99,10 @@ or_false true = refl
 or_false false = refl
 
 module _ (One : ℕ → List ℕ → List ℕ → Bool → Type 0) where
-  pub line_more : (text rest line behind so_far told : List ℕ) (number : ℕ) (faulty here : Bool) → lines rest ≡ line ∷ lines behind
-      → One number line told here → GoesOn One text rest number so_far faulty → GoesOn One text behind (number + 1) (so_far ++ told) (faulty || here)
-  line_more text rest line behind so_far told number faulty here split tells goes more later is =
-      let whole : TellsEach One number (line ∷ lines behind) (told ++ more) (here || later) = (told, here, tells, more, later, is, refl, refl) in
+  pub line_more : (text rest line after so_far told : List ℕ) (number : ℕ) (faulty here : Bool) → lines rest ≡ line ∷ lines after
+      → One number line told here → GoesOn One text rest number so_far faulty → GoesOn One text after (number + 1) (so_far ++ told) (faulty || here)
+  line_more text rest line after so_far told number faulty here split tells goes more later is =
+      let whole : TellsEach One number (line ∷ lines after) (told ++ more) (here || later) = (told, here, tells, more, later, is, refl, refl) in
       let there = goes (told ++ more) (here || later) (subst (λ (ls : List (List ℕ)). TellsEach One number ls (told ++ more) (here || later)) (sym split) whole) in
       subst (λ (b : Bool). TellsEach One 1 (lines text) ((so_far ++ told) ++ more) b) (sym (or_assoc faulty here later))
       (subst (λ (l : List ℕ). TellsEach One 1 (lines text) l (faulty || (here || later))) (sym (append_assoc so_far told more)) there)

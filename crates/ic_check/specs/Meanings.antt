@@ -53,8 +53,8 @@ IsToldAt file number line told = (first : List ℕ) × (this : List ℕ) × (res
 
 -- what is told are warnings of this place, and one of them has these words
 abbrev pub IsWarned : (place words told : List ℕ) → Type 0
-IsWarned place words told = (before : List (List ℕ)) × (behind : List (List ℕ))
-    × (told ≡ flat_map (warning_line place) (before ++ words ∷ behind))
+IsWarned place words told = (before : List (List ℕ)) × (after : List (List ℕ))
+    × (told ≡ flat_map (warning_line place) (before ++ words ∷ after))
 
 -- an agent of a symbol stands in a term: it is the term, or stands in an argument
 abbrev mutual
@@ -92,8 +92,8 @@ GoesWith front t = (p : LinePhrase) × IsLine p
     × (rest : List Token) × (line_words p ≡ front ++ t ∷ rest)
 
 -- a line is a submit, and its system has these tokens, this one first
-abbrev pub IsSubmitBehind : LinePhrase → Token → List Token → Type 0
-IsSubmitBehind p t ts = (name : List ℕ) × (most : Option (List ℕ)) × (s : SystemPhrase)
+abbrev pub IsSubmitWithSystem : LinePhrase → Token → List Token → Type 0
+IsSubmitWithSystem p t ts = (name : List ℕ) × (most : Option (List ℕ)) × (s : SystemPhrase)
     × (p ≡ submit name most s) × (system_words s ≡ t ∷ ts)
 
 -- a word is what is looked for
@@ -136,10 +136,10 @@ abbrev pub joint : List (List ℕ) → List ℕ
 joint [] = codes " or "
 joint (w ∷ ws) = codes ", "
 
-abbrev pub listed_behind : List ℕ → List (List ℕ) → List ℕ
-listed_behind v [] = v
-listed_behind v (w ∷ ws) = v ++ joint ws ++ listed_behind w ws
+abbrev pub listed_from : List ℕ → List (List ℕ) → List ℕ
+listed_from v [] = v
+listed_from v (w ∷ ws) = v ++ joint ws ++ listed_from w ws
 
 abbrev pub listed : List (List ℕ) → List ℕ
 listed [] = []
-listed (w ∷ ws) = listed_behind w ws
+listed (w ∷ ws) = listed_from w ws

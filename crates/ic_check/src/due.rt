@@ -7,7 +7,7 @@ ghost use Rattle.ic_commands.specs.declared.limits.TheConstants.{MAX_RUN};
 ghost use Rattle.ic_rules.specs.JobName.{is_job_word};
 ghost use Rattle.ic_text.specs.Name.{number_in};
 ghost use Rattle.ic_check.specs.LinePlaces.{is_verb, long_name, unless_fit};
-ghost use Rattle.ic_check.specs.inner.Fronts.{behind, if_stands, opened, passed_at};
+ghost use Rattle.ic_check.specs.inner.Fronts.{due_after, if_stands, opened, passed_at};
 
 use ic_commands::MAX_RUN;
 use ic_jobs::Budget;
@@ -94,8 +94,8 @@ fn if_stands(stands: bool, next: Due) -> Option<Due>
 }
 
 /// What is due after a word where this was due, if the word may stand there.
-pub(crate) fn behind(due: Due, word: &[u8]) -> Option<Due>
-    ensures { result ≡ behind due word.now }
+pub(crate) fn due_after(due: Due, word: &[u8]) -> Option<Due>
+    ensures { result ≡ due_after due word.now }
 {
     match due {
         Due::Command => opened(word),
@@ -146,7 +146,7 @@ fn fits_run(digits: &[u8]) -> bool
 
 /// The limit that a word passes, if it does, where this was due and the word may stand there.
 pub(crate) fn passed_at(due: Due, word: &[u8]) -> Option<LineLimit>
-    requires { IsSome (behind due word.now) }
+    requires { IsSome (due_after due word.now) }
     ensures { result ≡ passed_at due word.now }
 {
     match due {

@@ -2,9 +2,9 @@
 
 ghost use Rattle.std.specs.Prelude.{◌≡◌, ◌≢◌, ◌+◌, ◌≤◌, ◌++◌, [], IsSome, None, Some, length};
 ghost use Rattle.ic_diagnostics.specs.Sights.{first_word};
-ghost use Rattle.ic_check.specs.inner.Fronts.{IsFilled, IsFront, behind, behind_blanks, behind_word, earlier, passed_at};
+ghost use Rattle.ic_check.specs.inner.Fronts.{IsFilled, IsFront, after_blanks, after_word, due_after, earlier, passed_at};
 
-use crate::due::{Due, LineLimit, behind, passed_at};
+use crate::due::{Due, LineLimit, due_after, passed_at};
 use ic_text::{is_blank, is_word_byte};
 
 /// A line as far as its words may stand in one, up to its system.
@@ -19,8 +19,8 @@ pub(crate) struct Front<'a> {
 }
 
 /// A text after the blanks with which it begins.
-fn behind_blanks(text: &[u8]) -> &[u8]
-    ensures rest { result.now ≡ behind_blanks text.now }
+fn after_blanks(text: &[u8]) -> &[u8]
+    ensures rest { result.now ≡ after_blanks text.now }
     ensures shorter { length result.now ≤ length text.now }
 {
     for (place, byte) in text.iter().enumerate() {
@@ -34,7 +34,7 @@ fn behind_blanks(text: &[u8]) -> &[u8]
 /// The word with which a text begins, or nothing, and the text after it.
 fn split_word(text: &[u8]) -> (&[u8], &[u8])
     ensures word { result.0.now ≡ first_word text.now }
-    ensures rest { result.1.now ≡ behind_word text.now }
+    ensures rest { result.1.now ≡ after_word text.now }
     ensures shorter { length result.0.now + length result.1.now ≡ length text.now }
 {
     for (place, byte) in text.iter().enumerate() {
@@ -63,19 +63,19 @@ fn earlier(
 /// The words of a line before its system.
 pub(crate) fn front_of(line: &[u8]) -> Front<'_>
     ensures front { IsFront line.now result.due result.rest.now result.passed }
-    ensures stops { behind result.due (first_word result.rest.now) ≡ None }
+    ensures stops { due_after result.due (first_word result.rest.now) ≡ None }
 {
     ic_commands::laws::command_words_are();
     let mut due = Due::Command;
-    let mut rest = behind_blanks(line);
+    let mut rest = after_blanks(line);
     let mut passed = None;
     loop {
         let (word, more) = split_word(rest);
-        let Some(next) = behind(due, word) else {
+        let Some(next) = due_after(due, word) else {
             return Front { due, rest, passed };
         };
         passed = earlier(passed, line.len() - rest.len(), passed_at(due, word));
         due = next;
-        rest = behind_blanks(more);
+        rest = after_blanks(more);
     }
 }

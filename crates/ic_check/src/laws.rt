@@ -48,7 +48,7 @@ ghost use Rattle.ic_text.specs.declared.fault.TextFault.TheVariants.{Limit, Synt
 ghost use Rattle.ic_text.specs.declared.limits.TheConstants.{MAX_TEXT};
 ghost use Rattle.ic_check.specs.declared.checking.Form.TheVariants as form;
 ghost use Rattle.ic_text.specs.Token.{Token, is_blank, is_word_byte, mark, tokens, word, words_among};
-ghost use Rattle.ic_check.specs.Meanings.{AreLines, BeginsLine, GoesWith, HasNoRule, IsOneLine, IsSubmitBehind, IsSubmitFront, IsToldAt, IsWarned, Passes, StandsIn, StandsOnce, faces, facing, is_among, is_looked_for, listed, told_commands};
+ghost use Rattle.ic_check.specs.Meanings.{AreLines, BeginsLine, GoesWith, HasNoRule, IsOneLine, IsSubmitFront, IsSubmitWithSystem, IsToldAt, IsWarned, Passes, StandsIn, StandsOnce, faces, facing, is_among, is_looked_for, listed, told_commands};
 ghost use Rattle.ic_check.specs.Reach.{AllAmong, IsReach, IsTakenBy};
 ghost use Rattle.ic_check.specs.Scripts.{TellsScript, TellsScriptLine, run_sentence};
 ghost use Rattle.ic_check.specs.Sessions.{TellsRefusal, lines_sentence, refusal_line};
@@ -239,7 +239,7 @@ pub fn what_is_looked_for_goes_on()
     ensures within { (line : List ℕ) (at : ℕ) (detail : Detail) (front rest : List Token)
         (p : LinePhrase) → IsLinePlace line Syntax at (Within detail)
         → tokens (take at line) ≡ Some front → line_words p ≡ front ++ rest
-        → (m : _) × (ts : List Token) × IsSubmitBehind p (mark m) (ts ++ rest) }
+        → (m : _) × (ts : List Token) × IsSubmitWithSystem p (mark m) (ts ++ rest) }
 {
     ic_commands::laws::command_words_are();
     lines_begin_with_command_words();

@@ -172,11 +172,11 @@ pub(crate) fn check_lines(
     let mut number = 1;
     let mut faulty = false;
     while !rest.is_empty() {
-        let (line, behind) = split_line(rest);
+        let (line, more) = split_line(rest);
         let here = check_one(alloc, in_script, file, number, line, out)?;
         faulty = faulty || here;
         number += 1;
-        rest = behind;
+        rest = more;
     }
     Ok(faulty)
 }

@@ -14,9 +14,9 @@ pub(crate) fn objects(alloc: Global, path: &[u8], told: &[u8]) -> Result<Vec<u8>
     let mut out = Vec::new(alloc);
     let mut rest = told;
     while !rest.is_empty() {
-        let (line, behind) = split_line(rest);
+        let (line, more) = split_line(rest);
         put_line_object(path, line, &mut out)?;
-        rest = behind;
+        rest = more;
     }
     Ok(out)
 }
@@ -26,10 +26,10 @@ fn put_line_object(path: &[u8], line: &[u8], out: &mut Vec<u8>) -> Result<(), Al
     ensures { OnOk result (out.new.items ≡ out.old.items ++ line_object path.now line.now) }
 {
     let (place, told) = split_at_byte(b' ', line);
-    let (number, rest) = split_at_byte(b':', behind_first(place));
+    let (number, rest) = split_at_byte(b':', after_first(place));
     let (column, _) = split_at_byte(b':', rest);
     let (kind, words) = split_at_byte(b':', told);
-    put_object(path, number, column, kind, behind_first(words), out)
+    put_object(path, number, column, kind, after_first(words), out)
 }
 
 /// A text up to the first byte of this value, and after it.
@@ -46,7 +46,7 @@ fn split_at_byte(byte: u8, text: &[u8]) -> (&[u8], &[u8])
 }
 
 /// A text after its first byte.
-fn behind_first(text: &[u8]) -> &[u8]
+fn after_first(text: &[u8]) -> &[u8]
     ensures { result.now ≡ drop 1 text.now }
 {
     if text.is_empty() {

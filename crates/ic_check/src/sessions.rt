@@ -132,10 +132,10 @@ pub fn tell_refusals(
     let mut rest = text;
     let mut next = number;
     while !rest.is_empty() {
-        let (line, behind) = split_line(rest);
+        let (line, more) = split_line(rest);
         tell_line(alloc, next, line, out)?;
         next += 1;
-        rest = behind;
+        rest = more;
     }
     Ok(next)
 }

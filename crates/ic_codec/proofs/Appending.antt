@@ -23,7 +23,7 @@ bytes_both (x ∷ xs) ys left right = (left.0, bytes_both xs ys left.1 right)
 
 -- ---- the elements of a list from a place on
 
--- the element at a place, and those behind it
+-- the element at a place, and those after it
 pub from_place : {X : Type 0} (xs : List X) (i : ℕ) (x : X) → i < length xs → x ≡ get_or xs i x → drop i xs ≡ x ∷ drop (i + 1) xs
 from_place xs i x below is = rw add-one (drop-cons xs i x below ∙ ap (λ y. y ∷ drop (suc i) xs) (sym is))
 
@@ -47,14 +47,14 @@ module _ {Z : Type 0} where
     each = bytes_left xs ys fits.each;
   })
 
-  -- the rest fits behind it
+  -- the rest fits after it
   pub rest_fits : {old new : Vec ℕ Z} (xs ys xs' : List ℕ) → xs' ≡ xs → Fits old (xs ++ ys) → Appended old new xs' → Fits new ys
   rest_fits xs ys xs' same fits put = record {
     room = omega (arith, fits.room, put.len, put.capacity, length-append xs ys, ap length same);
     each = bytes_right xs ys fits.each;
   }
 
-  -- the first of what is left fits, and the rest is left behind it
+  -- the first of what is left fits, and the rest is left after it
   pub left_fits : {start now : Vec ℕ Z} {bytes left : List ℕ} (xs ys : List ℕ) → left ≡ xs ++ ys → GoesOn start bytes now left → Fits now xs
   left_fits {now = now} xs ys e goes = first_fits xs ys xs refl (subst (λ (bs : List ℕ). Fits now bs) e goes.fits)
 
@@ -68,15 +68,15 @@ module _ {Z : Type 0} where
   }
 
   -- once a first part is appended, the second is left
-  pub goes_behind : {start now : Vec ℕ Z} (xs ys : List ℕ) → Fits start (xs ++ ys) → Appended start now xs → GoesOn start (xs ++ ys) now ys
-  goes_behind {start = start} xs ys fits put = record {
+  pub goes_after : {start now : Vec ℕ Z} (xs ys : List ℕ) → Fits start (xs ++ ys) → Appended start now xs → GoesOn start (xs ++ ys) now ys
+  goes_after {start = start} xs ys fits put = record {
     items = ap (λ (bs : List ℕ). bs ++ ys) put.items ∙ append_assoc start.items xs ys;
     len = omega (arith, put.len, length-append xs ys);
     capacity = put.capacity;
     fits = rest_fits xs ys xs refl fits put;
   }
 
-  -- what is appended behind what was appended
+  -- what is appended after what was appended
   pub both_appended : {start now new : Vec ℕ Z} (xs ys : List ℕ) → Appended start now xs → Appended now new ys → Appended start new (xs ++ ys)
   both_appended {start} xs ys first last = record {
     items = last.items ∙ ap (λ (bs : List ℕ). bs ++ ys) first.items ∙ append_assoc start.items xs ys;

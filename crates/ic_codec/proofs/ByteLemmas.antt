@@ -155,11 +155,11 @@ budget_are_bytes Ict2 budget = eight_are_bytes (budget_number budget)
 
 heading_are_bytes : (form : Form) (h : Heading) → is_job_name h.name ≡ true → AreBytes (heading_bytes form h)
 heading_are_bytes form h is =
-    let behind = budget_bytes form h.budget ++ eight_bytes h.next in
-    bytes_both (text_bytes h.name) (state_byte h.state ∷ (eight_bytes h.rounds ++ behind))
+    let after = budget_bytes form h.budget ++ eight_bytes h.next in
+    bytes_both (text_bytes h.name) (state_byte h.state ∷ (eight_bytes h.rounds ++ after))
     (omega (arith, short_name h.name is), name_bytes h.name is) (
       state_small h.state,
-      bytes_both (eight_bytes h.rounds) behind (eight_are_bytes h.rounds)
+      bytes_both (eight_bytes h.rounds) after (eight_are_bytes h.rounds)
           (bytes_both (budget_bytes form h.budget) (eight_bytes h.next) (budget_are_bytes form h.budget) (eight_are_bytes h.next)),
     )
 

@@ -70,34 +70,34 @@ configuration_has ss next c is =
 
 -- ---- configurations
 
--- Of a configuration that bytes begin with, the interface has so many terms, the equations are so many, and these bytes are behind their numbers.
+-- Of a configuration that bytes begin with, the interface has so many terms, the equations are so many, and these bytes are after their numbers.
 record SameCounts (i m : ℕ) (c : List ℕ) (n : Configuration) (rest : List ℕ) : Type 0 where
   terms : i ≡ length n.interface
   pairs : m ≡ length n.equations
-  behind : c ≡ flat_map word_bytes (configuration_words n) ++ rest
+  after : c ≡ flat_map word_bytes (configuration_words n) ++ rest
 
 spread : (n : Configuration) (i : ℕ) (bytes b rest : List ℕ) → bytes ≡ i ∷ b → bytes ≡ configuration_bytes n ++ rest
     → i ∷ b ≡ length n.interface ∷ (two_bytes (length n.equations) ++ (flat_map word_bytes (configuration_words n) ++ rest))
 spread n i bytes b rest read e =
-    let behind = flat_map word_bytes (configuration_words n) in
+    let after = flat_map word_bytes (configuration_words n) in
     sym read ∙ e ∙ ap (λ (bs : List ℕ). bs ++ rest) (configuration-by_words n)
-    ∙ ap (λ (bs : List ℕ). length n.interface ∷ bs) (append_assoc (two_bytes (length n.equations)) behind rest)
+    ∙ ap (λ (bs : List ℕ). length n.interface ∷ bs) (append_assoc (two_bytes (length n.equations)) after rest)
 
 pub none_pairs_count : (ss : List Symbol) (next i : ℕ) (bytes b : List ℕ) → bytes ≡ i ∷ b → length b < 2 → BeginsWithNone (IsConfigurationOver ss next) configuration_bytes bytes
 none_pairs_count ss next i bytes b read short n rest is e =
     let same = spread n i bytes b rest read e in
-    let behind = flat_map word_bytes (configuration_words n) ++ rest in
-    let tails : b ≡ two_bytes (length n.equations) ++ behind = cc (same) in
-    omega (arith, ap length tails, length-append (two_bytes (length n.equations)) behind, length-two_bytes (length n.equations))
+    let after = flat_map word_bytes (configuration_words n) ++ rest in
+    let tails : b ≡ two_bytes (length n.equations) ++ after = cc (same) in
+    omega (arith, ap length tails, length-append (two_bytes (length n.equations)) after, length-two_bytes (length n.equations))
 
 same_counts : (ss : List Symbol) (next i m : ℕ) (bytes b c : List ℕ) (n : Configuration) (rest : List ℕ) → m < 2 ^ 16 → IsConfigurationOver ss next n
     → bytes ≡ i ∷ b → b ≡ two_bytes m ++ c → bytes ≡ configuration_bytes n ++ rest → SameCounts i m c n rest
 same_counts ss next i m bytes b c n rest small is read further e =
-    let behind = flat_map word_bytes (configuration_words n) ++ rest in
+    let after = flat_map word_bytes (configuration_words n) ++ rest in
     let same = spread n i bytes b rest read e in
-    let tails : b ≡ two_bytes (length n.equations) ++ behind = cc (same) in
-    let counts = two_front m (length n.equations) c behind small (equations_few n is.config) (sym further ∙ tails) in
-    record { terms = cc (same); pairs = counts.0; behind = counts.1 }
+    let tails : b ≡ two_bytes (length n.equations) ++ after = cc (same) in
+    let counts = two_front m (length n.equations) c after small (equations_few n is.config) (sym further ∙ tails) in
+    record { terms = cc (same); pairs = counts.0; after = counts.1 }
 
 all_due : (i m : ℕ) (n : Configuration) → i ≡ length n.interface → m ≡ length n.equations → length (forest (configuration_words n)) ≡ i + 2 * m
 all_due i m n terms pairs = omega (arith, counted-configuration_words n, terms, pairs)
@@ -107,15 +107,15 @@ pub none_words : (ss : List Symbol) (next i m : ℕ) (bytes b c : List ℕ) → 
 none_words ss next i m bytes b c small read further none n rest is e =
     let same = same_counts ss next i m bytes b c n rest small is read further e in
     none (configuration_words n) rest (configuration_has ss next n is) (whole-words (all_terms n)) (all_due i m n same.terms same.pairs)
-    (omega (arith, nodes-words n, is.config.nodes)) same.behind
+    (omega (arith, nodes-words n, is.config.nodes)) same.after
 
-pub none_restored : ((n : Configuration) → (restored n ≡ Ok n) ↔ IsConfiguration n) → (ss : List Symbol) (next i m : ℕ) (bytes b c : List ℕ) (ws : List Word) (behind : List ℕ)
-    → length ss ≤ 64 → m < 2 ^ 16 → bytes ≡ i ∷ b → b ≡ two_bytes m ++ c → BeginsWithWords ss (i + 2 * m) c ws behind
+pub none_restored : ((n : Configuration) → (restored n ≡ Ok n) ↔ IsConfiguration n) → (ss : List Symbol) (next i m : ℕ) (bytes b c : List ℕ) (ws : List Word) (after : List ℕ)
+    → length ss ≤ 64 → m < 2 ^ 16 → bytes ≡ i ∷ b → b ≡ two_bytes m ++ c → BeginsWithWords ss (i + 2 * m) c ws after
     → ((n : Configuration) → restored (configuration_of ws i next) ≢ Ok n) → BeginsWithNone (IsConfigurationOver ss next) configuration_bytes bytes
-none_restored takes ss next i m bytes b c ws behind few small read further begins not n rest is e =
+none_restored takes ss next i m bytes b c ws after few small read further begins not n rest is e =
     let same = same_counts ss next i m bytes b c n rest small is read further e in
-    let words = whole_front ss few ws (configuration_words n) behind rest begins.has_bytes (configuration_has ss next n is) begins.whole (whole-words (all_terms n))
-    (begins.many ∙ sym (all_due i m n same.terms same.pairs)) (sym begins.parts ∙ same.behind) in
+    let words = whole_front ss few ws (configuration_words n) after rest begins.has_bytes (configuration_has ss next n is) begins.whole (whole-words (all_terms n))
+    (begins.many ∙ sym (all_due i m n same.terms same.pairs)) (sym begins.parts ∙ same.after) in
     let terms = same.terms in
     let nexts = sym is.same_next in
     not n (ap restored ((λ j. configuration_of (words j) (terms j) (nexts j)) ∙ configuration_of-words n) ∙ (takes n).1 is.config)

@@ -17,12 +17,12 @@ use Rattle.ic_codec.proofs.NumberLemmas.{fronts, length-eight_bytes}
 use Rattle.ic_codec.proofs.Unique.{text_front, eight_front, budget_tells, heading_spread}
 
 -- a text's bytes are no front where the bytes end before it does
-pub no_text : (bytes rest : List ℕ) (count : ℕ) → bytes ≡ count ∷ rest → length rest < count → (text behind : List ℕ) → bytes ≢ text_bytes text ++ behind
-no_text bytes rest count read short text behind e =
-    let same : count ∷ rest ≡ length text ∷ (text ++ behind) = sym read ∙ e in
+pub no_text : (bytes rest : List ℕ) (count : ℕ) → bytes ≡ count ∷ rest → length rest < count → (text after : List ℕ) → bytes ≢ text_bytes text ++ after
+no_text bytes rest count read short text after e =
+    let same : count ∷ rest ≡ length text ∷ (text ++ after) = sym read ∙ e in
     let counts : count ≡ length text = cc in
-    let tails : rest ≡ text ++ behind = cc in
-    omega (arith, ap length tails, length-append text behind)
+    let tails : rest ≡ text ++ after = cc in
+    omega (arith, ap length tails, length-append text after)
 
 pub state_few : (s : State) → state_byte s ≤ 4
 state_few Running = omega arith
@@ -31,9 +31,9 @@ state_few Done = omega arith
 state_few Halted = omega arith
 state_few Spent = omega arith
 
-pub no_state : (bytes rest : List ℕ) (byte : ℕ) → bytes ≡ byte ∷ rest → 4 < byte → (s : State) (behind : List ℕ) → bytes ≢ state_byte s ∷ behind
-no_state bytes rest byte read big s behind e =
-    let same : byte ∷ rest ≡ state_byte s ∷ behind = sym read ∙ e in
+pub no_state : (bytes rest : List ℕ) (byte : ℕ) → bytes ≡ byte ∷ rest → 4 < byte → (s : State) (after : List ℕ) → bytes ≢ state_byte s ∷ after
+no_state bytes rest byte read big s after e =
+    let same : byte ∷ rest ≡ state_byte s ∷ after = sym read ∙ e in
     let bytes_same : byte ≡ state_byte s = cc in
     omega (arith, state_few s)
 
@@ -47,21 +47,21 @@ short_budget bytes short b rest has e =
 -- nor do those that begin with a number that is no budget's
 pub no_budget : (bytes rest : List ℕ) (n : ℕ) → bytes ≡ eight_bytes n ++ rest → n < 2 ^ 64 → (n ≡ 0 → ⊥) → (IsBudget n → ⊥)
     → BeginsWithNone (HasBudgetBytes Ict2) (budget_bytes Ict2) bytes
-no_budget bytes rest n read small some not None behind has e = some (eight_front n 0 rest behind small (omega arith) (sym read ∙ e)).0
-no_budget bytes rest n read small some not (Some m) behind has e =
-    let same = (eight_front n m rest behind small (omega (arith, has.few)) (sym read ∙ e)).0 in
+no_budget bytes rest n read small some not None after has e = some (eight_front n 0 rest after small (omega arith) (sym read ∙ e)).0
+no_budget bytes rest n read small some not (Some m) after has e =
+    let same = (eight_front n m rest after small (omega (arith, has.few)) (sym read ∙ e)).0 in
     not (subst IsBudget (sym same) has)
 
 -- ---- headings
 
-abbrev pub behind_budget : Heading → List ℕ → List ℕ
-behind_budget h rest = eight_bytes h.next ++ rest
+abbrev pub after_budget : Heading → List ℕ → List ℕ
+after_budget h rest = eight_bytes h.next ++ rest
 
-abbrev pub behind_rounds : Form → Heading → List ℕ → List ℕ
-behind_rounds form h rest = budget_bytes form h.budget ++ behind_budget h rest
+abbrev pub after_rounds : Form → Heading → List ℕ → List ℕ
+after_rounds form h rest = budget_bytes form h.budget ++ after_budget h rest
 
-abbrev pub behind_state : Form → Heading → List ℕ → List ℕ
-behind_state form h rest = eight_bytes h.rounds ++ behind_rounds form h rest
+abbrev pub after_state : Form → Heading → List ℕ → List ℕ
+after_state form h rest = eight_bytes h.rounds ++ after_rounds form h rest
 
 -- bytes begin with no heading of this form
 abbrev pub NoHeading : Form → List ℕ → Type 0
@@ -69,47 +69,47 @@ NoHeading form bytes = BeginsWithNone (HasHeadingBytes form) (heading_bytes form
 
 module _ (form : Form) where
   pub none_name : (bytes : List ℕ) → ((text rest : List ℕ) → bytes ≢ text_bytes text ++ rest) → NoHeading form bytes
-  none_name bytes none h rest has e = none h.name (state_byte h.state ∷ behind_state form h rest) (e ∙ heading_spread form h rest)
+  none_name bytes none h rest has e = none h.name (state_byte h.state ∷ after_state form h rest) (e ∙ heading_spread form h rest)
 
   pub none_such_name : (bytes text b : List ℕ) → bytes ≡ text_bytes text ++ b → (is_job_name text ≡ true → ⊥) → NoHeading form bytes
   none_such_name bytes text b read not h rest has e =
-      let same = (text_front text h.name b (state_byte h.state ∷ behind_state form h rest) (sym read ∙ e ∙ heading_spread form h rest)).0 in
+      let same = (text_front text h.name b (state_byte h.state ∷ after_state form h rest) (sym read ∙ e ∙ heading_spread form h rest)).0 in
       not (ap is_job_name same ∙ has.name)
 
   name_first : (bytes name b : List ℕ) (h : Heading) (rest : List ℕ) → bytes ≡ text_bytes name ++ b → bytes ≡ heading_bytes form h ++ rest
-      → b ≡ state_byte h.state ∷ behind_state form h rest
+      → b ≡ state_byte h.state ∷ after_state form h rest
   name_first bytes name b h rest read e =
-      (text_front name h.name b (state_byte h.state ∷ behind_state form h rest) (sym read ∙ e ∙ heading_spread form h rest)).1
+      (text_front name h.name b (state_byte h.state ∷ after_state form h rest) (sym read ∙ e ∙ heading_spread form h rest)).1
 
   pub none_state : (bytes name b : List ℕ) → bytes ≡ text_bytes name ++ b → ((s : State) (rest : List ℕ) → b ≢ state_byte s ∷ rest) → NoHeading form bytes
-  none_state bytes name b read none h rest has e = none h.state (behind_state form h rest) (name_first bytes name b h rest read e)
+  none_state bytes name b read none h rest has e = none h.state (after_state form h rest) (name_first bytes name b h rest read e)
 
   state_next : (bytes name b : List ℕ) (s : State) (c : List ℕ) (h : Heading) (rest : List ℕ) → bytes ≡ text_bytes name ++ b → b ≡ state_byte s ∷ c
-      → bytes ≡ heading_bytes form h ++ rest → c ≡ behind_state form h rest
-  state_next bytes name b s c h rest read behind e =
-      let same : state_byte s ∷ c ≡ state_byte h.state ∷ behind_state form h rest = sym behind ∙ name_first bytes name b h rest read e in
+      → bytes ≡ heading_bytes form h ++ rest → c ≡ after_state form h rest
+  state_next bytes name b s c h rest read after e =
+      let same : state_byte s ∷ c ≡ state_byte h.state ∷ after_state form h rest = sym after ∙ name_first bytes name b h rest read e in
       cc (same)
 
   pub none_rounds : (bytes name b : List ℕ) (s : State) (c : List ℕ) → bytes ≡ text_bytes name ++ b → b ≡ state_byte s ∷ c → length c < 8 → NoHeading form bytes
-  none_rounds bytes name b s c read behind short h rest has e =
-      omega (arith, ap length (state_next bytes name b s c h rest read behind e), length-append (eight_bytes h.rounds) (behind_rounds form h rest), length-eight_bytes h.rounds)
+  none_rounds bytes name b s c read after short h rest has e =
+      omega (arith, ap length (state_next bytes name b s c h rest read after e), length-append (eight_bytes h.rounds) (after_rounds form h rest), length-eight_bytes h.rounds)
 
   rounds_next : (bytes name b : List ℕ) (s : State) (c : List ℕ) (rounds : ℕ) (d : List ℕ) (h : Heading) (rest : List ℕ) → bytes ≡ text_bytes name ++ b → b ≡ state_byte s ∷ c
-      → c ≡ eight_bytes rounds ++ d → bytes ≡ heading_bytes form h ++ rest → d ≡ behind_rounds form h rest
-  rounds_next bytes name b s c rounds d h rest read behind further e =
-      let same = sym further ∙ state_next bytes name b s c h rest read behind e in
-      (fronts (eight_bytes rounds) (eight_bytes h.rounds) d (behind_rounds form h rest) (length-eight_bytes rounds ∙ sym (length-eight_bytes h.rounds)) same).1
+      → c ≡ eight_bytes rounds ++ d → bytes ≡ heading_bytes form h ++ rest → d ≡ after_rounds form h rest
+  rounds_next bytes name b s c rounds d h rest read after further e =
+      let same = sym further ∙ state_next bytes name b s c h rest read after e in
+      (fronts (eight_bytes rounds) (eight_bytes h.rounds) d (after_rounds form h rest) (length-eight_bytes rounds ∙ sym (length-eight_bytes h.rounds)) same).1
 
   pub none_budget : (bytes name b : List ℕ) (s : State) (c : List ℕ) (rounds : ℕ) (d : List ℕ) → bytes ≡ text_bytes name ++ b → b ≡ state_byte s ∷ c
       → c ≡ eight_bytes rounds ++ d → BeginsWithNone (HasBudgetBytes form) (budget_bytes form) d → NoHeading form bytes
-  none_budget bytes name b s c rounds d read behind further none h rest has e =
-      none h.budget (behind_budget h rest) has.budget (rounds_next bytes name b s c rounds d h rest read behind further e)
+  none_budget bytes name b s c rounds d read after further none h rest has e =
+      none h.budget (after_budget h rest) has.budget (rounds_next bytes name b s c rounds d h rest read after further e)
 
   pub none_next : (bytes name b : List ℕ) (s : State) (c : List ℕ) (rounds : ℕ) (d : List ℕ) (budget : Option ℕ) (f : List ℕ) → bytes ≡ text_bytes name ++ b
       → b ≡ state_byte s ∷ c → c ≡ eight_bytes rounds ++ d → BeginsWith (HasBudgetBytes form) (budget_bytes form) d budget f → length f < 8 → NoHeading form bytes
-  none_next bytes name b s c rounds d budget f read behind further begins short h rest has e =
-      let same = sym begins.parts ∙ rounds_next bytes name b s c rounds d h rest read behind further e in
-      let last = (budget_tells form budget h.budget f (behind_budget h rest) begins.valid has.budget same).1 in
+  none_next bytes name b s c rounds d budget f read after further begins short h rest has e =
+      let same = sym begins.parts ∙ rounds_next bytes name b s c rounds d h rest read after further e in
+      let last = (budget_tells form budget h.budget f (after_budget h rest) begins.valid has.budget same).1 in
       omega (arith, ap length last, length-append (eight_bytes h.next) rest, length-eight_bytes h.next)
 
   pub heading_parts : (h : Heading) (bytes b c d f rest : List ℕ) → bytes ≡ text_bytes h.name ++ b → b ≡ state_byte h.state ∷ c → c ≡ eight_bytes h.rounds ++ d

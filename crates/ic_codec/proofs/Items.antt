@@ -1,4 +1,4 @@
--- Values one behind the other: where each value's bytes tell it and where they end, so do the bytes of so many of them.
+-- Values one after the other: where each value's bytes tell it and where they end, so do the bytes of so many of them.
 use Rattle.std.proofs.Common.{◌≡◌, ◌≢◌, ℕ, ◌+◌, ◌<◌, ◌≤◌, List, [], ◌∷◌, ◌++◌, length, refl, sym, ap, ◌∙◌, append_assoc, arith, sum_by}
 use Rattle.std.specs.List.{flat_map, AllByRecursion}
 use Rattle.std.proofs.lemmas.List.{length-append, append-nil}
@@ -22,7 +22,7 @@ module _ {X : Type 0} where
       let rest = items_front V spell tells xs ys a b vs.1 ws.1 (omega arith) first.1 in
       ((λ i. first.0 i ∷ rest.0 i), rest.1)
 
-  -- behind fewer values stand a further one and those behind it
+  -- after fewer values stand a further one and those after it
   pub items_split : (V : X → Type 0) (spell : X → List ℕ) → Tells V spell → (xs ys : List X) (a b : List ℕ)
       → AllByRecursion V xs → AllByRecursion V ys → length xs < length ys → flat_map spell xs ++ a ≡ flat_map spell ys ++ b
       → (y : X) × ((zs : List X) × ((ys ≡ xs ++ y ∷ zs) × (a ≡ spell y ++ (flat_map spell zs ++ b))))
@@ -63,25 +63,25 @@ module _ {X : Type 0} where
       → BeginsWithMany V spell size (count + 1) budget bytes ys left' rest'
   many_more_as ys grown begins next = rw grown (many_more begins next)
 
-  none_behind : (V : X → Type 0) (spell : X → List ℕ) (size : X → ℕ) → Tells V spell → (xs ys : List X) (left : ℕ) (rest rest' : List ℕ)
+  none_after : (V : X → Type 0) (spell : X → List ℕ) (size : X → ℕ) → Tells V spell → (xs ys : List X) (left : ℕ) (rest rest' : List ℕ)
       → AllByRecursion V xs → AllByRecursion V ys → length xs < length ys → sum_by size ys ≤ sum_by size xs + left
       → BeginsWithNoOne V spell size left rest → flat_map spell xs ++ rest ≢ flat_map spell ys ++ rest'
-  none_behind V spell size tells [] [] left rest rest' all also fewer within none e = omega arith
-  none_behind V spell size tells [] (y ∷ ys) left rest rest' all also fewer within none e =
+  none_after V spell size tells [] [] left rest rest' all also fewer within none e = omega arith
+  none_after V spell size tells [] (y ∷ ys) left rest rest' all also fewer within none e =
       none y (flat_map spell ys ++ rest') also.0 (omega (arith, sum_by-cons size y ys)) (e ∙ append_assoc (spell y) (flat_map spell ys) rest')
-  none_behind V spell size tells (x ∷ xs) [] left rest rest' all also fewer within none e = omega arith
-  none_behind V spell size tells (x ∷ xs) (y ∷ ys) left rest rest' all also fewer within none e =
+  none_after V spell size tells (x ∷ xs) [] left rest rest' all also fewer within none e = omega arith
+  none_after V spell size tells (x ∷ xs) (y ∷ ys) left rest rest' all also fewer within none e =
       let joined : spell x ++ (flat_map spell xs ++ rest) ≡ spell y ++ (flat_map spell ys ++ rest') =
       sym (append_assoc (spell x) (flat_map spell xs) rest) ∙ e ∙ append_assoc (spell y) (flat_map spell ys) rest' in
       let first = tells x y (flat_map spell xs ++ rest) (flat_map spell ys ++ rest') all.0 also.0 joined in
-      none_behind V spell size tells xs ys left rest rest' all.1 also.1 (omega arith)
+      none_after V spell size tells xs ys left rest rest' all.1 also.1 (omega arith)
       (omega (arith, ap size first.0, sum_by-cons size x xs, sum_by-cons size y ys)) none first.1
 
   pub none_many : {V : X → Type 0} {spell : X → List ℕ} {size : X → ℕ} {done budget left : ℕ} {bytes rest : List ℕ} {xs : List X} (count : ℕ)
       → Tells V spell → done < count → BeginsWithMany V spell size done budget bytes xs left rest → BeginsWithNoOne V spell size left rest
       → BeginsWithNoMany V spell size count budget bytes
   none_many {V = V} {spell = spell} {size = size} {left = left} {rest = rest} {xs = xs} count tells fewer begins none ys rest' all many within e =
-      none_behind V spell size tells xs ys left rest rest' begins.each all (omega (arith, begins.many)) (omega (arith, begins.counted)) none
+      none_after V spell size tells xs ys left rest rest' begins.each all (omega (arith, begins.many)) (omega (arith, begins.counted)) none
       (sym begins.parts ∙ e)
 
   -- none of these values so far, and nothing read

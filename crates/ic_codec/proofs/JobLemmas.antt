@@ -19,17 +19,17 @@ use Rattle.ic_codec.specs.inner.Fronts.{IsRuleSetOver, IsConfigurationOver}
 use Rattle.ic_codec.proofs.Items.{Tells, items_front}
 use Rattle.ic_codec.proofs.Unique.{heading_tells, symbols_front, set_tells, configuration_tells}
 
--- what stands behind the heading, behind the symbols, and behind the rules
-abbrev pub behind_rules : JobParts → List ℕ → List ℕ
-behind_rules j rest = configuration_bytes j.config ++ rest
+-- what stands after the heading, after the symbols, and after the rules
+abbrev pub after_rules : JobParts → List ℕ → List ℕ
+after_rules j rest = configuration_bytes j.config ++ rest
 
-abbrev pub behind_symbols : JobParts → List ℕ → List ℕ
-behind_symbols j rest = rules_bytes j.rules.rules ++ behind_rules j rest
+abbrev pub after_symbols : JobParts → List ℕ → List ℕ
+after_symbols j rest = rules_bytes j.rules.rules ++ after_rules j rest
 
-abbrev pub behind_heading : JobParts → List ℕ → List ℕ
-behind_heading j rest = symbols_bytes j.rules.symbols ++ behind_symbols j rest
+abbrev pub after_heading : JobParts → List ℕ → List ℕ
+after_heading j rest = symbols_bytes j.rules.symbols ++ after_symbols j rest
 
-pub job_spread : (form : Form) (j : JobParts) (rest : List ℕ) → job_bytes form j ++ rest ≡ heading_bytes form (heading_of j) ++ behind_heading j rest
+pub job_spread : (form : Form) (j : JobParts) (rest : List ℕ) → job_bytes form j ++ rest ≡ heading_bytes form (heading_of j) ++ after_heading j rest
 job_spread form j rest =
     let heading = heading_bytes form (heading_of j) in
     let symbols = symbols_bytes j.rules.symbols in
@@ -46,13 +46,13 @@ heading_has form j has =
 -- Of a job, what is read so far is as it stands in the job.
 pub record SameHeading (h : Heading) (b : List ℕ) (j : JobParts) (rest : List ℕ) : Type 0 where
   pub same : h ≡ heading_of j
-  pub behind : b ≡ behind_heading j rest
+  pub after : b ≡ after_heading j rest
 
 pub heading_first : (form : Form) (h : Heading) (b : List ℕ) (j : JobParts) (rest bytes : List ℕ) → HasHeadingBytes form h → HasJobBytes form j
     → bytes ≡ heading_bytes form h ++ b → bytes ≡ job_bytes form j ++ rest → SameHeading h b j rest
 heading_first form h b j rest bytes has is read e =
-    let first = heading_tells form h (heading_of j) b (behind_heading j rest) has (heading_has form j is) (sym read ∙ e ∙ job_spread form j rest) in
-    record { same = first.0; behind = first.1 }
+    let first = heading_tells form h (heading_of j) b (after_heading j rest) has (heading_has form j is) (sym read ∙ e ∙ job_spread form j rest) in
+    record { same = first.0; after = first.1 }
 
 -- the rule set and configuration of a job, over symbols and a `next` that are the job's
 pub set_of : (ss : List Symbol) (j : JobParts) → IsJob j → ss ≡ j.rules.symbols → IsRuleSetOver ss j.rules
@@ -69,10 +69,10 @@ pub job_tells : (form : Form) → Tells (HasJobBytes form) (job_bytes form)
 job_tells form j k a b has has_too e =
     let v = has.job in let w = has_too.job in
     let ss = j.rules.symbols in
-    let first = heading_tells form (heading_of j) (heading_of k) (behind_heading j a) (behind_heading k b) (heading_has form j has) (heading_has form k has_too)
+    let first = heading_tells form (heading_of j) (heading_of k) (after_heading j a) (after_heading k b) (heading_has form j has) (heading_has form k has_too)
     (sym (job_spread form j a) ∙ e ∙ job_spread form k b) in
-    let second = symbols_front ss k.rules.symbols (behind_symbols j a) (behind_symbols k b) first.1 in
-    let third = set_tells ss v.served.symbols j.rules k.rules (behind_rules j a) (behind_rules k b) (set_of ss j v refl) (set_of ss k w second.0) second.1 in
+    let second = symbols_front ss k.rules.symbols (after_symbols j a) (after_symbols k b) first.1 in
+    let third = set_tells ss v.served.symbols j.rules k.rules (after_rules j a) (after_rules k b) (set_of ss j v refl) (set_of ss k w second.0) second.1 in
     let fourth = configuration_tells ss j.config.next v.served.symbols j.config k.config a b (config_of ss j.config.next j v refl refl)
     (config_of ss j.config.next k w second.0 (ap (λ (h : Heading). h.next) first.0)) third.1 in
     let same = first.0 in (

@@ -13,36 +13,36 @@ use Rattle.ic_codec.specs.inner.Forms.{HaveSymbolBytes, HasHeadingBytes, HasJobB
 use Rattle.ic_codec.specs.Jobs.{job_bytes}
 use Rattle.ic_codec.specs.inner.Fronts.{BeginsWith, BeginsWithNone, IsRuleSetOver, set_bytes, IsConfigurationOver}
 use Rattle.ic_codec.proofs.Unique.{symbols_front, set_tells, configuration_tells}
-use Rattle.ic_codec.proofs.JobLemmas.{behind_heading, behind_symbols, behind_rules, job_spread, heading_has, heading_first, set_of, config_of}
+use Rattle.ic_codec.proofs.JobLemmas.{after_heading, after_symbols, after_rules, job_spread, heading_has, heading_first, set_of, config_of}
 
 pub job_none_heading : (form : Form) (bytes : List ℕ) → BeginsWithNone (HasHeadingBytes form) (heading_bytes form) bytes → BeginsWithNone (HasJobBytes form) (job_bytes form) bytes
-job_none_heading form bytes none j rest is e = none (heading_of j) (behind_heading j rest) (heading_has form j is) (e ∙ job_spread form j rest)
+job_none_heading form bytes none j rest is e = none (heading_of j) (after_heading j rest) (heading_has form j is) (e ∙ job_spread form j rest)
 
 pub job_none_symbols : (form : Form) (bytes : List ℕ) (h : Heading) (b : List ℕ) → BeginsWith (HasHeadingBytes form) (heading_bytes form) bytes h b → BeginsWithNone HaveSymbolBytes symbols_bytes b
     → BeginsWithNone (HasJobBytes form) (job_bytes form) bytes
 job_none_symbols form bytes h b begins none j rest is e =
-    none j.rules.symbols (behind_symbols j rest) (record { symbols = is.job.symbols; few = is.job.served.symbols }) (heading_first form h b j rest bytes begins.valid is begins.parts e).behind
+    none j.rules.symbols (after_symbols j rest) (record { symbols = is.job.symbols; few = is.job.served.symbols }) (heading_first form h b j rest bytes begins.valid is begins.parts e).after
 
 -- the symbols of a job that bytes begin with are those that were read
 same_symbols : (form : Form) (bytes : List ℕ) (h : Heading) (b : List ℕ) (ss : List Symbol) (c : List ℕ) (j : JobParts) (rest : List ℕ) → HasJobBytes form j
     → BeginsWith (HasHeadingBytes form) (heading_bytes form) bytes h b → BeginsWith HaveSymbolBytes symbols_bytes b ss c → bytes ≡ job_bytes form j ++ rest
-    → (ss ≡ j.rules.symbols) × (c ≡ behind_symbols j rest)
+    → (ss ≡ j.rules.symbols) × (c ≡ after_symbols j rest)
 same_symbols form bytes h b ss c j rest is begins second e =
-    symbols_front ss j.rules.symbols c (behind_symbols j rest) (sym second.parts ∙ (heading_first form h b j rest bytes begins.valid is begins.parts e).behind)
+    symbols_front ss j.rules.symbols c (after_symbols j rest) (sym second.parts ∙ (heading_first form h b j rest bytes begins.valid is begins.parts e).after)
 
 pub job_none_rules : (form : Form) (bytes : List ℕ) (h : Heading) (b : List ℕ) (ss : List Symbol) (c : List ℕ) → BeginsWith (HasHeadingBytes form) (heading_bytes form) bytes h b
     → BeginsWith HaveSymbolBytes symbols_bytes b ss c → BeginsWithNone (IsRuleSetOver ss) set_bytes c → BeginsWithNone (HasJobBytes form) (job_bytes form) bytes
 job_none_rules form bytes h b ss c begins second none j rest is e =
     let same = same_symbols form bytes h b ss c j rest is begins second e in
-    none j.rules (behind_rules j rest) (set_of ss j is.job same.0) same.1
+    none j.rules (after_rules j rest) (set_of ss j is.job same.0) same.1
 
 -- so are its rules
 same_rules : (form : Form) (bytes : List ℕ) (h : Heading) (b : List ℕ) (ss : List Symbol) (c : List ℕ) (set : Rules) (d : List ℕ) (j : JobParts) (rest : List ℕ) → HasJobBytes form j
     → BeginsWith (HasHeadingBytes form) (heading_bytes form) bytes h b → BeginsWith HaveSymbolBytes symbols_bytes b ss c → BeginsWith (IsRuleSetOver ss) set_bytes c set d
-    → bytes ≡ job_bytes form j ++ rest → (set ≡ j.rules) × (d ≡ behind_rules j rest)
+    → bytes ≡ job_bytes form j ++ rest → (set ≡ j.rules) × (d ≡ after_rules j rest)
 same_rules form bytes h b ss c set d j rest is begins second third e =
     let same = same_symbols form bytes h b ss c j rest is begins second e in
-    set_tells ss second.valid.few set j.rules d (behind_rules j rest) third.valid (set_of ss j is.job same.0) (sym third.parts ∙ same.1)
+    set_tells ss second.valid.few set j.rules d (after_rules j rest) third.valid (set_of ss j is.job same.0) (sym third.parts ∙ same.1)
 
 pub job_none_config : (form : Form) (bytes : List ℕ) (h : Heading) (b : List ℕ) (ss : List Symbol) (c : List ℕ) (set : Rules) (d : List ℕ) (us : List Symbol)
     → BeginsWith (HasHeadingBytes form) (heading_bytes form) bytes h b → BeginsWith HaveSymbolBytes symbols_bytes b ss c → BeginsWith (IsRuleSetOver ss) set_bytes c set d
@@ -56,16 +56,16 @@ job_none_config form bytes h b ss c set d us begins second third over none j res
 abbrev pub job_of : Heading → Rules → Configuration → JobParts
 job_of h set config = record { name = h.name; rules = set; config = config; rounds = h.rounds; state = h.state; budget = h.budget }
 
-pub job_none_job : (form : Form) (bytes : List ℕ) (h : Heading) (b : List ℕ) (ss : List Symbol) (c : List ℕ) (set : Rules) (d : List ℕ) (us : List Symbol) (config : Configuration) (behind : List ℕ)
+pub job_none_job : (form : Form) (bytes : List ℕ) (h : Heading) (b : List ℕ) (ss : List Symbol) (c : List ℕ) (set : Rules) (d : List ℕ) (us : List Symbol) (config : Configuration) (after : List ℕ)
     → BeginsWith (HasHeadingBytes form) (heading_bytes form) bytes h b → BeginsWith HaveSymbolBytes symbols_bytes b ss c → BeginsWith (IsRuleSetOver ss) set_bytes c set d
-    → us ≡ set.symbols → BeginsWith (IsConfigurationOver us h.next) configuration_bytes d config behind → (IsJob (job_of h set config) → ⊥)
+    → us ≡ set.symbols → BeginsWith (IsConfigurationOver us h.next) configuration_bytes d config after → (IsJob (job_of h set config) → ⊥)
     → BeginsWithNone (HasJobBytes form) (job_bytes form) bytes
-job_none_job form bytes h b ss c set d us config behind begins second third over fourth not j rest is e =
+job_none_job form bytes h b ss c set d us config after begins second third over fourth not j rest is e =
     let heading = (heading_first form h b j rest bytes begins.valid is begins.parts e).same in
     let rules = same_rules form bytes h b ss c set d j rest is begins second third e in
     let symbols = over ∙ ap (λ (s : Rules). s.symbols) rules.0 in
     let few = subst (λ (l : List Symbol). length l ≤ 64) (sym symbols) is.job.served.symbols in
-    let configs = (configuration_tells us h.next few config j.config behind rest fourth.valid
+    let configs = (configuration_tells us h.next few config j.config after rest fourth.valid
     (config_of us h.next j is.job symbols (ap (λ (g : Heading). g.next) heading)) (sym fourth.parts ∙ rules.1)).0 in
     let same_set = rules.0 in
     let whole : job_of h set config ≡ j = λ i. job_of (heading i) (same_set i) (configs i) in

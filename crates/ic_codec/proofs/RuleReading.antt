@@ -43,17 +43,17 @@ rule_spread : (q : Rule) (rest : List ℕ)
     → rule_bytes q ++ rest ≡ q.left ∷ q.right ∷ (flat_map tree_bytes q.left_args ++ (flat_map tree_bytes q.right_args ++ rest))
 rule_spread q rest = ap (λ (bs : List ℕ). q.left ∷ q.right ∷ bs) (append_assoc (flat_map tree_bytes q.left_args) (flat_map tree_bytes q.right_args) rest)
 
--- Of a rule that bytes begin with, the symbols are these, and its arguments stand behind them.
+-- Of a rule that bytes begin with, the symbols are these, and its arguments stand after them.
 record SameSymbols (l r : ℕ) (c : List ℕ) (q : Rule) (rest : List ℕ) : Type 0 where
   left : l ≡ q.left
   right : r ≡ q.right
-  behind : c ≡ flat_map tree_bytes q.left_args ++ (flat_map tree_bytes q.right_args ++ rest)
+  after : c ≡ flat_map tree_bytes q.left_args ++ (flat_map tree_bytes q.right_args ++ rest)
 
 same_symbols : (l r : ℕ) (bytes b c : List ℕ) (q : Rule) (rest : List ℕ) → bytes ≡ l ∷ b → b ≡ r ∷ c → bytes ≡ rule_bytes q ++ rest → SameSymbols l r c q rest
 same_symbols l r bytes b c q rest first second e =
     let same : l ∷ r ∷ c ≡ q.left ∷ q.right ∷ (flat_map tree_bytes q.left_args ++ (flat_map tree_bytes q.right_args ++ rest)) =
     sym (first ∙ ap (λ (bs : List ℕ). l ∷ bs) second) ∙ e ∙ rule_spread q rest in
-    record { left = cc (same); right = cc (same); behind = cc (same) }
+    record { left = cc (same); right = cc (same); after = cc (same) }
 
 -- where no known symbol stands first, or second, there is no rule
 pub none_left : (ss : List Symbol) (budget : ℕ) (bytes : List ℕ) → ((s : ℕ) (rest : List ℕ) → s < length ss → bytes ≢ s ∷ rest)
@@ -78,7 +78,7 @@ pub none_left_args : (ss : List Symbol) (budget l r a : ℕ) (bytes b c : List �
 none_left_args ss budget l r a bytes b c first second arity none q rest has within e =
     let same = same_symbols l r bytes b c q rest first second e in
     none q.left_args (flat_map tree_bytes q.right_args ++ rest) (left_have ss q has)
-    (same_count ss l a (length q.left_args) q.left arity same.left has.over.left) (omega arith) same.behind
+    (same_count ss l a (length q.left_args) q.left arity same.left has.over.left) (omega arith) same.after
 
 -- the left arguments of a rule that bytes begin with are those that were read
 left_front : (ss : List Symbol) (budget l r a left : ℕ) (bytes b c : List ℕ) (ls : List Tree) (d : List ℕ) (q : Rule) (rest : List ℕ) → length ss ≤ 64 → HasRuleBytes ss q
@@ -86,7 +86,7 @@ left_front : (ss : List Symbol) (budget l r a left : ℕ) (bytes b c : List ℕ)
     → (ls ≡ q.left_args) × (d ≡ flat_map tree_bytes q.right_args ++ rest)
 left_front ss budget l r a left bytes b c ls d q rest few has arity begins same =
     items_front (HasBytes ss) tree_bytes (tree_tells ss few) ls q.left_args d (flat_map tree_bytes q.right_args ++ rest) begins.has_bytes (left_have ss q has)
-    (begins.many ∙ sym (same_count ss l a (length q.left_args) q.left arity same.left has.over.left)) (sym begins.parts ∙ same.behind)
+    (begins.many ∙ sym (same_count ss l a (length q.left_args) q.left arity same.left has.over.left)) (sym begins.parts ∙ same.after)
 
 pub none_right_args : (ss : List Symbol) (budget l r al ar left : ℕ) (bytes b c : List ℕ) (ls : List Tree) (d : List ℕ) → length ss ≤ 64 → bytes ≡ l ∷ b → b ≡ r ∷ c
     → symbol_arity ss l ≡ Some al → symbol_arity ss r ≡ Some ar → BeginsWithTrees ss al budget c ls left d
@@ -97,13 +97,13 @@ none_right_args ss budget l r al ar left bytes b c ls d few first second left_ar
     none q.right_args rest (right_have ss q has) (same_count ss r ar (length q.right_args) q.right right_arity same.right has.over.right)
     (omega (arith, begins.counted, ap (sum_by nodes) front.0)) front.1
 
-pub none_numbered : (ss : List Symbol) (budget l r al ar left left' : ℕ) (bytes b c : List ℕ) (ls : List Tree) (d : List ℕ) (rs : List Tree) (behind : List ℕ)
+pub none_numbered : (ss : List Symbol) (budget l r al ar left left' : ℕ) (bytes b c : List ℕ) (ls : List Tree) (d : List ℕ) (rs : List Tree) (after : List ℕ)
     → length ss ≤ 64 → bytes ≡ l ∷ b → b ≡ r ∷ c → symbol_arity ss l ≡ Some al → symbol_arity ss r ≡ Some ar → BeginsWithTrees ss al budget c ls left d
-    → BeginsWithTrees ss ar left d rs left' behind → (IsNumbered (rule_of l r ls rs) → ⊥) → BeginsWithNoOne (HasRuleBytes ss) rule_bytes rule_nodes budget bytes
-none_numbered ss budget l r al ar left left' bytes b c ls d rs behind few first second left_arity right_arity begins further not q rest has within e =
+    → BeginsWithTrees ss ar left d rs left' after → (IsNumbered (rule_of l r ls rs) → ⊥) → BeginsWithNoOne (HasRuleBytes ss) rule_bytes rule_nodes budget bytes
+none_numbered ss budget l r al ar left left' bytes b c ls d rs after few first second left_arity right_arity begins further not q rest has within e =
     let same = same_symbols l r bytes b c q rest first second e in
     let front = left_front ss budget l r al left bytes b c ls d q rest few has left_arity begins same in
-    let back = items_front (HasBytes ss) tree_bytes (tree_tells ss few) rs q.right_args behind rest further.has_bytes (right_have ss q has)
+    let back = items_front (HasBytes ss) tree_bytes (tree_tells ss few) rs q.right_args after rest further.has_bytes (right_have ss q has)
     (further.many ∙ sym (same_count ss r ar (length q.right_args) q.right right_arity same.right has.over.right)) (sym further.parts ∙ front.1) in
     let all : flat_map names ls ++ flat_map names rs ≡ rule_names q = λ i. flat_map names (front.0 i) ++ flat_map names (back.0 i) in
     let counted_up = has.in_order ∙ ap (range_with_len 0) (sym (names_counted q has.in_order)) in
@@ -156,12 +156,12 @@ pub too_many_rules : (ss : List Symbol) (n : ℕ) (bytes b : List ℕ) → n < 2
 too_many_rules ss n bytes b small read many set rest is e =
     omega (arith, many, is.served.rules, (count_first ss n bytes b set rest small is read e).0)
 
-pub none_set : ((set : Rules) → (built set.symbols set.rules ≡ Ok set) ↔ IsRuleSet set) → (ss : List Symbol) (n : ℕ) (bytes b : List ℕ) (rs : List Rule) (left : ℕ) (behind : List ℕ)
-    → length ss ≤ 64 → n < 2 ^ 16 → bytes ≡ two_bytes n ++ b → BeginsWithMany (HasRuleBytes ss) rule_bytes rule_nodes n 2048 b rs left behind
+pub none_set : ((set : Rules) → (built set.symbols set.rules ≡ Ok set) ↔ IsRuleSet set) → (ss : List Symbol) (n : ℕ) (bytes b : List ℕ) (rs : List Rule) (left : ℕ) (after : List ℕ)
+    → length ss ≤ 64 → n < 2 ^ 16 → bytes ≡ two_bytes n ++ b → BeginsWithMany (HasRuleBytes ss) rule_bytes rule_nodes n 2048 b rs left after
     → ((set : Rules) → built ss rs ≢ Ok set) → BeginsWithNone (IsRuleSetOver ss) set_bytes bytes
-none_set takes ss n bytes b rs left behind few small read begins not set rest is e =
+none_set takes ss n bytes b rs left after few small read begins not set rest is e =
     let first = count_first ss n bytes b set rest small is read e in
-    let same = (items_front (HasRuleBytes ss) rule_bytes (rule_tells ss few) rs set.rules behind rest begins.each (set_has ss set is) (begins.many ∙ first.0)
+    let same = (items_front (HasRuleBytes ss) rule_bytes (rule_tells ss few) rs set.rules after rest begins.each (set_has ss set is) (begins.many ∙ first.0)
     (sym begins.parts ∙ first.1)).0 in
     let over = sym is.over in
     not set ((λ i. built (over i) (same i)) ∙ (takes set).1 is.rules)

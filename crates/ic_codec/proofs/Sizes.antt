@@ -79,8 +79,8 @@ budget_length Ict2 budget = omega (arith, length-eight_bytes (budget_number budg
 
 heading_length : (form : Form) (h : Heading) → is_job_name h.name ≡ true → length (heading_bytes form h) ≤ 42
 heading_length form h is =
-    let behind = budget_bytes form h.budget ++ eight_bytes h.next in
-    let numbers = eight_bytes h.rounds ++ behind in
+    let after = budget_bytes form h.budget ++ eight_bytes h.next in
+    let numbers = eight_bytes h.rounds ++ after in
     omega (
       arith,
       short_name h.name is,
@@ -88,7 +88,7 @@ heading_length form h is =
       budget_length form h.budget,
       length-eight_bytes h.next,
       length-append (budget_bytes form h.budget) (eight_bytes h.next),
-      length-append (eight_bytes h.rounds) behind,
+      length-append (eight_bytes h.rounds) after,
       length-append (text_bytes h.name) (state_byte h.state ∷ numbers),
     )
 

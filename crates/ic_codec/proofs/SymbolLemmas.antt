@@ -7,7 +7,7 @@ use Rattle.ic_codec.specs.Symbols.{symbol_bytes}
 use Rattle.ic_codec.specs.inner.Room.{Fits, Appended, GoesOn}
 use Rattle.ic_codec.proofs.Appending.{left_fits, goes_on}
 
--- the symbol of a number, and those behind it
+-- the symbol of a number, and those after it
 pub from_number : (ss : List Symbol) (i : ℕ) → IfSome (slice_get ss i) (λ s. drop i ss ≡ s ∷ drop (suc i) ss)
 from_number [] i = tt
 from_number (s ∷ ss) zero = refl

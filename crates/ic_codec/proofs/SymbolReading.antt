@@ -30,61 +30,61 @@ first_are earlier ss (z ∷ zs) are =
 -- where no further symbol can be read, there are not so many
 pub none_further : ((ss : List Symbol) (s : Symbol) → AreSymbols (ss ++ s ∷ []) → AreSymbols ss) → (ss : List Symbol) (count : ℕ) (bytes rest : List ℕ)
     → bytes ≡ flat_map symbol_bytes ss ++ rest → length ss < count
-    → ((s : Symbol) (behind : List ℕ) → AreSymbols (ss ++ s ∷ []) → rest ≢ symbol_bytes s ++ behind)
+    → ((s : Symbol) (after : List ℕ) → AreSymbols (ss ++ s ∷ []) → rest ≢ symbol_bytes s ++ after)
     → BeginsWithNone (AreSoManySymbols count) (flat_map symbol_bytes) bytes
-none_further earlier ss count bytes rest read fewer none ts behind has e =
-    let split = items_split AnySymbol symbol_bytes symbol_tells ss ts rest behind (any_symbols ss) (any_symbols ts) (omega (arith, has.many)) (sym read ∙ e) in
+none_further earlier ss count bytes rest read fewer none ts after has e =
+    let split = items_split AnySymbol symbol_bytes symbol_tells ss ts rest after (any_symbols ss) (any_symbols ts) (omega (arith, has.many)) (sym read ∙ e) in
     let parts = split.1.1.0 ∙ sym (append_assoc ss (split.0 ∷ []) split.1.0) in
-    none split.0 (flat_map symbol_bytes split.1.0 ++ behind)
+    none split.0 (flat_map symbol_bytes split.1.0 ++ after)
     (first_are earlier (ss ++ split.0 ∷ []) split.1.0 (subst (λ (l : List Symbol). AreSymbols l) parts has.symbols)) split.1.1.1
 
-pub one_further : (ss : List Symbol) (s : Symbol) (bytes rest behind : List ℕ) → bytes ≡ flat_map symbol_bytes ss ++ rest → rest ≡ symbol_bytes s ++ behind
-    → bytes ≡ flat_map symbol_bytes (ss ++ s ∷ []) ++ behind
-one_further ss s bytes rest behind read e =
-    read ∙ ap (λ (bs : List ℕ). flat_map symbol_bytes ss ++ bs) e ∙ sym (append_assoc (flat_map symbol_bytes ss) (symbol_bytes s) behind)
-    ∙ ap (λ (bs : List ℕ). bs ++ behind) (sym (flat_map-push symbol_bytes ss s))
+pub one_further : (ss : List Symbol) (s : Symbol) (bytes rest after : List ℕ) → bytes ≡ flat_map symbol_bytes ss ++ rest → rest ≡ symbol_bytes s ++ after
+    → bytes ≡ flat_map symbol_bytes (ss ++ s ∷ []) ++ after
+one_further ss s bytes rest after read e =
+    read ∙ ap (λ (bs : List ℕ). flat_map symbol_bytes ss ++ bs) e ∙ sym (append_assoc (flat_map symbol_bytes ss) (symbol_bytes s) after)
+    ∙ ap (λ (bs : List ℕ). bs ++ after) (sym (flat_map-push symbol_bytes ss s))
 
 pub symbols_none : (count : ℕ) (bytes rest : List ℕ) → bytes ≡ count ∷ rest → BeginsWithNone (AreSoManySymbols count) (flat_map symbol_bytes) rest
     → BeginsWithNone HaveSymbolBytes symbols_bytes bytes
-symbols_none count bytes rest read none ss behind have e =
-    let same : count ∷ rest ≡ length ss ∷ (flat_map symbol_bytes ss ++ behind) = sym read ∙ e in
+symbols_none count bytes rest read none ss after have e =
+    let same : count ∷ rest ≡ length ss ∷ (flat_map symbol_bytes ss ++ after) = sym read ∙ e in
     let counts : length ss ≡ count = cc in
-    let tails : rest ≡ flat_map symbol_bytes ss ++ behind = cc in
-    none ss behind (record { symbols = have.symbols; many = counts }) tails
+    let tails : rest ≡ flat_map symbol_bytes ss ++ after = cc in
+    none ss after (record { symbols = have.symbols; many = counts }) tails
 
 -- symbols that are too many have no bytes
 pub too_many_symbols : (count : ℕ) (bytes rest : List ℕ) → bytes ≡ count ∷ rest → 64 < count → BeginsWithNone HaveSymbolBytes symbols_bytes bytes
-too_many_symbols count bytes rest read many ss behind have e =
-    let same : count ∷ rest ≡ length ss ∷ (flat_map symbol_bytes ss ++ behind) = sym read ∙ e in
+too_many_symbols count bytes rest read many ss after have e =
+    let same : count ∷ rest ≡ length ss ∷ (flat_map symbol_bytes ss ++ after) = sym read ∙ e in
     let counts : length ss ≡ count = cc in
     omega (arith, many, have.few, counts)
 
 -- ---- one symbol
 
-pub symbol_parts : (s : Symbol) (bytes rest behind : List ℕ) → bytes ≡ text_bytes s.text ++ rest → rest ≡ s.arity ∷ behind → bytes ≡ symbol_bytes s ++ behind
-symbol_parts s bytes rest behind e f =
-    e ∙ ap (λ (bs : List ℕ). text_bytes s.text ++ bs) f ∙ sym (append_assoc (text_bytes s.text) (s.arity ∷ []) behind)
+pub symbol_parts : (s : Symbol) (bytes rest after : List ℕ) → bytes ≡ text_bytes s.text ++ rest → rest ≡ s.arity ∷ after → bytes ≡ symbol_bytes s ++ after
+symbol_parts s bytes rest after e f =
+    e ∙ ap (λ (bs : List ℕ). text_bytes s.text ++ bs) f ∙ sym (append_assoc (text_bytes s.text) (s.arity ∷ []) after)
 
-symbol_text_first : (s : Symbol) (bytes behind : List ℕ) → bytes ≡ symbol_bytes s ++ behind → bytes ≡ text_bytes s.text ++ (s.arity ∷ behind)
-symbol_text_first s bytes behind e = e ∙ append_assoc (text_bytes s.text) (s.arity ∷ []) behind
+symbol_text_first : (s : Symbol) (bytes after : List ℕ) → bytes ≡ symbol_bytes s ++ after → bytes ≡ text_bytes s.text ++ (s.arity ∷ after)
+symbol_text_first s bytes after e = e ∙ append_assoc (text_bytes s.text) (s.arity ∷ []) after
 
 pub none_text : (ss : List Symbol) (bytes : List ℕ) → ((text rest : List ℕ) → bytes ≢ text_bytes text ++ rest)
-    → (s : Symbol) (behind : List ℕ) → AreSymbols (ss ++ s ∷ []) → bytes ≢ symbol_bytes s ++ behind
-none_text ss bytes none s behind are e = none s.text (s.arity ∷ behind) (symbol_text_first s bytes behind e)
+    → (s : Symbol) (after : List ℕ) → AreSymbols (ss ++ s ∷ []) → bytes ≢ symbol_bytes s ++ after
+none_text ss bytes none s after are e = none s.text (s.arity ∷ after) (symbol_text_first s bytes after e)
 
 pub none_arity : (ss : List Symbol) (bytes text rest : List ℕ) → bytes ≡ text_bytes text ++ rest → rest ≡ []
-    → (s : Symbol) (behind : List ℕ) → AreSymbols (ss ++ s ∷ []) → bytes ≢ symbol_bytes s ++ behind
-none_arity ss bytes text rest read ended s behind are e =
-    let tails = (text_front text s.text rest (s.arity ∷ behind) (sym read ∙ symbol_text_first s bytes behind e)).1 in
-    let clash : [] ≡ s.arity ∷ behind = sym ended ∙ tails in
+    → (s : Symbol) (after : List ℕ) → AreSymbols (ss ++ s ∷ []) → bytes ≢ symbol_bytes s ++ after
+none_arity ss bytes text rest read ended s after are e =
+    let tails = (text_front text s.text rest (s.arity ∷ after) (sym read ∙ symbol_text_first s bytes after e)).1 in
+    let clash : [] ≡ s.arity ∷ after = sym ended ∙ tails in
     absurd (cc (clash))
 
 pub none_next_symbol : (ss : List Symbol) (bytes text rest : List ℕ) (arity : ℕ) (left : List ℕ) → bytes ≡ text_bytes text ++ rest → rest ≡ arity ∷ left
     → (AreSymbols (ss ++ record { text = text; arity = arity } ∷ []) → ⊥)
-    → (s : Symbol) (behind : List ℕ) → AreSymbols (ss ++ s ∷ []) → bytes ≢ symbol_bytes s ++ behind
-none_next_symbol ss bytes text rest arity left read further not s behind are e =
-    let first = text_front text s.text rest (s.arity ∷ behind) (sym read ∙ symbol_text_first s bytes behind e) in
-    let same : arity ∷ left ≡ s.arity ∷ behind = sym further ∙ first.1 in
+    → (s : Symbol) (after : List ℕ) → AreSymbols (ss ++ s ∷ []) → bytes ≢ symbol_bytes s ++ after
+none_next_symbol ss bytes text rest arity left read further not s after are e =
+    let first = text_front text s.text rest (s.arity ∷ after) (sym read ∙ symbol_text_first s bytes after e) in
+    let same : arity ∷ left ≡ s.arity ∷ after = sym further ∙ first.1 in
     let arities : s.arity ≡ arity = cc (same) in
     let texts = sym first.0 in
     not (subst (λ (t : Symbol). AreSymbols (ss ++ t ∷ [])) (λ i. record { text = texts i; arity = arities i }) are)

@@ -19,17 +19,17 @@ uncounted_sum : (js : List JobParts) → sum_by uncounted js ≡ 0
 uncounted_sum [] = refl
 uncounted_sum (j ∷ js) = omega (arith, sum_by-cons uncounted j js, uncounted_sum js)
 
--- Of a table whose bytes these are, the jobs are so many, and stand behind their number.
+-- Of a table whose bytes these are, the jobs are so many, and stand after their number.
 record SameCount (form : Form) (count : ℕ) (c : List ℕ) (t : List JobParts) : Type 0 where
   many : count ≡ length t
-  behind : c ≡ flat_map (job_bytes form) t
+  after : c ≡ flat_map (job_bytes form) t
 
 same_count : (form : Form) (count : ℕ) (bytes b c : List ℕ) (t : List JobParts) → bytes ≡ form_head form ++ b → b ≡ count ∷ c → bytes ≡ table_bytes_in form t → SameCount form count c t
 same_count form count bytes b c t read further e =
     let whole : form_head form ++ (count ∷ c) ≡ table_bytes_in form t = ap (λ (bs : List ℕ). form_head form ++ bs) (sym further) ∙ sym read ∙ e in
-    record { many = cc (whole); behind = cc (whole) }
+    record { many = cc (whole); after = cc (whole) }
 
--- nothing stands behind the head where the number of jobs should
+-- nothing stands after the head where the number of jobs should
 pub none_count : (form : Form) (bytes b : List ℕ) → bytes ≡ form_head form ++ b → b ≡ [] → (t : List JobParts) → HasTableBytes form t → bytes ≢ table_bytes_in form t
 none_count form bytes b read short t is e =
     let whole : form_head form ++ [] ≡ table_bytes_in form t = ap (λ (bs : List ℕ). form_head form ++ bs) (sym short) ∙ sym read ∙ e in
@@ -39,15 +39,15 @@ pub none_jobs : (form : Form) (count : ℕ) (bytes b c : List ℕ) → bytes ≡
     → (t : List JobParts) → HasTableBytes form t → bytes ≢ table_bytes_in form t
 none_jobs form count bytes b c read further none t is e =
     let same = same_count form count bytes b c t read further e in
-    none t [] is.jobs (sym same.many) (omega (arith, uncounted_sum t)) (same.behind ∙ sym (append-nil (flat_map (job_bytes form) t)))
+    none t [] is.jobs (sym same.many) (omega (arith, uncounted_sum t)) (same.after ∙ sym (append-nil (flat_map (job_bytes form) t)))
 
--- the jobs that were read are the table's, and nothing stands behind them
+-- the jobs that were read are the table's, and nothing stands after them
 same_jobs : (form : Form) (count : ℕ) (bytes b c : List ℕ) (js : List JobParts) (rest : List ℕ) (t : List JobParts) → bytes ≡ form_head form ++ b → b ≡ count ∷ c
     → BeginsWithMany (HasJobBytes form) (job_bytes form) uncounted count 0 c js 0 rest → HasTableBytes form t → bytes ≡ table_bytes_in form t → (js ≡ t) × (rest ≡ [])
 same_jobs form count bytes b c js rest t read further begins is e =
     let same = same_count form count bytes b c t read further e in
     items_front (HasJobBytes form) (job_bytes form) (job_tells form) js t rest [] begins.each is.jobs (begins.many ∙ same.many)
-    (sym begins.parts ∙ same.behind ∙ sym (append-nil (flat_map (job_bytes form) t)))
+    (sym begins.parts ∙ same.after ∙ sym (append-nil (flat_map (job_bytes form) t)))
 
 pub none_table : (form : Form) (count : ℕ) (bytes b c : List ℕ) (js : List JobParts) (rest : List ℕ) → bytes ≡ form_head form ++ b → b ≡ count ∷ c
     → BeginsWithMany (HasJobBytes form) (job_bytes form) uncounted count 0 c js 0 rest → (IsTable js → ⊥) → (t : List JobParts) → HasTableBytes form t → bytes ≢ table_bytes_in form t

@@ -78,24 +78,24 @@ arity_known a (Some s) e = let same : s.arity ≡ a = cc in (unsigned_Decides s.
 
 -- ---- one term
 
-pub name_begins : (ss : List Symbol) (budget n : ℕ) (bytes behind rest : List ℕ) → 1 ≤ budget → n < 2 ^ 64
-    → bytes ≡ 255 ∷ behind → behind ≡ eight_bytes n ++ rest → BeginsWithTree ss budget bytes (name n) (budget - 1) rest
-name_begins ss budget n bytes behind rest some small first e = record {
+pub name_begins : (ss : List Symbol) (budget n : ℕ) (bytes after rest : List ℕ) → 1 ≤ budget → n < 2 ^ 64
+    → bytes ≡ 255 ∷ after → after ≡ eight_bytes n ++ rest → BeginsWithTree ss budget bytes (name n) (budget - 1) rest
+name_begins ss budget n bytes after rest some small first e = record {
   parts = first ∙ ap (λ (bs : List ℕ). 255 ∷ bs) e;
   has_bytes = record { over = refl; names = (small, tt) };
   counted = omega arith;
 }
 
-pub agent_begins : (ss : List Symbol) (budget s a left : ℕ) (ts : List Tree) (bytes behind rest : List ℕ) → 1 ≤ budget
-    → bytes ≡ s ∷ behind → symbol_arity ss s ≡ Some a → BeginsWithTrees ss a (budget - 1) behind ts left rest
+pub agent_begins : (ss : List Symbol) (budget s a left : ℕ) (ts : List Tree) (bytes after rest : List ℕ) → 1 ≤ budget
+    → bytes ≡ s ∷ after → symbol_arity ss s ≡ Some a → BeginsWithTrees ss a (budget - 1) after ts left rest
     → BeginsWithTree ss budget bytes (agent s (trees_of ts)) left rest
-agent_begins ss budget s a left ts bytes behind rest some first arity begins =
+agent_begins ss budget s a left ts bytes after rest some first arity begins =
     let count : length (list_of (trees_of ts)) ≡ a = length-trees_of ts ∙ begins.many in
     let known : has_arity (length (list_of (trees_of ts))) (slice_get ss s) ≡ true =
     ap (λ k. has_arity k (slice_get ss s)) count ∙ arity_known a (slice_get ss s) arity in
     let args : are_trees_over ss (trees_of ts) ≡ true = over_trees_of ss ts begins.has_bytes in
     let over : (has_arity (length (list_of (trees_of ts))) (slice_get ss s) && are_trees_over ss (trees_of ts)) ≡ true = rw (known, args) refl in
-    let spelled : behind ≡ trees_bytes (trees_of ts) ++ rest = begins.parts ∙ ap (λ (bs : List ℕ). bs ++ rest) (sym (trees_bytes-trees_of ts)) in
+    let spelled : after ≡ trees_bytes (trees_of ts) ++ rest = begins.parts ∙ ap (λ (bs : List ℕ). bs ++ rest) (sym (trees_bytes-trees_of ts)) in
     record {
       parts = first ∙ ap (λ (bs : List ℕ). s ∷ bs) spelled;
       has_bytes = record { over = over; names = names_trees_of ss ts begins.has_bytes };
@@ -109,40 +109,40 @@ pub none_without_bytes : (ss : List Symbol) (budget : ℕ) (bytes : List ℕ) �
 none_without_bytes ss budget bytes none (name n) rest has few e = let clash : [] ≡ 255 ∷ eight_bytes n ++ rest = sym none ∙ e in absurd cc
 none_without_bytes ss budget bytes none (agent s ts) rest has few e = let clash : [] ≡ s ∷ trees_bytes ts ++ rest = sym none ∙ e in absurd cc
 
-pub none_without_number : (ss : List Symbol) (budget : ℕ) (bytes behind : List ℕ) → length ss ≤ 64 → bytes ≡ 255 ∷ behind → length behind < 8
+pub none_without_number : (ss : List Symbol) (budget : ℕ) (bytes after : List ℕ) → length ss ≤ 64 → bytes ≡ 255 ∷ after → length after < 8
     → BeginsWithNoTree ss budget bytes
-none_without_number ss budget bytes behind little first short (name n) rest has few e =
-    let same : 255 ∷ behind ≡ 255 ∷ eight_bytes n ++ rest = sym first ∙ e in
-    let tails : behind ≡ eight_bytes n ++ rest = cc in
+none_without_number ss budget bytes after little first short (name n) rest has few e =
+    let same : 255 ∷ after ≡ 255 ∷ eight_bytes n ++ rest = sym first ∙ e in
+    let tails : after ≡ eight_bytes n ++ rest = cc in
     omega (arith, ap length tails, length-append (eight_bytes n) rest, length-eight_bytes n)
-none_without_number ss budget bytes behind little first short (agent s ts) rest has few e =
-    let same : 255 ∷ behind ≡ s ∷ trees_bytes ts ++ rest = sym first ∙ e in
+none_without_number ss budget bytes after little first short (agent s ts) rest has few e =
+    let same : 255 ∷ after ≡ s ∷ trees_bytes ts ++ rest = sym first ∙ e in
     let symbols : 255 ≡ s = cc in
     let known = (and_parts (has_arity (length (list_of ts)) (slice_get ss s)) (are_trees_over ss ts) has.over).0 in
     let below = known_below ss s (length (list_of ts)) (slice_get ss s) refl known in
     omega arith
 
-pub none_without_symbol : (ss : List Symbol) (budget s : ℕ) (bytes behind : List ℕ) → bytes ≡ s ∷ behind → s ≢ 255 → length ss ≤ s
+pub none_without_symbol : (ss : List Symbol) (budget s : ℕ) (bytes after : List ℕ) → bytes ≡ s ∷ after → s ≢ 255 → length ss ≤ s
     → BeginsWithNoTree ss budget bytes
-none_without_symbol ss budget s bytes behind first other unknown (name n) rest has few e =
-    let same : s ∷ behind ≡ 255 ∷ eight_bytes n ++ rest = sym first ∙ e in
+none_without_symbol ss budget s bytes after first other unknown (name n) rest has few e =
+    let same : s ∷ after ≡ 255 ∷ eight_bytes n ++ rest = sym first ∙ e in
     other cc
-none_without_symbol ss budget s bytes behind first other unknown (agent r ts) rest has few e =
-    let same : s ∷ behind ≡ r ∷ trees_bytes ts ++ rest = sym first ∙ e in
+none_without_symbol ss budget s bytes after first other unknown (agent r ts) rest has few e =
+    let same : s ∷ after ≡ r ∷ trees_bytes ts ++ rest = sym first ∙ e in
     let symbols : s ≡ r = cc in
     let known = (and_parts (has_arity (length (list_of ts)) (slice_get ss r)) (are_trees_over ss ts) has.over).0 in
     let below = known_below ss r (length (list_of ts)) (slice_get ss r) refl known in
     omega arith
 
-pub none_without_arguments : (ss : List Symbol) (budget s a : ℕ) (bytes behind : List ℕ) → 1 ≤ budget → bytes ≡ s ∷ behind → s ≢ 255
-    → symbol_arity ss s ≡ Some a → BeginsWithNoTrees ss a (budget - 1) behind → BeginsWithNoTree ss budget bytes
-none_without_arguments ss budget s a bytes behind some first other arity none (name n) rest has few e =
-    let same : s ∷ behind ≡ 255 ∷ eight_bytes n ++ rest = sym first ∙ e in
+pub none_without_arguments : (ss : List Symbol) (budget s a : ℕ) (bytes after : List ℕ) → 1 ≤ budget → bytes ≡ s ∷ after → s ≢ 255
+    → symbol_arity ss s ≡ Some a → BeginsWithNoTrees ss a (budget - 1) after → BeginsWithNoTree ss budget bytes
+none_without_arguments ss budget s a bytes after some first other arity none (name n) rest has few e =
+    let same : s ∷ after ≡ 255 ∷ eight_bytes n ++ rest = sym first ∙ e in
     other cc
-none_without_arguments ss budget s a bytes behind some first other arity none (agent r ts) rest has few e =
-    let same : s ∷ behind ≡ r ∷ trees_bytes ts ++ rest = sym first ∙ e in
+none_without_arguments ss budget s a bytes after some first other arity none (agent r ts) rest has few e =
+    let same : s ∷ after ≡ r ∷ trees_bytes ts ++ rest = sym first ∙ e in
     let symbols : s ≡ r = cc in
-    let tails : behind ≡ trees_bytes ts ++ rest = cc in
+    let tails : after ≡ trees_bytes ts ++ rest = cc in
     let known = and_parts (has_arity (length (list_of ts)) (slice_get ss r)) (are_trees_over ss ts) has.over in
     let given : has_arity a (slice_get ss r) ≡ true = ap (λ k. has_arity a (slice_get ss k)) (sym symbols) ∙ arity_known a (slice_get ss s) arity in
     let count : length (list_of ts) ≡ a = one_arity (length (list_of ts)) a (slice_get ss r) known.0 given in
@@ -169,22 +169,22 @@ one_more ss count budget bytes ts left rest t left' rest' begins next = record {
   counted = omega (arith, begins.counted, next.counted, sum_by_push nodes ts t);
 }
 
--- where bytes begin with terms, and with fewer of them, they begin with a further one behind these
-none_behind : (ss : List Symbol) → length ss ≤ 64 → (ts us : List Tree) (left : ℕ) (rest rest' : List ℕ)
+-- where bytes begin with terms, and with fewer of them, they begin with a further one after these
+none_after : (ss : List Symbol) → length ss ≤ 64 → (ts us : List Tree) (left : ℕ) (rest rest' : List ℕ)
     → AllByRecursion (HasBytes ss) ts → AllByRecursion (HasBytes ss) us → length ts < length us → sum_by nodes us ≤ sum_by nodes ts + left
     → BeginsWithNoTree ss left rest → flat_map tree_bytes ts ++ rest ≢ flat_map tree_bytes us ++ rest'
-none_behind ss few [] [] left rest rest' all also short within none e = omega arith
-none_behind ss few [] (u ∷ us) left rest rest' all also short within none e =
+none_after ss few [] [] left rest rest' all also short within none e = omega arith
+none_after ss few [] (u ∷ us) left rest rest' all also short within none e =
     none u (flat_map tree_bytes us ++ rest') also.0 (omega (arith, sum_by-cons nodes u us)) (e ∙ append_assoc (tree_bytes u) (flat_map tree_bytes us) rest')
-none_behind ss few (t ∷ ts) [] left rest rest' all also short within none e = omega arith
-none_behind ss few (t ∷ ts) (u ∷ us) left rest rest' all also short within none e =
+none_after ss few (t ∷ ts) [] left rest rest' all also short within none e = omega arith
+none_after ss few (t ∷ ts) (u ∷ us) left rest rest' all also short within none e =
     let joined : tree_bytes t ++ (flat_map tree_bytes ts ++ rest) ≡ tree_bytes u ++ (flat_map tree_bytes us ++ rest') =
     sym (append_assoc (tree_bytes t) (flat_map tree_bytes ts) rest) ∙ e ∙ append_assoc (tree_bytes u) (flat_map tree_bytes us) rest' in
     let first = tree_front ss few t u (flat_map tree_bytes ts ++ rest) (flat_map tree_bytes us ++ rest') all.0.over also.0.over all.0.names also.0.names joined in
-    none_behind ss few ts us left rest rest' all.1 also.1 (omega arith) (omega (arith, ap nodes first.0, sum_by-cons nodes t ts, sum_by-cons nodes u us)) none first.1
+    none_after ss few ts us left rest rest' all.1 also.1 (omega arith) (omega (arith, ap nodes first.0, sum_by-cons nodes t ts, sum_by-cons nodes u us)) none first.1
 
 pub none_more : (ss : List Symbol) (count done budget : ℕ) (bytes : List ℕ) (ts : List Tree) (left : ℕ) (rest : List ℕ)
     → length ss ≤ 64 → done < count → BeginsWithTrees ss done budget bytes ts left rest → BeginsWithNoTree ss left rest
     → BeginsWithNoTrees ss count budget bytes
 none_more ss count done budget bytes ts left rest few short begins none us rest' all many within e =
-    none_behind ss few ts us left rest rest' begins.has_bytes all (omega (arith, begins.many)) (omega (arith, begins.counted)) none (sym begins.parts ∙ e)
+    none_after ss few ts us left rest rest' begins.has_bytes all (omega (arith, begins.many)) (omega (arith, begins.counted)) none (sym begins.parts ∙ e)

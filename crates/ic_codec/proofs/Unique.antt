@@ -9,7 +9,7 @@ use Rattle.std.proofs.lemmas.List.Sums.{sum_by-cons}
 use Rattle.ic_term.specs.Tree.{Tree, name, agent, Trees, no_trees, more_trees, names, names_of, nodes, nodes_of, Pair, pair_names}
 use Rattle.ic_term.specs.Symbol.{Symbol, has_arity, is_tree_over, is_pair_over}
 use Rattle.ic_term.specs.Configuration.{Configuration, IsConfiguration}
-use Rattle.ic_rules.specs.Renaming.{first_behind, first_occurrences}
+use Rattle.ic_rules.specs.Renaming.{first_after, first_occurrences}
 use Rattle.ic_rules.specs.Rule.{Rule, rule_names, rule_nodes, IsNumbered, IsRule}
 use Rattle.ic_rules.specs.RuleSet.{Rules, AreServed, IsRuleSet, IsRuleOver}
 use Rattle.ic_rules.specs.lemmas.FitLaws.{first_unfit-None}
@@ -118,9 +118,9 @@ pub heading_tells : (form : Form) → Tells (HasHeadingBytes form) (heading_byte
 heading_tells form g h a b v w e =
     let first = text_front g.name h.name _ _ (sym (heading_spread form g a) ∙ e ∙ heading_spread form h b) in
     let states : state_byte g.state ≡ state_byte h.state = cc (first.1) in
-    let behind : eight_bytes g.rounds ++ (budget_bytes form g.budget ++ (eight_bytes g.next ++ a))
+    let after : eight_bytes g.rounds ++ (budget_bytes form g.budget ++ (eight_bytes g.next ++ a))
     ≡ eight_bytes h.rounds ++ (budget_bytes form h.budget ++ (eight_bytes h.next ++ b)) = cc (first.1) in
-    let rounds = eight_front g.rounds h.rounds _ _ v.rounds w.rounds behind in
+    let rounds = eight_front g.rounds h.rounds _ _ v.rounds w.rounds after in
     let budgets = budget_tells form g.budget h.budget (eight_bytes g.next ++ a) (eight_bytes h.next ++ b) v.budget w.budget rounds.1 in
     let nexts = eight_front g.next h.next a b v.next w.next budgets.1 in
     let state = state_same g.state h.state states in
@@ -184,13 +184,13 @@ in_range n a (suc k) there = at (n == a) refl there (in_range n (a + 1) k)
     at true is e below = omega (arith, (unsigned_Decides n a).0 is)
     at false is e below = omega (arith, below e)
 
-firsts_few : (seen ns : List ℕ) → length (first_behind seen ns) ≤ length seen + length ns
+firsts_few : (seen ns : List ℕ) → length (first_after seen ns) ≤ length seen + length ns
 firsts_few seen [] = omega arith
 firsts_few seen (n ∷ ns) =
     let old = firsts_few seen ns in
     let new = firsts_few (seen ++ n ∷ []) ns in
     let count = length-append seen (n ∷ []) in
-    elim (list_any (λ m. n == m) seen) as (λ b. length (cond b (first_behind seen ns) (first_behind (seen ++ n ∷ []) ns)) ≤ length seen + suc (length ns)) [
+    elim (list_any (λ m. n == m) seen) as (λ b. length (cond b (first_after seen ns) (first_after (seen ++ n ∷ []) ns)) ≤ length seen + suc (length ns)) [
       | true ↦ omega arith
       | false ↦ omega arith
     ]
@@ -310,9 +310,9 @@ pub configuration_tells : (ss : List Symbol) (next : ℕ) → length ss ≤ 64 �
 configuration_tells ss next few c d a b v w e =
     let joined = sym (configuration_spread c a) ∙ e ∙ configuration_spread d b in
     let terms : length c.interface ≡ length d.interface = cc (joined) in
-    let behind : two_bytes (length c.equations) ++ (flat_map tree_bytes c.interface ++ (flat_map pair_bytes c.equations ++ a))
+    let after : two_bytes (length c.equations) ++ (flat_map tree_bytes c.interface ++ (flat_map pair_bytes c.equations ++ a))
     ≡ two_bytes (length d.equations) ++ (flat_map tree_bytes d.interface ++ (flat_map pair_bytes d.equations ++ b)) = cc (joined) in
-    let pairs = two_front (length c.equations) (length d.equations) _ _ (equations_few c v.config) (equations_few d w.config) behind in
+    let pairs = two_front (length c.equations) (length d.equations) _ _ (equations_few c v.config) (equations_few d w.config) after in
     let first = items_front (HasBytes ss) tree_bytes (tree_tells ss few) c.interface d.interface (flat_map pair_bytes c.equations ++ a) (flat_map pair_bytes d.equations ++ b)
     (interface_has ss next c v) (interface_has ss next d w) terms pairs.1 in
     let second = items_front (HasPairBytes ss) pair_bytes (pair_tells ss few) c.equations d.equations a b

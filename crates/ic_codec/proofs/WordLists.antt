@@ -1,4 +1,4 @@
--- Words of terms, and how many terms are due behind them.
+-- Words of terms, and how many terms are due after them.
 use Rattle.std.proofs.Common.{◌≡◌, ℕ, zero, suc, ◌+◌, ◌-◌, ◌<◌, ◌≤◌, ◌⊎◌, inl, inr, ⊎_elim, List, [], ◌∷◌, ◌++◌, length, refl, sym, ap, subst, ◌∙◌, append_assoc, append-nil, arith}
 use Rattle.std.proofs.lemmas.List.{length-append, drop_at}
 use Rattle.ic_flat.specs.declared.word.Word.{Word}
@@ -6,7 +6,7 @@ use Rattle.ic_flat.specs.declared.word.Word.TheVariants.{Name, Agent}
 use Rattle.ic_flat.specs.Words.{arguments, forest, IsWhole}
 use Rattle.ic_flat.specs.lemmas.WordLaws.{length-forest, forest-append, whole-drop}
 
--- Of so many terms, this many are due behind words: where what follows writes these, the whole writes those, and it does only then.
+-- Of so many terms, this many are due after words: where what follows writes these, the whole writes those, and it does only then.
 pub record IsDue (count due : ℕ) (ws : List Word) : Type 0 where
   pub enough : (zs : List Word) → IsWhole zs → due ≤ length (forest zs) → IsWhole (ws ++ zs) × (length (forest (ws ++ zs)) + due ≡ length (forest zs) + count)
   pub needed : (zs : List Word) → IsWhole (ws ++ zs) → count ≤ length (forest (ws ++ zs)) → due ≤ length (forest zs)
@@ -25,8 +25,8 @@ IsDue-next {count} {due} {ws} w is some = record {
   needed = λ zs whole there.
       let split = append_assoc ws (w ∷ []) zs in
       let joined = subst (λ l. IsWhole l) split whole in
-      let behind = subst (λ l. IsWhole l) (drop_at ws (w ∷ zs) (length ws) refl) (whole-drop (length ws) (ws ++ w ∷ zs) joined) in
-      let more = length-forest w zs behind.0 in
+      let after = subst (λ l. IsWhole l) (drop_at ws (w ∷ zs) (length ws) refl) (whole-drop (length ws) (ws ++ w ∷ zs) joined) in
+      let more = length-forest w zs after.0 in
       let old = is.needed (w ∷ zs) joined (omega (arith, there, ap (λ l. length (forest l)) split)) in
       omega (arith, old, more, some);
 }
@@ -70,7 +70,7 @@ goes_on {count} {due} {ws} us zs is some whole many e =
     let joined = forest-append us (zs ++ fill due) whole in
     omega (arith, all, fill-count due, ap (λ l. length (forest l)) split, ap length joined, length-append (forest us) (forest (zs ++ fill due)), some-filled zs due some, many)
 
--- words that go on behind whole words write more terms
+-- words that go on after whole words write more terms
 pub no_more : (us zs : List Word) → IsWhole us → length (forest (us ++ zs)) ≡ length (forest us) → zs ≡ []
 no_more us [] whole same = refl
 no_more us (z ∷ zs) whole same =

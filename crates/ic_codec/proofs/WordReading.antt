@@ -43,32 +43,32 @@ pub none_without_bytes : (ss : List Symbol) (bytes : List ℕ) → bytes ≡ [] 
 none_without_bytes ss bytes none (Name n) rest has e = let clash : [] ≡ 255 ∷ eight_bytes n ++ rest = sym none ∙ e in absurd cc
 none_without_bytes ss bytes none (Agent s c) rest has e = let clash : [] ≡ s ∷ rest = sym none ∙ e in absurd cc
 
-pub none_without_number : (ss : List Symbol) (bytes behind : List ℕ) → length ss ≤ 64 → bytes ≡ 255 ∷ behind → length behind < 8
+pub none_without_number : (ss : List Symbol) (bytes after : List ℕ) → length ss ≤ 64 → bytes ≡ 255 ∷ after → length after < 8
     → BeginsWithNone (HasWordBytes ss) word_bytes bytes
-none_without_number ss bytes behind little first short (Name n) rest has e =
-    let same : 255 ∷ behind ≡ 255 ∷ eight_bytes n ++ rest = sym first ∙ e in
-    let tails : behind ≡ eight_bytes n ++ rest = cc in
+none_without_number ss bytes after little first short (Name n) rest has e =
+    let same : 255 ∷ after ≡ 255 ∷ eight_bytes n ++ rest = sym first ∙ e in
+    let tails : after ≡ eight_bytes n ++ rest = cc in
     omega (arith, ap length tails, length-append (eight_bytes n) rest, length-eight_bytes n)
-none_without_number ss bytes behind little first short (Agent s c) rest has e =
-    let same : 255 ∷ behind ≡ s ∷ rest = sym first ∙ e in
+none_without_number ss bytes after little first short (Agent s c) rest has e =
+    let same : 255 ∷ after ≡ s ∷ rest = sym first ∙ e in
     let symbols : 255 ≡ s = cc in
     let below = known_below ss s c (slice_get ss s) refl has.over in
     omega arith
 
-pub none_without_symbol : (ss : List Symbol) (s : ℕ) (bytes behind : List ℕ) → bytes ≡ s ∷ behind → s ≢ 255 → length ss ≤ s
+pub none_without_symbol : (ss : List Symbol) (s : ℕ) (bytes after : List ℕ) → bytes ≡ s ∷ after → s ≢ 255 → length ss ≤ s
     → BeginsWithNone (HasWordBytes ss) word_bytes bytes
-none_without_symbol ss s bytes behind first other unknown (Name n) rest has e =
-    let same : s ∷ behind ≡ 255 ∷ eight_bytes n ++ rest = sym first ∙ e in
+none_without_symbol ss s bytes after first other unknown (Name n) rest has e =
+    let same : s ∷ after ≡ 255 ∷ eight_bytes n ++ rest = sym first ∙ e in
     other cc
-none_without_symbol ss s bytes behind first other unknown (Agent r c) rest has e =
-    let same : s ∷ behind ≡ r ∷ rest = sym first ∙ e in
+none_without_symbol ss s bytes after first other unknown (Agent r c) rest has e =
+    let same : s ∷ after ≡ r ∷ rest = sym first ∙ e in
     let symbols : s ≡ r = cc in
     let below = known_below ss r c (slice_get ss r) refl has.over in
     omega arith
 
-pub name_begins : (ss : List Symbol) (n : ℕ) (bytes behind rest : List ℕ) → n < 2 ^ 64 → bytes ≡ 255 ∷ behind → behind ≡ eight_bytes n ++ rest
+pub name_begins : (ss : List Symbol) (n : ℕ) (bytes after rest : List ℕ) → n < 2 ^ 64 → bytes ≡ 255 ∷ after → after ≡ eight_bytes n ++ rest
     → BeginsWith (HasWordBytes ss) word_bytes bytes (Name n) rest
-name_begins ss n bytes behind rest small first e = record {
+name_begins ss n bytes after rest small first e = record {
   parts = first ∙ ap (λ (bs : List ℕ). 255 ∷ bs) e;
   valid = record { over = refl; names = (small, tt) };
 }
@@ -80,9 +80,9 @@ agent_begins ss s c bytes rest first arity = record {
   valid = record { over = arity_known c (slice_get ss s) arity; names = tt };
 }
 
--- ---- words one behind the other
+-- ---- words one after the other
 
--- the longer of two lists of words that bytes begin with goes on behind the other
+-- the longer of two lists of words that bytes begin with goes on after the other
 prefix : (ss : List Symbol) → length ss ≤ 64 → (vs ws : List Word) (a b : List ℕ) → AllByRecursion (HasWordBytes ss) vs → AllByRecursion (HasWordBytes ss) ws
     → length ws ≤ length vs → flat_map word_bytes vs ++ a ≡ flat_map word_bytes ws ++ b → (zs : List Word) × (vs ≡ ws ++ zs)
 prefix ss few vs [] a b all also longer e = (vs, refl)
@@ -107,7 +107,7 @@ whole_front ss few vs ws a b all also whole_vs whole_ws many e =
     ⊎_elim (λ less. sym (longer_front ss few ws vs b a also all whole_vs (sym many) (omega (arith, less)) (sym e)))
     (λ not. longer_front ss few vs ws a b all also whole_ws many not e) (less_or_not (length vs) (length ws))
 
--- Words have been read, behind which so many terms are due; so many further words may come.
+-- Words have been read, after which so many terms are due; so many further words may come.
 pub record IsReading (ss : List Symbol) (count : ℕ) (bytes : List ℕ) (ws : List Word) (due spare : ℕ) (rest : List ℕ) : Type 0 where
   pub parts : bytes ≡ flat_map word_bytes ws ++ rest
   pub has_bytes : AllByRecursion (HasWordBytes ss) ws
@@ -152,14 +152,14 @@ none_without_word {ss} {ws = ws} few is some none us rest' all whole many within
     let has = all_right (HasWordBytes ss) ws (on.0 ∷ on.1.0) (subst (λ l. AllByRecursion (HasWordBytes ss) l) on.1.1.0 all) in
     none on.0 (flat_map word_bytes on.1.0 ++ rest') has.0 on.1.1.1
 
-pub none_without_room : {ss : List Symbol} {count : ℕ} {bytes : List ℕ} {ws : List Word} {due spare : ℕ} {rest behind : List ℕ} (w : Word) → length ss ≤ 64
-    → IsReading ss count bytes ws due spare rest → 0 < due → BeginsWith (HasWordBytes ss) word_bytes rest w behind → spare < arguments w → BeginsWithNoWords ss count 8192 bytes
-none_without_room {ss} {count} {ws = ws} {due} {spare} {behind = behind} w few is some begins great us rest' all whole many within e =
+pub none_without_room : {ss : List Symbol} {count : ℕ} {bytes : List ℕ} {ws : List Word} {due spare : ℕ} {rest after : List ℕ} (w : Word) → length ss ≤ 64
+    → IsReading ss count bytes ws due spare rest → 0 < due → BeginsWith (HasWordBytes ss) word_bytes rest w after → spare < arguments w → BeginsWithNoWords ss count 8192 bytes
+none_without_room {ss} {count} {ws = ws} {due} {spare} {after = after} w few is some begins great us rest' all whole many within e =
     let on = further us rest' few is some all whole many e in
     let u = on.0 in
     let zs = on.1.0 in
     let has = all_right (HasWordBytes ss) ws (u ∷ zs) (subst (λ l. AllByRecursion (HasWordBytes ss) l) on.1.1.0 all) in
-    let same = (word_tells ss few w u behind (flat_map word_bytes zs ++ rest') begins.valid has.0 (sym begins.parts ∙ on.1.1.1)).0 in
+    let same = (word_tells ss few w u after (flat_map word_bytes zs ++ rest') begins.valid has.0 (sym begins.parts ∙ on.1.1.1)).0 in
     let split : us ≡ (ws ++ w ∷ []) ++ zs = on.1.1.0 ∙ ap (λ (x : Word). ws ++ x ∷ zs) (sym same) ∙ sym (append_assoc ws (w ∷ []) zs) in
     let next = IsDue-next w is.open_terms some in
     let left = next.needed zs (subst (λ l. IsWhole l) split whole) (omega (arith, many, ap (λ l. length (forest l)) split)) in

@@ -32,15 +32,15 @@ use Rattle.ic_commands.specs.declared.line.Verb.TheVariants.{Pause, Resume, Canc
 use Rattle.ic_commands.specs.LineSource.{nothing, copy, about, list, run, is_number, verb_text}
 use Rattle.ic_commands.specs.LineSense.{submitted, asked, fits_budget, unless_long, line_sense}
 use Rattle.ic_commands.specs.LineText.{ReadsLine}
-use Rattle.ic_commands.specs.inner.Line.{HasNoWord, number_word, is_number_or_none, IsLineOf, ReadsBehind}
+use Rattle.ic_commands.specs.inner.Line.{HasNoWord, number_word, is_number_or_none, IsLineOf, ReadsAfter}
 use Rattle.ic_text.specs.lemmas.NameLemmas.{is_name-name_text, name_number-name_text, name_text-name_number}
 use Rattle.ic_text.specs.lemmas.NameTexts.{name_text-digits}
 use Rattle.ic_text.specs.lemmas.WordRuns.{tokens-parted, tokens-run}
 use Rattle.ic_commands.proofs.WordSplits.{before-none}
-use Rattle.ic_commands.proofs.LineReading.{is_sense, is_sense_behind, reads_line}
+use Rattle.ic_commands.proofs.LineReading.{is_sense, is_sense_after, reads_line}
 use Rattle.ic_commands.proofs.LineParts.{job_name-parts, copy_sense, copy_short, short_name, word_of-named, are_within, submit_read, submit_past_read, submit_alone, submit_too_long}
 
--- a number's text behind the letter a is the text of a name
+-- a number's text after the letter a is the text of a name
 named : (n : ℕ) → 0 < n → n < 2 ^ 64 → name_text (26 * n + 0) ≡ 97 ∷ decimal n
 named n some fits = name_text-digits n 0 some fits (omega arith)
 
@@ -112,23 +112,23 @@ tokens-name (b ∷ bs) is =
     tokens-run b bs (rw (letter_byte b parts.0) (name_bytes bs parts.1))
 
 -- a word in front of a space
-behind_space : (w rest : List ℕ) → tokens w ≡ Some (word_of w) → tokens (w ++ 32 ∷ rest) ≡ before (word_of w) (tokens rest)
-behind_space w rest alone =
+after_space : (w rest : List ℕ) → tokens w ≡ Some (word_of w) → tokens (w ++ 32 ∷ rest) ≡ before (word_of w) (tokens rest)
+after_space w rest alone =
     tokens-parted w rest 32 refl ∙ ap (λ o. followed o (followed (Some []) (tokens rest))) alone ∙ ap (before (word_of w)) (before-none (tokens rest))
 
--- a line whose words behind `submit` are read so is
+-- a line whose words after `submit` are read so is
 submit_reads : (name text : List ℕ) (a : Result Line TextFault) → length (codes "submit " ++ name ++ 32 ∷ text) ≤ MAX_TEXT
-    → ReadsBehind opening.Submit (name ++ 32 ∷ text) a → ReadsLine (codes "submit " ++ name ++ 32 ∷ text) a
+    → ReadsAfter opening.Submit (name ++ 32 ∷ text) a → ReadsLine (codes "submit " ++ name ++ 32 ∷ text) a
 submit_reads name text a short reads =
     let rest = name ++ 32 ∷ text in
-    let whole : tokens (codes "submit" ++ 32 ∷ rest) ≡ before (word_of (codes "submit")) (tokens rest) = behind_space (codes "submit") rest refl in
+    let whole : tokens (codes "submit" ++ 32 ∷ rest) ≡ before (word_of (codes "submit")) (tokens rest) = after_space (codes "submit") rest refl in
     reads_line (codes "submit" ++ 32 ∷ rest) a short (subst (λ o. IsLineOf o a) (sym whole) reads)
 
 pub submit_without : (name text : List ℕ) (a : Result SystemParts TextFault) → IsTrue (is_job_name name) → length (codes "submit " ++ name ++ 32 ∷ text) ≤ MAX_TEXT
     → ReadsSystem text a → ¬ (a ≡ Err Syntax) → ReadsLine (codes "submit " ++ name ++ 32 ∷ text) (submitted name None a)
 submit_without name text a is short reads apart =
     let parts = and_parts (is_job_word name) _ (sym (job_name-parts name) ∙ is) in
-    let split = behind_space name text (tokens-name name parts.0) in
+    let split = after_space name text (tokens-name name parts.0) in
     let inside : length text ≤ MAX_TEXT = omega (arith, short, length-append name (32 ∷ text)) in
     submit_reads name text (submitted name None a) short (submit_alone (name ++ 32 ∷ text) name text split parts.0 a inside reads apart is)
 
@@ -145,10 +145,10 @@ pub about_text : (verb : Verb) (name : List ℕ) → tokens (verb_text verb) ≡
     → ReadsLine (verb_text verb ++ 32 ∷ name) (Ok (Asks (asked verb name)))
 about_text verb name alone small is =
     let parts = and_parts (is_job_word name) _ (sym (job_name-parts name) ∙ is) in
-    let whole = behind_space (verb_text verb) name alone in
+    let whole = after_space (verb_text verb) name alone in
     let few : length name ≤ MAX_JOB_NAME = grind (arith, nat_tests, parts.1) in
     let short : length (verb_text verb ++ 32 ∷ name) ≤ MAX_TEXT = omega (arith, few, small, length-append (verb_text verb) (32 ∷ name)) in
-    let read = is_sense_behind (opening.About verb) name (word name ∷ []) (about verb name) tt parts.0 (tokens-name name parts.0 ∙ ap Some (word_of-named name parts.0)) refl in
+    let read = is_sense_after (opening.About verb) name (word name ∷ []) (about verb name) tt parts.0 (tokens-name name parts.0 ∙ ap Some (word_of-named name parts.0)) refl in
     reads_line (verb_text verb ++ 32 ∷ name) (Ok (Asks (asked verb name))) short
     (subst (λ o. IsLineOf o (Ok (Asks (asked verb name)))) (sym whole)
     (subst (IsLineOf (before (word_of (verb_text verb)) (tokens name))) (short_name name (Ok (Asks (asked verb name))) is) read))
@@ -161,12 +161,12 @@ copy_reads : (old new : List ℕ) (a : Result Line TextFault) → is_job_word ol
     → line_sense (copy old new) ≡ a → ReadsLine (codes "copy " ++ old ++ 32 ∷ new) a
 copy_reads old new a first second room means =
     let rest = old ++ 32 ∷ new in
-    let split = behind_space old new (tokens-name old first) in
+    let split = after_space old new (tokens-name old first) in
     let one : tokens new ≡ Some (word new ∷ []) = tokens-name new second ∙ ap Some (word_of-named new second) in
-    let whole : tokens (codes "copy" ++ 32 ∷ rest) ≡ before (word_of (codes "copy")) (tokens rest) = behind_space (codes "copy") rest refl in
+    let whole : tokens (codes "copy" ++ 32 ∷ rest) ≡ before (word_of (codes "copy")) (tokens rest) = after_space (codes "copy") rest refl in
     let short : length (codes "copy" ++ 32 ∷ rest) ≤ MAX_TEXT = omega (arith, room, length-append old (32 ∷ new)) in
     reads_line (codes "copy" ++ 32 ∷ rest) a short
-    (subst (λ o. IsLineOf o a) (sym whole) (subst (ReadsBehind opening.Copy rest) means (copy_sense rest old new split (some_name old new first) new one first second)))
+    (subst (λ o. IsLineOf o a) (sym whole) (subst (ReadsAfter opening.Copy rest) means (copy_sense rest old new split (some_name old new first) new one first second)))
 
 pub copy_text : (old new : List ℕ) → IsTrue (is_job_name old) → IsTrue (is_job_name new) → ReadsLine (codes "copy " ++ old ++ 32 ∷ new) (Ok (Asks (command.CopyJob old new)))
 copy_text old new first second =
@@ -195,9 +195,9 @@ verb_short Fetch = omega arith
 pub about_long : (verb : Verb) (name : List ℕ) → IsTrue (is_job_word name) → MAX_JOB_NAME < length name → length name + 7 ≤ MAX_TEXT
     → ReadsLine (verb_text verb ++ 32 ∷ name) (Err Limit)
 about_long verb name named many room =
-    let whole = behind_space (verb_text verb) name (verb_alone verb) in
+    let whole = after_space (verb_text verb) name (verb_alone verb) in
     let short : length (verb_text verb ++ 32 ∷ name) ≤ MAX_TEXT = omega (arith, verb_short verb, room, length-append (verb_text verb) (32 ∷ name)) in
-    let read = is_sense_behind (opening.About verb) name (word name ∷ []) (about verb name) tt named (tokens-name name named ∙ ap Some (word_of-named name named)) refl in
+    let read = is_sense_after (opening.About verb) name (word name ∷ []) (about verb name) tt named (tokens-name name named ∙ ap Some (word_of-named name named)) refl in
     let limit : unless_long name (Ok (Asks (asked verb name))) ≡ Err Limit = rw (too_long name many) refl in
     reads_line (verb_text verb ++ 32 ∷ name) (Err Limit) short
     (subst (λ o. IsLineOf o (Err Limit)) (sym whole) (subst (IsLineOf (before (word_of (verb_text verb)) (tokens name))) limit read))
@@ -205,7 +205,7 @@ about_long verb name named many room =
 pub submit_long_name : (name text : List ℕ) (a : Result SystemParts TextFault) → IsTrue (is_job_word name) → MAX_JOB_NAME < length name
     → length name + length text + 8 ≤ MAX_TEXT → ReadsSystem text a → ¬ (a ≡ Err Syntax) → ReadsLine (codes "submit " ++ name ++ 32 ∷ text) (Err Limit)
 submit_long_name name text a named many room reads apart =
-    let split = behind_space name text (tokens-name name named) in
+    let split = after_space name text (tokens-name name named) in
     let short : length (codes "submit" ++ 32 ∷ (name ++ 32 ∷ text)) ≤ MAX_TEXT = omega (arith, room, length-append name (32 ∷ text)) in
     let isnt : IsTrue (is_job_name name) → ⊥ =
     (λ is. false≢true (sym (too_long name many) ∙ (and_parts (is_job_word name) (nat_le (length name) MAX_JOB_NAME) (sym (job_name-parts name) ∙ is)).1)) in
@@ -266,8 +266,8 @@ number_or_none (d ∷ ds) is = is
 some_number : (w source : List ℕ) → is_number w ≡ true → w ≡ [] → HasNoWord source (tokens source)
 some_number w source is none = absurd (false≢true (sym (ap is_number none) ∙ is))
 
-behind_digits : (digits text : List ℕ) → is_number digits ≡ true → tokens (digits ++ 32 ∷ text) ≡ before (word_of digits) (tokens text)
-behind_digits digits text is = behind_space digits text (tokens-number digits is ∙ ap Some (sym (word_of-number digits is)))
+after_digits : (digits text : List ℕ) → is_number digits ≡ true → tokens (digits ++ 32 ∷ text) ≡ before (word_of digits) (tokens text)
+after_digits digits text is = after_space digits text (tokens-number digits is ∙ ap Some (sym (word_of-number digits is)))
 
 budget_fits : (n : ℕ) → IsBudget n → fits_budget (Some (decimal n)) ≡ true
 budget_fits n is =
@@ -287,16 +287,16 @@ submit_with name text n a is budget short reads =
     let most : n ≤ MAX_BUDGET = budget.few in
     let small : n < 2 ^ 64 = omega (arith, most) in
     let number = number-decimal n small in
-    let behind = digits ++ 32 ∷ text in
-    let split = behind_space name behind (tokens-name name parts.0) in
-    let inside : length text ≤ MAX_TEXT = omega (arith, short, length-append name (32 ∷ behind), length-append digits (32 ∷ text)) in
+    let after = digits ++ 32 ∷ text in
+    let split = after_space name after (tokens-name name parts.0) in
+    let inside : length text ≤ MAX_TEXT = omega (arith, short, length-append name (32 ∷ after), length-append digits (32 ∷ text)) in
     let named : is_job_name name ≡ true = is in let word = number_word-of digits number in
     let fits : are_within name digits ≡ true = (λ i. named i && fits_budget (word i)) ∙ budget_fits n budget in
     let value : option_map number_in (number_word digits) ≡ Some n =
     ap (option_map number_in) (number_word-of digits number) ∙ ap (λ (m : ℕ). Some m) (value-of-decimal n small) in
-    submit_reads name behind (submitted name (Some n) a) short
-    (subst (λ (b : Option ℕ). ReadsBehind opening.Submit (name ++ 32 ∷ behind) (submitted name b a)) value
-    (submit_read (name ++ 32 ∷ behind) name behind digits text split (some_name name behind parts.0) (behind_digits digits text number) (some_number digits text number)
+    submit_reads name after (submitted name (Some n) a) short
+    (subst (λ (b : Option ℕ). ReadsAfter opening.Submit (name ++ 32 ∷ after) (submitted name b a)) value
+    (submit_read (name ++ 32 ∷ after) name after digits text split (some_name name after parts.0) (after_digits digits text number) (some_number digits text number)
     parts.0 (number_or_none digits number) a inside fits reads))
 
 pub submit_number : (name text : List ℕ) (n : ℕ) (a : Result SystemParts TextFault) → IsTrue (is_job_name name) → IsBudget n → length text + 35 ≤ MAX_TEXT → ReadsSystem text a
@@ -317,14 +317,14 @@ pub submit_unfit : (name digits text : List ℕ) (a : Result SystemParts TextFau
 submit_unfit name digits text a is number unfit room reads apart =
     let parts = and_parts (is_job_word name) _ (sym (job_name-parts name) ∙ is) in
     let few : length name ≤ MAX_JOB_NAME = grind (arith, nat_tests, parts.1) in
-    let behind = digits ++ 32 ∷ text in
-    let split = behind_space name behind (tokens-name name parts.0) in
-    let short : length (codes "submit" ++ 32 ∷ (name ++ 32 ∷ behind)) ≤ MAX_TEXT =
-    omega (arith, few, room, length-append name (32 ∷ behind), length-append digits (32 ∷ text)) in
+    let after = digits ++ 32 ∷ text in
+    let split = after_space name after (tokens-name name parts.0) in
+    let short : length (codes "submit" ++ 32 ∷ (name ++ 32 ∷ after)) ≤ MAX_TEXT =
+    omega (arith, few, room, length-append name (32 ∷ after), length-append digits (32 ∷ text)) in
     let isnt : are_within name digits ≡ true → ⊥ =
     (λ within. false≢true (sym (ap fits_budget (number_word-of digits number) ∙ unfit) ∙ (and_parts (is_job_name name) (fits_budget (number_word digits)) within).1)) in
-    submit_reads name behind (Err Limit) short
-    (submit_past_read (name ++ 32 ∷ behind) name behind digits text split (some_name name behind parts.0) (behind_digits digits text number) (some_number digits text number)
+    submit_reads name after (Err Limit) short
+    (submit_past_read (name ++ 32 ∷ after) name after digits text split (some_name name after parts.0) (after_digits digits text number) (some_number digits text number)
     parts.0 (number_or_none digits number) a (omega (arith, room)) isnt reads apart)
 
 pub run_text : (n : ℕ) → n ≤ MAX_RUN → ReadsLine (codes "run " ++ decimal n) (Ok (Run n))
@@ -333,8 +333,8 @@ run_text n within =
     let is = number-decimal n fits in
     let low : nat_le n MAX_RUN ≡ true = grind (arith, nat_tests) in
     let means : line_sense (run (decimal n)) ≡ Ok (Run n) = rw (value-of-decimal n fits, low) refl in
-    let read = is_sense_behind opening.Run (decimal n) (word (decimal n) ∷ []) (run (decimal n)) tt is (tokens-number (decimal n) is) refl in
-    let whole : tokens (codes "run" ++ 32 ∷ decimal n) ≡ before (word_of (codes "run")) (tokens (decimal n)) = behind_space (codes "run") (decimal n) refl in
+    let read = is_sense_after opening.Run (decimal n) (word (decimal n) ∷ []) (run (decimal n)) tt is (tokens-number (decimal n) is) refl in
+    let whole : tokens (codes "run" ++ 32 ∷ decimal n) ≡ before (word_of (codes "run")) (tokens (decimal n)) = after_space (codes "run") (decimal n) refl in
     reads_line (codes "run" ++ 32 ∷ decimal n) (Ok (Run n)) (omega (arith, length-decimal-le 4 n (omega arith) (omega arith) fits))
     (subst (λ o. IsLineOf o (Ok (Run n))) (sym whole) (subst (IsLineOf (before (word_of (codes "run")) (tokens (decimal n)))) means read))
 
@@ -343,8 +343,8 @@ pub run_long : (digits : List ℕ) → IsTrue (is_number digits) → MAX_RUN < n
 run_long digits is many room =
     let high : nat_le (number_in digits) MAX_RUN ≡ false = grind (arith, nat_tests) in
     let means : line_sense (run digits) ≡ Err Limit = rw high refl in
-    let read = is_sense_behind opening.Run digits (word digits ∷ []) (run digits) tt is (tokens-number digits is) refl in
-    let whole : tokens (codes "run" ++ 32 ∷ digits) ≡ before (word_of (codes "run")) (tokens digits) = behind_space (codes "run") digits refl in
+    let read = is_sense_after opening.Run digits (word digits ∷ []) (run digits) tt is (tokens-number digits is) refl in
+    let whole : tokens (codes "run" ++ 32 ∷ digits) ≡ before (word_of (codes "run")) (tokens digits) = after_space (codes "run") digits refl in
     reads_line (codes "run" ++ 32 ∷ digits) (Err Limit) (omega (arith, room))
     (subst (λ o. IsLineOf o (Err Limit)) (sym whole) (subst (IsLineOf (before (word_of (codes "run")) (tokens digits))) means read))
 

@@ -1,4 +1,4 @@
--- The parts of a line behind the word that opens it.
+-- The parts of a line after the word that opens it.
 use Rattle.std.proofs.Common.{◌≡◌, ◌&&◌, ◌≤◌, ℕ, Bool, true, false, cond, List, [], ◌∷◌, ◌++◌, Option, None, Some, Result, Ok, Err, length, IsTrue, IfSome, refl, sym, ap, ◌∙◌, subst}
 use Rattle.std.specs.Prelude.{nat_le, codes}
 use Rattle.std.specs.Option.{option_map}
@@ -23,9 +23,9 @@ use Rattle.ic_text.specs.SystemText.{ReadsSystem}
 use Rattle.ic_commands.specs.LineSource.{LinePhrase, nothing, submit, copy, about, list, run, is_number, IsLine, number_words, line_words}
 use Rattle.ic_commands.specs.LineSense.{unless_long, fits_budget, unless_unfit, submitted, line_sense}
 use Rattle.ic_commands.specs.LineText.{IsSubmitText}
-use Rattle.ic_commands.specs.inner.Line.{HasNoWord, number_word, is_number_or_none, is_nothing, opening_text, opening_of, IsLineOf, IsSubmitLine, ReadsBehind}
+use Rattle.ic_commands.specs.inner.Line.{HasNoWord, number_word, is_number_or_none, is_nothing, opening_text, opening_of, IsLineOf, IsSubmitLine, ReadsAfter}
 use Rattle.ic_text.specs.lemmas.ReadOnce.{some-injective, none_is_some}
-use Rattle.ic_commands.proofs.LineReading.{is_sense_behind, text-opening_of, opening_in, opens, opening_in-line, behind_one}
+use Rattle.ic_commands.proofs.LineReading.{is_sense_after, text-opening_of, opening_in, opens, opening_in-line, after_one}
 use Rattle.ic_commands.proofs.WordSplits.{before-none, front_word, front_is}
 
 -- a text of no tokens
@@ -54,7 +54,7 @@ pub word_of-named : (w : List ℕ) → is_job_word w ≡ true → word_of w ≡ 
 word_of-named [] named = absurd (false≢true named)
 word_of-named (b ∷ bs) named = refl
 
--- ---- what stands behind `submit`
+-- ---- what stands after `submit`
 
 -- the number that a word is has the tokens of the word
 number_words-of : (digits : List ℕ) → number_words (number_word digits) ≡ word_of digits
@@ -65,7 +65,7 @@ number_is : (digits : List ℕ) → is_number_or_none digits ≡ true → IfSome
 number_is [] is = tt
 number_is (b ∷ bs) is = is
 
--- Behind the name of a submit stand a number or none, and a system.
+-- After the name of a submit stand a number or none, and a system.
 record IsNamed (name : List ℕ) (o : Option (List Token)) (p : LinePhrase) : Type 0 where
   most : Option (List ℕ)
   system : SystemPhrase
@@ -80,14 +80,14 @@ named_as (b ∷ bs) n ts most s is name rest = record {
   most = most;
   system = s;
   line = (sym (ap is_job_word name) ∙ is.0, is.1, is.2);
-  tokens = ap (λ us. Some (behind_one us)) rest;
+  tokens = ap (λ us. Some (after_one us)) rest;
   same = λ i. submit (name i) most s;
 }
 
 named_some : (w text : List ℕ) (ts : List Token) (p : LinePhrase) → (w ≡ [] → HasNoWord text (Some ts)) → IsLine p → word (codes "submit") ∷ (word_of w ++ ts) ≡ line_words p → IsNamed w (Some ts) p
-named_some w text ts p apart is e = by_line p is (ap opening_in e ∙ opening_in-line p) (ap behind_one e)
+named_some w text ts p apart is e = by_line p is (ap opening_in e ∙ opening_in-line p) (ap after_one e)
   where
-    by_line : (p : LinePhrase) → IsLine p → Some opening.Submit ≡ opens p → word_of w ++ ts ≡ behind_one (line_words p) → IsNamed w (Some ts) p
+    by_line : (p : LinePhrase) → IsLine p → Some opening.Submit ≡ opens p → word_of w ++ ts ≡ after_one (line_words p) → IsNamed w (Some ts) p
     by_line nothing is first rest = cc
     by_line (submit n most s) is first rest = named_as w n ts most s is (front_is w text (Some ts) (word n ∷ (number_words most ++ system_words s)) apart (ap Some rest)) rest
     by_line (copy a b) is first rest = cc
@@ -100,7 +100,7 @@ named_in : (w text : List ℕ) (o : Option (List Token)) (p : LinePhrase) → (w
 named_in w text None p apart is e = absurd (none_is_some (line_words p) e)
 named_in w text (Some ts) p apart is e = named_some w text ts p apart is (some-injective _ _ e)
 
--- Behind the name and the number of a submit stands a system.
+-- After the name and the number of a submit stands a system.
 record IsSubmit (name digits : List ℕ) (o : Option (List Token)) (p : LinePhrase) : Type 0 where
   system : SystemPhrase
   phrase : IsSystemPhrase system
@@ -109,9 +109,9 @@ record IsSubmit (name digits : List ℕ) (o : Option (List Token)) (p : LinePhra
   tokens : o ≡ Some (system_words system)
   same : p ≡ submit name (number_word digits) system
 
-behind_word : (w v : List ℕ) (o : Option (List Token)) (us : List Token) → before (word w ∷ []) o ≡ Some (word v ∷ us) → o ≡ Some us
-behind_word w v None us e = absurd (none_is_some (word v ∷ us) e)
-behind_word w v (Some ts) us e = ap (λ xs. Some (behind_one xs)) (some-injective (word w ∷ ts) (word v ∷ us) e)
+after_word : (w v : List ℕ) (o : Option (List Token)) (us : List Token) → before (word w ∷ []) o ≡ Some (word v ∷ us) → o ≡ Some us
+after_word w v None us e = absurd (none_is_some (word v ∷ us) e)
+after_word w v (Some ts) us e = ap (λ xs. Some (after_one xs)) (some-injective (word w ∷ ts) (word v ∷ us) e)
 
 numbered_by : (name digits : List ℕ) (o : Option (List Token)) (p : LinePhrase) (most : Option (List ℕ)) (s : SystemPhrase) → IsLine (submit name most s)
     → front_word (number_words most ++ system_words s) ≡ digits → before (word_of digits) o ≡ Some (number_words most ++ system_words s) → p ≡ submit name most s
@@ -132,7 +132,7 @@ numbered_by name (b ∷ bs) o p (Some (c ∷ cs)) s line front e same = record {
   phrase = line.2;
   named = line.0;
   numbered = ap is_number (sym front) ∙ line.1;
-  tokens = behind_word (b ∷ bs) (c ∷ cs) o (system_words s) e;
+  tokens = after_word (b ∷ bs) (c ∷ cs) o (system_words s) e;
   same = same ∙ ap (λ ds. submit name (Some ds) s) front;
 }
 
@@ -162,7 +162,7 @@ past_limits w digits a named isnt = by_name (is_job_name w) refl
     by_name true e = short_name w (unless_unfit (number_word digits) a) e ∙ by_budget (fits_budget (number_word digits)) e refl
     by_name false e = long_name w (unless_unfit (number_word digits) a) named (λ is. false≢true (sym e ∙ is))
 
--- the tokens behind `submit` are those of no line
+-- the tokens after `submit` are those of no line
 abbrev pub NoLine : List ℕ → Type 0
 NoLine rest = (p : LinePhrase) → IsLine p → before (word_of (opening_text opening.Submit)) (tokens rest) ≡ Some (line_words p) → ⊥
 
@@ -175,16 +175,16 @@ module _ (rest w text digits source : List ℕ) (split : tokens rest ≡ before 
       numbered_in w digits source (tokens source) p second (subst (λ o. IsNamed w o p) parted named)
 
   -- no line begins with other words
-  none_reads : NoLine rest → ReadsBehind opening.Submit rest (Err Syntax)
+  none_reads : NoLine rest → ReadsAfter opening.Submit rest (Err Syntax)
   none_reads none = record { spelled = λ p is e. absurd (none p is e); malformed = λ _. refl }
 
-  pub unnamed : is_job_word w ≡ false → ReadsBehind opening.Submit rest (Err Syntax)
+  pub unnamed : is_job_word w ≡ false → ReadsAfter opening.Submit rest (Err Syntax)
   unnamed isnt = none_reads (λ p is e. false≢true (sym isnt ∙ (submit_of p is e).named))
 
-  pub unnumbered : is_number_or_none digits ≡ false → ReadsBehind opening.Submit rest (Err Syntax)
+  pub unnumbered : is_number_or_none digits ≡ false → ReadsAfter opening.Submit rest (Err Syntax)
   unnumbered isnt = none_reads (λ p is e. false≢true (sym isnt ∙ (submit_of p is e).numbered))
 
-  pub unsystematic : ((s : SystemPhrase) → IsSpelling IsSystemPhrase system_words source s → ⊥) → ReadsBehind opening.Submit rest (Err Syntax)
+  pub unsystematic : ((s : SystemPhrase) → IsSpelling IsSystemPhrase system_words source s → ⊥) → ReadsAfter opening.Submit rest (Err Syntax)
   unsystematic none = none_reads (λ p is e. (let found = submit_of p is e in none found.system (record { phrase = found.phrase; tokens = found.tokens })))
 
   module _ (named : is_job_word w ≡ true) (numbered : is_number_or_none digits ≡ true) where
@@ -192,16 +192,16 @@ module _ (rest w text digits source : List ℕ) (split : tokens rest ≡ before 
     line_is : (s : SystemPhrase) → IsSystemPhrase s → IsLine (submit w (number_word digits) s)
     line_is s is = (named, number_is digits numbered, is)
 
-    number_behind : (s : SystemPhrase) → IsSpelling IsSystemPhrase system_words source s → tokens rest ≡ Some (word w ∷ (number_words (number_word digits) ++ system_words s))
-    number_behind s spells =
+    number_after : (s : SystemPhrase) → IsSpelling IsSystemPhrase system_words source s → tokens rest ≡ Some (word w ∷ (number_words (number_word digits) ++ system_words s))
+    number_after s spells =
         let words = sym (number_words-of digits) in let name = word_of-named w named in
         split ∙ ap (before (word_of w)) (parted ∙ ap (before (word_of digits)) spells.tokens) ∙ (λ i. Some (name i ++ (words i ++ system_words s)))
 
     pub submit_spelled : (s : SystemPhrase) → IsSpelling IsSystemPhrase system_words source s → are_within w digits ≡ true → IsSubmitLine (before (word_of (opening_text opening.Submit)) (tokens rest))
-    submit_spelled s spells within = (w, number_word digits, s, line_is s spells.phrase, ap (before (word_of (codes "submit"))) (number_behind s spells), within)
+    submit_spelled s spells within = (w, number_word digits, s, line_is s spells.phrase, ap (before (word_of (codes "submit"))) (number_after s spells), within)
 
     no_system : NoLine rest → (s : SystemPhrase) → IsSpelling IsSystemPhrase system_words source s → ⊥
-    no_system none s spells = none (submit w (number_word digits) s) (line_is s spells.phrase) (ap (before (word_of (codes "submit"))) (number_behind s spells))
+    no_system none s spells = none (submit w (number_word digits) s) (line_is s spells.phrase) (ap (before (word_of (codes "submit"))) (number_after s spells))
 
     submit_sense : (a : Result Line TextFault) → ((s : SystemPhrase) → IsSpelling IsSystemPhrase system_words source s → a ≡ line_sense (submit w (number_word digits) s))
         → (p : LinePhrase) → IsLine p → before (word_of (opening_text opening.Submit)) (tokens rest) ≡ Some (line_words p) → a ≡ line_sense p
@@ -210,22 +210,22 @@ module _ (rest w text digits source : List ℕ) (split : tokens rest ≡ before 
         means found.system (record { phrase = found.phrase; tokens = found.tokens }) ∙ sym (ap line_sense found.same)
 
     -- a name or a number past its limit passes one in front of a system
-    submit_past : (are_within w digits ≡ true → ⊥) → (NoLine rest → ⊥) → ReadsBehind opening.Submit rest (Err Limit)
+    submit_past : (are_within w digits ≡ true → ⊥) → (NoLine rest → ⊥) → ReadsAfter opening.Submit rest (Err Limit)
     submit_past isnt some = record {
       spelled = submit_sense (Err Limit) (λ s spells. sym (past_limits w digits (submitted w (option_map number_in (number_word digits)) (system_sense s)) named isnt));
       malformed = λ none. absurd (some none);
     }
 
-    pub submit_past_system : (s : SystemPhrase) → IsSpelling IsSystemPhrase system_words source s → (are_within w digits ≡ true → ⊥) → ReadsBehind opening.Submit rest (Err Limit)
+    pub submit_past_system : (s : SystemPhrase) → IsSpelling IsSystemPhrase system_words source s → (are_within w digits ≡ true → ⊥) → ReadsAfter opening.Submit rest (Err Limit)
     submit_past_system s spells isnt = submit_past isnt (λ none. no_system none s spells)
 
     pub submit_past_read : (a : Result SystemParts TextFault) → length source ≤ MAX_TEXT → (are_within w digits ≡ true → ⊥) → ReadsSystem source a → ¬ (a ≡ Err Syntax)
-        → ReadsBehind opening.Submit rest (Err Limit)
+        → ReadsAfter opening.Submit rest (Err Limit)
     submit_past_read a short isnt reads apart = submit_past isnt (λ none. apart (reads.malformed short (no_system none)))
 
     -- a submit is read as its system is
     pub submit_read : (a : Result SystemParts TextFault) → length source ≤ MAX_TEXT → are_within w digits ≡ true → ReadsSystem source a
-        → ReadsBehind opening.Submit rest (submitted w (option_map number_in (number_word digits)) a)
+        → ReadsAfter opening.Submit rest (submitted w (option_map number_in (number_word digits)) a)
     submit_read a short is reads =
         let most = option_map number_in (number_word digits) in
         record {
@@ -234,9 +234,9 @@ module _ (rest w text digits source : List ℕ) (split : tokens rest ≡ before 
           malformed = λ none. ap (submitted w most) (reads.malformed short (no_system none));
         }
 
--- ---- what stands behind `copy`
+-- ---- what stands after `copy`
 
--- Behind `copy` stand two names.
+-- After `copy` stand two names.
 record IsCopy (ts : List Token) : Type 0 where
   old : List ℕ
   new : List ℕ
@@ -244,7 +244,7 @@ record IsCopy (ts : List Token) : Type 0 where
   new_named : is_job_word new ≡ true
   tokens : ts ≡ word old ∷ word new ∷ []
 
-copy_by : (ts : List Token) (p : LinePhrase) → IsLine p → Some opening.Copy ≡ opens p → ts ≡ behind_one (line_words p) → IsCopy ts
+copy_by : (ts : List Token) (p : LinePhrase) → IsLine p → Some opening.Copy ≡ opens p → ts ≡ after_one (line_words p) → IsCopy ts
 copy_by ts nothing is first rest = cc
 copy_by ts (submit n most s) is first rest = cc
 copy_by ts (copy a b) is first rest = record { old = a; new = b; old_named = is.0; new_named = is.1; tokens = rest }
@@ -256,21 +256,21 @@ copy_in : (o : Option (List Token)) (p : LinePhrase) → IsLine p → before (wo
 copy_in None p is e = absurd (none_is_some (line_words p) e)
 copy_in (Some ts) p is e =
     let same : word (codes "copy") ∷ ts ≡ line_words p = some-injective _ _ e in
-    (ts, refl, copy_by ts p is (ap opening_in same ∙ opening_in-line p) (ap behind_one same))
+    (ts, refl, copy_by ts p is (ap opening_in same ∙ opening_in-line p) (ap after_one same))
 
 -- other tokens are those of no copy
 no_copy : (rest : List ℕ) → ((old new : List ℕ) → is_job_word old ≡ true → is_job_word new ≡ true → tokens rest ≡ Some (word old ∷ word new ∷ []) → ⊥)
-    → ReadsBehind opening.Copy rest (Err Syntax)
+    → ReadsAfter opening.Copy rest (Err Syntax)
 no_copy rest none = record {
   spelled = λ p is e. (let found = copy_in (tokens rest) p is e in let c = found.2 in
       absurd (none c.old c.new c.old_named c.new_named (found.1 ∙ ap Some c.tokens)));
   malformed = λ _. refl;
 }
 
--- the text behind the first word of two has the second
+-- the text after the first word of two has the second
 second_alone : (w v u : List ℕ) (o : Option (List Token)) → v ≡ w → is_job_word v ≡ true → before (word_of w) o ≡ Some (word v ∷ word u ∷ []) → o ≡ Some (word u ∷ [])
 second_alone [] v u o same named e = absurd (false≢true (sym (ap is_job_word same) ∙ named))
-second_alone (b ∷ bs) v u o same named e = behind_word (b ∷ bs) v o (word u ∷ []) e
+second_alone (b ∷ bs) v u o same named e = after_word (b ∷ bs) v o (word u ∷ []) e
 
 module _ (rest w text : List ℕ) (split : tokens rest ≡ before (word_of w) (tokens text)) (front : w ≡ [] → HasNoWord text (tokens text)) where
   copy_parts : (old new : List ℕ) → is_job_word old ≡ true → tokens rest ≡ Some (word old ∷ word new ∷ []) → (old ≡ w) × (tokens text ≡ Some (word new ∷ []))
@@ -279,10 +279,10 @@ module _ (rest w text : List ℕ) (split : tokens rest ≡ before (word_of w) (t
       let same : old ≡ w = front_is w text (tokens text) (word old ∷ word new ∷ []) front whole in
       (same, second_alone w old new (tokens text) same named whole)
 
-  pub copy_unparted : ((u : List ℕ) → ¬ (tokens text ≡ Some (word u ∷ []))) → ReadsBehind opening.Copy rest (Err Syntax)
+  pub copy_unparted : ((u : List ℕ) → ¬ (tokens text ≡ Some (word u ∷ []))) → ReadsAfter opening.Copy rest (Err Syntax)
   copy_unparted none = no_copy rest (λ old new first second e. none new (copy_parts old new first e).1)
 
-  pub copy_unnamed : (u : List ℕ) → tokens text ≡ Some (word u ∷ []) → (is_job_word w && is_job_word u) ≡ false → ReadsBehind opening.Copy rest (Err Syntax)
+  pub copy_unnamed : (u : List ℕ) → tokens text ≡ Some (word u ∷ []) → (is_job_word w && is_job_word u) ≡ false → ReadsAfter opening.Copy rest (Err Syntax)
   copy_unnamed u one isnt = no_copy rest (λ old new first second e.
       (let parts = copy_parts old new first e in
       let same = some-injective (word new ∷ []) (word u ∷ []) (sym parts.1 ∙ one) in
@@ -292,11 +292,11 @@ module _ (rest w text : List ℕ) (split : tokens rest ≡ before (word_of w) (t
       false≢true (sym isnt ∙ both)))
 
   -- two names are those of a copy
-  pub copy_sense : (u : List ℕ) → tokens text ≡ Some (word u ∷ []) → is_job_word w ≡ true → is_job_word u ≡ true → ReadsBehind opening.Copy rest (line_sense (copy w u))
+  pub copy_sense : (u : List ℕ) → tokens text ≡ Some (word u ∷ []) → is_job_word w ≡ true → is_job_word u ≡ true → ReadsAfter opening.Copy rest (line_sense (copy w u))
   copy_sense u one first second =
       let two : tokens rest ≡ Some (word w ∷ word u ∷ []) =
       split ∙ ap (before (word_of w)) one ∙ ap (λ ws. Some (ws ++ word u ∷ [])) (word_of-named w first) in
-      is_sense_behind opening.Copy rest (word w ∷ word u ∷ []) (copy w u) tt (first, second) two refl
+      is_sense_after opening.Copy rest (word w ∷ word u ∷ []) (copy w u) tt (first, second) two refl
 
 pub copy_short : (v w : List ℕ) → IsTrue (is_job_name v) → IsTrue (is_job_name w) → line_sense (copy v w) ≡ Ok (Asks (command.CopyJob v w))
 copy_short v w first second = short_name v (unless_long w (Ok (Asks (command.CopyJob v w)))) first ∙ short_name w (Ok (Asks (command.CopyJob v w))) second
@@ -347,14 +347,14 @@ module _ (rest w text : List ℕ) (split : tokens rest ≡ before (word_of w) (t
       none (submit w None s) (named, tt, spells.phrase)
       (ap (before (word_of (codes "submit"))) (split ∙ ap (before (word_of w)) spells.tokens ∙ ap (λ ws. Some (ws ++ system_words s)) (word_of-named w named)))))
 
-  pub submit_too_long : (IsTrue (is_job_name w) → ⊥) → ReadsBehind opening.Submit rest (Err Limit)
+  pub submit_too_long : (IsTrue (is_job_name w) → ⊥) → ReadsAfter opening.Submit rest (Err Limit)
   submit_too_long isnt = record {
     spelled = λ p is e. (let found = unnumbered_of p is e in
         sym (long_name w (unless_unfit None (submitted w None (system_sense found.system))) named isnt) ∙ sym (ap line_sense found.same));
     malformed = λ none. absurd (some_line none);
   }
 
-  pub submit_alone : IsTrue (is_job_name w) → ReadsBehind opening.Submit rest (submitted w None a)
+  pub submit_alone : IsTrue (is_job_name w) → ReadsAfter opening.Submit rest (submitted w None a)
   submit_alone is_name = record {
     spelled = λ p is e. (let found = unnumbered_of p is e in
         ap (submitted w None) (reads.spelled short found.system found.spells)
@@ -362,13 +362,13 @@ module _ (rest w text : List ℕ) (split : tokens rest ≡ before (word_of w) (t
     malformed = λ none. absurd (some_line none);
   }
 
--- a line is read as what stands behind its first word
-pub line_behind : (text w rest : List ℕ) (o : Opening) (a : Result Line TextFault) → tokens text ≡ before (word_of w) (tokens rest)
-    → opening_of w ≡ Some o → ReadsBehind o rest a → IsLineOf (tokens text) a
-line_behind text w rest o a split opens reads =
+-- a line is read as what stands after its first word
+pub line_after : (text w rest : List ℕ) (o : Opening) (a : Result Line TextFault) → tokens text ≡ before (word_of w) (tokens rest)
+    → opening_of w ≡ Some o → ReadsAfter o rest a → IsLineOf (tokens text) a
+line_after text w rest o a split opens reads =
     subst (λ x. IsLineOf x a) (sym (split ∙ ap (λ x. before (word_of x) (tokens rest)) (text-opening_of w o opens))) reads
 
--- and is the submit that stands behind the word `submit`
+-- and is the submit that stands after the word `submit`
 pub submit_line : (text w rest : List ℕ) → tokens text ≡ before (word_of w) (tokens rest) → opening_of w ≡ Some opening.Submit
     → IsSubmitLine (before (word_of (opening_text opening.Submit)) (tokens rest)) → IsSubmitLine (tokens text)
 submit_line text w rest split opens is =

@@ -71,31 +71,31 @@ opening_in-line (about verb name) = opening_of-text (opening.About verb)
 opening_in-line list = refl
 opening_in-line (run digits) = refl
 
--- the tokens behind the first word
-abbrev pub behind_one : List Token → List Token
-behind_one [] = []
-behind_one (t ∷ ts) = ts
+-- the tokens after the first word
+abbrev pub after_one : List Token → List Token
+after_one [] = []
+after_one (t ∷ ts) = ts
 
 abbrev pub second_word : List Token → List ℕ
 second_word (t ∷ word w ∷ ts) = w
 second_word ts = []
 
--- the number's word that tokens begin with, and the tokens behind it
+-- the number's word that tokens begin with, and the tokens after it
 abbrev pub number_first : List Token → Option (List ℕ)
 number_first (word w ∷ ts) = Some w
 number_first ts = None
 
-abbrev pub behind_number : List Token → List Token
-behind_number (word w ∷ ts) = ts
-behind_number ts = ts
+abbrev pub after_number : List Token → List Token
+after_number (word w ∷ ts) = ts
+after_number ts = ts
 
 pub number_first-of : (most : Option (List ℕ)) (s : SystemPhrase) → number_first (number_words most ++ system_words s) ≡ most
 number_first-of None s = refl
 number_first-of (Some digits) s = refl
 
-pub behind_number-of : (most : Option (List ℕ)) (s : SystemPhrase) → behind_number (number_words most ++ system_words s) ≡ system_words s
-behind_number-of None s = refl
-behind_number-of (Some digits) s = refl
+pub after_number-of : (most : Option (List ℕ)) (s : SystemPhrase) → after_number (number_words most ++ system_words s) ≡ system_words s
+after_number-of None s = refl
+after_number-of (Some digits) s = refl
 
 -- no other system has the tokens of the one that a line has
 abbrev pub OneSystem : LinePhrase → Type 0
@@ -107,7 +107,7 @@ OneSystem list = Unit {0}
 OneSystem (run digits) = Unit {0}
 
 same_line : (p q : LinePhrase) → OneSystem p → IsLine q → opens p ≡ opens q → second_word (line_words p) ≡ second_word (line_words q)
-    → behind_one (behind_one (line_words p)) ≡ behind_one (behind_one (line_words q)) → p ≡ q
+    → after_one (after_one (line_words p)) ≡ after_one (after_one (line_words q)) → p ≡ q
 same_line nothing nothing one is_q first second rest = refl
 same_line nothing (submit m k t) one is_q first second rest = cc
 same_line nothing (copy c d) one is_q first second rest = cc
@@ -117,7 +117,7 @@ same_line nothing (run m) one is_q first second rest = cc
 same_line (submit n j s) nothing one is_q first second rest = cc
 same_line (submit n j s) (submit m k t) one is_q first second rest =
     let numbers = sym (number_first-of j s) ∙ ap number_first rest ∙ number_first-of k t in
-    let system = one t is_q.2 (sym (behind_number-of j s) ∙ ap behind_number rest ∙ behind_number-of k t) in
+    let system = one t is_q.2 (sym (after_number-of j s) ∙ ap after_number rest ∙ after_number-of k t) in
     λ i. submit (second i) (numbers i) (system i)
 same_line (submit n j s) (copy c d) one is_q first second rest = cc
 same_line (submit n j s) (about w m) one is_q first second rest = cc
@@ -153,7 +153,7 @@ same_line (run n) (run m) one is_q first second rest = ap run second
 
 pub line_words-injective : (p q : LinePhrase) → OneSystem p → IsLine q → line_words p ≡ line_words q → p ≡ q
 line_words-injective p q one is_q same =
-    same_line p q one is_q (sym (opening_in-line p) ∙ ap opening_in same ∙ opening_in-line q) (ap second_word same) (ap (λ ts. behind_one (behind_one ts)) same)
+    same_line p q one is_q (sym (opening_in-line p) ∙ ap opening_in same ∙ opening_in-line q) (ap second_word same) (ap (λ ts. after_one (after_one ts)) same)
 
 -- the tokens of a line are read as what the line means
 pub is_sense : (o : Option (List Token)) (p : LinePhrase) → OneSystem p → IsLine p → o ≡ Some (line_words p) → IsLineOf o (line_sense p)
@@ -170,8 +170,8 @@ reads_line text a short is = record {
   malformed = λ _ none. is.malformed (λ p is_p e. none p (record { phrase = is_p; tokens = e }));
 }
 
--- and what stands behind the word that opens a line
-pub is_sense_behind : (o : Opening) (rest : List ℕ) (ts : List Token) (p : LinePhrase) → OneSystem p → IsLine p → tokens rest ≡ Some ts
+-- and what stands after the word that opens a line
+pub is_sense_after : (o : Opening) (rest : List ℕ) (ts : List Token) (p : LinePhrase) → OneSystem p → IsLine p → tokens rest ≡ Some ts
     → line_words p ≡ word (opening_text o) ∷ ts → IsLineOf (before (word_of (opening_text o)) (tokens rest)) (line_sense p)
-is_sense_behind o rest ts p one is left same =
+is_sense_after o rest ts p one is left same =
     is_sense _ p one is (ap (before (word_of (opening_text o))) left ∙ ap (λ ws. Some (ws ++ ts)) (word_of-opening o) ∙ ap Some (sym same))

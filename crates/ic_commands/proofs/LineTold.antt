@@ -13,37 +13,37 @@ use Rattle.ic_commands.specs.inner.Line.{opening_text, opening_of}
 use Rattle.ic_commands.proofs.LineReading.{text-opening_of, OneSystem, line_words-injective}
 
 module _ (told_systems : IsTold IsSystemPhrase system_words) where
-  -- whether tokens stand behind the name of a submit
+  -- whether tokens stand after the name of a submit
   abbrev named_stands : List Token → Bool
   named_stands [] = told_systems.test []
   named_stands (mark m ∷ ts) = told_systems.test (mark m ∷ ts)
   named_stands (word digits ∷ ts) = is_number digits && told_systems.test ts
 
-  -- whether tokens stand behind the word that opens a line
-  abbrev stands_behind : Opening → List Token → Bool
-  stands_behind opening.Submit [] = false
-  stands_behind opening.Submit (mark m ∷ ts) = false
-  stands_behind opening.Submit (word name ∷ ts) = is_job_word name && named_stands ts
-  stands_behind opening.Copy [] = false
-  stands_behind opening.Copy (mark m ∷ ts) = false
-  stands_behind opening.Copy (word old ∷ []) = false
-  stands_behind opening.Copy (word old ∷ mark m ∷ ts) = false
-  stands_behind opening.Copy (word old ∷ word new ∷ []) = is_job_word old && is_job_word new
-  stands_behind opening.Copy (word old ∷ word new ∷ t ∷ ts) = false
-  stands_behind (opening.About verb) [] = false
-  stands_behind (opening.About verb) (mark m ∷ ts) = false
-  stands_behind (opening.About verb) (word name ∷ []) = is_job_word name
-  stands_behind (opening.About verb) (word name ∷ t ∷ ts) = false
-  stands_behind opening.List [] = true
-  stands_behind opening.List (t ∷ ts) = false
-  stands_behind opening.Run [] = false
-  stands_behind opening.Run (mark m ∷ ts) = false
-  stands_behind opening.Run (word digits ∷ []) = is_number digits
-  stands_behind opening.Run (word digits ∷ t ∷ ts) = false
+  -- whether tokens stand after the word that opens a line
+  abbrev stands_after : Opening → List Token → Bool
+  stands_after opening.Submit [] = false
+  stands_after opening.Submit (mark m ∷ ts) = false
+  stands_after opening.Submit (word name ∷ ts) = is_job_word name && named_stands ts
+  stands_after opening.Copy [] = false
+  stands_after opening.Copy (mark m ∷ ts) = false
+  stands_after opening.Copy (word old ∷ []) = false
+  stands_after opening.Copy (word old ∷ mark m ∷ ts) = false
+  stands_after opening.Copy (word old ∷ word new ∷ []) = is_job_word old && is_job_word new
+  stands_after opening.Copy (word old ∷ word new ∷ t ∷ ts) = false
+  stands_after (opening.About verb) [] = false
+  stands_after (opening.About verb) (mark m ∷ ts) = false
+  stands_after (opening.About verb) (word name ∷ []) = is_job_word name
+  stands_after (opening.About verb) (word name ∷ t ∷ ts) = false
+  stands_after opening.List [] = true
+  stands_after opening.List (t ∷ ts) = false
+  stands_after opening.Run [] = false
+  stands_after opening.Run (mark m ∷ ts) = false
+  stands_after opening.Run (word digits ∷ []) = is_number digits
+  stands_after opening.Run (word digits ∷ t ∷ ts) = false
 
   abbrev opened : Option Opening → List Token → Bool
   opened None ts = false
-  opened (Some o) ts = stands_behind o ts
+  opened (Some o) ts = stands_after o ts
 
   -- whether tokens are those of a line
   abbrev is_line : List Token → Bool
@@ -55,7 +55,7 @@ module _ (told_systems : IsTold IsSystemPhrase system_words) where
   abbrev LineBy : List Token → Type 0
   LineBy ts = (p : LinePhrase) × IsLine p × (ts ≡ line_words p)
 
-  -- some submit of this name has these tokens behind the name
+  -- some submit of this name has these tokens after the name
   abbrev NamedBy : List ℕ → List Token → Type 0
   NamedBy name ts = (most : Option (List ℕ)) × (s : SystemPhrase) × IsLine (submit name most s) × (ts ≡ number_words most ++ system_words s)
 
@@ -67,29 +67,29 @@ module _ (told_systems : IsTold IsSystemPhrase system_words) where
       let s = told_systems.found ts parts.1 in
       (Some digits, s.0, (named, parts.0, s.1), ap (λ us. word digits ∷ us) s.2)
 
-  found-behind : (o : Opening) (ts : List Token) → stands_behind o ts ≡ true → LineBy (word (opening_text o) ∷ ts)
-  found-behind opening.Submit [] e = absurd (false≢true e)
-  found-behind opening.Submit (mark m ∷ ts) e = absurd (false≢true e)
-  found-behind opening.Submit (word name ∷ ts) e =
+  found-after : (o : Opening) (ts : List Token) → stands_after o ts ≡ true → LineBy (word (opening_text o) ∷ ts)
+  found-after opening.Submit [] e = absurd (false≢true e)
+  found-after opening.Submit (mark m ∷ ts) e = absurd (false≢true e)
+  found-after opening.Submit (word name ∷ ts) e =
       let parts = and_parts (is_job_word name) (named_stands ts) e in
       let by = found-named name ts parts.0 parts.1 in
       (submit name by.0 by.1, by.2, ap (λ us. word (opening_text opening.Submit) ∷ word name ∷ us) by.3)
-  found-behind opening.Copy [] e = absurd (false≢true e)
-  found-behind opening.Copy (mark m ∷ ts) e = absurd (false≢true e)
-  found-behind opening.Copy (word old ∷ []) e = absurd (false≢true e)
-  found-behind opening.Copy (word old ∷ mark m ∷ ts) e = absurd (false≢true e)
-  found-behind opening.Copy (word old ∷ word new ∷ []) e = (copy old new, and_parts (is_job_word old) (is_job_word new) e, refl)
-  found-behind opening.Copy (word old ∷ word new ∷ t ∷ ts) e = absurd (false≢true e)
-  found-behind (opening.About verb) [] e = absurd (false≢true e)
-  found-behind (opening.About verb) (mark m ∷ ts) e = absurd (false≢true e)
-  found-behind (opening.About verb) (word name ∷ []) e = (about verb name, e, refl)
-  found-behind (opening.About verb) (word name ∷ t ∷ ts) e = absurd (false≢true e)
-  found-behind opening.List [] e = (list, tt, refl)
-  found-behind opening.List (t ∷ ts) e = absurd (false≢true e)
-  found-behind opening.Run [] e = absurd (false≢true e)
-  found-behind opening.Run (mark m ∷ ts) e = absurd (false≢true e)
-  found-behind opening.Run (word digits ∷ []) e = (run digits, e, refl)
-  found-behind opening.Run (word digits ∷ t ∷ ts) e = absurd (false≢true e)
+  found-after opening.Copy [] e = absurd (false≢true e)
+  found-after opening.Copy (mark m ∷ ts) e = absurd (false≢true e)
+  found-after opening.Copy (word old ∷ []) e = absurd (false≢true e)
+  found-after opening.Copy (word old ∷ mark m ∷ ts) e = absurd (false≢true e)
+  found-after opening.Copy (word old ∷ word new ∷ []) e = (copy old new, and_parts (is_job_word old) (is_job_word new) e, refl)
+  found-after opening.Copy (word old ∷ word new ∷ t ∷ ts) e = absurd (false≢true e)
+  found-after (opening.About verb) [] e = absurd (false≢true e)
+  found-after (opening.About verb) (mark m ∷ ts) e = absurd (false≢true e)
+  found-after (opening.About verb) (word name ∷ []) e = (about verb name, e, refl)
+  found-after (opening.About verb) (word name ∷ t ∷ ts) e = absurd (false≢true e)
+  found-after opening.List [] e = (list, tt, refl)
+  found-after opening.List (t ∷ ts) e = absurd (false≢true e)
+  found-after opening.Run [] e = absurd (false≢true e)
+  found-after opening.Run (mark m ∷ ts) e = absurd (false≢true e)
+  found-after opening.Run (word digits ∷ []) e = (run digits, e, refl)
+  found-after opening.Run (word digits ∷ t ∷ ts) e = absurd (false≢true e)
 
   found-line : (ts : List Token) → is_line ts ≡ true → LineBy ts
   found-line [] e = (nothing, tt, refl)
@@ -99,7 +99,7 @@ module _ (told_systems : IsTold IsSystemPhrase system_words) where
       by_opening : (o : Option Opening) → opening_of w ≡ o → opened o ts ≡ true → LineBy (word w ∷ ts)
       by_opening None is e = absurd (false≢true e)
       by_opening (Some o) is e =
-          let line = found-behind o ts e in
+          let line = found-after o ts e in
           (line.0, line.1, ap (λ x. word x ∷ ts) (text-opening_of w o is) ∙ line.2)
 
   line_words-test : (p : LinePhrase) → IsLine p → is_line (line_words p) ≡ true

@@ -104,7 +104,7 @@ all_refusals NoJob = (2, omega arith, refl)
 all_refusals NotRunning = (3, omega arith, refl)
 all_refusals NotPaused = (4, omega arith, refl)
 
--- words of jobs behind a word
+-- words of jobs after a word
 listed_joined : (first : List ℕ) (js : List (List ℕ × State × ℕ)) → first ++ flat_map listed_text js ≡ join_with_byte 32 (first ∷ map listed_word js)
 listed_joined first [] = append-nil first
 listed_joined first (j ∷ js) = ap (λ x. first ++ 32 ∷ x) (listed_joined (listed_word j) js)

@@ -2,7 +2,7 @@
 use Rattle.std.proofs.Common.{◌≡◌, ℕ, zero, suc, ◌+◌, ◌<◌, false, List, [], ◌∷◌, Option, None, Some, ◌++◌, length, get_or, take, drop, refl, sym, ap, ◌∙◌, subst, arith, length-drop, ◌-◌}
 use Rattle.std.proofs.lemmas.List.{drop_more, take_all}
 use Rattle.ic_text.specs.lemmas.ReadOnce.{some-injective, none_is_some}
-use Rattle.ic_text.specs.Token.{Token, word, mark, is_blank, is_word_byte, mark_of, word_of, before, tokens_at, followed, tokens_behind, tokens}
+use Rattle.ic_text.specs.Token.{Token, word, mark, is_blank, is_word_byte, mark_of, word_of, before, tokens_at, followed, tokens_after, tokens}
 use Rattle.ic_commands.specs.inner.Line.{HasNoWord, BeginsApart}
 
 pub before-none : (o : Option (List Token)) → before [] o ≡ o
@@ -29,12 +29,12 @@ from_here text place inside = drop_more text place 0 inside
 
 -- the first word ends in front of a byte that no word holds
 pub word_ends : (text : List ℕ) (place : ℕ) → place < length text → is_word_byte (get_or text place 0) ≡ false
-    → tokens_behind (take place text) (drop place text) ≡ tokens text → tokens text ≡ before (word_of (take place text)) (tokens (drop place text))
+    → tokens_after (take place text) (drop place text) ≡ tokens text → tokens text ≡ before (word_of (take place text)) (tokens (drop place text))
 word_ends text place inside apart so_far =
     let b = get_or text place 0 in
     let here = from_here text place inside in
-    let step : tokens_behind (take place text) (b ∷ drop (place + 1) text) ≡ before (word_of (take place text)) (followed (tokens_at b (mark_of b)) (tokens (drop (place + 1) text))) = rw apart refl in
-    sym so_far ∙ ap (tokens_behind (take place text)) here ∙ step
+    let step : tokens_after (take place text) (b ∷ drop (place + 1) text) ≡ before (word_of (take place text)) (followed (tokens_at b (mark_of b)) (tokens (drop (place + 1) text))) = rw apart refl in
+    sym so_far ∙ ap (tokens_after (take place text)) here ∙ step
     ∙ ap (before (word_of (take place text))) (sym (tokens-apart b (drop (place + 1) text) apart))
     ∙ ap (λ r. before (word_of (take place text)) (tokens r)) (sym here)
 

@@ -8,7 +8,7 @@ ghost use Rattle.ic_commands.specs.LineSense.{asked, fits_budget, line_sense};
 ghost use Rattle.ic_commands.specs.LineText.{ReadsLine, IsSubmitText};
 ghost use Rattle.ic_text.specs.Token.{word_of, before, tokens};
 ghost use Rattle.ic_commands.specs.declared.line.Opening.TheVariants as opening;
-ghost use Rattle.ic_commands.specs.inner.Line.{opening_of, opening_text, number_word, is_number_or_none, IsLineOf, IsSubmitLine, ReadsBehind};
+ghost use Rattle.ic_commands.specs.inner.Line.{opening_of, opening_text, number_word, is_number_or_none, IsLineOf, IsSubmitLine, ReadsAfter};
 ghost use Rattle.ic_text.specs.Name.{number_in};
 
 use crate::limits::MAX_RUN;
@@ -106,7 +106,7 @@ fn within_limits(word: &[u8], digits: &[u8]) -> Option<(JobName, Option<Budget>)
 /// text after them is a system: such a line makes no value.
 fn read_submit(alloc: Global, rest: &[u8]) -> Result<Line, TextFault>
     requires { length rest.now ≤ MAX_TEXT }
-    ensures line { result ≢ Err TextFault.Memory → ReadsBehind opening.Submit rest.now result }
+    ensures line { result ≢ Err TextFault.Memory → ReadsAfter opening.Submit rest.now result }
     ensures memory { result ≡ Err TextFault.Memory
         → IsSubmitLine (before (word_of (opening_text opening.Submit)) (tokens rest.now)) }
 {
@@ -149,11 +149,11 @@ fn names_of(first: &[u8], second: &[u8]) -> Option<(JobName, JobName)>
 
 /// The line of a `copy` with this after it.
 fn read_copy(rest: &[u8]) -> Result<Line, TextFault>
-    ensures line { ReadsBehind opening.Copy rest.now result }
+    ensures line { ReadsAfter opening.Copy rest.now result }
     ensures memory { result ≢ Err TextFault.Memory }
 {
-    let (first, behind) = split_word(rest);
-    let Some(second) = only_word(behind) else {
+    let (first, more) = split_word(rest);
+    let Some(second) = only_word(more) else {
         return Err(TextFault::Syntax);
     };
     if !are_job_words(first, second) {
@@ -167,7 +167,7 @@ fn read_copy(rest: &[u8]) -> Result<Line, TextFault>
 
 /// The line of a verb with this after it.
 fn read_about(verb: Verb, rest: &[u8]) -> Result<Line, TextFault>
-    ensures line { ReadsBehind (opening.About verb) rest.now result }
+    ensures line { ReadsAfter (opening.About verb) rest.now result }
     ensures memory { result ≢ Err TextFault.Memory }
 {
     let Some(word) = only_word(rest) else {
@@ -184,7 +184,7 @@ fn read_about(verb: Verb, rest: &[u8]) -> Result<Line, TextFault>
 
 /// The line of a `list` with this after it.
 fn read_list(rest: &[u8]) -> Result<Line, TextFault>
-    ensures line { ReadsBehind opening.List rest.now result }
+    ensures line { ReadsAfter opening.List rest.now result }
     ensures memory { result ≢ Err TextFault.Memory }
 {
     if is_nothing(rest) {
@@ -208,7 +208,7 @@ fn run_of(word: &[u8]) -> Result<Line, TextFault>
 
 /// The line of a `run` with this after it.
 fn read_run(rest: &[u8]) -> Result<Line, TextFault>
-    ensures line { ReadsBehind opening.Run rest.now result }
+    ensures line { ReadsAfter opening.Run rest.now result }
     ensures memory { result ≢ Err TextFault.Memory }
 {
     let Some(word) = only_word(rest) else {

@@ -125,7 +125,7 @@ older_products rs p a h base n low =
     let none = absent_below n base (map (λ k. base + k) (rule_names h.rule)) (from_base base (rule_names h.rule)) low in
     omega (arith, all, none)
 
--- names behind the copy's
+-- names after the copy's
 pub later_products : (rs : List Rule) (p : Pair) (a : Active) (h : HasRule rs p a) (base n : ℕ) → base + count_of rs a.rule ≤ n
     → occurrences n (flat_map pair_names (products_by rs base a)) ≡ occurrences n (pair_names p)
 later_products rs p a h base n high =

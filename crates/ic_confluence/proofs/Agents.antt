@@ -35,7 +35,7 @@ put_symbol : (x n : ℕ) (u : Tree) (b : Bool) → (n == x) ≡ b → occurrence
 put_symbol x n u true e once = IsPermutation-refl (symbols u)
 put_symbol x n u false e once = let none = alone_other x n e in absurd (omega (arith, none, once))
 
--- in one term, or in those behind it
+-- in one term, or in those after it
 at_either : (x : ℕ) (u t : Tree) (ts : Trees) → occurrences x (names t ++ names_of ts) ≡ 1 → (0 < occurrences x (names t)) ⊎ (occurrences x (names t) ≤ 0)
     → (occurrences x (names t) ≡ 1 → IsPermutation (symbols (subst x u t)) (symbols t ++ symbols u))
     → (occurrences x (names_of ts) ≡ 1 → IsPermutation (symbols_of (subst_all x u ts)) (symbols_of ts ++ symbols u))

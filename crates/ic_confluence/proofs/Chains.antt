@@ -17,7 +17,7 @@ use Rattle.ic_confluence.specs.Kinds.{Kind, naming, firing, StepOf, Chain}
 use Rattle.ic_confluence.specs.Sameness.{Same}
 use Rattle.ic_confluence.proofs.Counts.{in_configuration, in_more, below_next}
 use Rattle.ic_confluence.proofs.Replacing.{Replaced, replaced_counts}
-use Rattle.ic_confluence.proofs.Putting.{from_step, free_before, free_behind}
+use Rattle.ic_confluence.proofs.Putting.{from_step, free_before, free_after}
 use Rattle.ic_confluence.proofs.Actives.{fresh_products}
 use Rattle.ic_confluence.proofs.Firings.{Firing, from_interaction, Sound, rule_of, old_counts}
 use Rattle.ic_confluence.proofs.Order.{kind_of, step_of, same_ends}
@@ -65,10 +65,10 @@ equation_none n p out (q ∷ es) fs (inr (rest, r, is)) none = let split = in_mo
 
 fired_free : (rs : Rules) (c d : Configuration) → IsRuleSet rs → Sound rs c → Firing rs.rules c d → (n : ℕ)
     → (occurrences n (configuration_names c) ≡ 1) ↔ (occurrences n (configuration_names d) ≡ 1)
-fired_free rs c d set sound s n = (behind, λ once. before once (cases_lt n c.next))
+fired_free rs c d set sound s n = (after, λ once. before once (cases_lt n c.next))
   where
-    behind : occurrences n (configuration_names c) ≡ 1 → occurrences n (configuration_names d) ≡ 1
-    behind once = old_counts rs c d set sound s n (below_next c sound.named n (omega (arith, once))) ∙ once
+    after : occurrences n (configuration_names c) ≡ 1 → occurrences n (configuration_names d) ≡ 1
+    after once = old_counts rs c d set sound s n (below_next c sound.named n (omega (arith, once))) ∙ once
 
     before : occurrences n (configuration_names d) ≡ 1 → (n < c.next) ⊎ (c.next ≤ n) → occurrences n (configuration_names c) ≡ 1
     before once (inl low) = sym (old_counts rs c d set sound s n low) ∙ once
@@ -84,7 +84,7 @@ fired_free rs c d set sound s n = (behind, λ once. before once (cases_lt n c.ne
 
 free_kept : (rs : Rules) (k : Kind) (c d : Configuration) → IsRuleSet rs → Sound rs c → StepOf rs.rules k c d → (n : ℕ)
     → (occurrences n (configuration_names c) ≡ 1) ↔ (occurrences n (configuration_names d) ≡ 1)
-free_kept rs naming c d set sound step n = (free_behind c d sound.named (from_step c d step) n, free_before c d sound.named (from_step c d step) n)
+free_kept rs naming c d set sound step n = (free_after c d sound.named (from_step c d step) n, free_before c d sound.named (from_step c d step) n)
 free_kept rs (firing i) c d set sound step n = fired_free rs c d set sound (from_interaction rs.rules c d step.0 step.1) n
 
 pub step_free : (rs : Rules) (c d : Configuration) → IsRuleSet rs → is_over rs.symbols c ≡ true → HasNames c → Step rs.rules c d → (n : ℕ)

@@ -11,7 +11,7 @@ use Rattle.ic_term.specs.Symbol.{is_over, is_tree_over, is_pair_over}
 use Rattle.ic_rules.specs.Rule.{Rule}
 use Rattle.ic_rules.specs.RuleSet.{Rules, IsRuleSet}
 use Rattle.ic_settle.specs.lemmas.MiddleLaws.{over-middle}
-use Rattle.ic_round.specs.Firing.{Active, active_pair, products_by, count_of, names_taken, fired_pair, fired_from, next_behind, fired}
+use Rattle.ic_round.specs.Firing.{Active, active_pair, products_by, count_of, names_taken, fired_pair, fired_from, next_after, fired}
 use Rattle.ic_round.specs.Naming.{HasNames}
 use Rattle.ic_round.specs.Steps.{Interaction, interaction, Steps, no_steps, then_step}
 use Rattle.ic_round.specs.lemmas.ChainLemmas.{steps-over, steps-names}
@@ -28,19 +28,19 @@ abbrev pub taken : List Rule → List Pair → ℕ
 taken rs [] = 0
 taken rs (p ∷ ps) = names_taken rs p + taken rs ps
 
-pub behind_is : (rs : List Rule) (m : ℕ) (ps : List Pair) → next_behind rs m ps ≡ m + taken rs ps
-behind_is rs m [] = omega arith
-behind_is rs m (p ∷ ps) = let rest = behind_is rs (m + names_taken rs p) ps in omega (arith, rest)
+pub after_is : (rs : List Rule) (m : ℕ) (ps : List Pair) → next_after rs m ps ≡ m + taken rs ps
+after_is rs m [] = omega arith
+after_is rs m (p ∷ ps) = let rest = after_is rs (m + names_taken rs p) ps in omega (arith, rest)
 
-fired-append : (rs : List Rule) (m : ℕ) (ps qs : List Pair) → fired_from rs m (ps ++ qs) ≡ fired_from rs m ps ++ fired_from rs (next_behind rs m ps) qs
+fired-append : (rs : List Rule) (m : ℕ) (ps qs : List Pair) → fired_from rs m (ps ++ qs) ≡ fired_from rs m ps ++ fired_from rs (next_after rs m ps) qs
 fired-append rs m [] qs = refl
 fired-append rs m (p ∷ ps) qs =
     ap (λ es. fired_pair rs m p ++ es) (fired-append rs (m + names_taken rs p) ps qs)
-    ∙ sym (append_assoc (fired_pair rs m p) (fired_from rs (m + names_taken rs p) ps) (fired_from rs (next_behind rs (m + names_taken rs p) ps) qs))
+    ∙ sym (append_assoc (fired_pair rs m p) (fired_from rs (m + names_taken rs p) ps) (fired_from rs (next_after rs (m + names_taken rs p) ps) qs))
 
-behind-append : (rs : List Rule) (m : ℕ) (ps qs : List Pair) → next_behind rs m (ps ++ qs) ≡ next_behind rs (next_behind rs m ps) qs
-behind-append rs m [] qs = refl
-behind-append rs m (p ∷ ps) qs = behind-append rs (m + names_taken rs p) ps qs
+after-append : (rs : List Rule) (m : ℕ) (ps qs : List Pair) → next_after rs m (ps ++ qs) ≡ next_after rs (next_after rs m ps) qs
+after-append rs m [] qs = refl
+after-append rs m (p ∷ ps) qs = after-append rs (m + names_taken rs p) ps qs
 
 -- ---- fired equations renamed
 
@@ -97,15 +97,15 @@ fire_one rs ts done p ps back base (Some a) end is steps =
       result = ap (λ es. record { interface = ts; equations = es; next = base + count_of rs a.rule }) (append_assoc done (products_by rs base a) (ps ++ back));
     })) steps
 
-pub fire_part : (rs : List Rule) (ts : List Tree) (done ps back : List Pair) (base : ℕ) → Steps rs (among ts done ps back base) (among ts done (fired_from rs base ps) back (next_behind rs base ps))
+pub fire_part : (rs : List Rule) (ts : List Tree) (done ps back : List Pair) (base : ℕ) → Steps rs (among ts done ps back base) (among ts done (fired_from rs base ps) back (next_after rs base ps))
 fire_part rs ts done [] back base = no_steps (among ts done [] back base)
 fire_part rs ts done (p ∷ ps) back base =
     let out = fired_pair rs base p in
     let k = names_taken rs p in
     let later = fired_from rs (base + k) ps in
-    let P : List Pair → Type 0 = λ es. Steps rs (among ts done (p ∷ ps) back base) (record { interface = ts; equations = es; next = next_behind rs (base + k) ps }) in
+    let P : List Pair → Type 0 = λ es. Steps rs (among ts done (p ∷ ps) back base) (record { interface = ts; equations = es; next = next_after rs (base + k) ps }) in
     transport P (append_assoc done out (later ++ back) ∙ ap (λ es. done ++ es) (sym (append_assoc out later back)))
-    (fire_one rs ts done p ps back base (active_pair rs p) (among ts (done ++ out) later back (next_behind rs (base + k) ps)) refl (fire_part rs ts (done ++ out) ps back (base + k)))
+    (fire_one rs ts done p ps back base (active_pair rs p) (among ts (done ++ out) later back (next_after rs (base + k) ps)) refl (fire_part rs ts (done ++ out) ps back (base + k)))
 
 -- ---- one equation first
 
@@ -123,11 +123,11 @@ free_since rs c d set over named (then_step x y z steps step) n once =
 abbrev fired_first : List Rule → Configuration → List Pair → List Pair → Active → Configuration
 fired_first rs c before after a =
     let k = count_of rs a.rule in
-    let middle = next_behind rs (c.next + k) before in
+    let middle = next_after rs (c.next + k) before in
     record {
       interface = c.interface;
       equations = fired_from rs (c.next + k) before ++ (products_by rs c.next a ++ fired_from rs middle after);
-      next = next_behind rs middle after;
+      next = next_after rs middle after;
     }
 
 others_fire : (rs : List Rule) (c : Configuration) (before after : List Pair) (a : Active)
@@ -136,14 +136,14 @@ others_fire rs c before after a =
     let out = products_by rs c.next a in
     let base = c.next + count_of rs a.rule in
     let front = fired_from rs base before in
-    let middle = next_behind rs base before in
+    let middle = next_after rs base before in
     let first = fire_part rs c.interface [] before (out ++ after) base in
     let second = fire_part rs c.interface (front ++ out) after [] middle in
     let start : (front ++ out) ++ (after ++ []) ≡ front ++ (out ++ after) = ap (λ es. (front ++ out) ++ es) (append-nil after) ∙ append_assoc front out after in
     let back = fired_from rs middle after in
     let finish : (front ++ out) ++ (back ++ []) ≡ front ++ (out ++ back) = ap (λ es. (front ++ out) ++ es) (append-nil back) ∙ append_assoc front out back in
     let P : List Pair → Type 0 = λ es. Steps rs (record { interface = c.interface; equations = es; next = middle }) (fired_first rs c before after a) in
-    let Q : List Pair → Type 0 = λ es. Steps rs (record { interface = c.interface; equations = (front ++ out) ++ (after ++ []); next = middle }) (record { interface = c.interface; equations = es; next = next_behind rs middle after }) in
+    let Q : List Pair → Type 0 = λ es. Steps rs (record { interface = c.interface; equations = (front ++ out) ++ (after ++ []); next = middle }) (record { interface = c.interface; equations = es; next = next_after rs middle after }) in
     join_steps rs _ _ _ first (transport P start (transport Q finish second))
 
 part_counts : (c : Configuration) (before after : List Pair) (p : Pair) → c.equations ≡ before ++ p ∷ after → (n : ℕ)
@@ -178,29 +178,29 @@ first_same rs c before after p a set over named given is steps =
     let parts = part_counts c before after p given in
     let terms = renamed_terms_stay f c.interface (λ n some. fixed n (let all = parts n in omega (arith, all, some))) in
     let own = active_stays rules p a h f (λ n some. fixed n (let all = parts n in omega (arith, all, some))) in
-    let front_taken = behind_is rules (b + k) before in
-    let here_taken = behind_is rules b before in
+    let front_taken = after_is rules (b + k) before in
+    let here_taken = after_is rules b before in
     let front = renamed_fired rs (b + k) b before f set ends.0 (λ n some. fixed n (let all = parts n in omega (arith, all, some))) (λ j low. block_second b k l j low) in
-    let products = renamed_products rules p a h b (next_behind rules b before) f (λ j low. block_first b k l j low ∙ (let to : b + l + j ≡ next_behind rules b before + j = omega (arith, here_taken) in to)) ∙ ap (products_by rules (next_behind rules b before)) own in
-    let middle = next_behind rules (b + k) before in
-    let back = renamed_fired rs middle (next_behind rules b before + k) after f set ends.1 (λ n some. fixed n (let all = parts n in omega (arith, all, some)))
-    (λ j low. block_high b k l (middle + j) (omega (arith, front_taken)) ∙ (let to : middle + j ≡ next_behind rules b before + k + j = omega (arith, front_taken, here_taken) in to)) in
-    let tops : next_behind rules middle after ≡ next_behind rules (next_behind rules b before + k) after =
-    ap (λ n. next_behind rules n after) (let to : middle ≡ next_behind rules b before + k = omega (arith, front_taken, here_taken) in to) in
+    let products = renamed_products rules p a h b (next_after rules b before) f (λ j low. block_first b k l j low ∙ (let to : b + l + j ≡ next_after rules b before + j = omega (arith, here_taken) in to)) ∙ ap (products_by rules (next_after rules b before)) own in
+    let middle = next_after rules (b + k) before in
+    let back = renamed_fired rs middle (next_after rules b before + k) after f set ends.1 (λ n some. fixed n (let all = parts n in omega (arith, all, some)))
+    (λ j low. block_high b k l (middle + j) (omega (arith, front_taken)) ∙ (let to : middle + j ≡ next_after rules b before + k + j = omega (arith, front_taken, here_taken) in to)) in
+    let tops : next_after rules middle after ≡ next_after rules (next_after rules b before + k) after =
+    ap (λ n. next_after rules n after) (let to : middle ≡ next_after rules b before + k = omega (arith, front_taken, here_taken) in to) in
     let names_p : names_taken rules p ≡ k = ap (λ o. option_map_or (λ z. count_of rules z.rule) o 0) is in
-    let out_p : fired_pair rules (next_behind rules b before) p ≡ products_by rules (next_behind rules b before) a = ap (λ o. option_map_or (products_by rules (next_behind rules b before)) o (p ∷ [])) is in
+    let out_p : fired_pair rules (next_after rules b before) p ≡ products_by rules (next_after rules b before) a = ap (λ o. option_map_or (products_by rules (next_after rules b before)) o (p ∷ [])) is in
     let arrives : renamed_in f (fired_first rules c before after a) ≡ fired rules c =
     (λ i. record {
       interface = terms i;
       equations = (map-append (renamed_pair f) (fired_from rules (b + k) before) (products_by rules b a ++ fired_from rules middle after)
           ∙ (ap (λ es. map (renamed_pair f) (fired_from rules (b + k) before) ++ es) (map-append (renamed_pair f) (products_by rules b a) (fired_from rules middle after))
           ∙ ((λ j. front j ++ (products j ++ back j))
-          ∙ ((λ j. fired_from rules b before ++ (sym out_p j ++ fired_from rules (next_behind rules b before + sym names_p j) after))
+          ∙ ((λ j. fired_from rules b before ++ (sym out_p j ++ fired_from rules (next_after rules b before + sym names_p j) after))
           ∙ (sym (fired-append rules b before (p ∷ after)) ∙ ap (fired_from rules b) (sym given)))))) i;
-      next = (tops ∙ (ap (λ n. next_behind rules (next_behind rules b before + n) after) (sym names_p)
-          ∙ (sym (behind-append rules b before (p ∷ after)) ∙ ap (next_behind rules b) (sym given)))) i;
+      next = (tops ∙ (ap (λ n. next_after rules (next_after rules b before + n) after) (sym names_p)
+          ∙ (sym (after-append rules b before (p ∷ after)) ∙ ap (next_after rules b) (sym given)))) i;
     }) in
-    let after_taken = behind_is rules middle after in
+    let after_taken = after_is rules middle after in
     let P : Configuration → Type 0 = Same (fired_first rules c before after a) in
     transport P arrives (renaming (fired_first rules c before after a) (renamed_in f (fired_first rules c before after a)) (record {
       to = f;

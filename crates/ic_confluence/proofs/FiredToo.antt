@@ -12,7 +12,7 @@ use Rattle.ic_rules.specs.Rule.{Rule}
 use Rattle.ic_rules.specs.RuleSet.{Rules, IsRuleSet}
 use Rattle.ic_settle.specs.Settling.{settled}
 use Rattle.ic_settle.specs.NameSteps.{NameStep}
-use Rattle.ic_round.specs.Firing.{Active, oriented, rule_of_sides, active_pair, products_by, count_of, names_taken, fired_pair, fired_from, next_behind, fired}
+use Rattle.ic_round.specs.Firing.{Active, oriented, rule_of_sides, active_pair, products_by, count_of, names_taken, fired_pair, fired_from, next_after, fired}
 use Rattle.ic_round.specs.Naming.{HasNames}
 use Rattle.ic_round.specs.Rounds.{round, iterate}
 use Rattle.ic_round.specs.Steps.{Steps}
@@ -30,8 +30,8 @@ use Rattle.ic_confluence.proofs.Actives.{HasRule, has_rule, count_is, renamed_ac
 use Rattle.ic_confluence.proofs.Firings.{Sound}
 use Rattle.ic_confluence.proofs.TwoFirings.{block, block_low, block_high, block_first, block_second, block_back, renamed_terms_stay, renamed_pairs_stay, active_stays}
 use Rattle.ic_confluence.proofs.Mirrored.{turned_active, turn_active, Mirrors, mirrors, mirrored_from, from_low, mirrored_from_back, mirrored_from_fresh, mirrored_products}
-use Rattle.ic_confluence.proofs.FiringToo.{same_sound, arranged_behind, arranged_before, arranged_comm, other_products, other_arranged}
-use Rattle.ic_confluence.proofs.FireFirst.{taken, behind_is, renamed_found, renamed_fired, among, fire_part, free_since, over_both}
+use Rattle.ic_confluence.proofs.FiringToo.{same_sound, arranged_after, arranged_before, arranged_comm, other_products, other_arranged}
+use Rattle.ic_confluence.proofs.FireFirst.{taken, after_is, renamed_found, renamed_fired, among, fire_part, free_since, over_both}
 
 -- ---- settled
 
@@ -50,19 +50,19 @@ settled_too c d named same =
     through (settled c) moved.0 (settled d) moved.2
     (settles_so d moved.0 (same_names c d same named) (steps_of whole.0 d moved.0 moved.1) none)
 
--- ---- some equations to be fired behind others
+-- ---- some equations to be fired after others
 
 -- before they are fired, and once they are
 abbrev before : List Tree → List Pair → List Pair → ℕ → Configuration
 before ts done es base = record { interface = ts; equations = done ++ es; next = base }
 
-abbrev behind : List Rule → List Tree → List Pair → List Pair → ℕ → Configuration
-behind rs ts done es base = record { interface = ts; equations = done ++ fired_from rs base es; next = next_behind rs base es }
+abbrev after : List Rule → List Tree → List Pair → List Pair → ℕ → Configuration
+after rs ts done es base = record { interface = ts; equations = done ++ fired_from rs base es; next = next_after rs base es }
 
-they_fire : (rs : List Rule) (ts : List Tree) (done es : List Pair) (base : ℕ) → Steps rs (before ts done es base) (behind rs ts done es base)
+they_fire : (rs : List Rule) (ts : List Tree) (done es : List Pair) (base : ℕ) → Steps rs (before ts done es base) (after rs ts done es base)
 they_fire rs ts done es base =
-    let P : List Pair → Type 0 = λ l. Steps rs (record { interface = ts; equations = done ++ l; next = base }) (behind rs ts done es base) in
-    let Q : List Pair → Type 0 = λ l. Steps rs (among ts done es [] base) (record { interface = ts; equations = done ++ l; next = next_behind rs base es }) in
+    let P : List Pair → Type 0 = λ l. Steps rs (record { interface = ts; equations = done ++ l; next = base }) (after rs ts done es base) in
+    let Q : List Pair → Type 0 = λ l. Steps rs (among ts done es [] base) (record { interface = ts; equations = done ++ l; next = next_after rs base es }) in
     transport P (append-nil es) (transport Q (append-nil (fired_from rs base es)) (fire_part rs ts done es [] base))
 
 one_fires : (rs : List Rule) (ts : List Tree) (done : List Pair) (p : Pair) (es : List Pair) (base : ℕ)
@@ -72,8 +72,8 @@ one_fires rs ts done p es base =
     let P : List Pair → Type 0 = λ l. Steps rs (before ts done (p ∷ es) base) (record { interface = ts; equations = l; next = base + names_taken rs p }) in
     transport P (ap (λ l. done ++ (l ++ es)) (append-nil out) ∙ sym (append_assoc done out es)) (fire_part rs ts done (p ∷ []) es base)
 
-sound_behind : (rs : Rules) (c d : Configuration) → IsRuleSet rs → Sound rs c → Steps rs.rules c d → Sound rs d
-sound_behind rs c d set sound steps = record { over = steps-over rs c d set sound.over steps; named = steps-names rs c d set sound.over sound.named steps }
+sound_after : (rs : Rules) (c d : Configuration) → IsRuleSet rs → Sound rs c → Steps rs.rules c d → Sound rs d
+sound_after rs c d set sound steps = record { over = steps-over rs c d set sound.over steps; named = steps-names rs c d set sound.over sound.named steps }
 
 -- a renaming that leaves what was there leads to the same net
 record Stays (c : Configuration) (top : ℕ) : Type 0 where
@@ -148,18 +148,18 @@ module _ (rs : Rules) (set : IsRuleSet rs) (ts : List Tree) (done : List Pair) (
   abbrev later : List Pair
   later = fired_from rs.rules (base + taken_p + taken_q) es
 
-  -- q behind p, the blocks of names exchanged
+  -- q after p, the blocks of names exchanged
   abbrev exchanged_net : Configuration
   exchanged_net = record {
     interface = ts;
     equations = done ++ (fired_pair rs.rules (base + taken_q) p ++ (fired_pair rs.rules base q ++ fired_from rs.rules (base + taken_q + taken_p) es));
-    next = next_behind rs.rules (base + taken_q + taken_p) es;
+    next = next_after rs.rules (base + taken_q + taken_p) es;
   }
 
-  top_is : next_behind rs.rules (base + taken_p + taken_q) es ≡ base + taken_p + taken_q + taken rs.rules es
-  top_is = behind_is rs.rules (base + taken_p + taken_q) es
+  top_is : next_after rs.rules (base + taken_p + taken_q) es ≡ base + taken_p + taken_q + taken rs.rules es
+  top_is = after_is rs.rules (base + taken_p + taken_q) es
 
-  arrives : renamed_in exchange (behind rs.rules ts done (p ∷ q ∷ es) base) ≡ exchanged_net
+  arrives : renamed_in exchange (after rs.rules ts done (p ∷ q ∷ es) base) ≡ exchanged_net
   arrives =
       let terms = renamed_terms_stay exchange ts (λ n some. fixed n (let all = in_parts n in omega (arith, all, some))) in
       let front = renamed_pairs_stay exchange done (λ n some. fixed n (let all = in_parts n in omega (arith, all, some))) in
@@ -172,13 +172,13 @@ module _ (rs : Rules) (set : IsRuleSet rs) (ts : List Tree) (done : List Pair) (
       ∙ ap (λ fs. map g done ++ fs) (map-append g (fired_pair rs.rules base p) (fired_pair rs.rules (base + taken_p) q ++ later)
       ∙ ap (λ fs. map g (fired_pair rs.rules base p) ++ fs) (map-append g (fired_pair rs.rules (base + taken_p) q) later)) in
       let equations = apart ∙ (λ i. front i ++ (one i ++ (other i ++ rest i))) in
-      let tops = ap (λ n. next_behind rs.rules n es) same_top in
+      let tops = ap (λ n. next_after rs.rules n es) same_top in
       λ i. record { interface = terms i; equations = equations i; next = tops i }
 
-  pub swapped_fire : Same (behind rs.rules ts done (p ∷ q ∷ es) base) (behind rs.rules ts done (q ∷ p ∷ es) base)
+  pub swapped_fire : Same (after rs.rules ts done (p ∷ q ∷ es) base) (after rs.rules ts done (q ∷ p ∷ es) base)
   swapped_fire =
       let start = before ts done (p ∷ q ∷ es) base in
-      let end = behind rs.rules ts done (p ∷ q ∷ es) base in
+      let end = after rs.rules ts done (p ∷ q ∷ es) base in
       let high = top_is in
       let P : Configuration → Type 0 = Same end in
       let moved = transport P arrives (stays_same rs start end set sound (they_fire rs.rules ts done (p ∷ q ∷ es) base) (record {
@@ -195,35 +195,35 @@ module _ (rs : Rules) (set : IsRuleSet rs) (ts : List Tree) (done : List Pair) (
       let Q : List Pair → Type 0 = λ fs. Rearranged fs (more ++ (out ++ rest)) in
       let R : List Pair → Type 0 = λ fs. Rearranged ((out ++ more) ++ rest) fs in
       let turn = transport Q (append_assoc out more rest) (transport R (append_assoc more out rest) (arranged_before (out ++ more) (more ++ out) rest (arranged_comm out more))) in
-      through end exchanged_net (behind rs.rules ts done (q ∷ p ∷ es) base) moved
-      (same_equations exchanged_net (done ++ (more ++ (out ++ rest))) (arranged_behind done (out ++ (more ++ rest)) (more ++ (out ++ rest)) turn))
+      through end exchanged_net (after rs.rules ts done (q ∷ p ∷ es) base) moved
+      (same_equations exchanged_net (done ++ (more ++ (out ++ rest))) (arranged_after done (out ++ (more ++ rest)) (more ++ (out ++ rest)) turn))
 
 -- ---- one equation turned round
 
--- the configuration behind, where this is found of the first equation
-abbrev found_behind : List Rule → List Tree → List Pair → Pair → List Pair → ℕ → Option Active → Configuration
-found_behind rs ts done p es base found = record {
+-- the configuration after it, where this is found of the first equation
+abbrev found_after : List Rule → List Tree → List Pair → Pair → List Pair → ℕ → Option Active → Configuration
+found_after rs ts done p es base found = record {
   interface = ts;
   equations = done ++ (option_map_or (products_by rs base) found (p ∷ []) ++ fired_from rs (base + option_map_or (λ a. count_of rs a.rule) found 0) es);
-  next = next_behind rs (base + option_map_or (λ a. count_of rs a.rule) found 0) es;
+  next = next_after rs (base + option_map_or (λ a. count_of rs a.rule) found 0) es;
 }
 
-is_behind : (rs : List Rule) (ts : List Tree) (done : List Pair) (p : Pair) (es : List Pair) (base : ℕ) (found : Option Active) → active_pair rs p ≡ found
-    → behind rs ts done (p ∷ es) base ≡ found_behind rs ts done p es base found
-is_behind rs ts done p es base found e = ap (found_behind rs ts done p es base) e
+is_after : (rs : List Rule) (ts : List Tree) (done : List Pair) (p : Pair) (es : List Pair) (base : ℕ) (found : Option Active) → active_pair rs p ≡ found
+    → after rs ts done (p ∷ es) base ≡ found_after rs ts done p es base found
+is_after rs ts done p es base found e = ap (found_after rs ts done p es base) e
 
 alike_before : (ts : List Tree) (done : List Pair) (p q : Pair) (es : List Pair) (base : ℕ) → Alike p q → Same (before ts done (p ∷ es) base) (before ts done (q ∷ es) base)
 alike_before ts done p q es base alike =
-    same_equations (before ts done (p ∷ es) base) (done ++ q ∷ es) (arranged_behind done (p ∷ es) (q ∷ es) (kept p q es es alike (Rearranged-refl es)))
+    same_equations (before ts done (p ∷ es) base) (done ++ q ∷ es) (arranged_after done (p ∷ es) (q ∷ es) (kept p q es es alike (Rearranged-refl es)))
 
 inert_alike : (rs : List Rule) (ts : List Tree) (done : List Pair) (p q : Pair) (es : List Pair) (base : ℕ) → Alike p q → active_pair rs p ≡ None → active_pair rs q ≡ None
-    → Same (behind rs ts done (p ∷ es) base) (behind rs ts done (q ∷ es) base)
+    → Same (after rs ts done (p ∷ es) base) (after rs ts done (q ∷ es) base)
 inert_alike rs ts done p q es base alike e f =
     let rest = fired_from rs (base + 0) es in
-    let P : Configuration → Type 0 = λ z. Same z (behind rs ts done (q ∷ es) base) in
-    let Q : Configuration → Type 0 = λ z. Same (found_behind rs ts done p es base None) z in
-    transport P (sym (is_behind rs ts done p es base None e)) (transport Q (sym (is_behind rs ts done q es base None f))
-    (same_equations (found_behind rs ts done p es base None) (done ++ q ∷ rest) (arranged_behind done (p ∷ rest) (q ∷ rest) (kept p q rest rest alike (Rearranged-refl rest)))))
+    let P : Configuration → Type 0 = λ z. Same z (after rs ts done (q ∷ es) base) in
+    let Q : Configuration → Type 0 = λ z. Same (found_after rs ts done p es base None) z in
+    transport P (sym (is_after rs ts done p es base None e)) (transport Q (sym (is_after rs ts done q es base None f))
+    (same_equations (found_after rs ts done p es base None) (done ++ q ∷ rest) (arranged_after done (p ∷ rest) (q ∷ rest) (kept p q rest rest alike (Rearranged-refl rest)))))
 
 -- a rule of a symbol with itself, the other way round
 module _ (rs : Rules) (set : IsRuleSet rs) (ts : List Tree) (done : List Pair) (p : Pair) (es : List Pair) (base : ℕ) (sound : Sound rs (before ts done (p ∷ es) base))
@@ -239,7 +239,7 @@ module _ (rs : Rules) (set : IsRuleSet rs) (ts : List Tree) (done : List Pair) (
 
   -- the products as the mirror has them
   abbrev middle_net : Configuration
-  middle_net = record { interface = ts; equations = done ++ (other_products rs.rules p a h base ++ unfired); next = next_behind rs.rules (base + count) es }
+  middle_net = record { interface = ts; equations = done ++ (other_products rs.rules p a h base ++ unfired); next = next_after rs.rules (base + count) es }
 
   low_stays : (n : ℕ) → 1 ≤ occurrences n (configuration_names (before ts done (p ∷ es) base)) → mirror_names n ≡ n
   low_stays n some = from_low h.rule m base n (below_next (before ts done (p ∷ es) base) sound.named n some)
@@ -257,7 +257,7 @@ module _ (rs : Rules) (set : IsRuleSet rs) (ts : List Tree) (done : List Pair) (
   high_stays : (n : ℕ) → base + count ≤ n → mirror_names n ≡ n
   high_stays n high = mirrored_from_fresh h.rule m h.is_rule base n (let names_of_rule = count_is rs.rules p a h in omega (arith, high, names_of_rule))
 
-  turned_to_middle : renamed_in mirror_names (found_behind rs.rules ts done (turned p) es base (Some (turned_active a))) ≡ middle_net
+  turned_to_middle : renamed_in mirror_names (found_after rs.rules ts done (turned p) es base (Some (turned_active a))) ≡ middle_net
   turned_to_middle =
       let terms = renamed_terms_stay mirror_names ts (λ n some. low_stays n (let all = part_names n in omega (arith, all, some))) in
       let front = renamed_pairs_stay mirror_names done (λ n some. low_stays n (let all = part_names n in omega (arith, all, some))) in
@@ -268,19 +268,19 @@ module _ (rs : Rules) (set : IsRuleSet rs) (ts : List Tree) (done : List Pair) (
       let r = renamed_pair mirror_names in
       let apart = map-append r done (products_by rs.rules base (turned_active a) ++ unfired) ∙ ap (λ fs. map r done ++ fs) (map-append r (products_by rs.rules base (turned_active a)) unfired) in
       let equations = apart ∙ (λ i. front i ++ (out i ++ rest i)) in
-      λ i. record { interface = terms i; equations = equations i; next = next_behind rs.rules (base + count) es }
+      λ i. record { interface = terms i; equations = equations i; next = next_after rs.rules (base + count) es }
 
-  pub mirrored_fire : Same (behind rs.rules ts done (p ∷ es) base) (behind rs.rules ts done (turned p ∷ es) base)
+  pub mirrored_fire : Same (after rs.rules ts done (p ∷ es) base) (after rs.rules ts done (turned p ∷ es) base)
   mirrored_fire =
       let q = turned p in
       let b = turned_active a in
       let start = before ts done (q ∷ es) base in
-      let end = found_behind rs.rules ts done q es base (Some b) in
-      let first = found_behind rs.rules ts done p es base (Some a) in
+      let end = found_after rs.rules ts done q es base (Some b) in
+      let first = found_after rs.rules ts done p es base (Some a) in
       let sound_q = same_sound rs (before ts done (p ∷ es) base) start (alike_before ts done p q es base (exchanged p)) sound in
       let P : Configuration → Type 0 = Steps rs.rules start in
-      let steps = transport P (is_behind rs.rules ts done q es base (Some b) turn) (they_fire rs.rules ts done (q ∷ es) base) in
-      let top = behind_is rs.rules (base + count) es in
+      let steps = transport P (is_after rs.rules ts done q es base (Some b) turn) (they_fire rs.rules ts done (q ∷ es) base) in
+      let top = after_is rs.rules (base + count) es in
       let Q : Configuration → Type 0 = Same end in
       let moved = transport Q turned_to_middle (stays_same rs start end set sound_q steps (record {
         to = mirror_names;
@@ -292,10 +292,10 @@ module _ (rs : Rules) (set : IsRuleSet rs) (ts : List Tree) (done : List Pair) (
       })) in
       let out = products_by rs.rules base a in
       let mirror = other_products rs.rules p a h base in
-      let here = same_equations first (done ++ (mirror ++ unfired)) (arranged_behind done (out ++ unfired) (mirror ++ unfired) (arranged_before out mirror unfired (other_arranged rs.rules p a h base))) in
-      let R : Configuration → Type 0 = λ z. Same z (behind rs.rules ts done (q ∷ es) base) in
+      let here = same_equations first (done ++ (mirror ++ unfired)) (arranged_after done (out ++ unfired) (mirror ++ unfired) (arranged_before out mirror unfired (other_arranged rs.rules p a h base))) in
+      let R : Configuration → Type 0 = λ z. Same z (after rs.rules ts done (q ∷ es) base) in
       let S : Configuration → Type 0 = λ z. Same first z in
-      transport R (sym (is_behind rs.rules ts done p es base (Some a) is)) (transport S (sym (is_behind rs.rules ts done q es base (Some b) turn))
+      transport R (sym (is_after rs.rules ts done p es base (Some a) is)) (transport S (sym (is_after rs.rules ts done q es base (Some b) turn))
       (through first middle_net end here (Same-sym end middle_net moved)))
 
 none_some : (a : Active) → None ≡ Some a → ⊥
@@ -303,7 +303,7 @@ none_some a e = cc
 
 turned_fire : (rs : Rules) (set : IsRuleSet rs) (ts : List Tree) (done : List Pair) (p : Pair) (es : List Pair) (base : ℕ) → Sound rs (before ts done (p ∷ es) base)
     → (here there : Option Active) → active_pair rs.rules p ≡ here → active_pair rs.rules (turned p) ≡ there
-    → Same (behind rs.rules ts done (p ∷ es) base) (behind rs.rules ts done (turned p ∷ es) base)
+    → Same (after rs.rules ts done (p ∷ es) base) (after rs.rules ts done (turned p ∷ es) base)
 turned_fire rs set ts done p es base sound None None e f = inert_alike rs.rules ts done p (turned p) es base (exchanged p) e f
 turned_fire rs set ts done p es base sound None (Some b) e f = elim (turn_active rs (turned p) b set f) [
   | inl g ↦ absurd (none_some b (sym e ∙ g))
@@ -311,9 +311,9 @@ turned_fire rs set ts done p es base sound None (Some b) e f = elim (turn_active
 ]
 turned_fire rs set ts done p es base sound (Some a) there e f = elim (turn_active rs p a set e) [
   | inl g ↦
-      let same = is_behind rs.rules ts done p es base (Some a) e ∙ sym (is_behind rs.rules ts done (turned p) es base (Some a) g) in
-      let P : Configuration → Type 0 = Same (behind rs.rules ts done (p ∷ es) base) in
-      transport P same (Same-refl (behind rs.rules ts done (p ∷ es) base))
+      let same = is_after rs.rules ts done p es base (Some a) e ∙ sym (is_after rs.rules ts done (turned p) es base (Some a) g) in
+      let P : Configuration → Type 0 = Same (after rs.rules ts done (p ∷ es) base) in
+      transport P same (Same-refl (after rs.rules ts done (p ∷ es) base))
   | inr g ↦
       let over = over_equations rs ts done (p ∷ es) base sound in
       let h = has_rule rs p a set (and_parts (is_pair_over rs.symbols p) (list_all (is_pair_over rs.symbols) es) over).0 e in
@@ -321,40 +321,40 @@ turned_fire rs set ts done p es base sound (Some a) there e f = elim (turn_activ
 ]
 
 alike_fire : (rs : Rules) (set : IsRuleSet rs) (ts : List Tree) (done : List Pair) (p q : Pair) (es : List Pair) (base : ℕ) → Alike p q → Sound rs (before ts done (p ∷ es) base)
-    → Same (behind rs.rules ts done (p ∷ es) base) (behind rs.rules ts done (q ∷ es) base)
-alike_fire rs set ts done p q es base (itself r) sound = Same-refl (behind rs.rules ts done (r ∷ es) base)
+    → Same (after rs.rules ts done (p ∷ es) base) (after rs.rules ts done (q ∷ es) base)
+alike_fire rs set ts done p q es base (itself r) sound = Same-refl (after rs.rules ts done (r ∷ es) base)
 alike_fire rs set ts done p q es base (exchanged r) sound =
     turned_fire rs set ts done r es base sound (active_pair rs.rules r) (active_pair rs.rules (turned r)) refl refl
 alike_fire rs set ts done p q es base (rotated r s is) sound =
     inert_alike rs.rules ts done r s es base (rotated r s is) (ap (active_pair rs.rules) is.given) (ap (active_pair rs.rules) is.result)
 alike_fire rs set ts done p q es base (in_turn r s t one other) sound =
     let sound_s = same_sound rs (before ts done (r ∷ es) base) (before ts done (s ∷ es) base) (alike_before ts done r s es base one) sound in
-    through (behind rs.rules ts done (r ∷ es) base) (behind rs.rules ts done (s ∷ es) base) (behind rs.rules ts done (t ∷ es) base)
+    through (after rs.rules ts done (r ∷ es) base) (after rs.rules ts done (s ∷ es) base) (after rs.rules ts done (t ∷ es) base)
     (alike_fire rs set ts done r s es base one sound) (alike_fire rs set ts done s t es base other sound_s)
 
 -- ---- all equations, rearranged
 
 arranged_fire : (rs : Rules) (set : IsRuleSet rs) (es fs : List Pair) → Rearranged es fs → (ts : List Tree) (done : List Pair) (base : ℕ) → Sound rs (before ts done es base)
-    → Same (behind rs.rules ts done es base) (behind rs.rules ts done fs base)
-arranged_fire rs set es fs nothing ts done base sound = Same-refl (behind rs.rules ts done [] base)
+    → Same (after rs.rules ts done es base) (after rs.rules ts done fs base)
+arranged_fire rs set es fs nothing ts done base sound = Same-refl (after rs.rules ts done [] base)
 arranged_fire rs set es fs (kept p q ps qs alike rest) ts done base sound =
     let out = fired_pair rs.rules base p in
     let next = base + names_taken rs.rules p in
-    let sound_later = sound_behind rs (before ts done (p ∷ ps) base) (before ts (done ++ out) ps next) set sound (one_fires rs.rules ts done p ps base) in
+    let sound_later = sound_after rs (before ts done (p ∷ ps) base) (before ts (done ++ out) ps next) set sound (one_fires rs.rules ts done p ps base) in
     let later = arranged_fire rs set ps qs rest ts (done ++ out) next sound_later in
-    let P : List Pair → Type 0 = λ l. Same (record { interface = ts; equations = l; next = next_behind rs.rules next ps }) (behind rs.rules ts done (p ∷ qs) base) in
-    let Q : List Pair → Type 0 = λ l. Same (behind rs.rules ts (done ++ out) ps next) (record { interface = ts; equations = l; next = next_behind rs.rules next qs }) in
+    let P : List Pair → Type 0 = λ l. Same (record { interface = ts; equations = l; next = next_after rs.rules next ps }) (after rs.rules ts done (p ∷ qs) base) in
+    let Q : List Pair → Type 0 = λ l. Same (after rs.rules ts (done ++ out) ps next) (record { interface = ts; equations = l; next = next_after rs.rules next qs }) in
     let first = transport P (append_assoc done out (fired_from rs.rules next ps)) (transport Q (append_assoc done out (fired_from rs.rules next qs)) later) in
     let start = before ts done (p ∷ ps) base in
-    let moved = same_equations start (done ++ p ∷ qs) (arranged_behind done (p ∷ ps) (p ∷ qs) (kept p p ps qs (itself p) rest)) in
+    let moved = same_equations start (done ++ p ∷ qs) (arranged_after done (p ∷ ps) (p ∷ qs) (kept p p ps qs (itself p) rest)) in
     let sound_too = same_sound rs start (before ts done (p ∷ qs) base) moved sound in
-    through (behind rs.rules ts done (p ∷ ps) base) (behind rs.rules ts done (p ∷ qs) base) (behind rs.rules ts done (q ∷ qs) base) first
+    through (after rs.rules ts done (p ∷ ps) base) (after rs.rules ts done (p ∷ qs) base) (after rs.rules ts done (q ∷ qs) base) first
     (alike_fire rs set ts done p q qs base alike sound_too)
 arranged_fire rs set es fs (swapped p q ps) ts done base sound = swapped_fire rs set ts done p q ps base sound
 arranged_fire rs set es fs (one_by_one ps qs ms first second) ts done base sound =
     let start = before ts done ps base in
-    let sound_too = same_sound rs start (before ts done qs base) (same_equations start (done ++ qs) (arranged_behind done ps qs first)) sound in
-    through (behind rs.rules ts done ps base) (behind rs.rules ts done qs base) (behind rs.rules ts done ms base)
+    let sound_too = same_sound rs start (before ts done qs base) (same_equations start (done ++ qs) (arranged_after done ps qs first)) sound in
+    through (after rs.rules ts done ps base) (after rs.rules ts done qs base) (after rs.rules ts done ms base)
     (arranged_fire rs set ps qs first ts done base sound) (arranged_fire rs set qs ms second ts done base sound_too)
 
 -- ---- all equations, renamed
@@ -383,7 +383,7 @@ pair_too rs m p f set over fresh =
     ∙ ap (λ o. option_map_or (products_by rs.rules m) o (renamed_pair f p ∷ [])) (sym (active_too rs.rules f p))
 
 all_too : (rs : Rules) (m : ℕ) (ps : List Pair) (f : ℕ → ℕ) → IsRuleSet rs → list_all (is_pair_over rs.symbols) ps ≡ true → ((n : ℕ) → m ≤ n → f n ≡ n)
-    → (map (renamed_pair f) (fired_from rs.rules m ps) ≡ fired_from rs.rules m (map (renamed_pair f) ps)) × (next_behind rs.rules m ps ≡ next_behind rs.rules m (map (renamed_pair f) ps))
+    → (map (renamed_pair f) (fired_from rs.rules m ps) ≡ fired_from rs.rules m (map (renamed_pair f) ps)) × (next_after rs.rules m ps ≡ next_after rs.rules m (map (renamed_pair f) ps))
 all_too rs m [] f set over fresh = (refl, refl)
 all_too rs m (p ∷ ps) f set over fresh =
     let both = and_parts (is_pair_over rs.symbols p) (list_all (is_pair_over rs.symbols) ps) over in
@@ -393,7 +393,7 @@ all_too rs m (p ∷ ps) f set over fresh =
     let count = sym (taken_too rs.rules f p) in (
       map-append (renamed_pair f) (fired_pair rs.rules m p) (fired_from rs.rules (m + k) ps)
           ∙ ((λ i. here i ++ rest.0 i) ∙ (λ i. fired_pair rs.rules m (renamed_pair f p) ++ fired_from rs.rules (m + count i) (map (renamed_pair f) ps))),
-      rest.1 ∙ ap (λ n. next_behind rs.rules (m + n) (map (renamed_pair f) ps)) count,
+      rest.1 ∙ ap (λ n. next_after rs.rules (m + n) (map (renamed_pair f) ps)) count,
     )
 
 renamed_all_fired : (rs : Rules) (c d : Configuration) → IsRuleSet rs → Sound rs c → Renames c d → Same (fired rs.rules c) (fired rs.rules d)
@@ -402,7 +402,7 @@ renamed_all_fired rs c d set sound r =
     let both = all_too rs c.next c.equations r.to set over r.fresh in
     let end = fired rs.rules c in
     let steps = they_fire rs.rules c.interface [] c.equations c.next in
-    let top = behind_is rs.rules c.next c.equations in
+    let top = after_is rs.rules c.next c.equations in
     let arrives : renamed_in r.to end ≡ fired rs.rules (renamed_in r.to c) = λ i. record { interface = map (renamed r.to) c.interface; equations = both.0 i; next = both.1 i } in
     let P : Configuration → Type 0 = Same end in
     transport P (arrives ∙ ap (fired rs.rules) (sym r.result)) (renaming end (renamed_in r.to end) (record {

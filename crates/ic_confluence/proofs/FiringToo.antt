@@ -34,9 +34,9 @@ pub record FiredToo (rs : List Rule) (d after : Configuration) (i : ℕ) : Type 
 
 -- ---- lists of equations, rearranged
 
-pub arranged_behind : (front es fs : List Pair) → Rearranged es fs → Rearranged (front ++ es) (front ++ fs)
-arranged_behind [] es fs r = r
-arranged_behind (p ∷ front) es fs r = kept p p (front ++ es) (front ++ fs) (itself p) (arranged_behind front es fs r)
+pub arranged_after : (front es fs : List Pair) → Rearranged es fs → Rearranged (front ++ es) (front ++ fs)
+arranged_after [] es fs r = r
+arranged_after (p ∷ front) es fs r = kept p p (front ++ es) (front ++ fs) (itself p) (arranged_after front es fs r)
 
 pub arranged_before : (es fs back : List Pair) → Rearranged es fs → Rearranged (es ++ back) (fs ++ back)
 arranged_before es fs back nothing = Rearranged-refl back
@@ -44,7 +44,7 @@ arranged_before es fs back (kept p q ps qs alike rest) = kept p q (ps ++ back) (
 arranged_before es fs back (swapped p q ps) = swapped p q (ps ++ back)
 arranged_before es fs back (one_by_one ps qs rs first second) = one_by_one (ps ++ back) (qs ++ back) (rs ++ back) (arranged_before ps qs back first) (arranged_before qs rs back second)
 
--- an equation moved behind others
+-- an equation moved after others
 moved_in : (p : Pair) (out es : List Pair) → Rearranged (p ∷ (out ++ es)) (out ++ p ∷ es)
 moved_in p [] es = Rearranged-refl (p ∷ es)
 moved_in p (q ∷ out) es = one_by_one (p ∷ q ∷ (out ++ es)) (q ∷ p ∷ (out ++ es)) (q ∷ (out ++ p ∷ es)) (swapped p q (out ++ es))
@@ -140,7 +140,7 @@ fires_as_well rs c p q a others fs more r arranged at is =
       rule = refl;
       same = same_equations (fired_in rs c others a) filled.end
           (one_by_one others (out ++ r.rest) filled.end r.arranged
-          (one_by_one (out ++ r.rest) (out ++ more) filled.end (arranged_behind out r.rest more arranged) (Rearranged-sym filled.end (out ++ more) filled.arranged)));
+          (one_by_one (out ++ r.rest) (out ++ more) filled.end (arranged_after out r.rest more arranged) (Rearranged-sym filled.end (out ++ more) filled.arranged)));
     }
 
 -- ---- a rule of a symbol with itself, the other way round
@@ -223,7 +223,7 @@ turned_fires rs c p q a others fs more r arranged w =
     let front = fired_in rs.rules c (out_b ++ more) a in
     let middle = fired_in rs.rules c (mirror_out ++ more) a in
     let first : Same after middle = same_equations after (mirror_out ++ more) (one_by_one others (out ++ r.rest) (mirror_out ++ more) r.arranged
-    (one_by_one (out ++ r.rest) (out ++ more) (mirror_out ++ more) (arranged_behind out r.rest more arranged)
+    (one_by_one (out ++ r.rest) (out ++ more) (mirror_out ++ more) (arranged_after out r.rest more arranged)
     (arranged_before out mirror_out more (other_arranged rs.rules p a w.rule_p c.next)))) in
     let P : Configuration → Type 0 = Same front in
     let second : Same front middle = transport P (turned_arrives rs c p q a fs more w) (renaming front _ (turned_renames rs c p q a fs more w)) in

@@ -13,7 +13,7 @@ use Rattle.ic_confluence.proofs.Strip.{Meeting, Chain as Way, chain_too, good_ch
 use Rattle.ic_confluence.proofs.Order.{all_laws, way_of, chain_of}
 
 module _ (L C : Type 0) (Good : C → Type 0) (Step : L → C → C → Type 0) (Same : C → C → Type 0) (laws : Meeting L C Good Step Same) where
-  -- a first step beside a way: it is among the steps of the way, or is still there behind it
+  -- a first step beside a way: it is among the steps of the way, or is still there after it
   pub record Among (m : L) (ls : List L) (d q : C) : Type 0 where
     pub others : List L
     pub end : C
@@ -21,20 +21,20 @@ module _ (L C : Type 0) (Good : C → Type 0) (Step : L → C → C → Type 0) 
     pub chain : Way L C Good Step Same laws others d end
     pub same : Same q end
 
-  pub record Behind (m : L) (ls : List L) (d q : C) : Type 0 where
+  pub record After (m : L) (ls : List L) (d q : C) : Type 0 where
     pub later : C
     pub end : C
     pub step : Step m q later
     pub chain : Way L C Good Step Same laws ls d end
     pub same : Same later end
 
-  pub beside : (ls : List L) (m : L) (c d q : C) → Good c → Way L C Good Step Same laws ls c q → Step m c d → Among m ls d q ⊎ Behind m ls d q
+  pub beside : (ls : List L) (m : L) (c d q : C) → Good c → Way L C Good Step Same laws ls c q → Step m c d → Among m ls d q ⊎ After m ls d q
   beside [] m c d q good w step = inr (record { later = d; end = d; step = transport (λ z. Step m z d) w step; chain = refl; same = laws.itself d })
   beside (l ∷ ls) m c d q good w step =
       at (laws.meets l m c w.0 d good w.1 step) (λ f step. beside ls m w.0 f q (laws.good_step l c w.0 good w.1) w.2 step)
     where
       at : ((l ≡ m) × Same w.0 d) ⊎ ((f : C) × (g : C) × Step m w.0 f × Step l d g × Same f g)
-          → ((f : C) → Step m w.0 f → Among m ls f q ⊎ Behind m ls f q) → Among m (l ∷ ls) d q ⊎ Behind m (l ∷ ls) d q
+          → ((f : C) → Step m w.0 f → Among m ls f q ⊎ After m ls f q) → Among m (l ∷ ls) d q ⊎ After m (l ∷ ls) d q
       at (inl (label, same)) rest =
           let moved = chain_too L C Good Step Same laws ls w.0 d q (laws.good_step l c w.0 good w.1) same w.2 in
           inl (record { others = ls; end = moved.0; labels = same_label L C Good Step Same laws l m ls label; chain = moved.1; same = moved.2 })
@@ -88,7 +88,7 @@ module _ (L C : Type 0) (Good : C → Type 0) (Step : L → C → C → Type 0) 
       good_e : Good e
       good_e = good_chain L C Good Step Same laws ls c e good v
 
-      at : Among k ls w.0 e ⊎ Behind k ls w.0 e → ((js : List L) (end : C) → Way L C Good Step Same laws js w.0 end → Joined ks js d end) → Joined (k ∷ ks) ls d e
+      at : Among k ls w.0 e ⊎ After k ls w.0 e → ((js : List L) (end : C) → Way L C Good Step Same laws js w.0 end → Joined ks js d end) → Joined (k ∷ ks) ls d e
       at (inl a) rest =
           let below = rest a.others a.end a.chain in
           let moved = chain_too L C Good Step Same laws below.other a.end e below.other_end (laws.good_same e a.end good_e a.same) (laws.other_way e a.end a.same) below.other_chain in

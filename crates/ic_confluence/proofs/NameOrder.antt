@@ -6,7 +6,7 @@ use Rattle.ic_settle.specs.NameSteps.{NameStep, NameSteps, no_step, one_more}
 use Rattle.ic_round.specs.Naming.{HasNames}
 use Rattle.ic_confluence.specs.Sameness.{Same, through}
 use Rattle.ic_confluence.proofs.Equivalence.{Same-refl, Same-sym}
-use Rattle.ic_confluence.proofs.Putting.{Putting, from_step, to_step, putting_names, free_before, free_behind}
+use Rattle.ic_confluence.proofs.Putting.{Putting, from_step, to_step, putting_names, free_before, free_after}
 use Rattle.ic_confluence.proofs.Moving.{same_names, taken_too}
 use Rattle.ic_confluence.proofs.Meeting.{two_puttings}
 use Rattle.ic_confluence.proofs.Settled.{settled_steps, settled_ends}
@@ -77,7 +77,7 @@ goes_on_to_settled c d named steps =
 
 pub same_free_names : (c d : Configuration) → HasNames c → NameStep c d → (n : ℕ)
     → (occurrences n (configuration_names c) ≡ 1) ↔ (occurrences n (configuration_names d) ≡ 1)
-same_free_names c d named step n = (free_behind c d named (from_step c d step) n, free_before c d named (from_step c d step) n)
+same_free_names c d named step n = (free_after c d named (from_step c d step) n, free_before c d named (from_step c d step) n)
 
 pub step_too : (c d after : Configuration) → HasNames c → Same c d → NameStep c after → (end : Configuration) × NameStep d end × Same after end
 step_too c d after named same step =

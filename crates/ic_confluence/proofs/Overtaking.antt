@@ -20,7 +20,7 @@ use Rattle.ic_confluence.proofs.Strip.{chain_too}
 use Rattle.ic_confluence.proofs.Settled.{settled_ends}
 use Rattle.ic_confluence.proofs.Order.{step_of, step_too, all_laws, way_of, chain_of}
 use Rattle.ic_confluence.proofs.Chains.{chain_from, steps_from}
-use Rattle.ic_confluence.proofs.Joins.{Among, Behind, beside}
+use Rattle.ic_confluence.proofs.Joins.{After, Among, beside}
 use Rattle.ic_confluence.proofs.FireFirst.{fire_first, join_steps}
 use Rattle.ic_confluence.proofs.RoundSteps.{first_round}
 
@@ -92,9 +92,9 @@ module _ (rs : Rules) (set : IsRuleSet rs) (c d x : Configuration) (sound : Soun
   among_too k ks a = (a.end, steps_from rs.rules a.others d a.end (chain_of rs set a.others d a.end a.chain), through a.end goes.0 x (Same-sym goes.0 a.end a.same) goes.2)
 
   -- or it can still be made there
-  behind_too : (k : Kind) (ks : List Kind) → Behind Kind Configuration (Sound rs) (StepOf rs.rules) Same (all_laws rs set) k ks d goes.0
+  after_too : (k : Kind) (ks : List Kind) → After Kind Configuration (Sound rs) (StepOf rs.rules) Same (all_laws rs set) k ks d goes.0
       → (y : Configuration) × StepOf rs.rules k x y × GoesTo rs d y
-  behind_too k ks b =
+  after_too k ks b =
       let there = sound_steps rs c goes.0 set sound goes.1 in
       let too = step_too rs k goes.0 x b.later set there.over there.named goes.2 b.step in
       (too.0, too.1, (b.end, steps_from rs.rules ks d b.end (chain_of rs set ks d b.end b.chain), through b.end b.later too.0 (Same-sym b.later b.end b.same) too.2))
@@ -103,7 +103,7 @@ module _ (rs : Rules) (set : IsRuleSet rs) (c d x : Configuration) (sound : Soun
   after_naming none step =
       elim (beside Kind Configuration (Sound rs) (StepOf rs.rules) Same (all_laws rs set) chain_to.0 naming c d goes.0 sound (way_of rs set chain_to.0 c goes.0 chain_to.1) step) [
         | inl a ↦ among_too naming chain_to.0 a
-        | inr b ↦ let still = behind_too naming chain_to.0 b in absurd (none still.0 still.1)
+        | inr b ↦ let still = after_too naming chain_to.0 b in absurd (none still.0 still.1)
       ]
 
   after_firing : (i : ℕ) → StepOf rs.rules (firing i) c d → GoesTo rs d (round rs.rules x)
@@ -112,7 +112,7 @@ module _ (rs : Rules) (set : IsRuleSet rs) (c d x : Configuration) (sound : Soun
       elim (beside Kind Configuration (Sound rs) (StepOf rs.rules) Same (all_laws rs set) chain_to.0 (firing i) c d goes.0 sound (way_of rs set chain_to.0 c goes.0 chain_to.1) step) [
         | inl a ↦ goes_further rs d x (round rs.rules x) set sound_d (among_too (firing i) chain_to.0 a) (round rs.rules x, round_reached rs.rules x, Same-refl (round rs.rules x))
         | inr b ↦
-            let still = behind_too (firing i) chain_to.0 b in
+            let still = after_too (firing i) chain_to.0 b in
             goes_further rs d still.0 (round rs.rules x) set sound_d still.2 (interaction_to_round rs x still.0 i set sound_x still.1)
       ]
 

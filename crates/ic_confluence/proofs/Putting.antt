@@ -1,4 +1,4 @@
--- Lemmas: a step that puts a term for a name, wherever its equation stands, and how often names occur before and behind it.
+-- Lemmas: a step that puts a term for a name, wherever its equation stands, and how often names occur before and after it.
 use Rattle.std.proofs.Common.{◌≡◌, ℕ, ◌+◌, ◌*◌, ◌≤◌, ◌==◌, List, [], ◌∷◌, ◌++◌, Bool, true, false, cond, refl, sym, ap, ◌∙◌, eq-eqb, arith, subst as transport}
 use Rattle.std.proofs.lemmas.Bool.{true_from_ne_false}
 use Rattle.std.specs.Cmp.{unsigned_Decides}
@@ -120,14 +120,14 @@ once_before c others b is n true e once =
     absurd (omega (arith, none, equal, once))
 once_before c others b is n false e once = sym (kept_counts c others b is n e) ∙ once
 
-once_behind : (c : Configuration) (others : List Pair) (b : Binding) → Counted c others b → (n : ℕ) → (t : Bool) → (b.name == n) ≡ t
+once_after : (c : Configuration) (others : List Pair) (b : Binding) → Counted c others b → (n : ℕ) → (t : Bool) → (b.name == n) ≡ t
     → occurrences n (configuration_names c) ≡ 1 → occurrences n (configuration_names (bound_in c others b)) ≡ 1
-once_behind c others b is n true e once =
+once_after c others b is n true e once =
     let same = (unsigned_Decides b.name n).0 e in
     let two = is.twice in
     let equal = ap (λ k. occurrences k (configuration_names c)) same in
     absurd (omega (arith, two, equal, once))
-once_behind c others b is n false e once = kept_counts c others b is n e ∙ once
+once_after c others b is n false e once = kept_counts c others b is n e ∙ once
 
 -- the names that occur once
 pub free_before : (c d : Configuration) → HasNames c → Putting c d → (n : ℕ) → occurrences n (configuration_names d) ≡ 1 → occurrences n (configuration_names c) ≡ 1
@@ -135,10 +135,10 @@ free_before c d named s n once =
     let P : Configuration → Type 0 = λ e. occurrences n (configuration_names e) ≡ 1 in
     once_before c s.others s.bound (counted c d named s) n (s.bound.name == n) refl (transport P s.result once)
 
-pub free_behind : (c d : Configuration) → HasNames c → Putting c d → (n : ℕ) → occurrences n (configuration_names c) ≡ 1 → occurrences n (configuration_names d) ≡ 1
-free_behind c d named s n once =
+pub free_after : (c d : Configuration) → HasNames c → Putting c d → (n : ℕ) → occurrences n (configuration_names c) ≡ 1 → occurrences n (configuration_names d) ≡ 1
+free_after c d named s n once =
     let P : Configuration → Type 0 = λ e. occurrences n (configuration_names e) ≡ 1 in
-    transport P (sym s.result) (once_behind c s.others s.bound (counted c d named s) n (s.bound.name == n) refl once)
+    transport P (sym s.result) (once_after c s.others s.bound (counted c d named s) n (s.bound.name == n) refl once)
 
 pub putting_names : (c d : Configuration) → HasNames c → Putting c d → HasNames d
 putting_names c d named s = name_step-names c d (to_step c d s) named

@@ -33,9 +33,9 @@ place_of p out (q ∷ es) fs (inr (rest, r, is)) =
     let at = place_of p out es rest r in
     record { before = q ∷ at.before; after = at.after; given = ap (λ l. q ∷ l) at.given; result = is ∙ ap (λ l. q ∷ l) at.result }
 
-pub replaced_behind : (p : Pair) (out front es fs : List Pair) → Replaced p out es fs → Replaced p out (front ++ es) (front ++ fs)
-replaced_behind p out [] es fs r = r
-replaced_behind p out (h ∷ front) es fs r = inr (front ++ fs, replaced_behind p out front es fs r, refl)
+pub replaced_after : (p : Pair) (out front es fs : List Pair) → Replaced p out es fs → Replaced p out (front ++ es) (front ++ fs)
+replaced_after p out [] es fs r = r
+replaced_after p out (h ∷ front) es fs r = inr (front ++ fs, replaced_after p out front es fs r, refl)
 
 pub replaced_mapped : (f : Pair → Pair) (p : Pair) (out es fs : List Pair) → Replaced p out es fs → Replaced (f p) (map f out) (map f es) (map f fs)
 replaced_mapped f p out [] fs r = absurd r
@@ -62,11 +62,11 @@ two_replaced p q out more (h ∷ es) fs gs (inl (a, b)) (inl (c, d)) = inl (sym 
 two_replaced p q out more (h ∷ es) fs gs (inl (a, b)) (inr (rest, s, d)) =
     let P : List Pair → Type 0 = λ l. Replaced q more l (out ++ rest) in
     let Q : List Pair → Type 0 = λ l. Replaced p out l (out ++ rest) in
-    inr (out ++ rest, transport P (sym b) (replaced_behind q more out es rest s), transport Q (sym d) (inl (a, refl)))
+    inr (out ++ rest, transport P (sym b) (replaced_after q more out es rest s), transport Q (sym d) (inl (a, refl)))
 two_replaced p q out more (h ∷ es) fs gs (inr (rest, r, b)) (inl (c, d)) =
     let P : List Pair → Type 0 = λ l. Replaced q more l (more ++ rest) in
     let Q : List Pair → Type 0 = λ l. Replaced p out l (more ++ rest) in
-    inr (more ++ rest, transport P (sym b) (inl (c, refl)), transport Q (sym d) (replaced_behind p out more es rest r))
+    inr (more ++ rest, transport P (sym b) (inl (c, refl)), transport Q (sym d) (replaced_after p out more es rest r))
 two_replaced p q out more (h ∷ es) fs gs (inr (ps, r, b)) (inr (qs, s, d)) = later_both h p q out more fs gs ps qs b d (two_replaced p q out more es ps qs r s)
 
 -- ---- how often names occur

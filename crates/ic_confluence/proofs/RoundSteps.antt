@@ -11,7 +11,7 @@ use Rattle.ic_rules.specs.Rule.{Rule}
 use Rattle.ic_rules.specs.RuleSet.{Rules, IsRuleSet}
 use Rattle.ic_settle.specs.Settling.{Choice, first_choice, applied, settled_in, settled}
 use Rattle.ic_settle.specs.NameSteps.{NameSteps, no_step, one_more}
-use Rattle.ic_round.specs.Firing.{Active, active_pair, products_by, count_of, names_taken, fired_pair, fired_from, next_behind, fired}
+use Rattle.ic_round.specs.Firing.{Active, active_pair, products_by, count_of, names_taken, fired_pair, fired_from, next_after, fired}
 use Rattle.ic_round.specs.Naming.{HasNames}
 use Rattle.ic_round.specs.Quiet.{is_inert, is_settled, is_quiet}
 use Rattle.ic_round.specs.Rounds.{IsQuiet, round, iterate}
@@ -70,18 +70,18 @@ one_fired rs ts done p ps base (Some a) end flag is moves =
     (first_step rs _ _ end step moves.0, λ down. (_, step, moves.0))
 
 all_fired : (rs : List Rule) (ts : List Tree) (done ps : List Pair) (base : ℕ)
-    → Moves rs (way ts done ps base) (way ts (done ++ fired_from rs base ps) [] (next_behind rs base ps)) (list_all (λ p. is_none (active_pair rs p)) ps)
+    → Moves rs (way ts done ps base) (way ts (done ++ fired_from rs base ps) [] (next_after rs base ps)) (list_all (λ p. is_none (active_pair rs p)) ps)
 all_fired rs ts done [] base =
     let P : List Pair → Type 0 = λ es. Moves rs (way ts done [] base) (record { interface = ts; equations = es; next = base }) true in
     transport P (sym (append-nil (done ++ []))) (no_steps (way ts done [] base), λ down. absurd (true≢false down))
 all_fired rs ts done (p ∷ ps) base =
     let out = fired_pair rs base p in
     let k = names_taken rs p in
-    let behind = fired_from rs (base + k) ps in
+    let after = fired_from rs (base + k) ps in
     let flag = list_all (λ q. is_none (active_pair rs q)) ps in
-    let P : List Pair → Type 0 = λ es. Moves rs (way ts done (p ∷ ps) base) (record { interface = ts; equations = es ++ []; next = next_behind rs (base + k) ps }) (is_none (active_pair rs p) && flag) in
-    transport P (append_assoc done out behind)
-    (one_fired rs ts done p ps base (active_pair rs p) (way ts ((done ++ out) ++ behind) [] (next_behind rs (base + k) ps)) flag refl
+    let P : List Pair → Type 0 = λ es. Moves rs (way ts done (p ∷ ps) base) (record { interface = ts; equations = es ++ []; next = next_after rs (base + k) ps }) (is_none (active_pair rs p) && flag) in
+    transport P (append_assoc done out after)
+    (one_fired rs ts done p ps base (active_pair rs p) (way ts ((done ++ out) ++ after) [] (next_after rs (base + k) ps)) flag refl
     (all_fired rs ts (done ++ out) ps (base + k)))
 
 fired_moves : (rs : List Rule) (c : Configuration) → Moves rs c (fired rs c) (is_inert rs c)
@@ -123,7 +123,7 @@ pub first_round : (rs : List Rule) (n : ℕ) (c : Configuration) → iterate rs 
 first_round rs zero c = refl
 first_round rs (suc n) c = ap (round rs) (first_round rs n c)
 
--- what is left of an ending chain behind a round that makes a step
+-- what is left of an ending chain after a round that makes a step
 record Left (rs : Rules) (ks : List Kind) (c : Configuration) : Type 0 where
   rest : List Kind
   end : Configuration

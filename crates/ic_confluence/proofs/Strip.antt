@@ -59,7 +59,7 @@ module _ (L C : Type 0) (Good : C → Type 0) (Step : L → C → C → Type 0) 
       swap_first : (l m : L) (others : List L) → IsPermutation (l ∷ m ∷ others) (m ∷ l ∷ others)
       swap_first l m others = IsPermutation-middle (l ∷ []) m others
 
-  -- Behind any first step there is a way to the same end, with the other labels.
+  -- After any first step there is a way to the same end, with the other labels.
   pub strip : (ls : List L) (m : L) (c d q : C) → Good c → Chain ls c q → Ended q → Step m c d → Stripped m ls d q
   strip [] m c d q good w ended step = absurd (ended m d (transport (λ z. Step m z d) w step))
   strip (l ∷ ls) m c d q good w ended step =

@@ -16,13 +16,13 @@ use Rattle.ic_round.specs.lemmas.FreshNames.{absent_above}
 use Rattle.ic_confluence.specs.Sameness.{renamed_pair, Same, renaming}
 use Rattle.ic_confluence.proofs.Counts.{alone_itself, in_configuration, in_pair, in_more, below_next}
 use Rattle.ic_confluence.proofs.Equivalence.{Same-refl, Same-sym}
-use Rattle.ic_confluence.proofs.Replacing.{replaced_at, replaced_behind, PlaceOf, place_of, in_both}
+use Rattle.ic_confluence.proofs.Replacing.{replaced_at, replaced_after, PlaceOf, place_of, in_both}
 use Rattle.ic_confluence.proofs.Actives.{HasRule, older_products, later_products, fresh_products, renamed_active, renamed_products}
 use Rattle.ic_confluence.proofs.Firings.{fired_in, Firing, Sound, rule_of}
 
 -- ---- two blocks of names exchanged
 
--- the names from a base on: the first block behind the second one, and back
+-- the names from a base on: the first block after the second one, and back
 abbrev pub block : ℕ → ℕ → ℕ → ℕ → ℕ
 block base k l n = cond (ltb n base) n (cond (ltb n (base + k)) (n + l) (cond (ltb n (base + k + l)) (n - k) n))
 
@@ -251,8 +251,8 @@ both_fired rs c before middle after p q a b w =
         equation = q;
         active = b;
         others = filled rs before middle after a b c.next (c.next + k);
-        at = replaced_behind q next_out before (out ++ (middle ++ q ∷ after)) (out ++ (middle ++ (next_out ++ after)))
-            (replaced_behind q next_out out (middle ++ q ∷ after) (middle ++ (next_out ++ after)) (replaced_at q next_out middle after));
+        at = replaced_after q next_out before (out ++ (middle ++ q ∷ after)) (out ++ (middle ++ (next_out ++ after)))
+            (replaced_after q next_out out (middle ++ q ∷ after) (middle ++ (next_out ++ after)) (replaced_at q next_out middle after));
         has_rule = w.active_q;
         result = refl;
       };
@@ -299,7 +299,7 @@ places (h ∷ front) (j ∷ start) p q back end e = later_places h j front start
 
 -- ---- two interactions
 
--- The same one, or each is still there behind the other and leads to the same net.
+-- The same one, or each is still there after the other and leads to the same net.
 abbrev pub TwoFired : List Rule → Configuration → Configuration → ℕ → ℕ → Type 0
 TwoFired rs d e i j = ((i ≡ j) × Same d e) ⊎ FiredBoth rs d e i j
 

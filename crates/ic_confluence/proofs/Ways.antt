@@ -23,7 +23,7 @@ to_name : (x n : ℕ) (u : Tree) (b : Bool) → (n == x) ≡ b → occurrences x
 to_name x n u true e once = refl
 to_name x n u false e once = let none = alone_other x n e in absurd (omega (arith, none, once))
 
--- in one term, or in those behind it
+-- in one term, or in those after it
 here_or_later : (x : ℕ) (u : Tree) (s k : ℕ) (t : Tree) (ts : Trees) → occurrences x (names u) ≡ 1 → occurrences x (names t ++ names_of ts) ≡ 1 → (b : Bool) → occurs x (names t) ≡ b
     → (occurrences x (names t) ≡ 1 → way_to x (subst x u t) ≡ way_to x t ++ way_to x u)
     → (occurrences x (names_of ts) ≡ 1 → way_through x s (suc k) (subst_all x u ts) ≡ way_through x s (suc k) ts ++ way_to x u)

@@ -10,5 +10,5 @@ workers_of (Some s) = s.crew.workers
 
 -- how many workers there are after a round: as many as before, or, where there were none, as many
 -- as it was made for, but no more than MAX_THREADS
-abbrev pub standing_behind : ℕ → ℕ → ℕ
-standing_behind before workers = if nat_eq before 0 then min workers MAX_THREADS else before
+abbrev pub standing_after : ℕ → ℕ → ℕ
+standing_after before workers = if nat_eq before 0 then min workers MAX_THREADS else before

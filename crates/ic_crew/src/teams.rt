@@ -28,7 +28,7 @@ impl Team {
     ghost use Rattle.std.specs.Prelude.{◌≡◌, IfOk, OnOk};
     ghost use Rattle.ic_flights.specs.Played.{round_of};
     ghost use Rattle.ic_pool.specs.Workers.{ByWorkers, played_by};
-    ghost use Rattle.ic_crew.specs.Teams.{standing_behind};
+    ghost use Rattle.ic_crew.specs.Teams.{standing_after};
 
     /// A team with no worker standing yet.
     pub fn new() -> Team
@@ -52,7 +52,7 @@ impl Team {
     ) -> Result<Played, PoolFault>
         ensures any_workers { IfOk result (λ played. played ≡ round_of flight.now) }
         ensures answer { ByWorkers result (played_by workers flight.now) }
-        ensures stands { OnOk result (self.new ≡ standing_behind self.old workers) }
+        ensures stands { OnOk result (self.new ≡ standing_after self.old workers) }
     {
         if workers == 0 {
             return Err(PoolFault::NoWorkers);

@@ -32,20 +32,20 @@ begins-not b low high = rw (le-ltb b 128 low) (lt-leb 192 b high)
 counts-not : (b : ℕ) → 128 ≤ b → b < 192 → counted b ≡ 0
 counts-not b low high = ap (λ t. cond t 1 0) (begins-not b low high)
 
-column-behind : (line : List ℕ) (b : ℕ) → column (line ++ b ∷ []) ≡ column line + counted b
-column-behind line b =
+column-after : (line : List ℕ) (b : ℕ) → column (line ++ b ∷ []) ≡ column line + counted b
+column-after line b =
     let all : count_by begins_character (line ++ b ∷ []) ≡ count_by begins_character line + count_by begins_character (b ∷ []) = sum_by-append counted line (b ∷ []) in
     let one : count_by begins_character (b ∷ []) ≡ counted b + 0 = count-cons b [] in
     omega (arith, all, one)
 
 pub column-first : (line : List ℕ) (b : ℕ) → (b < 128) ⊎ (192 ≤ b) → column (line ++ b ∷ []) ≡ column line + 1
-column-first line b (inl low) = column-behind line b ∙ ap (λ n. column line + n) (counts-low b low)
-column-first line b (inr high) = column-behind line b ∙ ap (λ n. column line + n) (counts-high b high)
+column-first line b (inl low) = column-after line b ∙ ap (λ n. column line + n) (counts-low b low)
+column-first line b (inr high) = column-after line b ∙ ap (λ n. column line + n) (counts-high b high)
 
 pub column-continued : (line : List ℕ) (b : ℕ) → 128 ≤ b → b < 192 → column (line ++ b ∷ []) ≡ column line
 column-continued line b low high =
     let none = counts-not b low high in
-    let all = column-behind line b in
+    let all = column-after line b in
     omega (arith, none, all)
 
 counts-all : (line : List ℕ) → list_all is_ascii line ≡ true → count_by begins_character line ≡ length line

@@ -17,10 +17,10 @@ any_there : (front bs : List ℕ) → list_any is_feed (front ++ 10 ∷ bs) ≡ 
 any_there [] bs = refl
 any_there (f ∷ front) bs = ap (λ x. is_feed f || x) (any_there front bs) ∙ or_true (is_feed f)
 
--- and so is one behind a line feed
-pub last_behind : (front bs : List ℕ) → list_any is_feed bs ≡ false → last_line (front ++ 10 ∷ bs) ≡ bs
-last_behind [] bs none = last_alone bs none
-last_behind (f ∷ front) bs none = rw (any_there (f ∷ front) bs) (last_behind front bs none)
+-- and so is one after a line feed
+pub last_after : (front bs : List ℕ) → list_any is_feed bs ≡ false → last_line (front ++ 10 ∷ bs) ≡ bs
+last_after [] bs none = last_alone bs none
+last_after (f ∷ front) bs none = rw (any_there (f ∷ front) bs) (last_after front bs none)
 
 pub none_before : (front : List ℕ) (start : ℕ) → start ≡ 0 → list_any is_feed (drop start front) ≡ false
     → take (length front - start) (drop start front) ≡ last_line front
@@ -37,5 +37,5 @@ feed_before front start above inside feed none =
     drop_more front (start - 1) 0 (omega arith) ∙ (λ i. feed i ∷ drop (on i) front) in
     let whole : take (start - 1) front ++ 10 ∷ drop start front ≡ front = ap (λ l. take (start - 1) front ++ l) (sym rest) ∙ take-append-drop (start - 1) front in
     take_all (length front - start) (drop start front) (omega (arith, length-drop start front))
-    ∙ sym (last_behind (take (start - 1) front) (drop start front) none)
+    ∙ sym (last_after (take (start - 1) front) (drop start front) none)
     ∙ ap last_line whole

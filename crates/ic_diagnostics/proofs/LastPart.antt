@@ -1,4 +1,4 @@
--- Where the last part of a text begins, behind the last byte of a kind.
+-- Where the last part of a text begins, after the last byte of a kind.
 use Rattle.std.proofs.Common.{◌≡◌, ℕ, ◌+◌, ◌-◌, ◌<◌, ◌≤◌, Bool, true, false, ◌||◌, List, [], ◌∷◌, ◌++◌, length, get_or, take, drop, refl, sym, ap, ◌∙◌, arith, length-drop}
 use Rattle.std.specs.List.{list_any}
 use Rattle.std.proofs.lemmas.List.{take_all, take-append-drop, drop_more}
@@ -17,9 +17,9 @@ module _ (is_end : ℕ → Bool) where
   any_there [] b bs is = ap (λ x. x || list_any is_end bs) is
   any_there (f ∷ front) b bs is = ap (λ x. is_end f || x) (any_there front b bs is) ∙ or_true (is_end f)
 
-  last_behind : (front : List ℕ) (b : ℕ) (bs : List ℕ) → is_end b ≡ true → list_any is_end bs ≡ false → last_part is_end (front ++ b ∷ bs) ≡ bs
-  last_behind [] b bs is none = rw (any_there [] b bs is) (last_alone bs none)
-  last_behind (f ∷ front) b bs is none = rw (any_there (f ∷ front) b bs is) (last_behind front b bs is none)
+  last_after : (front : List ℕ) (b : ℕ) (bs : List ℕ) → is_end b ≡ true → list_any is_end bs ≡ false → last_part is_end (front ++ b ∷ bs) ≡ bs
+  last_after [] b bs is none = rw (any_there [] b bs is) (last_alone bs none)
+  last_after (f ∷ front) b bs is none = rw (any_there (f ∷ front) b bs is) (last_after front b bs is none)
 
   -- no byte of the kind stands in the text
   pub none_before : (front : List ℕ) (start : ℕ) → start ≡ 0 → list_any is_end (drop start front) ≡ false → take (length front - start) (drop start front) ≡ last_part is_end front
@@ -38,5 +38,5 @@ module _ (is_end : ℕ → Bool) where
       drop_more front (start - 1) 0 (omega arith) ∙ ap (λ n. b ∷ drop n front) on in
       let whole : take (start - 1) front ++ b ∷ drop start front ≡ front = ap (λ l. take (start - 1) front ++ l) (sym rest) ∙ take-append-drop (start - 1) front in
       take_all (length front - start) (drop start front) (omega (arith, length-drop start front))
-      ∙ sym (last_behind (take (start - 1) front) b (drop start front) ends none)
+      ∙ sym (last_after (take (start - 1) front) b (drop start front) ends none)
       ∙ ap (last_part is_end) whole

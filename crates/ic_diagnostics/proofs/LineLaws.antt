@@ -7,8 +7,8 @@ use Rattle.std.proofs.lemmas.List.Folds.{list_any-append}
 use Rattle.std.proofs.lemmas.List.Sums.{sum_by-append, sum_by-cons}
 use Rattle.ic_diagnostics.specs.Lines.{is_feed, begins_with_feed, ends_line, line_number, first_line}
 
-pub number-behind : (a b : List ℕ) → line_number (a ++ 10 ∷ b) ≡ line_number a + line_number b
-number-behind a b =
+pub number-after : (a b : List ℕ) → line_number (a ++ 10 ∷ b) ≡ line_number a + line_number b
+number-after a b =
     let all : count_by is_feed (a ++ 10 ∷ b) ≡ count_by is_feed a + count_by is_feed (10 ∷ b) = sum_by-append (λ x. cond (is_feed x) 1 0) a (10 ∷ b) in
     let one : count_by is_feed (10 ∷ b) ≡ 1 + count_by is_feed b = sum_by-cons (λ x. cond (is_feed x) 1 0) 10 b in
     omega (arith, all, one)
@@ -76,7 +76,7 @@ pub first-step : (rest : List ℕ) (i : ℕ) → i < length rest → ends_line (
     → take (i + 1) rest ++ first_line (drop (i + 1) rest) ≡ take i rest ++ first_line (drop i rest)
 first-step rest i inside on =
     let b = get_or rest i 0 in
-    let behind = drop (i + 1) rest in
-    let split : drop i rest ≡ b ∷ behind = drop_more rest i 0 inside in
-    let line : first_line (drop i rest) ≡ b ∷ first_line behind = ap first_line split ∙ first-taken b behind (ap ends_line (sym split) ∙ on) in
-    ap (λ l. l ++ first_line behind) (take_more rest i 0 inside) ∙ append_assoc (take i rest) (b ∷ []) (first_line behind) ∙ ap (λ l. take i rest ++ l) (sym line)
+    let after = drop (i + 1) rest in
+    let split : drop i rest ≡ b ∷ after = drop_more rest i 0 inside in
+    let line : first_line (drop i rest) ≡ b ∷ first_line after = ap first_line split ∙ first-taken b after (ap ends_line (sym split) ∙ on) in
+    ap (λ l. l ++ first_line after) (take_more rest i 0 inside) ∙ append_assoc (take i rest) (b ∷ []) (first_line after) ∙ ap (λ l. take i rest ++ l) (sym line)

@@ -6,7 +6,7 @@ use Rattle.std.proofs.lemmas.Bool.{and_parts, cond_both, lt-leb}
 use Rattle.std.proofs.lemmas.List.{length-map, length-replicate}
 use Rattle.std.proofs.lemmas.List.Folds.{list_all-append}
 use Rattle.ic_text.specs.Token.{is_blank}
-use Rattle.ic_diagnostics.specs.Lines.{IsMarked, is_feed, is_printable, margin, picture_of, shown, shown_before, shown_behind}
+use Rattle.ic_diagnostics.specs.Lines.{IsMarked, is_feed, is_printable, margin, picture_of, shown, shown_after, shown_before}
 
 -- no byte above the space is a blank
 no-blank : (b : ℕ) → 32 < b → is_blank b ≡ false
@@ -46,8 +46,8 @@ pub before-printable : (line : List ℕ) → list_all is_printable (shown_before
 before-printable line = cond_both (nat_le (length line) 60) _ _ (λ l. list_all is_printable l ≡ true)
     (λ _. all-printable line) (λ _. all-printable (drop (length line - 57) line))
 
-pub behind-printable : (line : List ℕ) → list_all is_printable (shown_behind line) ≡ true
-behind-printable line = cond_both (nat_le (length line) 20) _ _ (λ l. list_all is_printable l ≡ true)
+pub after-printable : (line : List ℕ) → list_all is_printable (shown_after line) ≡ true
+after-printable line = cond_both (nat_le (length line) 20) _ _ (λ l. list_all is_printable l ≡ true)
     (λ _. all-printable line) (λ _. list_all-append is_printable (map shown (take 17 line)) (codes "...") ∙ rw (all-printable (take 17 line)) refl)
 
 pub before-length : (line : List ℕ) → length (shown_before line) ≡ min (length line) 60
@@ -55,16 +55,16 @@ before-length line = cond_both (nat_le (length line) 60) _ _ (λ l. length l ≡
     (λ short. omega (arith, leb-true (length line) 60 short, length-map line shown))
     (λ long. omega (arith, leb-false (length line) 60 long, length-map (drop (length line - 57) line) shown, length-drop (length line - 57) line))
 
-pub behind-length : (line : List ℕ) → length (shown_behind line) ≡ min (length line) 20
-behind-length line = cond_both (nat_le (length line) 20) _ _ (λ l. length l ≡ min (length line) 20)
+pub after-length : (line : List ℕ) → length (shown_after line) ≡ min (length line) 20
+after-length line = cond_both (nat_le (length line) 20) _ _ (λ l. length l ≡ min (length line) 20)
     (λ short. omega (arith, leb-true (length line) 20 short, length-map line shown))
     (λ long. omega (arith, leb-false (length line) 20 long, length-append (map shown (take 17 line)) (codes "..."), length-map (take 17 line) shown, length-take 17 line))
 
 pub short-before : (line : List ℕ) → length line ≤ 60 → shown_before line ≡ map shown line
 short-before line short = rw (le-leb (length line) 60 short) refl
 
-pub short-behind : (line : List ℕ) → length line ≤ 20 → shown_behind line ≡ map shown line
-short-behind line short = rw (le-leb (length line) 20 short) refl
+pub short-after : (line : List ℕ) → length line ≤ 20 → shown_after line ≡ map shown line
+short-after line short = rw (le-leb (length line) 20 short) refl
 
 pub long-before : (a b : List ℕ) → 60 < length (a ++ b) → length b ≡ 57 → shown_before (a ++ b) ≡ codes "..." ++ map shown b
 long-before a b long last =
@@ -72,9 +72,9 @@ long-before a b long last =
     let cut : shown_before (a ++ b) ≡ codes "..." ++ map shown (drop (length (a ++ b) - 57) (a ++ b)) = rw (lt-leb (length (a ++ b)) 60 long) refl in
     cut ∙ ap (λ n. codes "..." ++ map shown (drop n (a ++ b))) seam ∙ ap (λ l. codes "..." ++ map shown l) (drop-append_seam a b)
 
-pub long-behind : (a b : List ℕ) → 20 < length (a ++ b) → length a ≡ 17 → shown_behind (a ++ b) ≡ map shown a ++ codes "..."
-long-behind a b long first =
-    let cut : shown_behind (a ++ b) ≡ map shown (take 17 (a ++ b)) ++ codes "..." = rw (lt-leb (length (a ++ b)) 20 long) refl in
+pub long-after : (a b : List ℕ) → 20 < length (a ++ b) → length a ≡ 17 → shown_after (a ++ b) ≡ map shown a ++ codes "..."
+long-after a b long first =
+    let cut : shown_after (a ++ b) ≡ map shown (take 17 (a ++ b)) ++ codes "..." = rw (lt-leb (length (a ++ b)) 20 long) refl in
     cut ∙ ap (λ n. map shown (take n (a ++ b)) ++ codes "...") (sym first) ∙ ap (λ l. map shown l ++ codes "...") (take-append_seam a b)
 
 -- ---- the mark
@@ -91,15 +91,15 @@ all-spaces : (n : ℕ) → list_all (λ b. b == 32) (replicate n 32) ≡ true
 all-spaces zero = refl
 all-spaces (suc n) = all-spaces n
 
-pub marked : (before behind : List ℕ) → IsMarked (margin ++ shown_before before) (shown_behind behind) (picture_of before behind)
-marked before behind = record {
+pub marked : (before after : List ℕ) → IsMarked (margin ++ shown_before before) (shown_after after) (picture_of before after)
+marked before after = record {
   spaces = margin ++ replicate (length (shown_before before)) 32;
   lines = refl;
-  one_line = no-feed (margin ++ (shown_before before ++ shown_behind behind))
-      (list_all-append is_printable (shown_before before) (shown_behind behind) ∙ rw (before-printable before) (behind-printable behind));
+  one_line = no-feed (margin ++ (shown_before before ++ shown_after after))
+      (list_all-append is_printable (shown_before before) (shown_after after) ∙ rw (before-printable before) (after-printable after));
   blank = all-spaces (length (shown_before before));
   under = ap (λ n. suc (suc (suc (suc n)))) (length-replicate (length (shown_before before)) 32);
 }
 
-pub under-place : (b : ℕ) (bs : List ℕ) → slice_get (shown_behind (b ∷ bs)) 0 ≡ Some (shown b)
+pub under-place : (b : ℕ) (bs : List ℕ) → slice_get (shown_after (b ∷ bs)) 0 ≡ Some (shown b)
 under-place b bs = cond_both (nat_le (length (b ∷ bs)) 20) _ _ (λ l. slice_get l 0 ≡ Some (shown b)) (λ _. refl) (λ _. refl)

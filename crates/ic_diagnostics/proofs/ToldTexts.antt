@@ -26,8 +26,8 @@ lines_in_parts a b words c =
     let text = a ++ c ∷ b in
     let at : told_at text (length a) ≡ length a = told-inner text (length a) (inside a b c) in
     let front : take (told_at text (length a)) text ≡ a = ap (λ n. take n text) at ∙ take_at a (c ∷ b) (length a) refl in
-    let behind : drop (told_at text (length a)) text ≡ c ∷ b = ap (λ n. drop n text) at ∙ drop_at a (c ∷ b) (length a) refl in
-    λ i. concat (head_of (front i) ∷ picture_of (last_line (front i)) (first_line (behind i)) ∷ words ∷ feed ∷ [])
+    let after : drop (told_at text (length a)) text ≡ c ∷ b = ap (λ n. drop n text) at ∙ drop_at a (c ∷ b) (length a) refl in
+    λ i. concat (head_of (front i) ∷ picture_of (last_line (front i)) (first_line (after i)) ∷ words ∷ feed ∷ [])
 
 -- the end of a text is seen as one
 at_end : (text : List ℕ) → sight_at text (length text) ≡ end_sight text
@@ -40,16 +40,16 @@ pub sight_at_end : (text : List ℕ) (sight : Sight) (blank : Bool) → list_all
     → sight_at text (length text) ≡ sight
 sight_at_end text sight blank all is = at_end text ∙ ap (λ b. cond b Blank End) all ∙ is
 
--- behind blanks alone stands the front of a text
+-- after blanks alone stands the front of a text
 pub sight_in_front : (blanks b : List ℕ) (c : ℕ) → list_all is_blank blanks ≡ true → sight_at (blanks ++ c ∷ b) (length blanks) ≡ front_sight (c ∷ b)
 sight_in_front blanks b c all =
     let text = blanks ++ c ∷ b in
     let at = length blanks in
     let other : (at == length text) ≡ false = ne_eqb at (length text) (λ e. omega (arith, inside blanks b c, e)) in
     let front : take at text ≡ blanks = take_at blanks (c ∷ b) at refl in
-    let behind : drop at text ≡ c ∷ b = drop_at blanks (c ∷ b) at refl in
+    let after : drop at text ≡ c ∷ b = drop_at blanks (c ∷ b) at refl in
     let blank : list_all is_blank (take at text) ≡ true = ap (list_all is_blank) front ∙ all in
-    (λ i. cond (other i) (end_sight text) (cond (blank i) (front_sight (drop at text)) (inner_sight (take at text) (drop at text)))) ∙ ap front_sight behind
+    (λ i. cond (other i) (end_sight text) (cond (blank i) (front_sight (drop at text)) (inner_sight (take at text) (drop at text)))) ∙ ap front_sight after
 
 -- a word of a command begins with no mark
 abbrev begins_otherwise : List ℕ → Bool

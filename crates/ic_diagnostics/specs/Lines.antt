@@ -58,8 +58,8 @@ shown_before line =
     else codes "..." ++ map shown (drop (length line - 57) line)
 
 -- a line from the place on, of which the first 17 bytes are shown where it has more than 20
-abbrev pub shown_behind : List ℕ → List ℕ
-shown_behind line =
+abbrev pub shown_after : List ℕ → List ℕ
+shown_after line =
     if nat_le (length line) 20 then map shown line
     else map shown (take 17 line) ++ codes "..."
 
@@ -76,8 +76,8 @@ head_of front = concat (codes "line " ∷ decimal (line_number front)
     ∷ codes ", column " ∷ decimal (column (last_line front)) ∷ feed ∷ [])
 
 -- the line of the place, and a mark under it
-abbrev pub picture_of : (before behind : List ℕ) → List ℕ
-picture_of before behind = concat (margin ∷ shown_before before ∷ shown_behind behind ∷ feed
+abbrev pub picture_of : (before after : List ℕ) → List ℕ
+picture_of before after = concat (margin ∷ shown_before before ∷ shown_after after ∷ feed
     ∷ margin ∷ replicate (length (shown_before before)) 32 ∷ codes "^" ∷ feed ∷ [])
 
 -- a text as far as its last byte that is no blank
@@ -101,9 +101,9 @@ place_lines text at sentence = lines_at text (told_at text at) sentence
 
 -- A mark under a place: two lines, of which the first has these bytes before the place and those from
 -- it on, and the second nothing but the mark, after as many spaces as bytes stand before the place.
-pub record IsMarked (before behind picture : List ℕ) : Type 0 where
+pub record IsMarked (before after picture : List ℕ) : Type 0 where
   pub spaces : List ℕ
-  pub lines : picture ≡ concat (before ∷ behind ∷ feed ∷ spaces ∷ codes "^" ∷ feed ∷ [])
-  pub one_line : list_any is_feed (before ++ behind) ≡ false
+  pub lines : picture ≡ concat (before ∷ after ∷ feed ∷ spaces ∷ codes "^" ∷ feed ∷ [])
+  pub one_line : list_any is_feed (before ++ after) ≡ false
   pub blank : list_all (λ b. b == 32) spaces ≡ true
   pub under : length spaces ≡ length before

@@ -8,7 +8,7 @@ use Rattle.ic_text.specs.Name.{is_numeral}
 use Rattle.ic_text.specs.Token.{is_blank, is_word_byte}
 use Rattle.ic_diagnostics.specs.Lines.{trimmed}
 use Rattle.ic_diagnostics.specs.declared.sights.Sight.{Sight}
-use Rattle.ic_diagnostics.specs.declared.sights.Sight.TheVariants.{Blank, End, SystemMark, ConfigMark, CommandWord, Comment, OrderMark, NoName, NoSymbol, Small, Expanded, Applied, Empty, Ended, Trailing, Listed, Equated, Late, Argument, After, Crossing, Crossed, Front, Behind}
+use Rattle.ic_diagnostics.specs.declared.sights.Sight.TheVariants.{Blank, End, SystemMark, ConfigMark, CommandWord, Comment, OrderMark, NoName, NoSymbol, Small, Expanded, Applied, Empty, Ended, Trailing, Listed, Equated, Late, Argument, After, Crossing, Crossed, Front, AfterMark}
 use Rattle.ic_diagnostics.specs.declared.stands.Spot.{Spot}
 use Rattle.ic_diagnostics.specs.declared.stands.Stand.{Stand}
 use Rattle.ic_diagnostics.specs.declared.stands.Stand.TheVariants as standing
@@ -120,7 +120,7 @@ is_second standing.Over = false
 abbrev pub mark_sight : Option ℕ → Stand → Sight
 mark_sight None stand = Front
 mark_sight (Some b) stand = if b == 62 && is_second stand then Crossing
-    else (if b == 60 && is_second stand then Crossed else Behind b)
+    else (if b == 60 && is_second stand then Crossed else AfterMark b)
 
 -- a word that begins with a small letter, as names do, and isn't one
 abbrev pub is_misnamed : List ℕ → Bool
@@ -181,9 +181,9 @@ first_byte [] = None
 first_byte (b ∷ bs) = if is_blank b then first_byte bs else Some b
 
 -- what follows the word with which a text begins
-abbrev pub behind_word : List ℕ → List ℕ
-behind_word [] = []
-behind_word (b ∷ bs) = if is_word_byte b then behind_word bs else b ∷ bs
+abbrev pub after_word : List ℕ → List ℕ
+after_word [] = []
+after_word (b ∷ bs) = if is_word_byte b then after_word bs else b ∷ bs
 
 abbrev pub begins_word : Option ℕ → Bool
 begins_word None = false
@@ -195,11 +195,11 @@ is_spread word = bytes_eq word (codes "copy") || bytes_eq word (codes "erase")
 
 -- a text begins with such a word, and another word follows it, as in `copy S`
 abbrev pub opens_spread : List ℕ → Bool
-opens_spread text = is_spread (first_word text) && begins_word (first_byte (behind_word text))
+opens_spread text = is_spread (first_word text) && begins_word (first_byte (after_word text))
 
 -- a text begins with a word that begins as names do and is given arguments, as in `succ(x)`
 abbrev pub opens_applied : List ℕ → Bool
-opens_applied text = begins_as_name (first_word text) && opens (first_byte (behind_word text))
+opens_applied text = begins_as_name (first_word text) && opens (first_byte (after_word text))
 
 -- such a word stands where a term may stand, or one at the end of a text is given arguments
 abbrev pub is_applied : (front rest : List ℕ) → Bool

@@ -23,7 +23,7 @@ use Rattle.ic_streams.specs.declared.fault.StreamFault.TheVariants.{Text}
 use Rattle.ic_diagnostics.specs.declared.telling.Kind.{Kind}
 use Rattle.ic_diagnostics.specs.declared.telling.Kind.TheVariants.{Config, System}
 use Rattle.ic_diagnostics.specs.declared.sights.Sight.{Sight}
-use Rattle.ic_diagnostics.specs.declared.sights.Sight.TheVariants.{Blank, End, SystemMark, ConfigMark, CommandWord, Comment, OrderMark, NoName, NoSymbol, Small, Expanded, Applied, Empty, Ended, Trailing, Listed, Equated, Late, Argument, After, Crossing, Crossed, Behind}
+use Rattle.ic_diagnostics.specs.declared.sights.Sight.TheVariants.{Blank, End, SystemMark, ConfigMark, CommandWord, Comment, OrderMark, NoName, NoSymbol, Small, Expanded, Applied, Empty, Ended, Trailing, Listed, Equated, Late, Argument, After, Crossing, Crossed, AfterMark}
 use Rattle.ic_diagnostics.specs.declared.stands.Stand.{Stand}
 use Rattle.ic_diagnostics.specs.declared.stands.Stand.TheVariants as standing
 use Rattle.ic_diagnostics.specs.Lines.{place_lines}
@@ -39,25 +39,25 @@ abbrev pub wants_term : ℕ → Bool
 wants_term b = b == 40 || b == 44 || b == 61
 
 -- what is looked for after `(`, `,`, `=` or `|`, in a text of either kind; after other bytes it is this other one
-abbrev pub behind_mark : (other : List ℕ) → ℕ → List ℕ
-behind_mark other b = if wants_term b then codes "a term is looked for here"
+abbrev pub after_mark : (other : List ℕ) → ℕ → List ℕ
+after_mark other b = if wants_term b then codes "a term is looked for here"
     else (if b == 124 then codes "a term or > is looked for here" else other)
 
 -- what is looked for in a configuration after a byte: after `<`, after `>`, with which it ends, or
 -- after such a mark; after a term it isn't told
-abbrev pub behind_in_config : ℕ → List ℕ
-behind_in_config b = if b == 60 then codes "a term or | is looked for here"
+abbrev pub after_in_config : ℕ → List ℕ
+after_in_config b = if b == 60 then codes "a term or | is looked for here"
     else (if b == 62 then codes "nothing is looked for after a configuration"
-    else behind_mark (codes "no configuration goes on with this") b)
+    else after_mark (codes "no configuration goes on with this") b)
 
 -- the same of a system, after `{`, `;` or `}`, or after a mark of its configuration
-abbrev pub behind_in_system : ℕ → List ℕ
-behind_in_system b = if b == 123 then codes "a symbol or } is looked for here"
+abbrev pub after_in_system : ℕ → List ℕ
+after_in_system b = if b == 123 then codes "a symbol or } is looked for here"
     else (if b == 59 then codes "a symbol is looked for here"
     else (if b == 125 then codes "< is looked for here"
     else (if b == 60 then codes "a term or | is looked for here"
     else (if b == 62 then codes "nothing is looked for after a configuration"
-    else behind_mark (codes "no system goes on with this") b))))
+    else after_mark (codes "no system goes on with this") b))))
 
 -- the words of what is looked for; where a symbol stands before it, its arguments are, too
 abbrev pub opened : Bool → List ℕ → List ℕ
@@ -134,7 +134,7 @@ config_sentence Late = late_sentence
 config_sentence (Argument opens) = argument_sentence opens
 config_sentence (After stand opens) =
     stand_sentence (codes "no configuration goes on with this") stand opens
-config_sentence (Behind b) = behind_in_config b
+config_sentence (AfterMark b) = after_in_config b
 config_sentence sight = codes "a configuration begins with <"
 
 -- the same of a system, where the text may be a configuration or lines of commands
@@ -162,7 +162,7 @@ system_sentence (After stand opens) =
     stand_sentence (codes "no system goes on with this") stand opens
 system_sentence Crossing = codes "< is looked for here"
 system_sentence Crossed = codes "a symbol is looked for here"
-system_sentence (Behind b) = behind_in_system b
+system_sentence (AfterMark b) = after_in_system b
 system_sentence sight = codes "a system begins with {"
 
 abbrev pub syntax_sentence : Kind → Sight → List ℕ

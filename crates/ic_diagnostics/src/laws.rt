@@ -25,7 +25,7 @@ ghost use Rattle.ic_diagnostics.specs.declared.telling.Kind.TheVariants.{Config,
 ghost use Rattle.ic_diagnostics.specs.Sights.{command_words, first_word, is_again};
 ghost use Rattle.ic_diagnostics.specs.Telling.{Appended, IsOfArities, IsToldOf, applied_sentence, arity_sentence, comment_sentence, expanded_sentence, limit_sentence};
 ghost use Rattle.ic_diagnostics.specs.Telling.{limit_sentence_within, name_sentence, namecount_sentence, of_rule, sentence, small_sentence, symbol_sentence};
-ghost use Rattle.ic_diagnostics.specs.Lines.{IsMarked, begins_with_feed, column, feed, first_line, head_of, is_ascii, is_feed, is_printable, last_line, line_number, margin, picture_of, place_lines, shown, shown_before, shown_behind, told_at};
+ghost use Rattle.ic_diagnostics.specs.Lines.{IsMarked, begins_with_feed, column, feed, first_line, head_of, is_ascii, is_feed, is_printable, last_line, line_number, margin, picture_of, place_lines, shown, shown_after, shown_before, told_at};
 
 /// A line feed ends a line and begins one. The last line is what follows the last line feed.
 pub fn lines_stand_between_line_feeds()
@@ -73,11 +73,11 @@ pub fn bytes_are_shown_so()
 /// from it on.
 pub fn what_is_shown_is_printable()
     ensures before { (line : List ℕ) → list_all is_printable (shown_before line) ≡ true }
-    ensures behind { (line : List ℕ) → list_all is_printable (shown_behind line) ≡ true }
+    ensures after { (line : List ℕ) → list_all is_printable (shown_after line) ≡ true }
     ensures before_length { (line : List ℕ) →
         length (shown_before line) ≡ min (length line) 60 }
-    ensures behind_length { (line : List ℕ) →
-        length (shown_behind line) ≡ min (length line) 20 }
+    ensures after_length { (line : List ℕ) →
+        length (shown_after line) ≡ min (length line) 20 }
 {}
 
 /// A short line is shown whole. Of a longer one the last 57 bytes before the place and the first 17 from it on are
@@ -85,23 +85,23 @@ pub fn what_is_shown_is_printable()
 pub fn lines_are_cut_around_the_place()
     ensures short_before { (line : List ℕ) → length line ≤ 60 →
         shown_before line ≡ map shown line }
-    ensures short_behind { (line : List ℕ) → length line ≤ 20 →
-        shown_behind line ≡ map shown line }
+    ensures short_after { (line : List ℕ) → length line ≤ 20 →
+        shown_after line ≡ map shown line }
     ensures long_before { (a b : List ℕ) → 60 < length (a ++ b) → length b ≡ 57 →
         shown_before (a ++ b) ≡ codes "..." ++ map shown b }
-    ensures long_behind { (a b : List ℕ) → 20 < length (a ++ b) → length a ≡ 17 →
-        shown_behind (a ++ b) ≡ map shown a ++ codes "..." }
+    ensures long_after { (a b : List ℕ) → 20 < length (a ++ b) → length a ≡ 17 →
+        shown_after (a ++ b) ≡ map shown a ++ codes "..." }
 {}
 
 /// The mark stands under the byte of the place: after as many spaces as bytes are shown before it.
 pub fn the_mark_stands_under_the_place()
-    ensures mark { (before behind : List ℕ) → IsMarked (margin ++ shown_before before)
-        (shown_behind behind) (picture_of before behind) }
-    ensures under { (b : ℕ) (bs : List ℕ) → slice_get (shown_behind (b ∷ bs)) 0 ≡ Some (shown b) }
+    ensures mark { (before after : List ℕ) → IsMarked (margin ++ shown_before before)
+        (shown_after after) (picture_of before after) }
+    ensures under { (b : ℕ) (bs : List ℕ) → slice_get (shown_after (b ∷ bs)) 0 ≡ Some (shown b) }
 {}
 
 /// The end of a text is told right after its last byte that is no blank, and any other place where it is.
-pub fn an_end_is_told_behind_what_stands_last()
+pub fn an_end_is_told_after_what_stands_last()
     ensures end { (a blanks : List ℕ) (b : ℕ) → is_blank b ≡ false →
         list_all is_blank blanks ≡ true →
         told_at (a ++ b ∷ blanks) (length (a ++ b ∷ blanks)) ≡ length a + 1 }
@@ -162,7 +162,7 @@ pub fn what_is_looked_for_is_told()
         ≡ codes "a symbol or } is looked for here" }
     ensures rule { sentence System (codes "{A><B;<") Syntax 6 Nothing
         ≡ codes "a symbol is looked for here" }
-    ensures behind_rules { sentence System (codes "{} |") Syntax 3 Nothing
+    ensures after_rules { sentence System (codes "{} |") Syntax 3 Nothing
         ≡ codes "< is looked for here" }
     ensures crossing { sentence System (codes "{A>B}") Syntax 3 Nothing
         ≡ codes "< is looked for here" }

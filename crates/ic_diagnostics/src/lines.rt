@@ -1,9 +1,9 @@
 //! A place of a text told in lines.
 
 ghost use Rattle.std.specs.Prelude.{◌≡◌, ◌≤◌, ◌++◌, IfOk, OnOk, length};
-ghost use Rattle.ic_diagnostics.specs.Lines.{line_number, last_line, begins_with_feed, ends_line, first_line, column, head_of, picture_of, place_lines, shown_behind, told_at, trimmed};
+ghost use Rattle.ic_diagnostics.specs.Lines.{line_number, last_line, begins_with_feed, ends_line, first_line, column, head_of, picture_of, place_lines, shown_after, told_at, trimmed};
 
-use crate::shown::{SHOWN_BEHIND, shown_before, shown_behind};
+use crate::shown::{SHOWN_AFTER, shown_after, shown_before};
 use ic_text::is_blank;
 use std::alloc::{AllocError, Global};
 
@@ -64,10 +64,10 @@ fn first_line(rest: &[u8]) -> &[u8]
 }
 
 /// As much of the line with which a text begins as is shown of it.
-fn line_behind(rest: &[u8]) -> &[u8]
-    ensures { shown_behind result.now ≡ shown_behind (first_line rest.now) }
+fn line_after(rest: &[u8]) -> &[u8]
+    ensures { shown_after result.now ≡ shown_after (first_line rest.now) }
 {
-    first_line(&rest[..rest.len().min(SHOWN_BEHIND + 2)])
+    first_line(&rest[..rest.len().min(SHOWN_AFTER + 2)])
 }
 
 /// The number of the character, after a front of its line, at which a place is, from 1.
@@ -98,18 +98,18 @@ fn put_head(alloc: Global, front: &[u8], lines: &mut Vec<u8>) -> Result<(), Allo
 fn put_picture(
     alloc: Global,
     before: &[u8],
-    behind: &[u8],
+    after: &[u8],
     lines: &mut Vec<u8>,
 ) -> Result<(), AllocError>
     ensures { OnOk result
-        (lines.new.items ≡ lines.old.items ++ picture_of before.now behind.now) }
+        (lines.new.items ≡ lines.old.items ++ picture_of before.now after.now) }
 {
     let before = shown_before(alloc, before)?;
-    let behind = shown_behind(alloc, behind)?;
+    let after = shown_after(alloc, after)?;
     let blanks = vec![in alloc; b' '; before.len()]?;
     lines.extend_from_slice(b"    ")?;
     lines.extend_from_slice(&before)?;
-    lines.extend_from_slice(&behind)?;
+    lines.extend_from_slice(&after)?;
     lines.extend_from_slice(b"\n    ")?;
     lines.extend_from_slice(&blanks)?;
     lines.extend_from_slice(b"^\n")?;
@@ -159,12 +159,7 @@ pub fn place_lines(
     let front = &text[..at];
     let mut lines = Vec::new(alloc);
     put_head(alloc, front, &mut lines)?;
-    put_picture(
-        alloc,
-        last_line(front),
-        line_behind(&text[at..]),
-        &mut lines,
-    )?;
+    put_picture(alloc, last_line(front), line_after(&text[at..]), &mut lines)?;
     lines.extend_from_slice(sentence)?;
     lines.push(b'\n')?;
     Ok(lines)

@@ -1,7 +1,7 @@
 //! The line of a place as it is shown: cut around the place, and with bytes that every terminal takes.
 
 ghost use Rattle.std.specs.Prelude.{◌≡◌, ◌++◌, IfOk, OnOk, map};
-ghost use Rattle.ic_diagnostics.specs.Lines.{shown, shown_before, shown_behind};
+ghost use Rattle.ic_diagnostics.specs.Lines.{shown, shown_after, shown_before};
 
 use ic_text::is_blank;
 use std::alloc::{AllocError, Global};
@@ -10,7 +10,7 @@ use std::alloc::{AllocError, Global};
 const BEFORE: usize = 60;
 
 /// How many bytes from the place on are shown.
-pub(crate) const SHOWN_BEHIND: usize = 20;
+pub(crate) const SHOWN_AFTER: usize = 20;
 
 /// What stands where bytes are left out.
 const DOTS: &[u8] = b"...";
@@ -53,15 +53,15 @@ pub(crate) fn shown_before(alloc: Global, line: &[u8]) -> Result<Vec<u8>, AllocE
 }
 
 /// A line from the place on, as it is shown.
-pub(crate) fn shown_behind(alloc: Global, line: &[u8]) -> Result<Vec<u8>, AllocError>
-    ensures { IfOk result (λ behind. behind.items ≡ shown_behind line.now) }
+pub(crate) fn shown_after(alloc: Global, line: &[u8]) -> Result<Vec<u8>, AllocError>
+    ensures { IfOk result (λ after. after.items ≡ shown_after line.now) }
 {
-    let mut behind = Vec::new(alloc);
-    if line.len() <= SHOWN_BEHIND {
-        put_shown(line, &mut behind)?;
+    let mut after = Vec::new(alloc);
+    if line.len() <= SHOWN_AFTER {
+        put_shown(line, &mut after)?;
     } else {
-        put_shown(&line[..SHOWN_BEHIND - 3], &mut behind)?;
-        behind.extend_from_slice(DOTS)?;
+        put_shown(&line[..SHOWN_AFTER - 3], &mut after)?;
+        after.extend_from_slice(DOTS)?;
     }
-    Ok(behind)
+    Ok(after)
 }

@@ -3,7 +3,7 @@
 ghost use Rattle.std.specs.Prelude.{◌≡◌, ◌≤◌, false, length};
 ghost use Rattle.std.specs.List.{list_all};
 ghost use Rattle.ic_text.specs.Token.{is_blank};
-ghost use Rattle.ic_diagnostics.specs.Sights.{begins_rule, begins_word, behind_word, empties, end_sight, ends_list, ends_rules, ends_term, first_byte, first_word, front_sight, has_dash, inner_sight, is_command, is_dashed, is_in_rule, is_joined};
+ghost use Rattle.ic_diagnostics.specs.Sights.{after_word, begins_rule, begins_word, empties, end_sight, ends_list, ends_rules, ends_term, first_byte, first_word, front_sight, has_dash, inner_sight, is_command, is_dashed, is_in_rule, is_joined};
 ghost use Rattle.ic_diagnostics.specs.Sights.{begins_as_name, is_applied, is_equated, is_in_interface, is_late, is_listed, is_misnamed, is_over, is_no_name, is_no_symbol, is_on_side, is_small, is_spread, is_stray, marked_sight, opens, opens_applied, opens_spread};
 ghost use Rattle.ic_diagnostics.specs.Sights.{is_again, is_second, is_symbol, is_term_due, joins, last_byte, last_word, mark_sight, opens_comment, opens_order_mark, opens_term, rule_front, sight_at, stands_in, term_sight};
 
@@ -63,7 +63,7 @@ pub enum Sight {
     /// At the front, anything else.
     Front,
     /// Further on anything else, after this byte, which is the last one before it that is no blank.
-    Behind(u8),
+    AfterMark(u8),
 }
 
 /// The word with which a text begins, or nothing.
@@ -79,8 +79,8 @@ pub fn first_word(text: &[u8]) -> &[u8]
 }
 
 /// What follows the word with which a text begins.
-fn behind_word(text: &[u8]) -> &[u8]
-    ensures { result.now ≡ behind_word text.now }
+fn after_word(text: &[u8]) -> &[u8]
+    ensures { result.now ≡ after_word text.now }
 {
     for (place, byte) in text.iter().enumerate() {
         if !is_word_byte(*byte) {
@@ -269,7 +269,7 @@ fn mark_sight(byte: Option<u8>, stand: Stand) -> Sight
             } else if byte == b'<' && is_second(stand) {
                 Sight::Crossed
             } else {
-                Sight::Behind(byte)
+                Sight::AfterMark(byte)
             }
         }
         None => Sight::Front,
@@ -539,14 +539,14 @@ fn is_spread(word: &[u8]) -> bool
 fn opens_spread(text: &[u8]) -> bool
     ensures { result ≡ opens_spread text.now }
 {
-    is_spread(first_word(text)) && begins_word(first_byte(behind_word(text)))
+    is_spread(first_word(text)) && begins_word(first_byte(after_word(text)))
 }
 
 /// Whether a text begins with a word that begins as names do and is given arguments.
 fn opens_applied(text: &[u8]) -> bool
     ensures { result ≡ opens_applied text.now }
 {
-    begins_as_name(first_word(text)) && opens(first_byte(behind_word(text)))
+    begins_as_name(first_word(text)) && opens(first_byte(after_word(text)))
 }
 
 /// Whether a word that begins as names do is given arguments, where a term may stand or at the end of a text.

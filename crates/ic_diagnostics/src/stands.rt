@@ -1,7 +1,7 @@
 //! Where in a text a place stands, by what stands before it.
 
 ghost use Rattle.std.specs.Prelude.{◌≡◌, ◌<◌, ◌-◌, ◌^◌};
-ghost use Rattle.ic_diagnostics.specs.Stands.{behind_comma, behind_greater, behind_less, spot_behind, spot_of, stand_behind};
+ghost use Rattle.ic_diagnostics.specs.Stands.{after_comma, after_greater, after_less, spot_after, spot_of, stand_after};
 
 /// Where a place stands that is in no agent's parentheses.
 #[derive(Clone, Copy, Debug, PartialEq, Eq)]
@@ -32,8 +32,8 @@ pub struct Spot {
 }
 
 /// Where a place stands after `<`, which ends `><` or begins a configuration.
-fn behind_less(stand: Stand) -> Stand
-    ensures { result ≡ behind_less stand }
+fn after_less(stand: Stand) -> Stand
+    ensures { result ≡ after_less stand }
 {
     match stand {
         Stand::Second => Stand::Second,
@@ -48,8 +48,8 @@ fn behind_less(stand: Stand) -> Stand
 }
 
 /// Where a place stands after `>`, which begins `><` or ends a configuration.
-fn behind_greater(stand: Stand) -> Stand
-    ensures { result ≡ behind_greater stand }
+fn after_greater(stand: Stand) -> Stand
+    ensures { result ≡ after_greater stand }
 {
     match stand {
         Stand::First => Stand::Second,
@@ -64,8 +64,8 @@ fn behind_greater(stand: Stand) -> Stand
 }
 
 /// Where a place stands after a comma, after which another equation begins.
-fn behind_comma(stand: Stand) -> Stand
-    ensures { result ≡ behind_comma stand }
+fn after_comma(stand: Stand) -> Stand
+    ensures { result ≡ after_comma stand }
 {
     match stand {
         Stand::Right => Stand::Left,
@@ -80,8 +80,8 @@ fn behind_comma(stand: Stand) -> Stand
 }
 
 /// Where a place stands after a byte, where it stood there before it.
-fn stand_behind(stand: Stand, byte: u8) -> Stand
-    ensures { result ≡ stand_behind stand byte }
+fn stand_after(stand: Stand, byte: u8) -> Stand
+    ensures { result ≡ stand_after stand byte }
 {
     if byte == b'{' || byte == b';' {
         Stand::First
@@ -92,20 +92,20 @@ fn stand_behind(stand: Stand, byte: u8) -> Stand
     } else if byte == b'=' {
         Stand::Right
     } else if byte == b'<' {
-        behind_less(stand)
+        after_less(stand)
     } else if byte == b'>' {
-        behind_greater(stand)
+        after_greater(stand)
     } else if byte == b',' {
-        behind_comma(stand)
+        after_comma(stand)
     } else {
         stand
     }
 }
 
 /// The spot after a byte.
-fn spot_behind(spot: Spot, byte: u8) -> Spot
+fn spot_after(spot: Spot, byte: u8) -> Spot
     requires { spot.depth < 2 ^ 64 - 1 }
-    ensures { result ≡ spot_behind spot byte }
+    ensures { result ≡ spot_after spot byte }
 {
     let Spot { stand, depth } = spot;
     if byte == b'(' {
@@ -120,7 +120,7 @@ fn spot_behind(spot: Spot, byte: u8) -> Spot
         }
     } else if depth == 0 {
         Spot {
-            stand: stand_behind(stand, byte),
+            stand: stand_after(stand, byte),
             depth,
         }
     } else {
@@ -137,7 +137,7 @@ pub(crate) fn spot_of(front: &[u8]) -> Spot
         depth: 0,
     };
     for byte in front {
-        spot = spot_behind(spot, *byte);
+        spot = spot_after(spot, *byte);
     }
     spot
 }

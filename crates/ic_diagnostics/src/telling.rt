@@ -3,7 +3,7 @@
 ghost use Rattle.std.specs.Prelude.{◌≡◌, ◌≤◌, IfOk, IfSome, drop, false, length, true};
 ghost use Rattle.ic_text.specs.declared.limits.Limits.TheVariants.{Wide};
 ghost use Rattle.ic_diagnostics.specs.Sights.{first_word, is_again, sight_at};
-ghost use Rattle.ic_diagnostics.specs.Telling.{argument_sentence, arity_sentence, behind_in_config, behind_in_system, behind_mark, config_sentence, count_words};
+ghost use Rattle.ic_diagnostics.specs.Telling.{after_in_config, after_in_system, after_mark, argument_sentence, arity_sentence, config_sentence, count_words};
 ghost use Rattle.ic_diagnostics.specs.Telling.{limit_sentence, limit_sentence_within, namecount_sentence, of_rule, place_sentence, plain_sentence, sentence, sentence_within};
 ghost use Rattle.ic_diagnostics.specs.Telling.{stand_sentence, syntax_sentence, system_sentence, told_lines, told_lines_within};
 
@@ -56,8 +56,8 @@ const SYMBOLS: &[u8] = b"a symbol has letters and digits only";
 
 /// What is looked for after a mark in a text of either kind; after another byte it is the other
 /// sentence.
-fn behind_mark(other: &'static [u8], byte: u8) -> &'static [u8]
-    ensures { result.now ≡ behind_mark other.now byte }
+fn after_mark(other: &'static [u8], byte: u8) -> &'static [u8]
+    ensures { result.now ≡ after_mark other.now byte }
 {
     if byte == b'(' || byte == b',' || byte == b'=' {
         b"a term is looked for here"
@@ -69,21 +69,21 @@ fn behind_mark(other: &'static [u8], byte: u8) -> &'static [u8]
 }
 
 /// What is looked for in a configuration after a byte, as far as it is told.
-fn behind_in_config(byte: u8) -> &'static [u8]
-    ensures { result.now ≡ behind_in_config byte }
+fn after_in_config(byte: u8) -> &'static [u8]
+    ensures { result.now ≡ after_in_config byte }
 {
     if byte == b'<' {
         b"a term or | is looked for here"
     } else if byte == b'>' {
         b"nothing is looked for after a configuration"
     } else {
-        behind_mark(b"no configuration goes on with this", byte)
+        after_mark(b"no configuration goes on with this", byte)
     }
 }
 
 /// What is looked for in a system after a byte, as far as it is told.
-fn behind_in_system(byte: u8) -> &'static [u8]
-    ensures { result.now ≡ behind_in_system byte }
+fn after_in_system(byte: u8) -> &'static [u8]
+    ensures { result.now ≡ after_in_system byte }
 {
     if byte == b'{' {
         b"a symbol or } is looked for here"
@@ -96,7 +96,7 @@ fn behind_in_system(byte: u8) -> &'static [u8]
     } else if byte == b'>' {
         b"nothing is looked for after a configuration"
     } else {
-        behind_mark(b"no system goes on with this", byte)
+        after_mark(b"no system goes on with this", byte)
     }
 }
 
@@ -172,7 +172,7 @@ fn config_sentence(sight: Sight) -> &'static [u8]
         Sight::After(stand, opens) => {
             stand_sentence(b"no configuration goes on with this", stand, opens)
         }
-        Sight::Behind(byte) => behind_in_config(byte),
+        Sight::AfterMark(byte) => after_in_config(byte),
         Sight::ConfigMark
         | Sight::Small
         | Sight::Expanded
@@ -212,7 +212,7 @@ fn system_sentence(sight: Sight) -> &'static [u8]
         Sight::After(stand, opens) => stand_sentence(b"no system goes on with this", stand, opens),
         Sight::Crossing => b"< is looked for here",
         Sight::Crossed => b"a symbol is looked for here",
-        Sight::Behind(byte) => behind_in_system(byte),
+        Sight::AfterMark(byte) => after_in_system(byte),
         Sight::SystemMark | Sight::Front => b"a system begins with {",
     }
 }

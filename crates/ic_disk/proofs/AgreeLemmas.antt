@@ -9,7 +9,7 @@ module _ (at n other m : ℕ) where
     from.1,
     record {
       no_shorter = from.2.no_shorter;
-      same = λ i inside outside. ⊎_elim (λ before. from.2.before i inside before) (λ behind. from.2.behind i inside behind) outside.0;
+      same = λ i inside outside. ⊎_elim (λ before. from.2.before i inside before) (λ after. from.2.after i inside after) outside.0;
     },
   )
 
@@ -22,8 +22,8 @@ module _ (at n other m : ℕ) where
           no_shorter = omega (arith, first.2.no_shorter, from.2.no_shorter);
           same = λ i inside outside.
               let still : i < length from.0 = omega (arith, inside, first.2.no_shorter) in
-              ⊎_elim (λ before. from.2.before i still before) (λ behind. from.2.behind i still behind) outside.1.0
-              ∙ ⊎_elim (λ before. first.2.before i inside before) (λ behind. first.2.behind i inside behind) outside.0;
+              ⊎_elim (λ before. from.2.before i still before) (λ after. from.2.after i still after) outside.1.0
+              ∙ ⊎_elim (λ before. first.2.before i inside before) (λ after. first.2.after i inside after) outside.0;
         },
       )
 

@@ -5,7 +5,7 @@ use Rattle.std.proofs.lemmas.List.{ext_get_or, take-append-le, length-replicate}
 use Rattle.std.specs.Prelude.{replicate}
 use borrow.Rule.Slice.PartMut.{put_mid, Post-is}
 use Rattle.ic_disk.specs.Content.{filled_to, laid}
-use Rattle.ic_disk.specs.lemmas.ContentLaws.{length-filled_to, filled_to-at, length-laid, laid-before, laid-inside, laid-behind}
+use Rattle.ic_disk.specs.lemmas.ContentLaws.{length-filled_to, filled_to-at, length-laid, laid-before, laid-inside, laid-after}
 
 -- over bytes that are there already
 pub put_mid-laid : (at : ℕ) (bytes file : List ℕ) → at + length bytes ≤ length file → put_mid at (at + length bytes - at) file bytes ≡ laid at bytes file
@@ -22,7 +22,7 @@ laid-filled_to at end bytes file short = ext_get_or 0 (laid at bytes (filled_to 
     (λ before. laid-before at bytes (filled_to end file) i before ∙ filled_to-at end file i ∙ sym (laid-before at bytes file i before))
     (λ from. ⊎_elim
     (λ until. laid-inside at bytes (filled_to end file) i from until ∙ sym (laid-inside at bytes file i from until))
-    (λ past. laid-behind at bytes (filled_to end file) i past ∙ filled_to-at end file i ∙ sym (laid-behind at bytes file i past))
+    (λ past. laid-after at bytes (filled_to end file) i past ∙ filled_to-at end file i ∙ sym (laid-after at bytes file i past))
     (cases_lt i (at + length bytes)))
     (cases_lt i at))
   where

@@ -4,7 +4,7 @@ use Rattle.std.specs.Prelude.{replicate}
 use Rattle.std.proofs.lemmas.Bool.{cases_lt}
 use Rattle.std.proofs.lemmas.List.{take_min, ext_get_or, get_or-replicate, length-replicate}
 use Rattle.ic_disk.specs.Content.{laid}
-use Rattle.ic_disk.specs.lemmas.ContentLaws.{length-laid, laid-before, laid-inside, laid-behind}
+use Rattle.ic_disk.specs.lemmas.ContentLaws.{length-laid, laid-before, laid-inside, laid-after}
 use Rattle.ic_disk.specs.Images.{Range, IsOutside, AgreesOutside}
 use Rattle.ic_disk.specs.Model.{Write, Call, write, sync, State, begun, after, range_of, IsImageIn}
 use Rattle.ic_disk.specs.History.{History, replay, state, content_of, image_of}
@@ -57,7 +57,7 @@ byte_laid-inside at n byte file i from until =
 byte_laid-outside : (at n byte : ℕ) (file : List ℕ) (i : ℕ) → (i < at) ⊎ (at + n ≤ i) → get_or (laid at (replicate n byte) file) i 0 ≡ get_or file i 0
 byte_laid-outside at n byte file i outside = ⊎_elim
     (λ before. laid-before at (replicate n byte) file i before)
-    (λ behind. laid-behind at (replicate n byte) file i (omega (arith, length-replicate {A = ℕ} n byte)))
+    (λ beyond. laid-after at (replicate n byte) file i (omega (arith, length-replicate {A = ℕ} n byte)))
     outside
 
 pub length-filled_all : (byte : ℕ) (ws : List Write) (file : List ℕ) → EndWithin (length file) ws → length (filled_all byte ws file) ≡ length file
@@ -78,7 +78,7 @@ inside_or_outside (r ∷ ranges) i = ⊎_elim
     (λ inside. inl (inr inside))
     (λ outside. ⊎_elim
     (λ before. inr (inl before, outside))
-    (λ from. ⊎_elim (λ until. inl (inl (from, until))) (λ behind. inr (inr behind, outside)) (cases_lt i (r.at + r.size)))
+    (λ from. ⊎_elim (λ until. inl (inl (from, until))) (λ beyond. inr (inr beyond, outside)) (cases_lt i (r.at + r.size)))
     (cases_lt i r.at))
     (inside_or_outside ranges i)
 
@@ -94,7 +94,7 @@ filled_all-inside byte (w ∷ ws) file i inside = ⊎_elim
   where
     never : (ranges : List Range) (i : ℕ) → IsInside ranges i → IsOutside ranges i → ⊥
     never [] i is_in out = is_in
-    never (r ∷ ranges) i is_in out = ⊎_elim (λ here. ⊎_elim (λ before. omega arith) (λ behind. omega arith) out.0) (λ later. never ranges i later out.1) is_in
+    never (r ∷ ranges) i is_in out = ⊎_elim (λ here. ⊎_elim (λ before. omega arith) (λ beyond. omega arith) out.0) (λ later. never ranges i later out.1) is_in
 
 -- the pending ranges filled, and then all that is past what was synced
 pub filled_left : (byte n : ℕ) (h : History) → n ≡ length (state h).synced → IsFilled byte (state h) (filled_past byte n (filled_all byte (state h).pending (content_of h)))
@@ -105,7 +105,7 @@ filled_left byte n h is = record {
       (λ before. byte_laid-outside n m byte file i (inl before) ∙ filled_all-inside byte ws (content_of h) i is_in)
       (λ from. byte_laid-inside n m byte file i from (omega (arith, long, inside)))
       (cases_lt i n);
-  past = λ i inside behind. byte_laid-inside n m byte file i (omega (arith, is, behind)) (omega (arith, long, inside, short));
+  past = λ i inside beyond. byte_laid-inside n m byte file i (omega (arith, is, beyond)) (omega (arith, long, inside, short));
 }
   where
     ws : List Write
@@ -149,7 +149,7 @@ after_bytes-outside : (at n : ℕ) (bytes file : List ℕ) (i : ℕ) → length 
 after_bytes-outside at n [] file i short outside = refl
 after_bytes-outside at n (b ∷ bytes) file i short outside = ⊎_elim
     (λ before. laid-before at (b ∷ bytes) file i before)
-    (λ behind. laid-behind at (b ∷ bytes) file i (omega (arith, behind, short)))
+    (λ beyond. laid-after at (b ∷ bytes) file i (omega (arith, beyond, short)))
     outside
 
 fronted_agrees : (n : ℕ) (ws : List Write) (file : List ℕ) → AgreesOutside (map range_of ws) file (fronted n ws file)
@@ -234,7 +234,7 @@ filled_alike byte s left other one two = ext_get_or 0 left other (one.as_long �
         (λ is_in. one.pending i within is_in ∙ sym (two.pending i within is_in))
         (λ outside. one.kept i synced outside ∙ sym (two.kept i synced outside))
         (inside_or_outside (map range_of s.pending) i))
-        (λ behind. one.past i within behind ∙ sym (two.past i within behind))
+        (λ beyond. one.past i within beyond ∙ sym (two.past i within beyond))
         (cases_lt i (length s.synced))
 
 pub takes_one : (choice : Choice) (s : State) (left other : List ℕ) → Takes choice s left → Takes choice s other → left ≡ other

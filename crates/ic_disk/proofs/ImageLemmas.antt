@@ -60,7 +60,7 @@ restored_torn : (synced : List ℕ) (r : Range) (file : List ℕ) → length syn
 restored_torn synced r file long = record {
   no_shorter = omega (arith, length-restored r synced file);
   before = λ i inside below. place i (omega (arith, length-restored r synced file, inside)) (λ both. omega arith);
-  behind = λ i inside above. place i (omega (arith, length-restored r synced file, inside)) (λ both. omega arith);
+  after = λ i inside above. place i (omega (arith, length-restored r synced file, inside)) (λ both. omega arith);
 }
   where
     place : (i : ℕ) → i < length synced → ((r.at ≤ i) × (i < r.at + r.size) → ⊥) → get_or file i 0 ≡ get_or (restored r synced file) i 0

@@ -40,7 +40,7 @@ pub record IsImage (synced : List ℕ) (pending : List Range) (left : List ℕ) 
 pub record Torn (at n : ℕ) (old new : List ℕ) : Type 0 where
   pub no_shorter : length old ≤ length new
   pub before : (i : ℕ) → i < length old → i < at → slice_index new i ≡ slice_index old i
-  pub behind : (i : ℕ) → i < length old → at + n ≤ i → slice_index new i ≡ slice_index old i
+  pub after : (i : ℕ) → i < length old → at + n ≤ i → slice_index new i ≡ slice_index old i
 
 -- one of the images, torn by a write of n bytes at a place
 abbrev pub TornFrom : ℕ → ℕ → (List ℕ → Type 0) → List ℕ → Type 0

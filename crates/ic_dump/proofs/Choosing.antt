@@ -20,15 +20,15 @@ module _ {X : Type 0} where
   at_front : (y x : X) (xs : List X) → y ≡ x → Contains (y ∷ xs) x
   at_front y x xs e = (0, omega arith, e)
 
-  behind_it : (y x : X) (xs : List X) → Contains xs x → Contains (y ∷ xs) x
-  behind_it y x xs c = let below = c.1 in (suc c.0, omega arith, c.2)
+  after_it : (y x : X) (xs : List X) → Contains xs x → Contains (y ∷ xs) x
+  after_it y x xs c = let below = c.1 in (suc c.0, omega arith, c.2)
 
   at_place : (y x : X) (xs : List X) (k : ℕ) → k < suc (length xs) → slice_index_or (y ∷ xs) k x ≡ x → (y ≡ x) ⊎ Contains xs x
   at_place y x xs zero below e = inl e
   at_place y x xs (suc k) below e = inr (k, omega arith, e)
 
-  front_or_behind : (y x : X) (xs : List X) → Contains (y ∷ xs) x → (y ≡ x) ⊎ Contains xs x
-  front_or_behind y x xs c = at_place y x xs c.0 c.1 c.2
+  front_or_after : (y x : X) (xs : List X) → Contains (y ∷ xs) x → (y ≡ x) ⊎ Contains xs x
+  front_or_after y x xs c = at_place y x xs c.0 c.1 c.2
 
 -- ---- a job has one of the names
 
@@ -42,11 +42,11 @@ one_is_had x (n ∷ ns) e = by_test (bytes_eq n x) refl e (one_is_had x ns)
   where
     by_test : (b : Bool) → bytes_eq n x ≡ b → (b || list_any (λ m. bytes_eq m x) ns) ≡ true → (list_any (λ m. bytes_eq m x) ns ≡ true → Contains ns x) → Contains (n ∷ ns) x
     by_test true is any further = at_front n x ns ((bytes_decides n x).0 is)
-    by_test false is any further = behind_it n x ns (further any)
+    by_test false is any further = after_it n x ns (further any)
 
 had_is_one : (x : List ℕ) (names : List (List ℕ)) → Contains names x → list_any (λ n. bytes_eq n x) names ≡ true
 had_is_one x [] c = absurd (none_of_none x c)
-had_is_one x (n ∷ ns) c = by_place (front_or_behind n x ns c) (had_is_one x ns)
+had_is_one x (n ∷ ns) c = by_place (front_or_after n x ns c) (had_is_one x ns)
   where
     by_place : (n ≡ x) ⊎ Contains ns x → (Contains ns x → list_any (λ m. bytes_eq m x) ns ≡ true) → (bytes_eq n x || list_any (λ m. bytes_eq m x) ns) ≡ true
     by_place (inl e) further = ap (λ b. b || list_any (λ m. bytes_eq m x) ns) ((bytes_decides n x).1 e)
@@ -75,11 +75,11 @@ found_is_named name (j ∷ js) e = by_test (is_named name j) refl e (found_is_na
   where
     by_test : (b : Bool) → is_named name j ≡ b → is_some (cond b (Some j) (job_named name js)) ≡ true → (is_some (job_named name js) ≡ true → Contains (job_names js) name) → Contains (job_names (j ∷ js)) name
     by_test true is some further = at_front j.name name (job_names js) (sym ((bytes_decides name j.name).0 is))
-    by_test false is some further = behind_it j.name name (job_names js) (further some)
+    by_test false is some further = after_it j.name name (job_names js) (further some)
 
 named_is_found : (name : List ℕ) (t : List JobParts) → Contains (job_names t) name → is_some (job_named name t) ≡ true
 named_is_found name [] c = absurd (none_of_none name c)
-named_is_found name (j ∷ js) c = by_place (front_or_behind j.name name (job_names js) c) (named_is_found name js)
+named_is_found name (j ∷ js) c = by_place (front_or_after j.name name (job_names js) c) (named_is_found name js)
   where
     or_found : (b : Bool) → is_some (job_named name js) ≡ true → is_some (cond b (Some j) (job_named name js)) ≡ true
     or_found true some = refl
@@ -106,14 +106,14 @@ module _ (t : List JobParts) where
       by_test false e = refl
 
   had_with : (n : List ℕ) (ns : List (List ℕ)) → has n ≡ true → AreHad t ns → AreHad t (n ∷ ns)
-  had_with n ns e are name c = by_place (front_or_behind n name ns c)
+  had_with n ns e are name c = by_place (front_or_after n name ns c)
     where
       by_place : (n ≡ name) ⊎ Contains ns name → Contains (job_names t) name
       by_place (inl same) = subst (Contains (job_names t)) same (found_is_named n t e)
       by_place (inr among) = are name among
 
-  had_behind : (n : List ℕ) (ns : List (List ℕ)) → AreHad t (n ∷ ns) → AreHad t ns
-  had_behind n ns are name c = are name (behind_it n name ns c)
+  had_after : (n : List ℕ) (ns : List (List ℕ)) → AreHad t (n ∷ ns) → AreHad t ns
+  had_after n ns are name c = are name (after_it n name ns c)
 
   had_first : (n : List ℕ) (ns : List (List ℕ)) → AreHad t (n ∷ ns) → has n ≡ true
   had_first n ns are = named_is_found n t (are n (at_front n n ns refl))
@@ -121,7 +121,7 @@ module _ (t : List JobParts) where
   with_first : (n name : List ℕ) (ns : List (List ℕ)) → has n ≡ true → IsFirstMissing ns t name → IsFirstMissing (n ∷ ns) t name
   with_first n name ns e first = record {
     before = n ∷ first.before;
-    behind = first.behind;
+    after = first.after;
     parted = ap (λ l. n ∷ l) first.parted;
     had = had_with n first.before e first.had;
     missing = first.missing;
@@ -135,18 +135,18 @@ module _ (t : List JobParts) where
       by_test true is told further = with_first n name ns is (further told)
       by_test false is told further =
           let same : n ≡ name = cc in
-          record { before = []; behind = ns; parted = ap (λ x. x ∷ ns) same; had = λ x c. absurd (none_of_none x c); missing = subst (λ x. ¬ Contains (job_names t) x) same (not_had n is) }
+          record { before = []; after = ns; parted = ap (λ x. x ∷ ns) same; had = λ x c. absurd (none_of_none x c); missing = subst (λ x. ¬ Contains (job_names t) x) same (not_had n is) }
 
   passed_had : (before rest : List (List ℕ)) → AreHad t before → first_missing (before ++ rest) t ≡ first_missing rest t
   passed_had [] rest are = refl
   passed_had (n ∷ ns) rest are =
-      ap (λ b. cond (not b) (Some n) (first_missing (ns ++ rest) t)) (had_first n ns are) ∙ passed_had ns rest (had_behind n ns are)
+      ap (λ b. cond (not b) (Some n) (first_missing (ns ++ rest) t)) (had_first n ns are) ∙ passed_had ns rest (had_after n ns are)
 
   missing_told : (names : List (List ℕ)) (name : List ℕ) → IsFirstMissing names t name → first_missing names t ≡ Some name
   missing_told names name first =
       ap (λ ns. first_missing ns t) first.parted
-      ∙ passed_had first.before (name ∷ first.behind) first.had
-      ∙ ap (λ b. cond (not b) (Some name) (first_missing first.behind t)) (has_not name first.missing)
+      ∙ passed_had first.before (name ∷ first.after) first.had
+      ∙ ap (λ b. cond (not b) (Some name) (first_missing first.after t)) (has_not name first.missing)
 
   none_missing : (names : List (List ℕ)) → first_missing names t ≡ None → AreHad t names
   none_missing [] e = λ name c. absurd (none_of_none name c)
@@ -158,7 +158,7 @@ module _ (t : List JobParts) where
 
   all_had : (names : List (List ℕ)) → AreHad t names → first_missing names t ≡ None
   all_had [] are = refl
-  all_had (n ∷ ns) are = ap (λ b. cond (not b) (Some n) (first_missing ns t)) (had_first n ns are) ∙ all_had ns (had_behind n ns are)
+  all_had (n ∷ ns) are = ap (λ b. cond (not b) (Some n) (first_missing ns t)) (had_first n ns are) ∙ all_had ns (had_after n ns are)
 
 pub missing_first : (names : List (List ℕ)) (t : List JobParts) (name : List ℕ) → (first_missing names t ≡ Some name) ↔ IsFirstMissing names t name
 missing_first names t name = (missing_from t names name, missing_told t names name)

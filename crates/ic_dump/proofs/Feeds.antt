@@ -24,7 +24,7 @@ use Rattle.ic_lines.specs.Lines.{has_feed}
 use Rattle.ic_dump.specs.Writing.{system_of, system_text}
 use Rattle.ic_dump.specs.Telling.{told_system, job_line}
 
--- ---- two texts, one behind the other
+-- ---- two texts, one after the other
 unfed_both : (xs ys : List ℕ) → has_feed xs ≡ false → has_feed ys ≡ false → has_feed (xs ++ ys) ≡ false
 unfed_both xs ys p q = list_any-append (λ b. b == 10) xs ys ∙ or_from (has_feed xs) (has_feed ys) p q
 

@@ -14,7 +14,7 @@ use Rattle.ic_jobs.specs.declared.reply.Reply.TheVariants.{Accepted}
 use Rattle.ic_jobs.specs.declared.reply.Refusal.TheVariants.{Taken, Full}
 use Rattle.ic_dump.specs.Filling.{begun_again, submit_of, table_after}
 
--- a name behind others that differ from it
+-- a name after others that differ from it
 none_named : (name : List ℕ) (js : List JobParts) → AllByRecursion (λ j. bytes_eq name j.name ≡ false) js → job_named name (map begun_again js) ≡ None
 none_named name [] all = refl
 none_named name (j ∷ js) all = ap (λ b. cond b (Some (begun_again j)) (job_named name (map begun_again js))) all.0 ∙ none_named name js all.1
@@ -44,10 +44,10 @@ one_more before r rest few distinct =
     taken t r (is_some (job_named r.name t)) (nat_lt (length t) MAX_JOBS) (ap is_some (none_named r.name before (others before r rest distinct))) (lt-ltb (length t) MAX_JOBS within)
     ∙ ap (λ u. outcome u Accepted) (sym (map-append begun_again before (r ∷ [])))
 
--- those behind it come behind one job more
-pub one_behind : (before : List JobParts) (r : JobParts) (rest : List JobParts) → length (before ++ r ∷ rest) ≤ MAX_JOBS → IsDistinct bytes_eq (job_names (before ++ r ∷ rest))
+-- those after it come after one job more
+pub one_after : (before : List JobParts) (r : JobParts) (rest : List JobParts) → length (before ++ r ∷ rest) ≤ MAX_JOBS → IsDistinct bytes_eq (job_names (before ++ r ∷ rest))
     → (length ((before ++ r ∷ []) ++ rest) ≤ MAX_JOBS) × IsDistinct bytes_eq (job_names ((before ++ r ∷ []) ++ rest))
-one_behind before r rest few distinct =
+one_after before r rest few distinct =
     let same : (before ++ r ∷ []) ++ rest ≡ before ++ r ∷ rest = append_assoc before (r ∷ []) rest in
     (subst (λ l. length l ≤ MAX_JOBS) (sym same) few, subst (λ l. IsDistinct bytes_eq (job_names l)) (sym same) distinct)
 
@@ -55,7 +55,7 @@ pub filled : (rest before : List JobParts) → length (before ++ rest) ≤ MAX_J
     → fold table_after (map begun_again before) (map submit_of rest) ≡ map begun_again (before ++ rest)
 filled [] before few distinct = ap (map begun_again) (sym (append-nil before))
 filled (r ∷ rest) before few distinct =
-    let next = one_behind before r rest few distinct in
+    let next = one_after before r rest few distinct in
     ap (λ (o : Outcome). fold table_after o.table (map submit_of rest)) (one_more before r rest few distinct)
     ∙ filled rest (before ++ r ∷ []) next.0 next.1
     ∙ ap (map begun_again) (append_assoc before (r ∷ []) rest)

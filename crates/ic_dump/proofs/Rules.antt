@@ -10,7 +10,7 @@ use Rattle.ic_term.specs.Tree.{Trees, list_of, trees_of}
 use Rattle.ic_term.specs.lemmas.TreeLaws.{list_of-trees_of}
 use Rattle.ic_rules.specs.Renaming.{renamed, are_paired}
 use Rattle.ic_rules.specs.Rule.{Rule, IsRule, rule_names, numbered, is_lopsided, same_pair}
-use Rattle.ic_rules.specs.RuleSet.{IsRuleOver, first_uncounted, repeated_behind, first_repeated, first_lopsided}
+use Rattle.ic_rules.specs.RuleSet.{IsRuleOver, first_uncounted, repeated_after, first_repeated, first_lopsided}
 use Rattle.ic_rules.specs.Mirror.{IsOwnMirror}
 use Rattle.ic_rules.specs.lemmas.NumberingLaws.{numbered-same}
 use Rattle.ic_text.specs.Source.{count_of, source_symbols}
@@ -90,11 +90,11 @@ module _ (table read : List Symbol) where
     any_same r (q ∷ qs) mr ms = λ i. pair_same r q mr ms.0 i || any_same r qs mr ms.1 i
 
     repeated_same : (seen rs : List Rule) → AllByRecursion BothMoved seen → AllByRecursion BothMoved rs
-        → repeated_behind (map (turned_rule table read) seen) (map (turned_rule table read) rs) ≡ repeated_behind seen rs
+        → repeated_after (map (turned_rule table read) seen) (map (turned_rule table read) rs) ≡ repeated_after seen rs
     repeated_same seen [] ms mr = refl
     repeated_same seen (r ∷ rs) ms mr =
-        let rest : repeated_behind (map (turned_rule table read) seen ++ turned_rule table read r ∷ []) (map (turned_rule table read) rs) ≡ repeated_behind (seen ++ r ∷ []) rs =
-        ap (λ l. repeated_behind l (map (turned_rule table read) rs)) (sym (map-append (turned_rule table read) seen (r ∷ [])))
+        let rest : repeated_after (map (turned_rule table read) seen ++ turned_rule table read r ∷ []) (map (turned_rule table read) rs) ≡ repeated_after (seen ++ r ∷ []) rs =
+        ap (λ l. repeated_after l (map (turned_rule table read) rs)) (sym (map-append (turned_rule table read) seen (r ∷ [])))
         ∙ repeated_same (seen ++ r ∷ []) rs (All-join BothMoved seen (r ∷ []) ms (mr.0, tt)) mr.1 in
         λ i. cond (any_same r seen mr.0 ms i) (Some (length-map seen (turned_rule table read) i)) (rest i)
 

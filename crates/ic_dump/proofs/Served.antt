@@ -19,7 +19,7 @@ use Rattle.ic_lines.specs.Serving.{AreRead, IsServed}
 use Rattle.ic_dump.specs.Telling.{job_line, is_too_long}
 use Rattle.ic_dump.specs.Dumping.{is_chosen, chosen, first_missing, lines_of, unless_long, unless_missing, dumped}
 use Rattle.ic_dump.specs.Filling.{accepted, begun_again, submit_of, table_after}
-use Rattle.ic_dump.proofs.Filling.{filled, one_more, one_behind}
+use Rattle.ic_dump.proofs.Filling.{filled, one_more, one_after}
 
 -- what the line of a job is read as
 abbrev asked : JobParts → Reading
@@ -95,7 +95,7 @@ all_accepted : (rest before : List JobParts) → length (before ++ rest) ≤ MAX
     → out (map begun_again before) (map asked rest) ≡ flat_map accepted rest
 all_accepted [] before few distinct = refl
 all_accepted (r ∷ rest) before few distinct =
-    let next = one_behind before r rest few distinct in
+    let next = one_after before r rest few distinct in
     ap (λ (o : Outcome). ended (reply_text o.reply) ++ out o.table (map asked rest)) (one_more before r rest few distinct)
     ∙ ap (λ l. ended (reply_text Accepted) ++ l) (all_accepted rest (before ++ r ∷ []) next.0 next.1)
 

@@ -15,7 +15,7 @@ use Rattle.ic_text.specs.Source.{Source, leaf, node, Sources, no_sources, more_s
 use Rattle.ic_text.specs.SystemSource.{RulePhrase, IsRulePhrase, agent_source, rule_words, rules_words}
 use Rattle.ic_text.specs.Text.{text_of}
 use Rattle.ic_text.specs.lemmas.WordRuns.{tokens-parted, tokens-run}
-use Rattle.ic_dump.specs.inner.Printing.{semicolon, behind_semicolons}
+use Rattle.ic_dump.specs.inner.Printing.{semicolon, after_semicolons}
 
 nil_before : (o : Option (List Token)) → before [] o ≡ o
 nil_before None = refl
@@ -29,7 +29,7 @@ both_before a b (Some ts) = ap Some (sym (append_assoc a b ts))
 abbrev sign : ℕ → List Token
 sign c = unwrap_or (tokens_at c (mark_of c)) []
 
--- a mark or a blank, and what stands behind it
+-- a mark or a blank, and what stands after it
 sign_read : (c : ℕ) (x : List ℕ) → is_word_byte c ≡ false → tokens_at c (mark_of c) ≡ Some (sign c) → tokens (c ∷ x) ≡ before (sign c) (tokens x)
 sign_read c x apart at =
     tokens-parted [] x c apart ∙ ap (λ o. followed (Some []) (followed o (tokens x))) at ∙ nil_before (before (sign c) (tokens x))
@@ -39,7 +39,7 @@ abbrev Apart : List ℕ → Type 0
 Apart [] = ⊥
 Apart (b ∷ bs) = is_word_byte b ≡ false
 
--- a word, and what stands behind it
+-- a word, and what stands after it
 word_read : (b : ℕ) (bs rest : List ℕ) → list_all is_word_byte (b ∷ bs) ≡ true → Apart rest → tokens ((b ∷ bs) ++ rest) ≡ before (word (b ∷ bs) ∷ []) (tokens rest)
 word_read b bs [] are apart = absurd apart
 word_read b bs (c ∷ x) are apart =
@@ -91,7 +91,7 @@ arguments_apart : (ts : Sources) (rest : List ℕ) → Apart rest → Apart (tex
 arguments_apart no_sources rest apart = apart
 arguments_apart (more_sources t ts) rest apart = refl
 
--- one text behind another
+-- one text after another
 split : (ts us : List Token) (rest : List ℕ) → text_of (ts ++ us) ++ rest ≡ text_of ts ++ (text_of us ++ rest)
 split ts us rest = ap (λ l. l ++ rest) (text_of-append ts us) ∙ append_assoc (text_of ts) (text_of us) rest
 
@@ -136,27 +136,27 @@ rule_read r rest is apart =
     ∙ ap (before left) (both_before (sign 62) (sign 60 ++ right) (tokens rest))
     ∙ both_before left (sign 62 ++ (sign 60 ++ right)) (tokens rest)
 
-abbrev behind : List RulePhrase → List Token
-behind rs = behind_semicolons (map rule_words rs)
+abbrev after : List RulePhrase → List Token
+after rs = after_semicolons (map rule_words rs)
 
-behind_read : (r : RulePhrase) (rs : List RulePhrase) (x : List ℕ) → IsRulePhrase r → AllByRecursion IsRulePhrase rs
-    → tokens (text_of (rule_words r ++ behind rs) ++ 125 ∷ x) ≡ before (rule_words r ++ behind rs) (tokens (125 ∷ x))
-behind_read r [] x is are =
-    let same : rule_words r ++ behind [] ≡ rule_words r = append-nil (rule_words r) in
+after_read : (r : RulePhrase) (rs : List RulePhrase) (x : List ℕ) → IsRulePhrase r → AllByRecursion IsRulePhrase rs
+    → tokens (text_of (rule_words r ++ after rs) ++ 125 ∷ x) ≡ before (rule_words r ++ after rs) (tokens (125 ∷ x))
+after_read r [] x is are =
+    let same : rule_words r ++ after [] ≡ rule_words r = append-nil (rule_words r) in
     ap (λ l. tokens (text_of l ++ 125 ∷ x)) same ∙ rule_read r (125 ∷ x) is refl ∙ ap (λ l. before l (tokens (125 ∷ x))) (sym same)
-behind_read r (s ∷ rs) x is are =
-    let rest = rule_words s ++ behind rs in
+after_read r (s ∷ rs) x is are =
+    let rest = rule_words s ++ after rs in
     ap tokens (split (rule_words r) (semicolon ∷ rest) (125 ∷ x))
     ∙ rule_read r (59 ∷ (text_of rest ++ 125 ∷ x)) is refl
-    ∙ ap (before (rule_words r)) (sign_read 59 (text_of rest ++ 125 ∷ x) refl refl ∙ ap (before (sign 59)) (behind_read s rs x are.0 are.1))
+    ∙ ap (before (rule_words r)) (sign_read 59 (text_of rest ++ 125 ∷ x) refl refl ∙ ap (before (sign 59)) (after_read s rs x are.0 are.1))
     ∙ ap (before (rule_words r)) (both_before (sign 59) rest (tokens (125 ∷ x)))
     ∙ both_before (rule_words r) (semicolon ∷ rest) (tokens (125 ∷ x))
 
 rules_read : (rs : List RulePhrase) (x : List ℕ) → AllByRecursion IsRulePhrase rs → tokens (text_of (rules_words rs) ++ 125 ∷ x) ≡ before (rules_words rs) (tokens (125 ∷ x))
 rules_read [] x are = sym (nil_before (tokens (125 ∷ x)))
-rules_read (r ∷ rs) x are = behind_read r rs x are.0 are.1
+rules_read (r ∷ rs) x are = after_read r rs x are.0 are.1
 
--- rules in braces, a space and what is read behind it
+-- rules in braces, a space and what is read after it
 pub system_read : (rs : List RulePhrase) (text : List ℕ) (ts : List Token) → AllByRecursion IsRulePhrase rs → tokens text ≡ Some ts
     → tokens ((123 ∷ (text_of (rules_words rs) ++ 125 ∷ [])) ++ 32 ∷ text) ≡ Some (sign 123 ++ (rules_words rs ++ (sign 125 ++ ts)))
 system_read rs text ts are reads =

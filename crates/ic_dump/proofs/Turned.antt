@@ -154,7 +154,7 @@ module _ (table read : List Symbol) where
       sym (length-range 0 r.names) ∙ ap length (sym in_order) ∙ ap (λ ns. length (first_occurrences ns)) (sym (rule_names_written table r)) in
       ap first_occurrences (rule_names_turned r) ∙ in_order ∙ ap (range_with_len 0) count
 
-  -- renaming goes before or behind
+  -- renaming goes before or after
   mutual
     renamed_turned : (f : ℕ → ℕ) (t : Tree) → renamed f (turned t) ≡ turned (renamed f t)
     renamed_turned f (name n) = refl

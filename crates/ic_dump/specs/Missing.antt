@@ -10,7 +10,7 @@ AreHad t names = (name : List ℕ) → Contains names name → Contains (job_nam
 -- It is one of the names and no job's, and each name before it is a job's.
 pub record IsFirstMissing (names : List (List ℕ)) (t : List JobParts) (name : List ℕ) : Type 0 where
   pub before : List (List ℕ)
-  pub behind : List (List ℕ)
-  pub parted : names ≡ before ++ name ∷ behind
+  pub after : List (List ℕ)
+  pub parted : names ≡ before ++ name ∷ after
   pub had : AreHad t before
   pub missing : ¬ Contains (job_names t) name

@@ -392,7 +392,7 @@ fn inspect_word(fault: InspectFault) -> &'static [u8]
     }
 }
 
-/// Words, and a job's name behind them.
+/// Words, and a job's name after them.
 fn job_words(alloc: Global, words: &[u8], name: JobName) -> Result<Vec<u8>, AllocError>
     ensures { IfOk result (λ all. all.items ≡ words.now ++ name) }
 {

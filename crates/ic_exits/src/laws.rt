@@ -45,7 +45,7 @@ ghost use Rattle.ic_batch.specs.declared.fault.Difference.TheVariants as differe
 ghost use Rattle.ic_causes.specs.declared.cause.FileCall.{FileCall};
 ghost use Rattle.ic_causes.specs.declared.cause.Reason.TheVariants as reason;
 ghost use Rattle.ic_exits.specs.Endings.{status_of, check_ending, failure_line, failure_of_dump, opening_failure, reduce_ending, stuck_line};
-ghost use Rattle.ic_exits.specs.Behind.{is_silent, lines_behind};
+ghost use Rattle.ic_exits.specs.After.{is_silent, lines_after};
 ghost use Rattle.ic_causes.specs.declared.cause.Cause.{Cause};
 ghost use Rattle.ic_causes.specs.declared.cause.Target.{Target};
 ghost use Rattle.ic_causes.specs.declared.cause.Target.TheVariants.{Input};
@@ -276,33 +276,34 @@ pub fn endings_of_kept_reductions_are()
         ≡ map (λ word. codes "icserve: " ++ word ++ 10 ∷ []) (codes "not empty" ∷ codes "device"
         ∷ codes "no slot" ∷ codes "damaged" ∷ codes "limit" ∷ codes "memory" ∷ codes "device" ∷ []) }
     ensures not_empty { (path : List ℕ) (cause : Option Cause)
-        → lines_behind (Kept keeping.NotEmpty) path cause ≡ shown_path path ++ codes ": "
+        → lines_after (Kept keeping.NotEmpty) path cause ≡ shown_path path ++ codes ": "
         ++ codes "it or its second file, F.2, holds something; `--resume F` goes on if a reduction is kept there"
         ++ 10 ∷ [] }
     ensures nothing_kept { (path : List ℕ) (cause : Option Cause)
-        → lines_behind (Kept (keeping.Open opening.NoSlot)) path cause ≡ shown_path path
+        → lines_after (Kept (keeping.Open opening.NoSlot)) path cause ≡ shown_path path
         ++ codes ": "
         ++ codes "no reduction is kept in it and in its second file, F.2, "
         ++ codes "as after a stop in the first keep: remove both, and begin again"
         ++ 10 ∷ [] }
     ensures unsound { (path : List ℕ) (cause : Option Cause)
-        → lines_behind (Kept keeping.Unsound) path cause ≡ shown_path path ++ codes ": "
+        → lines_after (Kept keeping.Unsound) path cause ≡ shown_path path ++ codes ": "
         ++ codes "something else has changed it or its second file, F.2, or they were copied in part; "
         ++ codes "after a stop in the first keep, remove both, and begin again"
         ++ 10 ∷ [] }
     ensures damaged { (path : List ℕ) (cause : Option Cause)
-        → map (λ why. lines_behind (Kept (keeping.Open why)) path cause)
+        → map (λ why. lines_after (Kept (keeping.Open why)) path cause)
         (opening.Damaged ∷ opening.TwoAlike ∷ [])
-        ≡ map (λ failure. lines_behind failure path cause) (Kept keeping.Unsound ∷ Kept keeping.Unsound ∷ []) }
+        ≡ map (λ failure. lines_after failure path cause)
+        (Kept keeping.Unsound ∷ Kept keeping.Unsound ∷ []) }
     ensures calls { (path : List ℕ) (cause : Option Cause)
-        → (lines_behind (Kept (keeping.Keep keep.Device)) path cause ≡ cause_line path cause)
-        × (lines_behind (Kept keeping.Device) path cause ≡ cause_line path cause)
-        × (lines_behind (Kept (keeping.Open opening.Device)) path cause ≡ cause_line path cause) }
+        → (lines_after (Kept (keeping.Keep keep.Device)) path cause ≡ cause_line path cause)
+        × (lines_after (Kept keeping.Device) path cause ≡ cause_line path cause)
+        × (lines_after (Kept (keeping.Open opening.Device)) path cause ≡ cause_line path cause) }
     ensures second_file { (fault : DiskFault) (path : List ℕ) (cause : Cause)
         → cause.reason ≢ reason.Missing
-        → lines_behind (Disk fault) path (Some cause) ≡ cause_line path (Some cause) }
+        → lines_after (Disk fault) path (Some cause) ≡ cause_line path (Some cause) }
     ensures no_second_file { (fault : DiskFault) (path : List ℕ) (c : FileCall)
-        → lines_behind (Disk fault) path (Some (record {
+        → lines_after (Disk fault) path (Some (record {
           target = target.Second;
           call = c;
           reason = reason.Missing;
@@ -336,100 +337,101 @@ pub fn nothing_is_told_where_nobody_reads()
     ensures no_cause { (failure : Failure) → is_silent failure None ≡ false }
 {}
 
-/// What is told behind the line of a failure: of `device` why the last call to the file has failed,
+/// What is told after the line of a failure: of `device` why the last call to the file has failed,
 /// of a disk that isn't opened what is wrong with the file, of a `read` of standard input why it has
 /// failed, of a refused round its number and the nodes before it, of a net that is reduced in place
 /// how far it came, and of all else nothing.
-pub fn lines_behind_are(text: &String)
+pub fn lines_after_are(text: &String)
     ensures round_overgrown { (r nodes : ℕ) (path : List ℕ) (cause : Option Cause)
-        → lines_behind
+        → lines_after
         (Round (record { fault = round.Overgrown; round = r; nodes = nodes })) path cause ≡ codes "round " ++ decimal r ++ codes ", nodes " ++ decimal nodes
         ++ codes ", at most 8192" ++ 10 ∷ [] }
     ensures names_out { (r nodes : ℕ) (path : List ℕ) (cause : Option Cause)
-        → lines_behind
+        → lines_after
         (Round (record { fault = round.NamesOut; round = r; nodes = nodes })) path cause ≡ codes "round " ++ decimal r ++ codes ", nodes " ++ decimal nodes ++ 10 ∷ [] }
     ensures overgrown { (i p e nodes : ℕ) (path : List ℕ) (cause : Option Cause)
-        → lines_behind (Overgrown (record { interactions = i; places = p; left = e }) nodes)
+        → lines_after (Overgrown (record { interactions = i; places = p; left = e }) nodes)
         path cause ≡ codes "interactions " ++ decimal i ++ codes ", places " ++ decimal p
         ++ codes ", equations " ++ decimal e ++ codes ", --nodes " ++ decimal nodes ++ 10 ∷ [] }
     ensures table_full { (i p e : ℕ) (path : List ℕ) (cause : Option Cause)
-        → lines_behind (TableFull (record { interactions = i; places = p; left = e })) path cause
+        → lines_after (TableFull (record { interactions = i; places = p; left = e })) path cause
         ≡ codes "interactions " ++ decimal i ++ codes ", places " ++ decimal p
         ++ codes ", equations " ++ decimal e ++ 10 ∷ [] }
     ensures no_memory { (reached : Reached) (path : List ℕ) (cause : Option Cause)
-        → lines_behind (OutOfMemory reached) path cause
-        ≡ lines_behind (TableFull reached) path cause }
+        → lines_after (OutOfMemory reached) path cause
+        ≡ lines_after (TableFull reached) path cause }
     ensures file { (fault : DiskFault) (path : List ℕ) (cause : Cause)
         → cause.target ≢ target.Second
-        → lines_behind (Disk fault) path (Some cause) ≡ cause_line path (Some cause) }
+        → lines_after (Disk fault) path (Some cause) ≡ cause_line path (Some cause) }
     ensures untold { (fault : DiskFault) (path : List ℕ)
-        → lines_behind (Disk fault) path None ≡ cause_line path None }
+        → lines_after (Disk fault) path None ≡ cause_line path None }
     ensures locked { (path : List ℕ) (cause : Option Cause)
-        → lines_behind Locked path cause ≡ cause_line path cause }
+        → lines_after Locked path cause ≡ cause_line path cause }
     ensures created { (path : List ℕ) (cause : Option Cause)
-        → lines_behind (Create creating.Device) path cause ≡ cause_line path cause }
+        → lines_after (Create creating.Device) path cause ≡ cause_line path cause }
     ensures opened { (path : List ℕ) (cause : Option Cause)
-        → lines_behind (Open opening.Device) path cause ≡ cause_line path cause }
+        → lines_after (Open opening.Device) path cause ≡ cause_line path cause }
     ensures served { (path : List ℕ) (cause : Option Cause)
-        → lines_behind (Serve (serve.Book book.Device)) path cause ≡ cause_line path cause }
+        → lines_after (Serve (serve.Book book.Device)) path cause ≡ cause_line path cause }
     ensures attended { (path : List ℕ) (cause : Option Cause)
-        → lines_behind (Attend (scripts.Book book.Device)) path cause ≡ cause_line path cause }
+        → lines_after (Attend (scripts.Book book.Device)) path cause ≡ cause_line path cause }
     ensures inspected { (path : List ℕ) (cause : Option Cause)
-        → lines_behind (Inspect inspect.Read) path cause ≡ cause_line path cause }
+        → lines_after (Inspect inspect.Read) path cause ≡ cause_line path cause }
     ensures no_disk { (path : List ℕ) (cause : Option Cause)
-        → lines_behind (Open opening.NoSlot) path cause ≡ shown_path path ++ codes ": "
+        → lines_after (Open opening.NoSlot) path cause ≡ shown_path path ++ codes ": "
         ++ codes "the file is no disk; `icserve create --disk F` makes a new file F one" ++ 10 ∷ [] }
     ensures not_empty { (path : List ℕ) (cause : Option Cause)
-        → lines_behind NotEmpty path cause ≡ shown_path path ++ codes ": "
+        → lines_after NotEmpty path cause ≡ shown_path path ++ codes ": "
         ++ (codes "the file holds something; `--overwrite` makes it an empty disk"
         ++ codes " all the same") ++ 10 ∷ [] }
     ensures damaged { (path : List ℕ) (cause : Option Cause)
-        → lines_behind (Open opening.Damaged) path cause ≡ shown_path path ++ codes ": "
+        → lines_after (Open opening.Damaged) path cause ≡ shown_path path ++ codes ": "
         ++ codes "something else has changed the file, or it was copied in part" ++ 10 ∷ [] }
     ensures two_alike { (path : List ℕ) (cause : Option Cause)
-        → lines_behind (Open opening.TwoAlike) path cause
-        ≡ lines_behind (Open opening.Damaged) path cause }
+        → lines_after (Open opening.TwoAlike) path cause
+        ≡ lines_after (Open opening.Damaged) path cause }
     ensures scripts { (refused : OpenCause) (path : List ℕ) (cause : Option Cause)
-        → lines_behind (Attend (scripts.Open refused)) path cause
-        ≡ lines_behind (Open refused) path cause }
+        → lines_after (Attend (scripts.Open refused)) path cause
+        ≡ lines_after (Open refused) path cause }
     ensures broken { (path : List ℕ) (cause : Option Cause)
-        → (lines_behind (Serve (serve.Book book.Broken)) path cause ≡ cause_line path cause)
-        × (lines_behind (Attend (scripts.Book book.Broken)) path cause ≡ cause_line path cause) }
+        → (lines_after (Serve (serve.Book book.Broken)) path cause ≡ cause_line path cause)
+        × (lines_after (Attend (scripts.Book book.Broken)) path cause ≡ cause_line path cause) }
     ensures input { (path : List ℕ) (cause : Cause) → cause.target ≡ Input
-        → (lines_behind (Stream stream.Read) path (Some cause) ≡ cause_line path (Some cause))
-        × (lines_behind (Serve serve.Read) path (Some cause) ≡ cause_line path (Some cause)) }
+        → (lines_after (Stream stream.Read) path (Some cause) ≡ cause_line path (Some cause))
+        × (lines_after (Serve serve.Read) path (Some cause) ≡ cause_line path (Some cause)) }
     ensures no_input { (path : List ℕ) (cause : Cause) → cause.target ≢ Input
-        → (lines_behind (Stream stream.Read) path (Some cause) ≡ [])
-        × (lines_behind (Serve serve.Read) path (Some cause) ≡ []) }
-    ensures no_cause { (path : List ℕ) → (lines_behind (Stream stream.Read) path None ≡ [])
-        × (lines_behind (Serve serve.Read) path None ≡ []) }
+        → (lines_after (Stream stream.Read) path (Some cause) ≡ [])
+        × (lines_after (Serve serve.Read) path (Some cause) ≡ []) }
+    ensures no_cause { (path : List ℕ) → (lines_after (Stream stream.Read) path None ≡ [])
+        × (lines_after (Serve serve.Read) path None ≡ []) }
     ensures rules { (name path : List ℕ) (cause : Option Cause)
-        → lines_behind (Batch (batch.Taken name difference.Rules)) path cause
+        → lines_after (Batch (batch.Taken name difference.Rules)) path cause
         ≡ shown_path path ++ codes ": its job of this name has other rules" ++ 10 ∷ [] }
     ensures budget { (name path : List ℕ) (cause : Option Cause)
-        → lines_behind (Batch (batch.Taken name difference.Budget)) path cause
+        → lines_after (Batch (batch.Taken name difference.Budget)) path cause
         ≡ shown_path path ++ codes ": its job of this name has another budget" ++ 10 ∷ [] }
     ensures begin { (name path : List ℕ) (cause : Option Cause)
-        → lines_behind (Batch (batch.Taken name difference.Start)) path cause ≡ shown_path path
+        → lines_after (Batch (batch.Taken name difference.Start)) path cause ≡ shown_path path
         ++ codes ": its job of this name begins with another configuration" ++ 10 ∷ [] }
     ensures full { (path : List ℕ) (cause : Option Cause)
-        → lines_behind (Batch batch.Full) path cause ≡ shown_path path
+        → lines_after (Batch batch.Full) path cause ≡ shown_path path
         ++ codes ": it has jobs of other names, and no disk has more than 32" ++ 10 ∷ [] }
     ensures stopped { (fault : ServeFault) (path : List ℕ) (cause : Option Cause)
-        → lines_behind (Batch (batch.Serve fault)) path cause ≡ lines_behind (Serve fault) path cause }
+        → lines_after (Batch (batch.Serve fault)) path cause
+        ≡ lines_after (Serve fault) path cause }
     ensures text { (fault : TextFault) (path : List ℕ) (cause : Option Cause)
-        → lines_behind (Stream (stream.Text fault)) path cause ≡ [] }
+        → lines_after (Stream (stream.Text fault)) path cause ≡ [] }
     ensures faults { (path : List ℕ) (cause : Option Cause)
-        → lines_behind Faults path cause ≡ [] }
+        → lines_after Faults path cause ≡ [] }
     ensures not_done { (path : List ℕ) (cause : Option Cause)
-        → lines_behind NotDone path cause ≡ [] }
+        → lines_after NotDone path cause ≡ [] }
     ensures book { (path : List ℕ) (cause : Option Cause)
-        → map (λ fault. lines_behind (Serve (serve.Book fault)) path cause)
+        → map (λ fault. lines_after (Serve (serve.Book fault)) path cause)
         (book.LogFull ∷ book.Worn ∷ book.Memory ∷ []) ≡ [] ∷ [] ∷ [] ∷ [] }
     ensures dump { (fault : DumpFault) (path : List ℕ) (cause : Option Cause)
-        → lines_behind (Dump fault) path cause ≡ [] }
+        → lines_after (Dump fault) path cause ≡ [] }
     ensures jobs { (fault : JobsFault) (path : List ℕ) (cause : Option Cause)
-        → lines_behind (Jobs fault) path cause ≡ [] }
+        → lines_after (Jobs fault) path cause ≡ [] }
     ensures words { (path : List ℕ) (cause : Option Cause)
-        → lines_behind (Words (words.Words text.now)) path cause ≡ [] }
+        → lines_after (Words (words.Words text.now)) path cause ≡ [] }
 {}

@@ -3,7 +3,7 @@
 //! reads the answers any more.
 #![tactic(auto)]
 
-mod behind;
+mod after;
 mod failure;
 pub mod laws;
 

@@ -16,9 +16,9 @@ use Rattle.ic_expand.specs.declared.spot.Spot.TheVariants.{Elsewhere, Opening, A
 use Rattle.ic_expand.specs.declared.spot.Kind.TheVariants.{Copier, Eraser}
 use Rattle.ic_expand.specs.declared.limits.TheConstants.{MAX_RICH_TEXT}
 use Rattle.ic_expand.specs.Begins.{blanks_before, is_begun}
-use Rattle.ic_expand.specs.Comments.{kept_behind, uncommented}
+use Rattle.ic_expand.specs.Comments.{uncommented, uncommented_from}
 use Rattle.ic_expand.specs.Pieces.{first_byte, pieces}
-use Rattle.ic_expand.specs.Spots.{after, behind, behind_first, opens_rule}
+use Rattle.ic_expand.specs.Spots.{after, after_first, after_other, opens_rule}
 use Rattle.ic_expand.specs.Names.{is_named, is_spelt, names, told_word, with_word}
 use Rattle.ic_expand.specs.Expanding.{Sheet, before_text, body_expanded, expanded, kept_word, piece_text, refusal, sheet_of, unless_refused, with_generic, written, written_pieces}
 use Rattle.ic_expand.proofs.Cutting.{concat-pieces}
@@ -39,7 +39,7 @@ none-commented (b ∷ bs) none =
     let parts = or_parts (b == 35) (list_any (λ c. c == 35) bs) none in
     by_byte (b == 35) parts.0 (none-commented bs parts.1)
   where
-    by_byte : (t : Bool) → t ≡ false → kept_behind false bs ≡ bs → cond t (kept_behind true bs) (b ∷ kept_behind false bs) ≡ b ∷ bs
+    by_byte : (t : Bool) → t ≡ false → uncommented_from false bs ≡ bs → cond t (uncommented_from true bs) (b ∷ uncommented_from false bs) ≡ b ∷ bs
     by_byte true is rest = absurd (false≢true (sym is))
     by_byte false is rest = ap (λ l. b ∷ l) rest
 
@@ -50,19 +50,19 @@ before-commented (b ∷ bs) c none =
     let parts = or_parts (b == 35) (list_any (λ d. d == 35) bs) none in
     by_byte (b == 35) parts.0 (before-commented bs c parts.1)
   where
-    by_byte : (t : Bool) → t ≡ false → kept_behind false (bs ++ c) ≡ bs ++ kept_behind false c → cond t (kept_behind true (bs ++ c)) (b ∷ kept_behind false (bs ++ c)) ≡ b ∷ (bs ++ kept_behind false c)
+    by_byte : (t : Bool) → t ≡ false → uncommented_from false (bs ++ c) ≡ bs ++ uncommented_from false c → cond t (uncommented_from true (bs ++ c)) (b ∷ uncommented_from false (bs ++ c)) ≡ b ∷ (bs ++ uncommented_from false c)
     by_byte true is rest = absurd (false≢true (sym is))
     by_byte false is rest = ap (λ l. b ∷ l) rest
 
 -- a comment goes on as far as its line
-within-commented : (c rest : List ℕ) → list_any (λ b. b == 10) c ≡ false → kept_behind true (c ++ rest) ≡ kept_behind true rest
+within-commented : (c rest : List ℕ) → list_any (λ b. b == 10) c ≡ false → uncommented_from true (c ++ rest) ≡ uncommented_from true rest
 within-commented [] rest none = refl
 within-commented (b ∷ bs) rest none =
     let parts = or_parts (b == 10) (list_any (λ d. d == 10) bs) none in
     by_byte (b == 10) parts.0 (within-commented bs rest parts.1)
   where
-    by_byte : (t : Bool) → t ≡ false → kept_behind true (bs ++ rest) ≡ kept_behind true rest
-        → cond (not t) (kept_behind true (bs ++ rest)) (b ∷ kept_behind false (bs ++ rest)) ≡ kept_behind true rest
+    by_byte : (t : Bool) → t ≡ false → uncommented_from true (bs ++ rest) ≡ uncommented_from true rest
+        → cond (not t) (uncommented_from true (bs ++ rest)) (b ∷ uncommented_from false (bs ++ rest)) ≡ uncommented_from true rest
     by_byte true is later = absurd (false≢true (sym is))
     by_byte false is later = later
 
@@ -73,7 +73,7 @@ one-commented a c b none line = before-commented a (35 ∷ (c ++ 10 ∷ b)) none
 pub last-commented : (a c : List ℕ) → list_any (λ d. d == 35) a ≡ false → list_any (λ d. d == 10) c ≡ false → uncommented (a ++ 35 ∷ c) ≡ a
 last-commented a c none line =
     before-commented a (35 ∷ c) none
-    ∙ ap (λ l. a ++ l) (ap (kept_behind true) (sym (append-nil c)) ∙ within-commented c [] line)
+    ∙ ap (λ l. a ++ l) (ap (uncommented_from true) (sym (append-nil c)) ∙ within-commented c [] line)
     ∙ append-nil a
 
 -- texts that differ in their comments alone mean the same
@@ -83,7 +83,7 @@ same-expanded v w same short also = fits v short ∙ ap body_expanded same ∙ s
 -- ---- plain texts
 
 -- a word that is no long name is neither `copy` nor `erase`
-no_keyword : (p : List ℕ) → is_spelt Long p ≡ false → behind_first p ≡ Elsewhere
+no_keyword : (p : List ℕ) → is_spelt Long p ≡ false → after_first p ≡ Elsewhere
 no_keyword p plain = by_words (bytes_eq p (codes "copy")) refl (bytes_eq p (codes "erase")) refl
   where
     by_words : (a : Bool) → bytes_eq p (codes "copy") ≡ a → (b : Bool) → bytes_eq p (codes "erase") ≡ b → cond a (Asked Copier) (cond b (Asked Eraser) Elsewhere) ≡ Elsewhere
@@ -103,14 +103,14 @@ free_by true opens spot next free later = free
 free_by false true spot next free later = tt
 free_by false false spot next free later = later
 
-free_behind : (spot : Spot) (p : List ℕ) → is_spelt Long p ≡ false → IsFree spot → IsFree (behind spot p)
-free_behind Elsewhere p plain free = tt
-free_behind Opening p plain free = subst IsFree (sym (no_keyword p plain)) tt
-free_behind (Asked kind) p plain free = absurd free
-free_behind Given p plain free = absurd free
+free_other : (spot : Spot) (p : List ℕ) → is_spelt Long p ≡ false → IsFree spot → IsFree (after_other spot p)
+free_other Elsewhere p plain free = tt
+free_other Opening p plain free = subst IsFree (sym (no_keyword p plain)) tt
+free_other (Asked kind) p plain free = absurd free
+free_other Given p plain free = absurd free
 
 free_after : (spot : Spot) (p : List ℕ) → is_spelt Long p ≡ false → IsFree spot → IsFree (after spot p)
-free_after spot p plain free = free_by (is_blank (first_byte p)) (opens_rule (first_byte p)) spot (behind spot p) free (free_behind spot p plain free)
+free_after spot p plain free = free_by (is_blank (first_byte p)) (opens_rule (first_byte p)) spot (after_other spot p) free (free_other spot p plain free)
 
 either_none : (b : Bool) (o : Option Reason) → o ≡ None → cond b None o ≡ None
 either_none true o is = refl

@@ -27,50 +27,50 @@ if_no f false x xs is = refl
 
 -- ---- symbols
 
-module _ (ss : List Symbol) (spot : Spot) (p behind rest : List ℕ) (cut : pieces rest ≡ p ∷ pieces behind) where
+module _ (ss : List Symbol) (spot : Spot) (p more rest : List ℕ) (cut : pieces rest ≡ p ∷ pieces more) where
   pub used : is_use spot p ≡ true
-      → fold noted ss (uses spot (pieces rest)) ≡ fold noted (noted ss (record { text = p; arity = arguments behind })) (uses (after spot p) (pieces behind))
+      → fold noted ss (uses spot (pieces rest)) ≡ fold noted (noted ss (record { text = p; arity = arguments more })) (uses (after spot p) (pieces more))
   used is =
       ap (λ ps. fold noted ss (uses spot ps)) cut
-      ∙ if_yes (fold noted ss) (is_use spot p) (record { text = p; arity = arguments (concat (pieces behind)) }) (uses (after spot p) (pieces behind)) is
-      ∙ ap (λ (text : List ℕ). fold noted (noted ss (record { text = p; arity = arguments text })) (uses (after spot p) (pieces behind))) (concat-pieces behind)
+      ∙ if_yes (fold noted ss) (is_use spot p) (record { text = p; arity = arguments (concat (pieces more)) }) (uses (after spot p) (pieces more)) is
+      ∙ ap (λ (text : List ℕ). fold noted (noted ss (record { text = p; arity = arguments text })) (uses (after spot p) (pieces more))) (concat-pieces more)
 
   pub unused : is_use spot p ≡ false
-      → fold noted ss (uses spot (pieces rest)) ≡ fold noted ss (uses (after spot p) (pieces behind))
+      → fold noted ss (uses spot (pieces rest)) ≡ fold noted ss (uses (after spot p) (pieces more))
   unused is =
       ap (λ ps. fold noted ss (uses spot ps)) cut
-      ∙ if_no (fold noted ss) (is_use spot p) (record { text = p; arity = arguments (concat (pieces behind)) }) (uses (after spot p) (pieces behind)) is
+      ∙ if_no (fold noted ss) (is_use spot p) (record { text = p; arity = arguments (concat (pieces more)) }) (uses (after spot p) (pieces more)) is
 
 -- ---- pairs
 
-module _ (pairs : List (List ℕ × List ℕ)) (spot : Spot) (p behind rest : List ℕ) (cut : pieces rest ≡ p ∷ pieces behind) where
+module _ (pairs : List (List ℕ × List ℕ)) (spot : Spot) (p more rest : List ℕ) (cut : pieces rest ≡ p ∷ pieces more) where
   pub paired : is_head spot p ≡ true
-      → fold with_pair pairs (heads spot (pieces rest)) ≡ fold with_pair (with_pair pairs (p, partner behind)) (heads (after spot p) (pieces behind))
+      → fold with_pair pairs (heads spot (pieces rest)) ≡ fold with_pair (with_pair pairs (p, partner more)) (heads (after spot p) (pieces more))
   paired is =
       ap (λ ps. fold with_pair pairs (heads spot ps)) cut
-      ∙ if_yes (fold with_pair pairs) (is_head spot p) (p, partner (concat (pieces behind))) (heads (after spot p) (pieces behind)) is
-      ∙ ap (λ (text : List ℕ). fold with_pair (with_pair pairs (p, partner text)) (heads (after spot p) (pieces behind))) (concat-pieces behind)
+      ∙ if_yes (fold with_pair pairs) (is_head spot p) (p, partner (concat (pieces more))) (heads (after spot p) (pieces more)) is
+      ∙ ap (λ (text : List ℕ). fold with_pair (with_pair pairs (p, partner text)) (heads (after spot p) (pieces more))) (concat-pieces more)
 
   pub unpaired : is_head spot p ≡ false
-      → fold with_pair pairs (heads spot (pieces rest)) ≡ fold with_pair pairs (heads (after spot p) (pieces behind))
+      → fold with_pair pairs (heads spot (pieces rest)) ≡ fold with_pair pairs (heads (after spot p) (pieces more))
   unpaired is =
       ap (λ ps. fold with_pair pairs (heads spot ps)) cut
-      ∙ if_no (fold with_pair pairs) (is_head spot p) (p, partner (concat (pieces behind))) (heads (after spot p) (pieces behind)) is
+      ∙ if_no (fold with_pair pairs) (is_head spot p) (p, partner (concat (pieces more))) (heads (after spot p) (pieces more)) is
 
 -- ---- names
 
-module _ (ws : List (List ℕ)) (spelling : Spelling) (spot : Spot) (p behind rest : List ℕ) (cut : pieces rest ≡ p ∷ pieces behind) where
+module _ (ws : List (List ℕ)) (spelling : Spelling) (spot : Spot) (p more rest : List ℕ) (cut : pieces rest ≡ p ∷ pieces more) where
   pub called : is_named spelling spot p ≡ true
-      → fold with_word ws (names spelling spot (pieces rest)) ≡ fold with_word (with_word ws p) (names spelling (after spot p) (pieces behind))
+      → fold with_word ws (names spelling spot (pieces rest)) ≡ fold with_word (with_word ws p) (names spelling (after spot p) (pieces more))
   called is =
       ap (λ ps. fold with_word ws (names spelling spot ps)) cut
-      ∙ if_yes (fold with_word ws) (is_named spelling spot p) p (names spelling (after spot p) (pieces behind)) is
+      ∙ if_yes (fold with_word ws) (is_named spelling spot p) p (names spelling (after spot p) (pieces more)) is
 
   pub uncalled : is_named spelling spot p ≡ false
-      → fold with_word ws (names spelling spot (pieces rest)) ≡ fold with_word ws (names spelling (after spot p) (pieces behind))
+      → fold with_word ws (names spelling spot (pieces rest)) ≡ fold with_word ws (names spelling (after spot p) (pieces more))
   uncalled is =
       ap (λ ps. fold with_word ws (names spelling spot ps)) cut
-      ∙ if_no (fold with_word ws) (is_named spelling spot p) p (names spelling (after spot p) (pieces behind)) is
+      ∙ if_no (fold with_word ws) (is_named spelling spot p) p (names spelling (after spot p) (pieces more)) is
 
 -- ---- what is written
 
@@ -78,10 +78,10 @@ pub before-before : (front text : List ℕ) (r : Result (List ℕ) ExpandFault) 
 before-before front text (Ok rest) = ap (λ (t : List ℕ). Ok t) (sym (append_assoc front text rest))
 before-before front text (Err fault) = refl
 
-module _ (sheet : Sheet) (earlier : List (List ℕ)) (spot : Spot) (at : ℕ) (out : List ℕ) (p behind rest : List ℕ) (cut : pieces rest ≡ p ∷ pieces behind) where
+module _ (sheet : Sheet) (earlier : List (List ℕ)) (spot : Spot) (at : ℕ) (out : List ℕ) (p more rest : List ℕ) (cut : pieces rest ≡ p ∷ pieces more) where
   -- what follows the piece
   abbrev later : Result (List ℕ) ExpandFault
-  later = written sheet (with_generic earlier spot p) (after spot p) (at + length p) (pieces behind)
+  later = written sheet (with_generic earlier spot p) (after spot p) (at + length p) (pieces more)
 
   pub put_more : refusal sheet earlier spot p ≡ None
       → before_text out (written sheet earlier spot at (pieces rest)) ≡ before_text (out ++ piece_text sheet earlier spot p) later

@@ -7,11 +7,11 @@ abbrev pub is_commented : (inside : Bool) → ℕ → Bool
 is_commented inside b = if inside then not (b == 10) else b == 35
 
 -- what of a text is no comment, where what stands before it is of one or not
-abbrev pub kept_behind : (inside : Bool) → List ℕ → List ℕ
-kept_behind inside [] = []
-kept_behind inside (b ∷ bs) = if is_commented inside b then kept_behind true bs
-    else b ∷ kept_behind false bs
+abbrev pub uncommented_from : (inside : Bool) → List ℕ → List ℕ
+uncommented_from inside [] = []
+uncommented_from inside (b ∷ bs) = if is_commented inside b then uncommented_from true bs
+    else b ∷ uncommented_from false bs
 
 -- a text without its comments
 abbrev pub uncommented : List ℕ → List ℕ
-uncommented text = kept_behind false text
+uncommented text = uncommented_from false text

@@ -17,7 +17,7 @@ use Rattle.ic_expand.specs.declared.spot.Spot.TheVariants.{Elsewhere, Opening, A
 use Rattle.ic_expand.specs.Begins.{blanks_before, is_begun}
 use Rattle.ic_expand.specs.Comments.{uncommented}
 use Rattle.ic_expand.specs.Pieces.{first_byte, pieces}
-use Rattle.ic_expand.specs.Spots.{after, behind_first}
+use Rattle.ic_expand.specs.Spots.{after, after_first}
 use Rattle.ic_expand.specs.Reading.{pairs_of, symbols_of}
 use Rattle.ic_expand.specs.Names.{names_of, spare_of, told_word}
 use Rattle.ic_expand.specs.Generic.{arity_of, generic_rule, in_row, is_wanted}
@@ -56,7 +56,7 @@ kept_word spot p = p
 
 -- what a piece is written as
 abbrev pub piece_text : Sheet → (earlier : List (List ℕ)) → Spot → List ℕ → List ℕ
-piece_text sheet earlier Opening p = kept_word (behind_first p) p
+piece_text sheet earlier Opening p = kept_word (after_first p) p
 piece_text sheet earlier (Asked kind) p = if is_blank (first_byte p) then p
     else in_row true (rules_of sheet earlier kind p)
 piece_text sheet earlier spot p = told_word sheet.longs sheet.spare p

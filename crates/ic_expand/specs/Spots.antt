@@ -12,18 +12,18 @@ abbrev pub opens_rule : ℕ → Bool
 opens_rule b = b == 123 || b == 59
 
 -- what follows the first word of a rule: after `copy` or `erase` the symbol that it is of
-abbrev pub behind_first : List ℕ → Spot
-behind_first p = if bytes_eq p (codes "copy") then Asked Copier
+abbrev pub after_first : List ℕ → Spot
+after_first p = if bytes_eq p (codes "copy") then Asked Copier
     else (if bytes_eq p (codes "erase") then Asked Eraser else Elsewhere)
 
 -- what follows a piece that begins no rule
-abbrev pub behind : Spot → List ℕ → Spot
-behind Opening p = behind_first p
-behind (Asked kind) p = Given
-behind Given p = Elsewhere
-behind Elsewhere p = Elsewhere
+abbrev pub after_other : Spot → List ℕ → Spot
+after_other Opening p = after_first p
+after_other (Asked kind) p = Given
+after_other Given p = Elsewhere
+after_other Elsewhere p = Elsewhere
 
 -- where the text is after a piece: a blank changes nothing
 abbrev pub after : Spot → List ℕ → Spot
 after spot p = if is_blank (first_byte p) then spot
-    else (if opens_rule (first_byte p) then Opening else behind spot p)
+    else (if opens_rule (first_byte p) then Opening else after_other spot p)

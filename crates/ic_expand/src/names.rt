@@ -106,13 +106,13 @@ pub(crate) fn names_of(
     let mut spot = Spot::Elsewhere;
     let mut rest = text;
     while !rest.is_empty() {
-        let (piece, behind) = split_piece(rest);
+        let (piece, more) = split_piece(rest);
         let next = spot.after(piece);
         if spot.is_named(spelling, piece) {
             add_name(alloc, &mut names, piece)?;
         }
         spot = next;
-        rest = behind;
+        rest = more;
     }
     Ok(names)
 }

@@ -105,14 +105,14 @@ fn is_known(text: &[u8], symbols: &[Use]) -> bool
 }
 
 /// Notes a symbol after which this stands.
-fn note(alloc: Global, symbols: &mut Vec<Use>, text: &[u8], behind: &[u8]) -> Result<(), AllocError>
+fn note(alloc: Global, symbols: &mut Vec<Use>, text: &[u8], more: &[u8]) -> Result<(), AllocError>
     ensures { OnOk result (map symbol_in symbols.new.items ≡ noted (map symbol_in symbols.old.items)
-        (record { text = text.now; arity = arguments behind.now })) }
+        (record { text = text.now; arity = arguments more.now })) }
 {
     if symbols.len() < MAX_WIDE_SYMBOLS && !is_known(text, symbols) {
         symbols.push(Use {
             text: Vec::from_slice(alloc, text)?,
-            arity: arguments(behind),
+            arity: arguments(more),
         })?;
     }
     Ok(())
@@ -126,13 +126,13 @@ pub(crate) fn symbols_of(alloc: Global, text: &[u8]) -> Result<Vec<Use>, AllocEr
     let mut spot = Spot::Elsewhere;
     let mut rest = text;
     while !rest.is_empty() {
-        let (piece, behind) = split_piece(rest);
+        let (piece, more) = split_piece(rest);
         let next = spot.after(piece);
         if spot.is_use(piece) {
-            note(alloc, &mut symbols, piece, behind)?;
+            note(alloc, &mut symbols, piece, more)?;
         }
         spot = next;
-        rest = behind;
+        rest = more;
     }
     Ok(symbols)
 }
@@ -171,12 +171,12 @@ fn partner(text: &[u8]) -> &[u8]
 }
 
 /// The pair of a rule's first symbol, and of the second one in what follows it.
-fn pair_with(alloc: Global, first: &[u8], behind: &[u8]) -> Result<Pair, AllocError>
-    ensures { IfOk result (λ pair. pair_in pair ≡ (first.now, partner behind.now)) }
+fn pair_with(alloc: Global, first: &[u8], more: &[u8]) -> Result<Pair, AllocError>
+    ensures { IfOk result (λ pair. pair_in pair ≡ (first.now, partner more.now)) }
 {
     Ok(Pair {
         first: Vec::from_slice(alloc, first)?,
-        second: Vec::from_slice(alloc, partner(behind))?,
+        second: Vec::from_slice(alloc, partner(more))?,
     })
 }
 
@@ -185,13 +185,13 @@ fn note_pair(
     alloc: Global,
     pairs: &mut Vec<Pair>,
     first: &[u8],
-    behind: &[u8],
+    more: &[u8],
 ) -> Result<(), AllocError>
     ensures { OnOk result (map pair_in pairs.new.items
-        ≡ with_pair (map pair_in pairs.old.items) (first.now, partner behind.now)) }
+        ≡ with_pair (map pair_in pairs.old.items) (first.now, partner more.now)) }
 {
     if pairs.len() < MAX_WIDE_RULES {
-        pairs.push(pair_with(alloc, first, behind)?)?;
+        pairs.push(pair_with(alloc, first, more)?)?;
     }
     Ok(())
 }
@@ -204,13 +204,13 @@ pub(crate) fn pairs_of(alloc: Global, text: &[u8]) -> Result<Vec<Pair>, AllocErr
     let mut spot = Spot::Elsewhere;
     let mut rest = text;
     while !rest.is_empty() {
-        let (piece, behind) = split_piece(rest);
+        let (piece, more) = split_piece(rest);
         let next = spot.after(piece);
         if spot.is_head(piece) {
-            note_pair(alloc, &mut pairs, piece, behind)?;
+            note_pair(alloc, &mut pairs, piece, more)?;
         }
         spot = next;
-        rest = behind;
+        rest = more;
     }
     Ok(pairs)
 }

@@ -1,7 +1,7 @@
 //! Where in its rules a text is, piece by piece.
 
 ghost use Rattle.std.specs.Prelude.{◌≡◌};
-ghost use Rattle.ic_expand.specs.Spots.{after, behind, behind_first, opens_rule};
+ghost use Rattle.ic_expand.specs.Spots.{after, after_first, after_other, opens_rule};
 
 use crate::pieces::first_byte;
 use ic_text::is_blank;
@@ -36,8 +36,8 @@ fn opens_rule(byte: u8) -> bool
 }
 
 /// What follows the first word of a rule.
-pub(crate) fn behind_first(piece: &[u8]) -> Spot
-    ensures { result ≡ behind_first piece.now }
+pub(crate) fn after_first(piece: &[u8]) -> Spot
+    ensures { result ≡ after_first piece.now }
 {
     if piece == b"copy".as_slice() {
         Spot::Asked(Kind::Copier)
@@ -50,11 +50,11 @@ pub(crate) fn behind_first(piece: &[u8]) -> Spot
 
 impl Spot {
     /// What follows a piece that begins no rule.
-    fn behind(self, piece: &[u8]) -> Spot
-        ensures { result ≡ behind self piece.now }
+    fn after_other(self, piece: &[u8]) -> Spot
+        ensures { result ≡ after_other self piece.now }
     {
         match self {
-            Spot::Opening => behind_first(piece),
+            Spot::Opening => after_first(piece),
             Spot::Asked(_) => Spot::Given,
             Spot::Given | Spot::Elsewhere => Spot::Elsewhere,
         }
@@ -70,7 +70,7 @@ impl Spot {
         } else if opens_rule(first) {
             Spot::Opening
         } else {
-            self.behind(piece)
+            self.after_other(piece)
         }
     }
 }

@@ -2,7 +2,7 @@
 
 ghost use Rattle.std.specs.Prelude.{◌≡◌, ◌≢◌, ◌++◌, true, IfErr, IfOk, OnOk, Ok, Err, map};
 ghost use Rattle.ic_expand.specs.Generic.{in_row};
-ghost use Rattle.ic_expand.specs.Spots.{behind_first};
+ghost use Rattle.ic_expand.specs.Spots.{after_first};
 ghost use Rattle.ic_expand.specs.Expanding.{arity_in, expanded, has_symbol, kept_word, lack_of, piece_text, refusal, rules_of, sheet_of, unless_some, wanted, with_generic, written_pieces};
 ghost use Rattle.ic_expand.specs.Pieces.{pieces};
 ghost use Rattle.ic_expand.specs.inner.Sheets.{sheet_in, symbol_in};
@@ -16,7 +16,7 @@ use crate::names::{Spelling, names_of, put_word, spare_of};
 use crate::pieces::{first_byte, split_piece};
 use crate::reading::{Pair, Use, pairs_of, symbols_of};
 use crate::rules::{is_wanted, rules_with};
-use crate::spot::{Kind, Spot, behind_first};
+use crate::spot::{Kind, Spot, after_first};
 use ic_text::is_blank;
 use indexmap::IndexSet;
 use std::alloc::{AllocError, Global};
@@ -160,9 +160,9 @@ impl Sheet {
 /// Appends the first word of a rule, unless it is `copy` or `erase`.
 fn put_first(piece: &[u8], out: &mut Vec<u8>) -> Result<(), AllocError>
     ensures { OnOk result (out.new.items
-        ≡ out.old.items ++ kept_word (behind_first piece.now) piece.now) }
+        ≡ out.old.items ++ kept_word (after_first piece.now) piece.now) }
 {
-    match behind_first(piece) {
+    match after_first(piece) {
         Spot::Asked(_) => Ok(()),
         Spot::Elsewhere | Spot::Opening | Spot::Given => out.extend_from_slice(piece),
     }
@@ -199,7 +199,7 @@ fn written_pieces(alloc: Global, text: &[u8]) -> Result<Vec<u8>, ExpandFault>
     let mut spot = Spot::Elsewhere;
     let mut rest = text;
     while !rest.is_empty() {
-        let (piece, behind) = split_piece(rest);
+        let (piece, more) = split_piece(rest);
         let next = spot.after(piece);
         if let Some(reason) = sheet.refusal(&earlier, spot, piece) {
             return Err(ExpandFault::Refused(reason, text.len() - rest.len()));
@@ -207,7 +207,7 @@ fn written_pieces(alloc: Global, text: &[u8]) -> Result<Vec<u8>, ExpandFault>
         sheet.put_piece(alloc, &earlier, spot, piece, &mut out)?;
         add_generic(alloc, &mut earlier, spot, piece)?;
         spot = next;
-        rest = behind;
+        rest = more;
     }
     Ok(out)
 }

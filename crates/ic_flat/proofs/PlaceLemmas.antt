@@ -9,7 +9,7 @@ use Rattle.ic_flat.specs.lemmas.WordLaws.{whole-drop, length-forest, forest-le}
 
 -- So many terms are due at a place until the term that began at an earlier one ends.
 pub record IsDue (ws : List Word) (place end due : ℕ) : Type 0 where
-  pub behind : place + 1 ≤ end + due
+  pub after : place + 1 ≤ end + due
   pub before : place ≤ end
   pub within : end ≤ length ws
   pub enough : due ≤ length (forest (drop end ws))
@@ -27,30 +27,30 @@ IsDue-within ws place end due is some = omega (arith, is.enough, forest-le (drop
 pub IsDue-start : (ws : List Word) (place : ℕ) → IsWhole ws → place < length ws → IsDue ws place place 1
 IsDue-start ws place whole there =
     let w = get_or ws place (Name 0) in
-    let behind = drop_more ws place (Name 0) there in
-    let one = (subst (λ l. IsWhole l) behind (whole-drop place ws whole)).0 in
+    let after = drop_more ws place (Name 0) there in
+    let one = (subst (λ l. IsWhole l) after (whole-drop place ws whole)).0 in
     let count = length-forest w (drop (place + 1) ws) one in
-    let same = ap (λ l. length (forest l)) behind in
-    record { behind = omega arith; before = omega arith; within = omega arith; enough = omega arith; rest = refl }
+    let same = ap (λ l. length (forest l)) after in
+    record { after = omega arith; before = omega arith; within = omega arith; enough = omega arith; rest = refl }
 
 pub IsDue-next : (ws : List Word) (place end due : ℕ) (d : Word) → IsWhole ws → IsDue ws place end due → 0 < due
     → IsDue ws place (end + 1) (due - 1 + arguments (get_or ws end d))
 IsDue-next ws place end due d whole is some =
     let there = IsDue-within ws place end due is some in
     let w = get_or ws end d in
-    let behind = drop_more ws end d there in
-    let one = (subst (λ l. IsWhole l) behind (whole-drop end ws whole)).0 in
+    let after = drop_more ws end d there in
+    let one = (subst (λ l. IsWhole l) after (whole-drop end ws whole)).0 in
     let count = length-forest w (drop (end + 1) ws) one in
-    let same = ap (λ l. length (forest l)) behind in
+    let same = ap (λ l. length (forest l)) after in
     let enough = is.enough in
     let before = is.before in
     let pred : suc (due - 1) ≡ due = omega arith in
     record {
-      behind = omega arith;
+      after = omega arith;
       before = omega arith;
       within = omega arith;
       enough = omega arith;
-      rest = sym (drop-with_word w (forest (drop (end + 1) ws)) (due - 1)) ∙ ap (λ k. drop k (forest (w ∷ drop (end + 1) ws))) pred ∙ ap (λ l. drop due (forest l)) (sym behind) ∙ is.rest;
+      rest = sym (drop-with_word w (forest (drop (end + 1) ws)) (due - 1)) ∙ ap (λ k. drop k (forest (w ∷ drop (end + 1) ws))) pred ∙ ap (λ l. drop due (forest l)) (sym after) ∙ is.rest;
     }
 
 -- so the number of those due is that of a machine word

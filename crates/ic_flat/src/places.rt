@@ -9,7 +9,7 @@ use crate::word::Word;
 pub fn end_of_term(words: &[Word], place: usize) -> usize
     requires whole { IsWhole words.now }
     requires there { place < length words.now }
-    ensures behind { place < result }
+    ensures after { place < result }
     ensures within { result ≤ length words.now }
     ensures rest { forest (drop result words.now) ≡ drop 1 (forest (drop place words.now)) }
 {

@@ -7,7 +7,7 @@ use Rattle.ic_term.specs.declared.term.Term.{Term}
 use Rattle.ic_term.specs.Tree.{Tree, name, agent, Pair}
 use Rattle.ic_term.specs.Term.{tree}
 use Rattle.ic_rules.specs.Rule.{Rule}
-use Rattle.ic_round.specs.Firing.{Active, oriented, rule_of_sides, active_pair, count_of, names_taken, next_behind}
+use Rattle.ic_round.specs.Firing.{Active, oriented, rule_of_sides, active_pair, count_of, names_taken, next_after}
 use Rattle.ic_round.specs.Works.{PlainWork, work_at, works_from}
 use Rattle.ic_round.specs.lemmas.ActiveRules.{active_by}
 use Rattle.ic_round.specs.lemmas.FiredNames.{next_grows}
@@ -64,7 +64,7 @@ work_is rs p e number base i turned w same found place at active = (
 -- the works so far and those of the equations left are all, and so are the names
 pub record Takes (rs : List Rule) (all : List PlainWork) (last : ℕ) (works : List PlainWork) (number next : ℕ) (left : List Pair) : Type 0 where
   pub works_so_far : works ++ works_from rs number next left ≡ all
-  pub names : next_behind rs next left ≡ last
+  pub names : next_after rs next left ≡ last
 
 pub takes-inert : (rs : List Rule) (all works : List PlainWork) (last number next : ℕ) (left ps : List Pair) (p : Pair) → Takes rs all last works number next left
     → left ≡ p ∷ ps → rule_of_sides rs p.left p.right ≡ None → Takes rs all last works (number + 1) next ps
@@ -76,7 +76,7 @@ takes-inert rs all works last number next left ps p t is none =
     ap (works_from rs number next) is ∙ ap (λ o. option_map_or (λ b. work_at number next b ∷ rest) o rest) idle ∙ ap (λ n. works_from rs (number + 1) n ps) taken in
     record {
       works_so_far = ap (λ l. works ++ l) (sym here) ∙ t.works_so_far;
-      names = ap (λ n. next_behind rs n ps) (sym taken) ∙ ap (next_behind rs next) (sym is) ∙ t.names;
+      names = ap (λ n. next_after rs n ps) (sym taken) ∙ ap (next_after rs next) (sym is) ∙ t.names;
     }
 
 pub takes-active : (rs : List Rule) (all works more : List PlainWork) (last number next later : ℕ) (left ps : List Pair) (p : Pair) (a : Active)
@@ -91,11 +91,11 @@ takes-active rs all works more last number next later left ps p a t is active pu
       works_so_far =
           (λ i. pushed i ++ works_from rs (number + 1) (beyond i) ps) ∙ append_assoc works (work_at number next a ∷ []) rest
           ∙ ap (λ l. works ++ l) (sym here) ∙ t.works_so_far;
-      names = ap (λ n. next_behind rs n ps) beyond ∙ ap (next_behind rs next) (sym is) ∙ t.names;
+      names = ap (λ n. next_after rs n ps) beyond ∙ ap (next_after rs next) (sym is) ∙ t.names;
     }
 
 -- the names of an active equation end within those of all
-pub names-room : (rs : List Rule) (next last : ℕ) (left ps : List Pair) (p : Pair) (a : Active) → left ≡ p ∷ ps → active_pair rs p ≡ Some a → next_behind rs next left ≡ last
+pub names-room : (rs : List Rule) (next last : ℕ) (left ps : List Pair) (p : Pair) (a : Active) → left ≡ p ∷ ps → active_pair rs p ≡ Some a → next_after rs next left ≡ last
     → next + count_of rs a.rule ≤ last
 names-room rs next last left ps p a is active names =
-    omega (arith, taken_by rs p a active, next_grows rs (next + names_taken rs p) ps, ap (next_behind rs next) is, names)
+    omega (arith, taken_by rs p a active, next_grows rs (next + names_taken rs p) ps, ap (next_after rs next) is, names)

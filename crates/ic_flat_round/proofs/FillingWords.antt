@@ -3,7 +3,7 @@ use Rattle.std.proofs.Common.{◌≡◌, ℕ, ◌+◌, List, [], ◌∷◌, ◌+
 use Rattle.std.specs.Option.{option_map_or}
 use Rattle.ic_term.specs.Tree.{Pair}
 use Rattle.ic_rules.specs.Rule.{Rule}
-use Rattle.ic_round.specs.Firing.{Active, oriented, rule_of_sides, active_pair, products_by, fired_pair, fired_from, count_of, names_taken, next_behind}
+use Rattle.ic_round.specs.Firing.{Active, oriented, rule_of_sides, active_pair, products_by, fired_pair, fired_from, count_of, names_taken, next_after}
 use Rattle.ic_round.specs.Works.{PlainFired, work_at, works_from, result_of}
 use Rattle.ic_flat.specs.declared.word.Word.{Word}
 use Rattle.ic_flat_round.specs.inner.RuleWords.{pairs_words}
@@ -14,19 +14,19 @@ use Rattle.ic_flat_round.proofs.ActiveWorks.{taken_by}
 pub record Fills (rs : List Rule) (all : List Pair) (last : ℕ) (start : List Word) (results : List PlainFired) (next equations : ℕ) (out : List Word) (left : List Pair) : Type 0 where
   pub number : ℕ
   pub given : results ≡ map (result_of rs) (works_from rs number next left)
-  pub names : next_behind rs next left ≡ last
+  pub names : next_after rs next left ≡ last
   pub counted : equations + length (fired_from rs next left) ≡ length all
   pub written : out ++ pairs_words (fired_from rs next left) ≡ start ++ pairs_words all
 
 -- one equation is put as these words and this many equations, and takes names up to here
 goes_on : (rs : List Rule) (all : List Pair) (last : ℕ) (start out put here : List Word) (next later equations count : ℕ) (left ps : List Pair) (p : Pair) → left ≡ p ∷ ps
     → later ≡ next + names_taken rs p → count ≡ length (fired_pair rs next p) → put ≡ out ++ here → here ≡ pairs_words (fired_pair rs next p)
-    → next_behind rs next left ≡ last → equations + length (fired_from rs next left) ≡ length all → out ++ pairs_words (fired_from rs next left) ≡ start ++ pairs_words all
-    → (next_behind rs later ps ≡ last) × ((equations + count + length (fired_from rs later ps) ≡ length all) × (put ++ pairs_words (fired_from rs later ps) ≡ start ++ pairs_words all))
+    → next_after rs next left ≡ last → equations + length (fired_from rs next left) ≡ length all → out ++ pairs_words (fired_from rs next left) ≡ start ++ pairs_words all
+    → (next_after rs later ps ≡ last) × ((equations + count + length (fired_from rs later ps) ≡ length all) × (put ++ pairs_words (fired_from rs later ps) ≡ start ++ pairs_words all))
 goes_on rs all last start out put here next later equations count left ps p is beyond many added words names counted written =
     let rest = fired_from rs (next + names_taken rs p) ps in
     let tail : fired_from rs later ps ≡ rest = ap (λ n. fired_from rs n ps) beyond in (
-      ap (λ n. next_behind rs n ps) beyond ∙ ap (next_behind rs next) (sym is) ∙ names,
+      ap (λ n. next_after rs n ps) beyond ∙ ap (next_after rs next) (sym is) ∙ names,
       (
         omega (arith, counted, many, ap length tail, ap (λ l. length (fired_from rs next l)) is, length-append (fired_pair rs next p) rest),
         (λ i. added i ++ pairs_words (tail i)) ∙ append_assoc out here (pairs_words rest) ∙ ap (λ l. out ++ (l ++ pairs_words rest)) words

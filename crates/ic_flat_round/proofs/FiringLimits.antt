@@ -12,7 +12,7 @@ use Rattle.ic_flat.specs.Flat.{sides}
 use Rattle.ic_flat.specs.lemmas.FlatLaws.{length-sides}
 use Rattle.ic_flat.specs.lemmas.WordLaws.{forest-words, forest-le}
 use Rattle.ic_flat_round.specs.inner.RuleWords.{pairs_words}
-use Rattle.ic_flat_round.specs.inner.Limits.{is_within, fits_behind}
+use Rattle.ic_flat_round.specs.inner.Limits.{is_within, fits_after}
 use Rattle.ic_flat_round.proofs.Interacting.{pairs_words-append}
 
 at_most : (m n : ℕ) → nat_le m n ≡ true → m ≤ n
@@ -28,17 +28,17 @@ within_both nodes next small low = grind (arith, common_steps, small, low)
 
 -- what is more than too much is too much
 pub beyond_more : (nodes next more later : ℕ) → nodes ≤ more → next ≤ later → is_within nodes next ≡ false → is_within more later ≡ false
-beyond_more nodes next more later grown behind beyond = elim (cases_Bool (is_within more later)) [
+beyond_more nodes next more later grown after beyond = elim (cases_Bool (is_within more later)) [
   | inl fit ↦ let parts = within_parts more later fit in
-      let inside = within_both nodes next (omega (arith, grown, parts.0)) (omega (arith, behind, parts.1)) in
+      let inside = within_both nodes next (omega (arith, grown, parts.0)) (omega (arith, after, parts.1)) in
       let bad : true ≡ false = sym inside ∙ beyond in cc
   | inr e ↦ e
 ]
 
 -- what is tested of a count of words and of names, of what has as many
-pub tested_behind : {Z : Type 0} (out : Vec Word Z) (ps : List Pair) (len count next names taken : ℕ) (answer : Bool) → len ≡ vec_len out → count ≡ length (pairs_words ps) → names ≡ taken
-    → answer ≡ is_within (len + count) (next + names) → answer ≡ fits_behind out ps (next + taken)
-tested_behind out ps len count next names taken answer first second third is = is ∙ (λ i. is_within (first i + second i) (next + third i))
+pub tested_after : {Z : Type 0} (out : Vec Word Z) (ps : List Pair) (len count next names taken : ℕ) (answer : Bool) → len ≡ vec_len out → count ≡ length (pairs_words ps) → names ≡ taken
+    → answer ≡ is_within (len + count) (next + names) → answer ≡ fits_after out ps (next + taken)
+tested_after out ps len count next names taken answer first second third is = is ∙ (λ i. is_within (first i + second i) (next + third i))
 
 -- equations have no fewer words than they are
 pub few_equations : (ps : List Pair) → length ps ≤ length (pairs_words ps)

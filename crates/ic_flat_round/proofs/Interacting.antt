@@ -187,12 +187,12 @@ fired_configuration rs c = flat_map-append tree_words c.interface (sides (fired_
 -- the words of its interface are those of the configuration's
 pub interface_words : (c : Configuration) (ws : List Word) (place : ℕ) → ws ≡ configuration_words c → place ≤ length (configuration_words c)
     → forest (drop place (configuration_words c)) ≡ sides c.equations → take place ws ≡ flat_map tree_words c.interface
-interface_words c ws place is within behind =
+interface_words c ws place is within after =
     let cw = configuration_words c in
     let front = flat_map tree_words c.interface in
     let back = flat_map tree_words (sides c.equations) in
     let split : cw ≡ front ++ back = flat_map-append tree_words c.interface (sides c.equations) in
-    let rest : drop place cw ≡ back = sym (words-forest (drop place cw) (whole-drop place cw (whole-words (c.interface ++ sides c.equations)))) ∙ ap (flat_map tree_words) behind in
+    let rest : drop place cw ≡ back = sym (words-forest (drop place cw) (whole-drop place cw (whole-words (c.interface ++ sides c.equations)))) ∙ ap (flat_map tree_words) after in
     let count : length front ≡ place = omega (arith, within, ap length split, length-append front back, ap length rest, length-drop place cw) in
     ap (take place) (is ∙ split) ∙ take_at front back place count
 

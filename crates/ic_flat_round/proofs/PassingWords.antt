@@ -40,9 +40,9 @@ names-pair_slice ws s whole is =
 -- those among the words of the interface
 pub names-interface : (c : Configuration) (ws : List Word) (place : ℕ) → ws ≡ configuration_words c → place ≤ length (configuration_words c)
     → forest (drop place (configuration_words c)) ≡ sides c.equations → flat_map word_names (take place ws) ≡ flat_map names c.interface
-names-interface c ws place is within behind = ap (flat_map word_names) (interface_words c ws place is within behind) ∙ names-words_of c.interface
+names-interface c ws place is within after = ap (flat_map word_names) (interface_words c ws place is within after) ∙ names-words_of c.interface
 
--- ---- the pass, where so many equations are behind it
+-- ---- the pass, where so many equations were passed
 
 pub record IsPassingAt (c : Configuration) (kept : List Pair) (es : List (ℕ × Tree)) (links : List ℕ) (look_up : ℕ → Option (ℕ × ℕ)) (number : ℕ)
     (rest : List Pair) : Type 0 where

@@ -30,7 +30,7 @@ puts-both a b c first second bs rest d =
     let two = second bs rest one.1 in
     (two.0 ∙ one.0, two.1)
 
--- the same where more terms are left behind these
+-- the same where more terms are left after these
 pub puts-more : (es es' : List (ℕ × Tree)) (done done' : List Word) (ts left : List Tree) → PutsOn (state es done ts) (state es' done' [])
     → PutsOn (state es done (ts ++ left)) (state es' done' left)
 puts-more es es' done done' ts left puts bs rest d =

@@ -46,9 +46,9 @@ bounded_at before (r ∷ rs) zero d e within =
     (sym (first_bound (length before + length (rule_words r)) rs e)) (first_bounded before (flat_map rule_words rs) r)
 bounded_at before (r ∷ rs) (suc i) d e within =
     let ws = rule_words r in
-    let behind = bounded_at (before ++ ws) rs i d e (omega (arith, within)) in
+    let after = bounded_at (before ++ ws) rs i d e (omega (arith, within)) in
     let moved = subst (λ n. Bounded ((before ++ ws) ++ flat_map rule_words rs) (get_or (bounds_from n rs) i d) (get_or (bounds_from n rs) (suc i) e) (slice_get rs i))
-    (length-append before ws) behind in
+    (length-append before ws) after in
     subst (λ l. Bounded l (get_or (bounds_from (length before + length ws) rs) i d) (get_or (bounds_from (length before + length ws) rs) (suc i) e) (slice_get rs i))
     (append_assoc before ws (flat_map rule_words rs)) moved
 

@@ -61,21 +61,21 @@ span_none ws s none = let nothing : s.count ≡ 0 = omega (arith, none) in ap (�
 
 -- ---- a span by its first word
 
-abbrev behind : List Word → Span → List Tree
-behind ws s = forest (drop (s.place + 1) ws)
+abbrev after : List Word → Span → List Tree
+after ws s = forest (drop (s.place + 1) ws)
 
-by_word : (ws : List Word) (s : Span) (d : Word) → s.place < length ws → forest (drop s.place ws) ≡ with_word (get_or ws s.place d) (behind ws s)
+by_word : (ws : List Word) (s : Span) (d : Word) → s.place < length ws → forest (drop s.place ws) ≡ with_word (get_or ws s.place d) (after ws s)
 by_word ws s d there = ap forest (drop_more ws s.place d there)
 
--- a name, and behind it the rest of the span
+-- a name, and after it the rest of the span
 pub span-name : (ws : List Word) (s : Span) (d : Word) (x : ℕ) → IsSpan ws s → 0 < s.count → get_or ws s.place d ≡ Name x
     → IsSpan ws (record { place = s.place + 1; count = s.count - 1 })
     × (span_terms ws s ≡ name x ∷ span_terms ws (record { place = s.place + 1; count = s.count - 1 }))
 span-name ws s d x is some word =
     let there = span_there ws s is some in
-    let all : forest (drop s.place ws) ≡ name x ∷ behind ws s = by_word ws s d there ∙ ap (λ w. with_word w (behind ws s)) word in
+    let all : forest (drop s.place ws) ≡ name x ∷ after ws s = by_word ws s d there ∙ ap (λ w. with_word w (after ws s)) word in
     let one : s.count ≡ suc (s.count - 1) = omega (arith, some) in
-    let enough : s.count - 1 ≤ length (behind ws s) = omega (arith, is, some, ap length all) in
+    let enough : s.count - 1 ≤ length (after ws s) = omega (arith, is, some, ap length all) in
     (enough, λ i. take (one i) (all i))
 
 take-sum : (n a : ℕ) (ts : List Tree) → a ≤ length ts → take a ts ++ take n (drop a ts) ≡ take (n + a) ts
@@ -92,7 +92,7 @@ pub span-agent : (ws : List Word) (s : Span) (d : Word) (sym_of arity : ℕ) →
     × IsSpan ws (record { place = s.place + 1; count = (s.count - 1) + arity })
 span-agent ws s d sym_of arity whole is some word =
     let there = span_there ws s is some in
-    let f = behind ws s in
+    let f = after ws s in
     let all : forest (drop s.place ws) ≡ agent sym_of (trees_of (take arity f)) ∷ drop arity f = by_word ws s d there ∙ ap (λ w. with_word w f) word in
     let one : s.count ≡ suc (s.count - 1) = omega (arith, some) in
     let W : List Word → Type 0 = λ l. IsWhole l in

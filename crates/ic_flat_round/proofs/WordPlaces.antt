@@ -36,7 +36,7 @@ pub first-rest : (ts : List Tree) → 1 ≤ length ts → ts ≡ first_of ts ∷
 first-rest [] some = absurd (omega (arith, some))
 first-rest (t ∷ ts) some = refl
 
--- the term that begins at a place, by the place behind it
+-- the term that begins at a place, by the place after it
 pub term_at : (ws : List Word) (place end : ℕ) → place < length ws → place < end → end ≤ length ws
     → forest (drop end ws) ≡ drop 1 (forest (drop place ws)) → IsTermAt ws place end
 term_at ws place end there before within rest =
@@ -64,7 +64,7 @@ nodes_at ws place end is =
       length-drop end ws,
     )
 
--- the words from a place are those of its term, and then those behind it
+-- the words from a place are those of its term, and then those after it
 pub words_at : (ws : List Word) (place end : ℕ) → IsWhole ws → IsTermAt ws place end → drop place ws ≡ tree_words (tree_at ws place) ++ drop end ws
 words_at ws place end whole is =
     sym (words-forest (drop place ws) (whole-drop place ws whole))
@@ -130,7 +130,7 @@ pub more_there : (ws : List Word) (end counter count : ℕ) → count ≤ length
 more_there ws end counter count enough some rest =
     omega (arith, enough, some, ap length rest, length-drop counter (forest ws), forest-le (drop end ws), length-drop end ws)
 
--- behind the first of an even number of terms there is one more
+-- after the first of an even number of terms there is one more
 pub right_there : (ws : List Word) (place right : ℕ) → place < length ws → AreInTwos ws place
     → forest (drop right ws) ≡ drop 1 (forest (drop place ws)) → right < length ws
 right_there ws place right there twos rest =
@@ -180,21 +180,21 @@ equations_few c sound =
     let few : configuration_nodes c ≤ 8192 = sound.nodes in
     omega (arith, few, nodes-words c, counted-configuration_words c, forest-le (configuration_words c))
 
--- behind the interface stand the equations
-pub equations_behind : (c : Configuration) (ws : List Word) (count place : ℕ) → ws ≡ configuration_words c → count ≡ length c.interface
+-- after the interface stand the equations
+pub equations_after : (c : Configuration) (ws : List Word) (count place : ℕ) → ws ≡ configuration_words c → count ≡ length c.interface
     → forest (drop place ws) ≡ drop count (forest ws) → forest (drop place (configuration_words c)) ≡ sides c.equations
-equations_behind c ws count place is counted rest =
+equations_after c ws count place is counted rest =
     ap (λ l. forest (drop place l)) (sym is) ∙ rest ∙ (λ i. drop (counted i) (forest (is i)))
     ∙ ap (drop (length c.interface)) (forest-configuration_words c) ∙ drop_at c.interface (sides c.equations) (length c.interface) refl
 
 -- and before them as many words as the interface has nodes
 pub interface_nodes : (c : Configuration) (place : ℕ) → place ≤ length (configuration_words c) → forest (drop place (configuration_words c)) ≡ sides c.equations
     → place ≡ sum_by nodes c.interface
-interface_nodes c place within behind =
+interface_nodes c place within after =
     omega (
       arith,
       within,
-      ap (sum_by nodes) behind,
+      ap (sum_by nodes) after,
       nodes-forest (drop place (configuration_words c)),
       length-drop place (configuration_words c),
       nodes-forest (configuration_words c),
@@ -205,11 +205,11 @@ interface_nodes c place within behind =
 -- where the equations begin, all of them are left
 pub pairs_start : (c : Configuration) (ws : List Word) (place : ℕ) → ws ≡ configuration_words c → forest (drop place (configuration_words c)) ≡ sides c.equations
     → pairs_at ws place ≡ c.equations
-pairs_start c ws place is behind = ap (λ l. pairs_of (forest (drop place l))) is ∙ ap pairs_of behind ∙ pairs_of-sides c.equations
+pairs_start c ws place is after = ap (λ l. pairs_of (forest (drop place l))) is ∙ ap pairs_of after ∙ pairs_of-sides c.equations
 
 pub twos_start : (c : Configuration) (ws : List Word) (place : ℕ) → ws ≡ configuration_words c → forest (drop place (configuration_words c)) ≡ sides c.equations
     → AreInTwos ws place
-twos_start c ws place is behind = (length c.equations, ap (λ l. length (forest (drop place l))) is ∙ ap length behind ∙ length-sides c.equations)
+twos_start c ws place is after = (length c.equations, ap (λ l. length (forest (drop place l))) is ∙ ap length after ∙ length-sides c.equations)
 
 pub within_start : (c : Configuration) (ws : List Word) (place : ℕ) → ws ≡ configuration_words c → place ≤ length (configuration_words c) → place ≤ length ws
 within_start c ws place is within = omega (arith, within, ap length is)

@@ -6,7 +6,7 @@ ghost use Rattle.ic_term.specs.declared.limits.TheConstants.{MAX_NODES, MAX_NEXT
 ghost use Rattle.ic_term.specs.Term.{pair};
 ghost use Rattle.ic_rules.specs.RuleSet.{IsRuleSet};
 ghost use Rattle.ic_flat.specs.Words.{IsWhole};
-ghost use Rattle.ic_round.specs.Firing.{fired, fired_from, next_behind};
+ghost use Rattle.ic_round.specs.Firing.{fired, fired_from, next_after};
 ghost use Rattle.ic_round.specs.Works.{works_from, result_of};
 ghost use Rattle.ic_round.specs.WorkViews.{fired_of};
 ghost use Rattle.ic_round.specs.Plans.{planned};
@@ -69,12 +69,12 @@ fn put_filled(
     requires within { place ≤ length words.now }
     requires twos { AreInTwos words.now place }
     requires few { length (fired_from rules.now.rules next (pairs_at words.now place)) ≤ MAX_NODES }
-    requires low { next_behind rules.now.rules next (pairs_at words.now place) ≤ MAX_NEXT }
+    requires low { next_after rules.now.rules next (pairs_at words.now place) ≤ MAX_NEXT }
     requires results { map fired_of results.items ≡ map (result_of rules.now.rules)
         (works_from rules.now.rules 0 next (pairs_at words.now place)) }
     ensures reached { IfOk result (λ it. it ≡ reached
         (fired_from rules.now.rules next (pairs_at words.now place))
-        (next_behind rules.now.rules next (pairs_at words.now place))) }
+        (next_after rules.now.rules next (pairs_at words.now place))) }
     ensures put { OnOk result (out.new.items ≡ out.old.items
         ++ pairs_words (fired_from rules.now.rules next (pairs_at words.now place))) }
     ensures sound { IsRuleSet rules.now }

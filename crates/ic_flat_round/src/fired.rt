@@ -6,12 +6,12 @@ ghost use Rattle.ic_term.specs.declared.limits.TheConstants.{MAX_NODES, MAX_NEXT
 ghost use Rattle.ic_term.specs.Symbol.{is_over, is_pair_over};
 ghost use Rattle.ic_flat.specs.Words.{IsWhole};
 ghost use Rattle.ic_flat.specs.Flat.{configuration_words};
-ghost use Rattle.ic_round.specs.Firing.{fired, fired_pair, fired_from, names_taken, next_behind};
+ghost use Rattle.ic_round.specs.Firing.{fired, fired_pair, fired_from, names_taken, next_after};
 ghost use Rattle.ic_round.specs.Rounds.{fits, unless_unfit};
 ghost use Rattle.ic_round.specs.RoundAnswers.{Answers};
 ghost use Rattle.ic_flat_round.specs.inner.Room.{Appended};
 ghost use Rattle.ic_flat_round.specs.inner.RuleWords.{pairs_words};
-ghost use Rattle.ic_flat_round.specs.inner.Limits.{is_within, reached, IsRoomy, fits_behind};
+ghost use Rattle.ic_flat_round.specs.inner.Limits.{is_within, reached, IsRoomy, fits_after};
 ghost use Rattle.ic_flat_round.specs.inner.Standing.{pair_at, pairs_at, AreSides, AreInTwos, IsEquationsPlace};
 
 use crate::firing::{put_copied, put_interaction};
@@ -65,7 +65,7 @@ fn put_fired(
     requires over { is_pair_over rules.now.symbols (pair_at words.now sides) ≡ true }
     requires roomy { IsRoomy out.old }
     requires low { next ≤ MAX_NEXT }
-    ensures fits { is_some result ≡ fits_behind out.old
+    ensures fits { is_some result ≡ fits_after out.old
         (fired_pair rules.now.rules next (pair_at words.now sides))
         (next + names_taken rules.now.rules (pair_at words.now sides)) }
     ensures reached { IfSome result (λ it. it ≡ reached
@@ -115,12 +115,12 @@ fn put_equations(
     requires over { list_all (is_pair_over rules.now.symbols) (pairs_at words.now place) ≡ true }
     requires roomy { IsRoomy out.old }
     requires low { next ≤ MAX_NEXT }
-    ensures fits { is_some result ≡ fits_behind out.old
+    ensures fits { is_some result ≡ fits_after out.old
         (fired_from rules.now.rules next (pairs_at words.now place))
-        (next_behind rules.now.rules next (pairs_at words.now place)) }
+        (next_after rules.now.rules next (pairs_at words.now place)) }
     ensures reached { IfSome result (λ it. it ≡ reached
         (fired_from rules.now.rules next (pairs_at words.now place))
-        (next_behind rules.now.rules next (pairs_at words.now place))) }
+        (next_after rules.now.rules next (pairs_at words.now place))) }
     ensures put { IfSome result (λ _. Appended out.old out.new
         (pairs_words (fired_from rules.now.rules next (pairs_at words.now place)))) }
 {

@@ -32,7 +32,7 @@ untouched r m at n a c torn within apart = record {
   within_new = omega (arith, torn.no_shorter);
   same = λ i from until. ⊎_elim
       (λ before. torn.before i (omega (arith, until, within)) (omega (arith, until, before)))
-      (λ behind. torn.behind i (omega (arith, until, within)) (omega (arith, from, behind)))
+      (λ after. torn.after i (omega (arith, until, within)) (omega (arith, from, after)))
       apart;
 }
 
@@ -62,7 +62,7 @@ module _ (slot : Slot) (r m : ℕ) (a c : List ℕ) (torn : Torn r m a c) (from 
   newest_untouched whole =
       let parts = whole_parts (place slot) a whole in
       untouched r m (place slot) (13 + size (place slot) a) a c torn (omega (arith, parts.within))
-      (⊎_elim (λ before. inl (omega (arith, parts.bounded, before, from))) (λ behind. inr (omega (arith, behind, until))) (apart slot))
+      (⊎_elim (λ before. inl (omega (arith, parts.bounded, before, from))) (λ after. inr (omega (arith, after, until))) (apart slot))
 
   pub newest_stays : is_whole (place slot) a ≡ true → (number (place slot) c ≡ number (place slot) a) × (is_whole (place slot) c ≡ true) × (body (place slot) c ≡ body (place slot) a)
   newest_stays whole =
@@ -99,7 +99,7 @@ gate_torn slot n kept a c stands made torn =
     still_stands slot at 1 a c torn (omega arith) (omega arith) n false false kept stands
     (λ is. absurd (false≢true is)) (λ is. omega (arith, stands.older refl, number-same at a c same))
 
--- A write behind a closed gate leaves the gate closed.
+-- A write after a closed gate leaves the gate closed.
 pub body_torn : (slot : Slot) (n m : ℕ) (kept a c : List ℕ) → Stands slot n true kept a → IsMade a → m ≤ 12 + 3036677 → Torn (place (other slot) + 1) m a c → Stands slot n true kept c
 body_torn slot n m kept a c stands made short torn =
     let at = place (other slot) in
@@ -108,7 +108,7 @@ body_torn slot n m kept a c stands made short torn =
     (λ is. open-same at a c (head_made (other slot) a made) (head_made (other slot) c (omega (arith, torn.no_shorter, made))) (same.same at (omega arith) (omega arith)) ∙ stands.shut refl)
     (λ is. absurd (true≢false is))
 
--- A write at the gate leaves what is staged behind it.
+-- A write at the gate leaves what is staged after it.
 pub staged_torn : (slot : Slot) (n : ℕ) (staged a c : List ℕ) → IsStaged slot n staged a → Torn (place slot) 1 a c → IsStaged slot n staged c
 staged_torn slot n staged a c is torn =
     let at = place slot in

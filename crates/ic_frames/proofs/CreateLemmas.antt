@@ -2,7 +2,7 @@
 use Rattle.std.proofs.Common.{◌≡◌, Result, Ok, Err, OnOk, ℕ, ◌≤◌, true, false, List, [], ◌∷◌, length, get_or, sym, ◌∙◌, subst, arith}
 use Rattle.std.proofs.lemmas.Bool.{true≢false}
 use Rattle.ic_disk.specs.Content.{laid}
-use Rattle.ic_disk.specs.lemmas.ContentLaws.{length-laid, laid-inside, laid-behind}
+use Rattle.ic_disk.specs.lemmas.ContentLaws.{length-laid, laid-inside, laid-after}
 use Rattle.ic_disk.specs.Images.{Only, Within}
 use Rattle.ic_disk.specs.lemmas.ImageLaws.{torn_laid}
 use Rattle.ic_frames.specs.declared.slot.Slot.TheVariants.{First}
@@ -23,8 +23,8 @@ module _ (held frame zeros file : List ℕ) (is : IsFrame 1 held frame) (short :
 
   still_closed : get_or (laid 0 (1 ∷ []) (laid 0 frame (laid 4194304 zeros file))) 4194304 0 ≡ 0
   still_closed =
-      laid-behind 0 (1 ∷ []) (laid 0 frame (laid 4194304 zeros file)) 4194304 (omega arith)
-      ∙ laid-behind 0 frame (laid 4194304 zeros file) 4194304 (omega (arith, is.long, short))
+      laid-after 0 (1 ∷ []) (laid 0 frame (laid 4194304 zeros file)) 4194304 (omega arith)
+      ∙ laid-after 0 frame (laid 4194304 zeros file) 4194304 (omega (arith, is.long, short))
       ∙ second_gate
 
   is_made : IsMade (laid 0 (1 ∷ []) (laid 0 frame (laid 4194304 zeros file)))

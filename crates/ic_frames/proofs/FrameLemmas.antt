@@ -8,7 +8,7 @@ use borrow.Rule.Slice.PartMut.{put_mid}
 use Rattle.ic_disk.specs.Content.{laid, bytes_at}
 use Rattle.ic_disk.specs.lemmas.ContentLaws.{length-laid, laid-inside}
 use Rattle.ic_frames.specs.Fields.{number, size, body, is_whole}
-use Rattle.ic_frames.specs.Layout.{behind_gate}
+use Rattle.ic_frames.specs.Layout.{after_gate}
 use Rattle.ic_frames.specs.inner.Standing.{IsFrame}
 use Rattle.ic_frames.proofs.FieldLemmas.{length-bytes_at, get_or-bytes_at, whole_from}
 
@@ -20,7 +20,7 @@ shifted_bytes k j n a b within within_new same = ext_get_or 0 (bytes_at j n b) (
     let below : i < n = omega (arith, inside, length-bytes_at j n b within_new) in
     get_or-bytes_at j n i b below ∙ same i below ∙ sym (get_or-bytes_at k n i a below))
 
--- A frame that is laid from its gate on, or from behind it.
+-- A frame that is laid from its gate on, or from the byte after it.
 module _ (skip at n : ℕ) (held frame file : List ℕ) (low : skip ≤ 1) (is : IsFrame n held frame) (short : length held ≤ 3036677) where
   pub length-framed : at + 13 + length held ≤ length (laid (at + skip) (drop skip frame) file)
   length-framed = omega (arith, length-laid (at + skip) (drop skip frame) file, length-drop skip frame, is.long)
@@ -132,7 +132,7 @@ module _ (n : ℕ) (frame xs ys : List ℕ) (fits : n < 2 ^ 64) (head : 13 ≤ l
       ∙ drop-put_mid 1 8 (set frame 0 0) xs 13 (omega arith) (omega (arith, length-started)) long_number
       ∙ drop-set-lt 13 frame 0 0 (omega arith)
 
-  bytes_filled : put_mid 9 4 (put_mid 1 8 (set frame 0 0) xs) ys ≡ 0 ∷ behind_gate n (drop 13 frame)
+  bytes_filled : put_mid 9 4 (put_mid 1 8 (set frame 0 0) xs) ys ≡ 0 ∷ after_gate n (drop 13 frame)
   bytes_filled =
       let filled = put_mid 9 4 (put_mid 1 8 (set frame 0 0) xs) ys in
       parted filled

@@ -93,7 +93,7 @@ module _ (content : List ℕ) (image : List ℕ → Type 0) (newest : Slot) (n :
       let kept = kept_settled c new_image newest n true staged held only (omega (arith, torn.no_shorter, is.all_made is_made content now)) stands (λ _. refl) (λ e. absurd (false≢true (is.staged_in e).0)) in
       subst (IsKept c new_image newest n true staged) (sym is_made) kept
 
--- While the body is written behind the closed gate of the other slot, from the gate on where the disk isn't made.
+-- While the body is written after the closed gate of the other slot, from the gate on where the disk isn't made.
 module _ (content : List ℕ) (image : List ℕ → Type 0) (newest : Slot) (n : ℕ) (staged made : Bool) (now : image content) (is : IsKept content image newest n true staged made) where
   pub body_leaves : (m : ℕ) (kept : List ℕ) → made ≡ true → m ≤ 12 + 3036677 → Within image (Holds kept) → Within (TornFrom (place (other newest) + 1) m image) (Holds kept)
   body_leaves m kept is_made short holds c from =

@@ -4,11 +4,11 @@ use Rattle.std.proofs.lemmas.List.{ext_get_or}
 use Rattle.std.proofs.lemmas.Bool.{cases_lt}
 use Rattle.std.proofs.lemmas.Grind.{get_or_head, get_or_tail}
 use Rattle.ic_disk.specs.Content.{laid}
-use Rattle.ic_disk.specs.lemmas.ContentLaws.{length-laid, laid-before, laid-inside, laid-behind}
+use Rattle.ic_disk.specs.lemmas.ContentLaws.{length-laid, laid-before, laid-inside, laid-after}
 use Rattle.ic_frames.specs.declared.slot.Slot.{Slot}
 use Rattle.ic_frames.specs.Places.{place}
 use Rattle.ic_frames.specs.Fields.{IsMade}
-use Rattle.ic_frames.specs.Layout.{behind_gate, slot_bytes}
+use Rattle.ic_frames.specs.Layout.{after_gate, slot_bytes}
 
 -- A write that covers a former one hides it.
 pub laid_hides : (at : ℕ) (bytes under file : List ℕ) → length under ≤ length bytes → laid at bytes (laid at under file) ≡ laid at bytes file
@@ -24,46 +24,46 @@ laid_hides at bytes under file covers = ext_get_or 0 (laid at bytes below) (laid
         (λ before. laid-before at bytes below i before ∙ laid-before at under file i before ∙ sym (laid-before at bytes file i before))
         (λ from. ⊎_elim
         (λ until. laid-inside at bytes below i from until ∙ sym (laid-inside at bytes file i from until))
-        (λ past. laid-behind at bytes below i past ∙ laid-behind at under file i (omega (arith, past, covers)) ∙ sym (laid-behind at bytes file i past))
+        (λ past. laid-after at bytes below i past ∙ laid-after at under file i (omega (arith, past, covers)) ∙ sym (laid-after at bytes file i past))
         (cases_lt i (at + length bytes)))
         (cases_lt i at)
 
--- A byte and those behind it are one write.
+-- A byte and those after it are one write.
 pub laid_joined : (at byte : ℕ) (bytes file : List ℕ) → laid at (byte ∷ []) (laid (at + 1) bytes file) ≡ laid at (byte ∷ bytes) file
-laid_joined at byte bytes file = ext_get_or 0 (laid at (byte ∷ []) behind) (laid at (byte ∷ bytes) file)
-    (omega (arith, length-laid at (byte ∷ []) behind, length-laid (at + 1) bytes file, length-laid at (byte ∷ bytes) file))
+laid_joined at byte bytes file = ext_get_or 0 (laid at (byte ∷ []) after) (laid at (byte ∷ bytes) file)
+    (omega (arith, length-laid at (byte ∷ []) after, length-laid (at + 1) bytes file, length-laid at (byte ∷ bytes) file))
     (λ i inside. each i)
   where
-    behind : List ℕ
-    behind = laid (at + 1) bytes file
+    after : List ℕ
+    after = laid (at + 1) bytes file
 
-    first : (i : ℕ) → at ≤ i → i < at + 1 → get_or (laid at (byte ∷ []) behind) i 0 ≡ get_or (laid at (byte ∷ bytes) file) i 0
+    first : (i : ℕ) → at ≤ i → i < at + 1 → get_or (laid at (byte ∷ []) after) i 0 ≡ get_or (laid at (byte ∷ bytes) file) i 0
     first i from until =
         let here : i - at ≡ 0 = omega (arith, from, until) in
-        laid-inside at (byte ∷ []) behind i from (omega (arith, until))
+        laid-inside at (byte ∷ []) after i from (omega (arith, until))
         ∙ get_or_head byte [] (i - at) 0 here
         ∙ sym (get_or_head byte bytes (i - at) 0 here)
         ∙ sym (laid-inside at (byte ∷ bytes) file i from (omega (arith, until)))
 
-    rest : (i : ℕ) → at + 1 ≤ i → get_or (laid at (byte ∷ []) behind) i 0 ≡ get_or (laid at (byte ∷ bytes) file) i 0
+    rest : (i : ℕ) → at + 1 ≤ i → get_or (laid at (byte ∷ []) after) i 0 ≡ get_or (laid at (byte ∷ bytes) file) i 0
     rest i from = ⊎_elim
         (λ until.
         let there : i - at - 1 ≡ i - (at + 1) = omega (arith, from) in
-        laid-behind at (byte ∷ []) behind i (omega (arith, from))
+        laid-after at (byte ∷ []) after i (omega (arith, from))
         ∙ laid-inside (at + 1) bytes file i from until
         ∙ ap (λ (k : ℕ). get_or bytes k 0) (sym there)
         ∙ sym (get_or_tail byte bytes (i - at) 0 (omega (arith, from)))
         ∙ sym (laid-inside at (byte ∷ bytes) file i (omega (arith, from)) (omega (arith, until))))
         (λ past.
-        laid-behind at (byte ∷ []) behind i (omega (arith, from))
-        ∙ laid-behind (at + 1) bytes file i past
-        ∙ sym (laid-behind at (byte ∷ bytes) file i (omega (arith, past))))
+        laid-after at (byte ∷ []) after i (omega (arith, from))
+        ∙ laid-after (at + 1) bytes file i past
+        ∙ sym (laid-after at (byte ∷ bytes) file i (omega (arith, past))))
         (cases_lt i (at + 1 + length bytes))
 
-    each : (i : ℕ) → get_or (laid at (byte ∷ []) behind) i 0 ≡ get_or (laid at (byte ∷ bytes) file) i 0
+    each : (i : ℕ) → get_or (laid at (byte ∷ []) after) i 0 ≡ get_or (laid at (byte ∷ bytes) file) i 0
     each i = ⊎_elim
         (λ before.
-        laid-before at (byte ∷ []) behind i before
+        laid-before at (byte ∷ []) after i before
         ∙ laid-before (at + 1) bytes file i (omega (arith, before))
         ∙ sym (laid-before at (byte ∷ bytes) file i before))
         (λ from. ⊎_elim (λ here. first i from here) (λ past. rest i past) (cases_lt i (at + 1)))
@@ -82,7 +82,7 @@ slot_written : (at : ℕ) (bytes c0 c1 c2 c3 : List ℕ) → (c1 ≡ c0) ⊎ (c1
 slot_written at bytes c0 c1 c2 c3 first second third =
     third
     ∙ ⊎_elim
-    (λ behind. ap (λ (f : List ℕ). laid at (1 ∷ []) f) behind ∙ laid_joined at 1 bytes c1)
+    (λ after. ap (λ (f : List ℕ). laid at (1 ∷ []) f) after ∙ laid_joined at 1 bytes c1)
     (λ whole. ap (λ (f : List ℕ). laid at (1 ∷ []) f) whole ∙ laid_again at 1 0 bytes c1)
     second
     ∙ ⊎_elim
@@ -92,15 +92,15 @@ slot_written at bytes c0 c1 c2 c3 first second third =
 
 pub keep_written : (t0 t1 t2 : Slot) (n0 n1 : ℕ) (body c0 c1 c2 c3 : List ℕ) → t1 ≡ t0 → t2 ≡ t1 → n1 ≡ n0
     → (c1 ≡ c0) ⊎ (c1 ≡ laid (place t0) (0 ∷ []) c0)
-    → (IsMade c1 → c2 ≡ laid (place t1 + 1) (behind_gate (n1 + 1) body) c1)
-    → (¬ IsMade c1 → c2 ≡ laid (place t1) (0 ∷ behind_gate (n1 + 1) body) c1)
+    → (IsMade c1 → c2 ≡ laid (place t1 + 1) (after_gate (n1 + 1) body) c1)
+    → (¬ IsMade c1 → c2 ≡ laid (place t1) (0 ∷ after_gate (n1 + 1) body) c1)
     → c3 ≡ laid (place t2) (1 ∷ []) c2 → c3 ≡ laid (place t0) (slot_bytes (n0 + 1) body) c0
 keep_written t0 t1 t2 n0 n1 body c0 c1 c2 c3 same_slot still_same same_number first made not_made third =
-    slot_written (place t0) (behind_gate (n0 + 1) body) c0 c1 c2 c3 first
+    slot_written (place t0) (after_gate (n0 + 1) body) c0 c1 c2 c3 first
     (⊎_elim
-    (λ cut. inr (subst (λ (t : Slot). c2 ≡ laid (place t) (0 ∷ behind_gate (n0 + 1) body) c1) same_slot
-    (subst (λ (n : ℕ). c2 ≡ laid (place t1) (0 ∷ behind_gate (n + 1) body) c1) same_number (not_made (λ is. omega (arith, is, cut))))))
-    (λ long. inl (subst (λ (t : Slot). c2 ≡ laid (place t + 1) (behind_gate (n0 + 1) body) c1) same_slot
-    (subst (λ (n : ℕ). c2 ≡ laid (place t1 + 1) (behind_gate (n + 1) body) c1) same_number (made long))))
+    (λ cut. inr (subst (λ (t : Slot). c2 ≡ laid (place t) (0 ∷ after_gate (n0 + 1) body) c1) same_slot
+    (subst (λ (n : ℕ). c2 ≡ laid (place t1) (0 ∷ after_gate (n + 1) body) c1) same_number (not_made (λ is. omega (arith, is, cut))))))
+    (λ long. inl (subst (λ (t : Slot). c2 ≡ laid (place t + 1) (after_gate (n0 + 1) body) c1) same_slot
+    (subst (λ (n : ℕ). c2 ≡ laid (place t1 + 1) (after_gate (n + 1) body) c1) same_number (made long))))
     (cases_lt (length c1) 4194317))
     (subst (λ (t : Slot). c3 ≡ laid (place t) (1 ∷ []) c2) (still_same ∙ same_slot) third)

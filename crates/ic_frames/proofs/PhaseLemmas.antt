@@ -7,7 +7,7 @@ use Rattle.ic_disk.specs.lemmas.Moments.{leaves_weaker, then_runs}
 use Rattle.ic_frames.specs.declared.slot.Slot.{Slot}
 use Rattle.ic_frames.specs.Places.{place, other}
 use Rattle.ic_frames.specs.Fields.{number, is_open, IsMade}
-use Rattle.ic_frames.specs.Layout.{behind_gate}
+use Rattle.ic_frames.specs.Layout.{after_gate}
 use Rattle.ic_frames.specs.Held.{HasBody, Holds, HoldsEither, IsNewest}
 use Rattle.ic_frames.specs.Staged.{IsStaged}
 use Rattle.ic_frames.specs.inner.Standing.{IsKept, IsFrame}
@@ -78,7 +78,7 @@ module _ {D : Type 0} (content : D → List ℕ) (image : D → List ℕ → Typ
       which
 
   pub body_written : (closed staged made : Bool) (skip : ℕ) (held frame : List ℕ) → IsKept (content old) (image old) newest n closed staged made → IsFrame (n + 1) held frame → ((made ≡ true) × (skip ≡ 1)) ⊎ ((made ≡ false) × (skip ≡ 0))
-      → content new ≡ laid (place slot + skip) (drop skip frame) (content old) → IsMade (content old) → content new ≡ laid (place (other newest) + 1) (behind_gate (n + 1) held) (content old)
+      → content new ≡ laid (place slot + skip) (drop skip frame) (content old) → IsMade (content old) → content new ≡ laid (place (other newest) + 1) (after_gate (n + 1) held) (content old)
   body_written closed staged made skip held frame is is_frame which written long = written ∙ ⊎_elim
       (λ full.
       ap (λ (s : Slot). laid (place s + skip) (drop skip frame) (content old)) at
@@ -88,7 +88,7 @@ module _ {D : Type 0} (content : D → List ℕ) (image : D → List ℕ → Typ
       which
 
   pub body_written_whole : (closed staged made : Bool) (skip : ℕ) (held frame : List ℕ) → IsKept (content old) (image old) newest n closed staged made → IsFrame (n + 1) held frame → ((made ≡ true) × (skip ≡ 1)) ⊎ ((made ≡ false) × (skip ≡ 0))
-      → content new ≡ laid (place slot + skip) (drop skip frame) (content old) → ¬ IsMade (content old) → content new ≡ laid (place (other newest)) (0 ∷ behind_gate (n + 1) held) (content old)
+      → content new ≡ laid (place slot + skip) (drop skip frame) (content old) → ¬ IsMade (content old) → content new ≡ laid (place (other newest)) (0 ∷ after_gate (n + 1) held) (content old)
   body_written_whole closed staged made skip held frame is is_frame which written short = written ∙ ⊎_elim
       (λ full. absurd (short (is.all_made full.0 (content old) now)))
       (λ cut.

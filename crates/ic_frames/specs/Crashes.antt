@@ -1,7 +1,7 @@
 -- What a crash leaves of a keep and of each of its three phases. This project's choice.
 --
 -- What is kept is a body, or what a body is the byte form of. `Holds` says that a made file holds
--- it, `Has` that a file does, made or not, and `Stages` that a slot has it behind its gate, with a
+-- it, `Has` that a file does, made or not, and `Stages` that a slot has it after its gate, with a
 -- number.
 use Rattle.std.specs.Prelude.{◌≡◌, ◌⊎◌, ℕ, ◌+◌, List, Result, OnOk}
 use Rattle.ic_disk.specs.declared.disk.Disk.{Ghosts}
@@ -35,7 +35,7 @@ pub record CrashInWriting {D T K : Type 0} {ghosts : Ghosts D} (Holds Has : K �
   pub keeps : ghosts.keeps (disk_of new) ≡ ghosts.keeps (disk_of old)
   pub any_moment : (kept : K) → KeepsModel old → EachImage old (Holds kept)
       → Leaves old new (Holds kept)
-  -- at Ok the next one is whole behind the gate, and each image is made
+  -- at Ok the next one is whole after the gate, and each image is made
   pub whole : KeepsModel old
       → OnOk result (EachImage new (Stages (target_of new) (number_of new + 1) next))
   pub made : KeepsModel old → OnOk result (EachImage new IsMade)
@@ -44,7 +44,7 @@ pub record CrashInWriting {D T K : Type 0} {ghosts : Ghosts D} (Holds Has : K �
   pub holds_if_made : (kept : K) → KeepsModel old → EachImage old (Has kept)
       → EachImage new IsMade → EachImage new (Holds kept)
 
--- While a gate is opened a crash leaves what was kept or what is written behind the gate.
+-- While a gate is opened a crash leaves what was kept or what is written after the gate.
 pub record CrashInOpening {D T K : Type 0} {ghosts : Ghosts D} (Holds : K → List ℕ → Type 0)
     (Stages : Slot → ℕ → K → List ℕ → Type 0) (result : Result T KeepFault)
     (old new : Frames D ghosts) : Type 0 where

@@ -27,7 +27,7 @@ is_broken f = f.broken
 abbrev pub is_closed : {D : Type 0} {ghosts : Ghosts D} → Frames D ghosts → Bool
 is_closed f = f.closed
 
--- its number and body are written behind the closed gate
+-- its number and body are written after the closed gate
 abbrev pub is_staged : {D : Type 0} {ghosts : Ghosts D} → Frames D ghosts → Bool
 is_staged f = f.staged
 

@@ -9,7 +9,7 @@ use Rattle.ic_frames.specs.Places.{place, other}
 use Rattle.ic_frames.specs.Fields.{IsMade}
 use Rattle.ic_frames.specs.Faults.{CountsKeep}
 use Rattle.ic_frames.specs.Frames.{disk_of, content_of, target_of, number_of, is_broken, is_closed, is_staged, KeepsModel}
-use Rattle.ic_frames.specs.Layout.{behind_gate, slot_bytes}
+use Rattle.ic_frames.specs.Layout.{after_gate, slot_bytes}
 
 -- Which refusal comes when, in this order, and what it leaves. Where the disk has failed the frames
 -- are broken; any other refusal changes nothing.
@@ -35,7 +35,7 @@ pub record ClosesGate {D T : Type 0} {ghosts : Ghosts D} (result : Result T Keep
   pub idle : is_closed old ≡ true → disk_of new ≡ disk_of old
   pub calls : ghosts.clock (disk_of new) ≤ ghosts.clock (disk_of old) + 2
 
--- At Ok the next number, the length of this body and the body are written behind the closed gate.
+-- At Ok the next number, the length of this body and the body are written after the closed gate.
 -- Where the disk wasn't made, a 0 is written before them.
 pub record WritesBody {D T : Type 0} {ghosts : Ghosts D} (body : List ℕ)
     (result : Result T KeepFault) (old new : Frames D ghosts) : Type 0 where
@@ -44,10 +44,10 @@ pub record WritesBody {D T : Type 0} {ghosts : Ghosts D} (body : List ℕ)
   pub target : target_of new ≡ target_of old
   pub number : number_of new ≡ number_of old
   pub written : KeepsModel old → IsMade (content_of old) → OnOk result
-      (content_of new ≡ laid (place (target_of old) + 1) (behind_gate (number_of old + 1) body)
+      (content_of new ≡ laid (place (target_of old) + 1) (after_gate (number_of old + 1) body)
       (content_of old))
   pub written_whole : KeepsModel old → ¬ IsMade (content_of old) → OnOk result
-      (content_of new ≡ laid (place (target_of old)) (0 ∷ behind_gate (number_of old + 1) body)
+      (content_of new ≡ laid (place (target_of old)) (0 ∷ after_gate (number_of old + 1) body)
       (content_of old))
   pub calls : ghosts.clock (disk_of new) ≤ ghosts.clock (disk_of old) + 2
 

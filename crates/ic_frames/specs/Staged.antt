@@ -1,4 +1,4 @@
--- A body that is written behind a gate. This project's choice.
+-- A body that is written after a gate. This project's choice.
 use Rattle.std.specs.Prelude.{◌≡◌, ℕ, true, List}
 use Rattle.ic_frames.specs.declared.slot.Slot.{Slot}
 use Rattle.ic_frames.specs.Places.{place}

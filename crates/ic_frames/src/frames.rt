@@ -16,7 +16,7 @@ use crate::{KeepFault, OpenFault, Opened, Slot};
 use ic_disk::Disk;
 use std::alloc::Global;
 
-// The byte from which on a frame is written: the one behind its gate, or the gate where the disk
+// The byte from which on a frame is written: the one after its gate, or the gate where the disk
 // isn't made and a gate that was cut off from its head may be 1.
 fn written_from(made: bool) -> usize
     ensures which { ((made ≡ true) × (result ≡ 1)) ⊎ ((made ≡ false) × (result ≡ 0)) }
@@ -127,7 +127,7 @@ impl<D: Disk> Frames<D> {
         Ok(())
     }
 
-    /// Writes the body of this frame, and the next number, behind the closed gate. The head of the
+    /// Writes the body of this frame, and the next number, after the closed gate. The head of the
     /// frame is filled in. On a disk that isn't made the gate is written too, as closed.
     pub fn write_body(&mut self, frame: &mut [u8]) -> Result<(), KeepFault>
         requires closed { is_closed self.old ≡ true }

@@ -106,10 +106,10 @@ extended f [] bound apart low = record { to = λ n. n; from = λ n. n; there_and
 extended f (x ∷ xs) bound apart low = one_more f x xs bound apart.0 low.0.0 low.0.1 (extended f xs bound apart.1 low.1)
 
 -- each is apart from each
-behind : (f : ℕ → ℕ) (x : ℕ) (xs all : List ℕ) → AllByRecursion (λ m. AllByRecursion (λ n. f m ≡ f n → m ≡ n) (x ∷ all)) xs → AllByRecursion (λ m. AllByRecursion (λ n. f m ≡ f n → m ≡ n) all) xs
-behind f x [] all is = tt
-behind f x (m ∷ ms) all is = (is.0.1, behind f x ms all is.1)
+after : (f : ℕ → ℕ) (x : ℕ) (xs all : List ℕ) → AllByRecursion (λ m. AllByRecursion (λ n. f m ≡ f n → m ≡ n) (x ∷ all)) xs → AllByRecursion (λ m. AllByRecursion (λ n. f m ≡ f n → m ≡ n) all) xs
+after f x [] all is = tt
+after f x (m ∷ ms) all is = (is.0.1, after f x ms all is.1)
 
 pub apart_from : (f : ℕ → ℕ) (ns : List ℕ) → AllByRecursion (λ m. AllByRecursion (λ n. f m ≡ f n → m ≡ n) ns) ns → AreApart f ns
 apart_from f [] is = tt
-apart_from f (x ∷ xs) is = (is.0.1, apart_from f xs (behind f x xs xs is.1))
+apart_from f (x ∷ xs) is = (is.0.1, apart_from f xs (after f x xs xs is.1))

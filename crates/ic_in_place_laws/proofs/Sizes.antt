@@ -8,7 +8,7 @@ use Rattle.std.proofs.lemmas.List.Sums.{sum_by-append, sum_by-cons}
 use Rattle.ic_term.specs.Tree.{Tree, name, agent, Trees, no_trees, more_trees, names, names_of, nodes, nodes_of, Pair, pair_names, pair_nodes}
 use Rattle.ic_term.specs.Configuration.{Configuration, configuration_names, configuration_nodes, occurrences}
 use Rattle.ic_rules.specs.Rule.{Rule, IsRule, rule_names, rule_nodes}
-use Rattle.ic_rules.specs.Renaming.{first_behind, first_occurrences}
+use Rattle.ic_rules.specs.Renaming.{first_after, first_occurrences}
 use Rattle.ic_machine.specs.Plan.{Planned, IsPlan, places_made}
 use Rattle.ic_machine.specs.lemmas.Counting.{sum_by_both, sum_by_same}
 use Rattle.ic_machine.specs.lemmas.Upto.{bit, bit_same, bit_other, hits, upto, upto_few, upto_le, upto_none, upto_one, upto_same, upto_some, upto_swap}
@@ -126,9 +126,9 @@ rule_inner_few arities r p stands =
         let one = upto_one r.names found.0 (λ x. read_own r stands.registers base k x) found.1 in
         omega (arith, here, one)
 
-first_few : (seen ns : List ℕ) → length (first_behind seen ns) ≤ length seen + length ns
+first_few : (seen ns : List ℕ) → length (first_after seen ns) ≤ length seen + length ns
 first_few seen [] = omega arith
-first_few seen (n ∷ ns) = elim (list_any (λ m. n == m) seen) as (λ b. length (cond b (first_behind seen ns) (first_behind (seen ++ n ∷ []) ns)) ≤ length seen + suc (length ns)) [
+first_few seen (n ∷ ns) = elim (list_any (λ m. n == m) seen) as (λ b. length (cond b (first_after seen ns) (first_after (seen ++ n ∷ []) ns)) ≤ length seen + suc (length ns)) [
   | true ↦ omega (arith, first_few seen ns)
   | false ↦ omega (arith, first_few (seen ++ n ∷ []) ns, length-append seen (n ∷ []))
 ]

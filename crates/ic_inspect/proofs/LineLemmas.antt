@@ -13,7 +13,7 @@ next_line f i js j out new whole below is put all =
     ap (λ l. l ++ flat_map f (drop (i + 1) js)) put ∙ append_assoc out (f j) (flat_map f (drop (i + 1) js))
     ∙ ap (λ l. out ++ flat_map f l) (sym (next_job i js j below is)) ∙ all
 
--- two texts, one behind the other, where the second one was written
+-- two texts, one after the other, where the second one was written
 pub both_written : {T E : Type 0} (r : Result T E) (old first new x y : List ℕ) → first ≡ old ++ x → OnOk r (new ≡ first ++ y) → OnOk r (new ≡ old ++ (x ++ y))
 both_written (Ok v) old first new x y one other = other ∙ ap (λ l. l ++ y) one ∙ append_assoc old x y
 both_written (Err e) old first new x y one other = tt

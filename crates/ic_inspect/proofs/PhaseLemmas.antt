@@ -15,7 +15,7 @@ use Rattle.ic_frames.specs.declared.slot.TheConstants.{SECOND_AT}
 use Rattle.ic_frames.specs.Fields.{number, is_open, is_whole, IsMade}
 use Rattle.ic_frames.specs.Frames.{target_of, number_of, is_broken, is_closed, content_of}
 use Rattle.ic_frames.specs.Held.{Held, IsNewest, body_held, the_body, no_slot, two_alike, damaged}
-use Rattle.ic_frames.specs.Layout.{behind_gate}
+use Rattle.ic_frames.specs.Layout.{after_gate}
 use Rattle.ic_frames.specs.Opened.{IsOnNewest, KeepsOneBody}
 use Rattle.ic_frames.specs.Places.{place, other}
 use Rattle.ic_frames.specs.Staged.{IsStaged}
@@ -111,23 +111,23 @@ closing_on (Ok v) t n false old new is on written idle = on_amid t n false old n
 closing_on (Err e) t n closed old new is on written idle = tt
 
 -- ---- writing a body
-length-behind_gate : (n : ℕ) (held : List ℕ) → length (behind_gate n held) ≡ 12 + length held
-length-behind_gate n held = omega arith
+length-after_gate : (n : ℕ) (held : List ℕ) → length (after_gate n held) ≡ 12 + length held
+length-after_gate n held = omega arith
 
 made_or_not : (old : List ℕ) → IsMade old ⊎ (¬ IsMade old)
 made_or_not old = ⊎_elim (λ short. inr (λ made. absurd (omega (arith, short, made)))) (λ made. inl made) (cases_lt (length old) (SECOND_AT + HEAD))
 
 pub written_amid : {T : Type 0} (r : Result T KeepFault) (t : Slot) (n : ℕ) (held old new : List ℕ) → length held ≤ MAX_BODY → OnOk r (IsWholeNewest (other t) old) → is_open (place t) old ≡ false
-    → (IsMade old → OnOk r (new ≡ laid (place t + 1) (behind_gate (n + 1) held) old))
-    → (¬ IsMade old → OnOk r (new ≡ laid (place t) (0 ∷ behind_gate (n + 1) held) old)) → OnOk r (Amid t old new)
+    → (IsMade old → OnOk r (new ≡ laid (place t + 1) (after_gate (n + 1) held) old))
+    → (¬ IsMade old → OnOk r (new ≡ laid (place t) (0 ∷ after_gate (n + 1) held) old)) → OnOk r (Amid t old new)
 written_amid (Ok v) t n held old new few is shut made unmade = ⊎_elim
     (λ m. subst (Amid t old) (sym (made m))
-    (amid t (length (behind_gate (n + 1) held)) old (laid (place t + 1) (behind_gate (n + 1) held) old) is shut m
-    (omega (arith, few, length-behind_gate (n + 1) held)) (torn_laid (place t + 1) (behind_gate (n + 1) held) old)))
+    (amid t (length (after_gate (n + 1) held)) old (laid (place t + 1) (after_gate (n + 1) held) old) is shut m
+    (omega (arith, few, length-after_gate (n + 1) held)) (torn_laid (place t + 1) (after_gate (n + 1) held) old)))
     (λ m. subst (Amid t old) (sym (unmade m)) (record {
-      stays = stays_beside t (place t) (length (0 ∷ behind_gate (n + 1) held)) old (laid (place t) (0 ∷ behind_gate (n + 1) held) old)
-          (record { from = omega arith; until = omega (arith, few, length-behind_gate (n + 1) held) }) is (torn_laid (place t) (0 ∷ behind_gate (n + 1) held) old);
-      shut = shut_by (place t) (laid (place t) (0 ∷ behind_gate (n + 1) held) old) (zero_laid t (behind_gate (n + 1) held) old);
+      stays = stays_beside t (place t) (length (0 ∷ after_gate (n + 1) held)) old (laid (place t) (0 ∷ after_gate (n + 1) held) old)
+          (record { from = omega arith; until = omega (arith, few, length-after_gate (n + 1) held) }) is (torn_laid (place t) (0 ∷ after_gate (n + 1) held) old);
+      shut = shut_by (place t) (laid (place t) (0 ∷ after_gate (n + 1) held) old) (zero_laid t (after_gate (n + 1) held) old);
     }))
     (made_or_not old)
 written_amid (Err e) t n held old new few is shut made unmade = tt

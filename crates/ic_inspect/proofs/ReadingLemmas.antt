@@ -1,4 +1,4 @@
--- Two readings of the slots of a file, one behind the other.
+-- Two readings of the slots of a file, one after the other.
 use Rattle.std.proofs.Common.{◌≡◌, ◌↔◌, ℕ, ◌+◌, ◌<◌, ◌≤◌, true, List, [], ◌∷◌, Option, Some, Result, Ok, Err, OnOk, length, take, drop, get_or, refl, sym, ap, subst, ◌∙◌, arith, length-drop}
 use Rattle.std.proofs.lemmas.Bool.{le-leb}
 use Rattle.std.proofs.lemmas.List.{length-take}
@@ -21,7 +21,7 @@ use Rattle.ic_inspect.proofs.SlotLemmas.{SameAt, number_front, open_front, room_
 pub is_one : (file : List ℕ) → is_one_file (slot_read file) (slot_read (drop SECOND_AT file)) ≡ true
 is_one file = by (slot_read (drop SECOND_AT file)) refl
   where
-    -- where the second one isn't empty, the file goes on behind its place, so the first one has all its bytes
+    -- where the second one isn't empty, the file goes on after its place, so the first one has all its bytes
     by : (second : List ℕ) → slot_read (drop SECOND_AT file) ≡ second → is_one_file (slot_read file) second ≡ true
     by [] is = refl
     by (b ∷ bs) is =
@@ -93,15 +93,15 @@ module _ (whole : (at : ℕ) (file : List ℕ) → (is_whole at file ≡ true) �
       same_seen whole 0 0 read file seen (same_sym 0 0 file read (first_same file (drop SECOND_AT file) (is_one file))) is
   file_seen Second seen file is =
       let read = file_of (slot_read file) (slot_read (drop SECOND_AT file)) in
-      let behind = drop SECOND_AT file in
+      let after = drop SECOND_AT file in
       same_seen whole SECOND_AT SECOND_AT read file seen
-      (same_trans SECOND_AT 0 SECOND_AT read behind file (same_sym 0 SECOND_AT behind read (second_same file behind)) (same_drop SECOND_AT file)) is
+      (same_trans SECOND_AT 0 SECOND_AT read after file (same_sym 0 SECOND_AT after read (second_same file after)) (same_drop SECOND_AT file)) is
 
   read_twice : (at : ℕ → List ℕ) (from between later until : ℕ) (one two one_later two_later : List ℕ) → is_one_file (slot_read one) (slot_read two) ≡ true
       → take HEAD (slot_read one) ≡ take HEAD one_later → take HEAD (slot_read two) ≡ take HEAD two_later
       → AreSlotsRead at from between one two → between ≤ later → AreHeadsRead at later until one_later two_later
       → IsReadTwiceBetween at from until (file_of (slot_read one) (slot_read two))
-  read_twice at from between later until one two one_later two_later is head_one head_two slots behind again =
+  read_twice at from between later until one two one_later two_later is head_one head_two slots after again =
       let read = file_of (slot_read one) (slot_read two) in
       let h = slots.heads in
       let one_there = first_same one two is in
@@ -113,13 +113,13 @@ module _ (whole : (at : ℕ) (file : List ℕ) → (is_whole at file ≡ true) �
           second = h.second;
           first_again = again.first;
           second_again = again.second;
-          in_order = (h.in_order.1, omega (arith, h.in_order.2, again.in_order.0, behind), again.in_order.1);
+          in_order = (h.in_order.1, omega (arith, h.in_order.2, again.in_order.0, after), again.in_order.1);
           first_head = head_there First one read (at h.first) one_there h.first_head;
           second_head = head_there Second two read (at h.second) two_there h.second_head;
           first_head_again = head_there First (slot_read one) read (at again.first) one_read (head_later First (slot_read one) one_later (at again.first) head_one again.first_head);
           second_head_again = head_there Second (slot_read two) read (at again.second) two_read (head_later Second (slot_read two) two_later (at again.second) head_two again.second_head);
-          first_body = body_there First at h.first between again.first one read (omega (arith, behind, again.in_order.0)) one_there slots.first_body;
-          second_body = body_there Second at h.second between again.second two read (omega (arith, behind, again.in_order.0, again.in_order.1)) two_there slots.second_body;
+          first_body = body_there First at h.first between again.first one read (omega (arith, after, again.in_order.0)) one_there slots.first_body;
+          second_body = body_there Second at h.second between again.second two read (omega (arith, after, again.in_order.0, again.in_order.1)) two_there slots.second_body;
         },
         h.in_order.0,
         again.in_order.2,
@@ -130,12 +130,12 @@ module _ (whole : (at : ℕ) (file : List ℕ) → (is_whole at file ≡ true) �
       → AreSlotsRead at from between one two → between ≤ later → AreHeadsRead at later until one_later two_later
       → OnOk r (HasHead a r3) → OnOk r (HasHead b r4) → OnOk r (is_one_file a b ≡ true)
       → OnOk r (IsReadTwiceBetween at from until (file_of (slot_read one) (slot_read two)))
-  both_read (Ok v) at from between later until a b one two one_later two_later r1 r2 r3 r4 sa sb i1 i2 i3 i4 slots behind again ha hb is =
+  both_read (Ok v) at from between later until a b one two one_later two_later r1 r2 r3 r4 sa sb i1 i2 i3 i4 slots after again ha hb is =
       let ea : a ≡ slot_read one = slot_is a one r1 sa i1 in
       let eb : b ≡ slot_read two = slot_is b two r2 sb i2 in
       let same : is_one_file a b ≡ is_one_file (slot_read one) (slot_read two) = λ i. is_one_file (ea i) (eb i) in
       read_twice at from between later until one two one_later two_later (sym same ∙ is)
       (sym (ap (take HEAD) ea) ∙ head_is a one_later r3 ha i3)
       (sym (ap (take HEAD) eb) ∙ head_is b two_later r4 hb i4)
-      slots behind again
-  both_read (Err e) at from between later until a b one two one_later two_later r1 r2 r3 r4 sa sb i1 i2 i3 i4 slots behind again ha hb is = tt
+      slots after again
+  both_read (Err e) at from between later until a b one two one_later two_later r1 r2 r3 r4 sa sb i1 i2 i3 i4 slots after again ha hb is = tt

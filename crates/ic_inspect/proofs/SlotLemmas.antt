@@ -259,13 +259,13 @@ module _ (whole : (at : ℕ) (file : List ℕ) → (is_whole at file ≡ true) �
       same_trans 0 0 0 first (take n first) file (same_sym 0 0 (take n first) first (same_front n first enough))
       (subst (λ (l : List ℕ). SameAt 0 0 l file) fronts (same_front n file there))
 
--- behind the place of the second slot the file has what was read of it
-behind_second : (first second : List ℕ) → drop SECOND_AT (file_of first second) ≡ second
-behind_second first [] = drop_all SECOND_AT (take SECOND_AT first) (omega (arith, length-take SECOND_AT first))
-behind_second first (b ∷ bs) =
+-- after the place of the second slot the file has what was read of it
+after_second : (first second : List ℕ) → drop SECOND_AT (file_of first second) ≡ second
+after_second first [] = drop_all SECOND_AT (take SECOND_AT first) (omega (arith, length-take SECOND_AT first))
+after_second first (b ∷ bs) =
     let filled = filled_to SECOND_AT first in
     let long : SECOND_AT ≤ length filled = omega (arith, length-append first (replicate (SECOND_AT - length first) 0), length-replicate {A = ℕ} (SECOND_AT - length first) 0) in
     drop_at (take SECOND_AT filled) (b ∷ bs) SECOND_AT (length-take-le SECOND_AT filled long)
 
 pub same_second : (first second : List ℕ) → SameAt 0 SECOND_AT second (file_of first second)
-same_second first second = subst (λ (l : List ℕ). SameAt 0 SECOND_AT l (file_of first second)) (behind_second first second) (same_drop SECOND_AT (file_of first second))
+same_second first second = subst (λ (l : List ℕ). SameAt 0 SECOND_AT l (file_of first second)) (after_second first second) (same_drop SECOND_AT (file_of first second))

@@ -53,8 +53,8 @@ unfolding body
 body_same at old new s same =
     ap (λ (m : ℕ). bytes_at (at + 13) m new) same ∙ same_bytes at (13 + size at old) (at + 13) (size at old) old new s (omega arith) (omega arith)
 
-behind_gate_same : (at n m : ℕ) (old new : List ℕ) → SameFrom at m old new → n + 1 ≤ m → SameFrom (at + 1) n old new
-behind_gate_same at n m old new s fewer = record {
+after_gate_same : (at n m : ℕ) (old new : List ℕ) → SameFrom at m old new → n + 1 ≤ m → SameFrom (at + 1) n old new
+after_gate_same at n m old new s fewer = record {
   within = omega (arith, s.within, fewer);
   within_new = omega (arith, s.within_new, fewer);
   same = λ i above below. s.same i (omega (arith, above)) (omega (arith, below, fewer));
@@ -88,11 +88,11 @@ whole_still at old new same longer is =
 same_slot : (s : Slot) (old new : List ℕ) → SameFrom (place s) (13 + size (place s) old) old new → is_whole (place s) old ≡ true → length old ≤ length new → IsSameSlot s old new
 same_slot s old new same whole longer =
     let at = place s in
-    let behind = behind_gate_same at 12 (13 + size at old) old new same (omega arith) in
-    let sizes = size_same at 12 old new behind (omega arith) in
+    let after = after_gate_same at 12 (13 + size at old) old new same (omega arith) in
+    let sizes = size_same at 12 old new after (omega arith) in
     record {
       opened = open_same at (13 + size at old) old new same (omega arith);
-      number_is = number_same at 12 old new behind (omega arith);
+      number_is = number_same at 12 old new after (omega arith);
       size_is = sizes;
       whole_is = whole_still at old new sizes longer whole ∙ sym whole;
       body_is = body_same at old new same sizes;
@@ -110,7 +110,7 @@ stays_from First at n old new room whole torn =
     record {
       within = omega (arith, w.inside);
       within_new = omega (arith, w.inside, torn.no_shorter);
-      same = λ i above below. torn.behind i (omega (arith, below, w.inside)) (omega (arith, above, room.until));
+      same = λ i above below. torn.after i (omega (arith, below, w.inside)) (omega (arith, above, room.until));
     }
 stays_from Second at n old new room whole torn =
     let w = whole_at (place First) old whole in
@@ -159,18 +159,18 @@ open_step Second old new is stays shut above = record { newest = First; is_newes
 pub gate_room : (t : Slot) → InRoom t (place t) 1
 gate_room t = record { from = omega arith; until = omega arith }
 
--- what stands behind a gate that is written
-behind_torn : (t : Slot) (old new : List ℕ) → place t + 13 ≤ length old → Torn (place t) 1 old new → SameFrom (place t + 1) 12 old new
-behind_torn t old new within torn = record {
+-- what stands after a gate that is written
+after_torn : (t : Slot) (old new : List ℕ) → place t + 13 ≤ length old → Torn (place t) 1 old new → SameFrom (place t + 1) 12 old new
+after_torn t old new within torn = record {
   within = omega (arith, within);
   within_new = omega (arith, within, torn.no_shorter);
-  same = λ i above below. torn.behind i (omega (arith, below, within)) above;
+  same = λ i above below. torn.after i (omega (arith, below, within)) above;
 }
 
--- a body behind a gate that is written, whole or not
-body_behind : (at : ℕ) (old new : List ℕ) → size at new ≡ size at old → length new ≡ length old → Torn at 1 old new → body at new ≡ body at old
+-- a body after a gate that is written, whole or not
+body_after : (at : ℕ) (old new : List ℕ) → size at new ≡ size at old → length new ≡ length old → Torn at 1 old new → body at new ≡ body at old
 unfolding body
-body_behind at old new same long torn =
+body_after at old new same long torn =
     let k = at + 13 in
     let m = size at old in
     ap (λ (n : ℕ). bytes_at k n new) same
@@ -179,20 +179,20 @@ body_behind at old new same long torn =
     (λ i inside.
     let below : i < m = omega (arith, inside, length-take m (drop k new)) in
     let there : k + i < length old = omega (arith, inside, long, length-take m (drop k new), length-drop k new) in
-    byte_of k m i new below ∙ torn.behind (k + i) there (omega arith) ∙ sym (byte_of k m i old below))
+    byte_of k m i new below ∙ torn.after (k + i) there (omega arith) ∙ sym (byte_of k m i old below))
 
 pub closing_torn : (t : Slot) (old new : List ℕ) → IsWholeNewest (other t) old → is_open (place t) old ≡ true → length new ≡ length old → Torn (place t) 1 old new → IsServerStep old new
 closing_torn t old new is opened long torn =
     let stays = stays_beside t (place t) 1 old new (gate_room t) is torn in
-    let behind = behind_torn t old new (gate_of_open (place t) old opened).0 torn in
-    let sizes = size_same (place t) 12 old new behind (omega arith) in
+    let after = after_torn t old new (gate_of_open (place t) old opened).0 torn in
+    let sizes = size_same (place t) 12 old new after (omega arith) in
     ⊎_elim
     (λ still. same_step t old new is.is_newest stays (record {
       opened = still ∙ sym opened;
-      number_is = number_same (place t) 12 old new behind (omega arith);
+      number_is = number_same (place t) 12 old new after (omega arith);
       size_is = sizes;
       whole_is = whole_same (place t) old new sizes long;
-      body_is = body_behind (place t) old new sizes long torn;
+      body_is = body_after (place t) old new sizes long torn;
     }))
     (λ shut. shut_step t old new is.is_newest stays shut)
     (cases_Bool (is_open (place t) new))
@@ -202,10 +202,10 @@ pub opening_torn : (t : Slot) (old new : List ℕ) → IsWholeNewest (other t) o
 opening_torn t old new is shut whole above torn =
     let stays = stays_beside t (place t) 1 old new (gate_room t) is torn in
     let w = whole_at (place t) old whole in
-    let behind = behind_torn t old new (omega (arith, w.inside)) torn in
-    open_step t old new is.is_newest stays shut (omega (arith, above, number_same (place t) 12 old new behind (omega arith)))
+    let after = after_torn t old new (omega (arith, w.inside)) torn in
+    open_step t old new is.is_newest stays shut (omega (arith, above, number_same (place t) 12 old new after (omega arith)))
 
--- ---- a body that is written behind a closed gate
+-- ---- a body that is written after a closed gate
 pub record Amid (t : Slot) (old new : List ℕ) : Type 0 where
   pub stays : IsSameSlot (other t) old new
   pub shut : is_open (place t) new ≡ false

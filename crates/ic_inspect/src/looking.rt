@@ -53,8 +53,8 @@ fn number_at(file: &[u8], at: usize) -> u64
     requires { at + 13 ≤ length file.now }
     ensures { result ≡ number at file.now }
 {
-    let (_, behind) = file.split_at(at + 1);
-    let (front, _) = behind.split_at(8);
+    let (_, rest) = file.split_at(at + 1);
+    let (front, _) = rest.split_at(8);
     let mut bytes = [0u8; 8];
     bytes.copy_from_slice(front);
     u64::from_be_bytes(bytes)
@@ -65,8 +65,8 @@ fn size_at(file: &[u8], at: usize) -> u32
     requires { at + 13 ≤ length file.now }
     ensures { result ≡ size at file.now }
 {
-    let (_, behind) = file.split_at(at + 9);
-    let (front, _) = behind.split_at(4);
+    let (_, rest) = file.split_at(at + 9);
+    let (front, _) = rest.split_at(4);
     let mut bytes = [0u8; 4];
     bytes.copy_from_slice(front);
     u32::from_be_bytes(bytes)

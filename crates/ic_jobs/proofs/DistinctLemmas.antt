@@ -40,7 +40,7 @@ once_in : (d : JobParts) (rest : List JobParts) → is_some (position_from (is_n
 unfolding IsDistinct
 once_in d rest once = (λ distinct. distinct.1, λ distinct. (none_named d.name 0 rest once, distinct))
 
--- a name that stands again behind its job isn't distinct
+-- a name that stands again after its job isn't distinct
 pub not_distinct : (t : List JobParts) (i : ℕ) (d : JobParts) → i < length t → d ≡ get_or t i d → is_some (position_from (is_named d.name) 0 (drop (i + 1) t)) ≡ true
     → AreDistinct (drop i t) → ⊥
 not_distinct t i d h e again distinct =
@@ -64,6 +64,6 @@ pub none_distinct : (t : List JobParts) → t ≡ [] → AreDistinct t
 unfolding IsDistinct
 none_distinct t e = subst (λ (l : List JobParts). AreDistinct l) (sym e) tt
 
--- a slice from a place on is what is left behind it
+-- a slice from a place on is what is left after it
 pub rest_is : (t : List JobParts) (k : ℕ) → take (length t - k) (drop k t) ≡ drop k t
 rest_is t k = take_all (length t - k) (drop k t) (omega (arith, length-drop k t))

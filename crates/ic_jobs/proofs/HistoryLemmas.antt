@@ -1,4 +1,4 @@
--- Histories one behind the other.
+-- Histories one after the other.
 use Rattle.std.proofs.Common.{◌≡◌, List, [], ◌∷◌, ◌++◌, Option, None, Some, refl, ap, ◌∙◌}
 use Rattle.std.specs.Option.{option_map}
 use Rattle.ic_jobs.specs.declared.event.Entry.{Entry}

@@ -29,7 +29,7 @@ IsDistinct-without (x ∷ xs) k ys distinct =
     let parts = All-split (λ y. bytes_eq x y ≡ false) xs (k ∷ ys) distinct.0 in
     (All-join (λ y. bytes_eq x y ≡ false) xs ys parts.0 parts.1.1, IsDistinct-without xs k ys distinct.1)
 
--- ---- one job, those before it and those behind it
+-- ---- one job, those before it and those after it
 
 pub record StandsAlone (name : List ℕ) (t : List JobParts) (i : ℕ) (j : JobParts) : Type 0 where
   pub before : List JobParts
@@ -118,41 +118,41 @@ named_stands name (k ∷ js) j distinct e =
 
 -- ---- what such a table is once the job is found, changed or taken out
 
-found_behind : (name : List ℕ) (xs ys : List JobParts) → AllByRecursion (λ k. is_named name k ≡ false) xs → job_named name (xs ++ ys) ≡ job_named name ys
-found_behind name [] ys none = refl
-found_behind name (x ∷ xs) ys none = rw (none.0) (found_behind name xs ys none.1)
+found_after : (name : List ℕ) (xs ys : List JobParts) → AllByRecursion (λ k. is_named name k ≡ false) xs → job_named name (xs ++ ys) ≡ job_named name ys
+found_after name [] ys none = refl
+found_after name (x ∷ xs) ys none = rw (none.0) (found_after name xs ys none.1)
 
 pub found_alone : (name : List ℕ) (t : List JobParts) (i : ℕ) (j : JobParts) → StandsAlone name t i j → job_named name t ≡ Some j
 found_alone name t i j s =
-    ap (job_named name) s.parts ∙ found_behind name s.before (j ∷ s.after) s.none_before
+    ap (job_named name) s.parts ∙ found_after name s.before (j ∷ s.after) s.none_before
     ∙ ap (λ (b : Bool). cond b (Some j) (job_named name s.after)) s.named
 
 changed_none : (name : List ℕ) (change : JobParts → JobParts) (xs : List JobParts) → AllByRecursion (λ k. is_named name k ≡ false) xs → with_changed name change xs ≡ xs
 changed_none name change [] none = refl
 changed_none name change (x ∷ xs) none = rw (none.0, changed_none name change xs none.1) refl
 
-changed_behind : (name : List ℕ) (change : JobParts → JobParts) (xs ys : List JobParts) → AllByRecursion (λ k. is_named name k ≡ false) xs
+changed_after : (name : List ℕ) (change : JobParts → JobParts) (xs ys : List JobParts) → AllByRecursion (λ k. is_named name k ≡ false) xs
     → with_changed name change (xs ++ ys) ≡ xs ++ with_changed name change ys
-changed_behind name change [] ys none = refl
-changed_behind name change (x ∷ xs) ys none = rw (none.0, changed_behind name change xs ys none.1) refl
+changed_after name change [] ys none = refl
+changed_after name change (x ∷ xs) ys none = rw (none.0, changed_after name change xs ys none.1) refl
 
 pub changed_alone : (name : List ℕ) (change : JobParts → JobParts) (t : List JobParts) (i : ℕ) (j : JobParts) (s : StandsAlone name t i j)
     → with_changed name change t ≡ s.before ++ change j ∷ s.after
 changed_alone name change t i j s =
-    ap (with_changed name change) s.parts ∙ changed_behind name change s.before (j ∷ s.after) s.none_before
+    ap (with_changed name change) s.parts ∙ changed_after name change s.before (j ∷ s.after) s.none_before
     ∙ (λ k. s.before ++ cond (s.named k) (change j) j ∷ changed_none name change s.after s.none_after k)
 
 without_none : (name : List ℕ) (xs : List JobParts) → AllByRecursion (λ k. is_named name k ≡ false) xs → without name xs ≡ xs
 without_none name [] none = refl
 without_none name (x ∷ xs) none = rw (none.0, without_none name xs none.1) refl
 
-without_behind : (name : List ℕ) (xs ys : List JobParts) → AllByRecursion (λ k. is_named name k ≡ false) xs → without name (xs ++ ys) ≡ xs ++ without name ys
-without_behind name [] ys none = refl
-without_behind name (x ∷ xs) ys none = rw (none.0, without_behind name xs ys none.1) refl
+without_after : (name : List ℕ) (xs ys : List JobParts) → AllByRecursion (λ k. is_named name k ≡ false) xs → without name (xs ++ ys) ≡ xs ++ without name ys
+without_after name [] ys none = refl
+without_after name (x ∷ xs) ys none = rw (none.0, without_after name xs ys none.1) refl
 
 pub without_alone : (name : List ℕ) (t : List JobParts) (i : ℕ) (j : JobParts) (s : StandsAlone name t i j) → without name t ≡ s.before ++ s.after
 without_alone name t i j s =
-    ap (without name) s.parts ∙ without_behind name s.before (j ∷ s.after) s.none_before
+    ap (without name) s.parts ∙ without_after name s.before (j ∷ s.after) s.none_before
     ∙ (λ k. s.before ++ cond (not (s.named k)) (j ∷ without name s.after) (without_none name s.after s.none_after k))
 
 -- ---- tables that stay tables

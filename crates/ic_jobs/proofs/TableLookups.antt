@@ -72,7 +72,7 @@ append_at : (i : JobParts) (b : Bool) (more later last : Option JobParts) → mo
 append_at i true more later last e = refl
 append_at i false more later last e = e
 
--- a job behind the others is found where none of the others is
+-- a job after the others is found where none of the others is
 pub job_named-append : (name : List ℕ) (t : List JobParts) (j : JobParts)
     → job_named name (t ++ j ∷ []) ≡ option_or (job_named name t) (cond (is_named name j) (Some j) None)
 job_named-append name [] j = refl

@@ -34,8 +34,8 @@ record FirstIn (xs : List JobParts) (n : ℕ) : Type 0 where
   running : runs job ≡ true
   first : (k : ℕ) (j : JobParts) → slice_get xs k ≡ Some j → runs j ≡ true → n ≤ k
 
-behind_one : (x : JobParts) (xs : List JobParts) (n : ℕ) → runs x ≡ false → FirstIn xs n → FirstIn (x ∷ xs) (suc n)
-behind_one x xs n other f = record {
+after_one : (x : JobParts) (xs : List JobParts) (n : ℕ) → runs x ≡ false → FirstIn xs n → FirstIn (x ∷ xs) (suc n)
+after_one x xs n other f = record {
   job = f.job;
   there = f.there;
   running = f.running;
@@ -52,7 +52,7 @@ found_at : (x : JobParts) (xs : List JobParts) (s i : ℕ) (b : Bool) → runs x
 found_at x xs s i true is later e =
     let same : s ≡ i = cc in (0, (omega (arith, same), record { job = x; there = refl; running = is; first = λ k j at run. omega arith }))
 found_at x xs s i false other later e =
-    let found = later e in (suc found.0, (omega (arith, found.1.0), behind_one x xs found.0 other found.1.1))
+    let found = later e in (suc found.0, (omega (arith, found.1.0), after_one x xs found.0 other found.1.1))
 
 found_in : (s i : ℕ) (xs : List JobParts) → position_from runs s xs ≡ Some i → (n : ℕ) × ((s + n ≡ i) × FirstIn xs n)
 found_in s i [] e = cc

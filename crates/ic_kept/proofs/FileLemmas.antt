@@ -20,7 +20,7 @@ torn_bytes r m k n a c torn within apart = ext_get_or 0 (bytes_at k n c) (bytes_
     get_or-bytes_at k n i c below
     ∙ ⊎_elim
     (λ before. torn.before (k + i) (omega (arith, below, within)) (omega (arith, below, before)))
-    (λ behind. torn.behind (k + i) (omega (arith, below, within)) (omega (arith, behind)))
+    (λ after. torn.after (k + i) (omega (arith, below, within)) (omega (arith, after)))
     apart
     ∙ sym (get_or-bytes_at k n i a below))
 
@@ -39,6 +39,6 @@ laid_bytes at bytes a = ext_get_or 0 (bytes_at at (length bytes) (laid at bytes 
 pub laid_first : (byte : ℕ) (a : List ℕ) → get_or (laid 0 (byte ∷ []) a) 0 0 ≡ byte
 laid_first byte a = laid-inside 0 (byte ∷ []) a 0 (omega arith) (omega arith)
 
--- a write behind the first byte leaves it
+-- a write after the first byte leaves it
 pub torn_first : (r m : ℕ) (a c : List ℕ) → Torn r m a c → 1 ≤ r → 1 ≤ length a → get_or c 0 0 ≡ get_or a 0 0
-torn_first r m a c torn behind some = torn.before 0 (omega (arith, some)) (omega (arith, behind))
+torn_first r m a c torn after some = torn.before 0 (omega (arith, some)) (omega (arith, after))

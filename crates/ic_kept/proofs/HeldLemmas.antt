@@ -7,14 +7,14 @@ use Rattle.ic_frames.specs.declared.faults.OpenCause.TheVariants.{Device, NoSlot
 use Rattle.ic_kept.specs.declared.head.Head.{Head}
 use Rattle.ic_kept.specs.declared.finding.Chosen.{Chosen}
 use Rattle.ic_kept.specs.declared.finding.Found.{Found}
-use Rattle.ic_kept.specs.Sheet.{gate, number, IsBehindGate, IsNewest, IsOlder, IsBeside, IsBelow}
+use Rattle.ic_kept.specs.Sheet.{gate, number, IsAfterGate, IsNewest, IsOlder, IsBeside, IsBelow}
 use Rattle.ic_kept.specs.inner.Finding.{Leads, IsChosen, Finds, IsFound, Spoils, pick}
 use Rattle.ic_kept.proofs.SheetLemmas.{beside_older}
 use Rattle.ic_kept.specs.Held.{HoldsIn, Hold, HoldEither, Answers}
 
--- what stands behind a gate is one state
-pub one_behind : (n m : ℕ) (state other file : List ℕ) → IsBehindGate n state file → IsBehindGate m other file → state ≡ other
-one_behind n m state other file this that =
+-- what stands after a gate is one state
+pub one_after : (n m : ℕ) (state other file : List ℕ) → IsAfterGate n state file → IsAfterGate m other file → state ≡ other
+one_after n m state other file this that =
     sym this.state_is
     ∙ ap (λ (k : ℕ). bytes_at 17 k file) (sym this.size_is ∙ that.size_is)
     ∙ that.state_is
@@ -24,13 +24,13 @@ not_both : (n m : ℕ) (state other a b : List ℕ) → HoldsIn n state a b → 
 not_both n m state other a b this that =
     let older = this.older.older that.newest.opened in
     let newer = that.older.older this.newest.opened in
-    omega (arith, older, newer, this.newest.behind.number_is, that.newest.behind.number_is)
+    omega (arith, older, newer, this.newest.after.number_is, that.newest.after.number_is)
 
 pub one_held : (state other first second : List ℕ) → Hold state first second → Hold other first second → state ≡ other
-one_held state other first second (n, inl this) (m, inl that) = one_behind n m state other first this.newest.behind that.newest.behind
+one_held state other first second (n, inl this) (m, inl that) = one_after n m state other first this.newest.after that.newest.after
 one_held state other first second (n, inl this) (m, inr that) = absurd (not_both n m state other first second this that)
 one_held state other first second (n, inr this) (m, inl that) = absurd (not_both n m state other second first this that)
-one_held state other first second (n, inr this) (m, inr that) = one_behind n m state other second this.newest.behind that.newest.behind
+one_held state other first second (n, inr this) (m, inr that) = one_after n m state other second this.newest.after that.newest.after
 
 pub either_held : (n : ℕ) (state next newest other held : List ℕ) → HoldEither n state next newest other → Hold held newest other → (held ≡ state) ⊎ (held ≡ next)
 either_held n state next newest other held (inl old) is = inl (one_held held state newest other is (n, inl old))
@@ -43,19 +43,19 @@ none_held first second shut too state (n, inr is) = too is.newest.opened
 
 -- both are, with one number
 pub alike_held : (first second : List ℕ) → gate first ≡ 1 → gate second ≡ 1 → number first ≡ number second → (state : List ℕ) → Hold state first second → ⊥
-alike_held first second opened too same state (n, inl is) = omega (arith, same, is.newest.behind.number_is, is.older.older too)
-alike_held first second opened too same state (n, inr is) = omega (arith, same, is.newest.behind.number_is, is.older.older opened)
+alike_held first second opened too same state (n, inl is) = omega (arith, same, is.newest.after.number_is, is.older.older too)
+alike_held first second opened too same state (n, inr is) = omega (arith, same, is.newest.after.number_is, is.older.older opened)
 
 -- a file is cut off from its head
 pub cut_held : (first second : List ℕ) → (length first < 17) ⊎ (length second < 17) → (state : List ℕ) → Hold state first second → ⊥
-cut_held first second (inl cut) state (n, inl is) = omega (arith, cut, is.newest.behind.within)
+cut_held first second (inl cut) state (n, inl is) = omega (arith, cut, is.newest.after.within)
 cut_held first second (inr cut) state (n, inl is) = omega (arith, cut, is.older.made)
 cut_held first second (inl cut) state (n, inr is) = omega (arith, cut, is.older.made)
-cut_held first second (inr cut) state (n, inr is) = omega (arith, cut, is.newest.behind.within)
+cut_held first second (inr cut) state (n, inr is) = omega (arith, cut, is.newest.after.within)
 
 -- The file that leads is the one that holds, if one does; so that one isn't cut off in its state.
 leads_held : (chosen : Chosen) (newest other : List ℕ) → Leads chosen newest other → length newest < 17 + chosen.head.size → (state : List ℕ) → (n : ℕ) → HoldsIn n state newest other → ⊥
-leads_held chosen newest other leads cut state n is = omega (arith, cut, leads.head.size_is, is.newest.behind.size_is, is.newest.behind.within)
+leads_held chosen newest other leads cut state n is = omega (arith, cut, leads.head.size_is, is.newest.after.size_is, is.newest.after.within)
 
 beside_shut : (closed : Bool) (n : ℕ) (file : List ℕ) → IsBeside closed n file → gate file ≡ 1 → number file < n
 beside_shut true n file is opened = absurd (is.shut opened)
@@ -66,7 +66,7 @@ leads_other chosen newest other leads state n is = omega (
   arith,
   beside_shut chosen.closed chosen.head.number other leads.beside is.newest.opened,
   is.older.older leads.head.opened,
-  is.newest.behind.number_is,
+  is.newest.after.number_is,
   leads.head.number_is,
 )
 
@@ -88,7 +88,7 @@ pub leads_finds : (chosen : Chosen) (n : ℕ) (closed : Bool) (state newest othe
 leads_finds chosen n closed state newest other leads same shut long within read = (
   record {
     opened = leads.head.opened;
-    behind = record {
+    after = record {
       number_is = leads.head.number_is ∙ sym same;
       size_is = leads.head.size_is ∙ sym long;
       within = omega (arith, long, within);
@@ -109,11 +109,11 @@ found_held found first second is = finds_as found.in_second found first second i
 -- a file has the newest state, and the next one comes beside it
 pub either_left : (n : ℕ) (state next a b : List ℕ) → IsNewest n state a → IsOlder n b ⊎ IsNewest (n + 1) next b → HoldEither n state next a b
 either_left n state next a b newest (inl older) = inl (record { newest = newest; older = older })
-either_left n state next a b newest (inr new) = inr (record { newest = new; older = record { made = omega (arith, newest.behind.within); older = λ opened. omega (arith, newest.behind.number_is) } })
+either_left n state next a b newest (inr new) = inr (record { newest = new; older = record { made = omega (arith, newest.after.within); older = λ opened. omega (arith, newest.after.number_is) } })
 
 -- what was the newest is below the next
 pub newest_below : (n : ℕ) (state a : List ℕ) → IsNewest n state a → IsBelow (n + 1) a
-newest_below n state a newest = record { made = omega (arith, newest.behind.within); below = omega (arith, newest.behind.number_is) }
+newest_below n state a newest = record { made = omega (arith, newest.after.within); below = omega (arith, newest.after.number_is) }
 
 -- a refusal of one file, as one of both
 pub spoils_answers : (cause : OpenCause) (lacks : Type 0) (a b : List ℕ) → Spoils cause lacks → (lacks → (state : List ℕ) → Hold state a b → ⊥) → Answers cause a b

@@ -7,7 +7,7 @@ use Rattle.ic_disk.specs.Content.{bytes_at, laid}
 use Rattle.ic_disk.specs.Images.{Torn}
 use Rattle.ic_disk.specs.lemmas.ContentLaws.{length-laid, laid-inside}
 use Rattle.ic_disk.specs.lemmas.ImageLaws.{torn_laid}
-use Rattle.ic_kept.specs.Sheet.{number, size, IsMade, IsBehindGate, IsNewest, IsShut, IsOlder, IsBelow, IsBeside}
+use Rattle.ic_kept.specs.Sheet.{number, size, IsMade, IsAfterGate, IsNewest, IsShut, IsOlder, IsBelow, IsBeside}
 use Rattle.ic_kept.proofs.FileLemmas.{torn_bytes, laid_bytes, laid_first, torn_first, get_or-bytes_at}
 
 pub zero_is_one : ◌≡◌ {A = ℕ} 0 1 → ⊥
@@ -20,12 +20,12 @@ shut_older n file is = record { made = is.made; older = λ opened. absurd (is.sh
 pub number_torn : (r m : ℕ) (a c : List ℕ) → Torn r m a c → 17 ≤ length a → (9 ≤ r) ⊎ (r + m ≤ 1) → number c ≡ number a
 unfolding number
 number_torn r m a c torn made apart = ap (λ (bytes : List ℕ). from_be_bytes w64 bytes)
-    (torn_bytes r m 1 8 a c torn (omega (arith, made)) (⊎_elim (λ before. inl (omega (arith, before))) (λ behind. inr (omega (arith, behind))) apart))
+    (torn_bytes r m 1 8 a c torn (omega (arith, made)) (⊎_elim (λ before. inl (omega (arith, before))) (λ after. inr (omega (arith, after))) apart))
 
 pub size_torn : (r m : ℕ) (a c : List ℕ) → Torn r m a c → 17 ≤ length a → (17 ≤ r) ⊎ (r + m ≤ 9) → size c ≡ size a
 unfolding size
 size_torn r m a c torn made apart = ap (λ (bytes : List ℕ). from_be_bytes w64 bytes)
-    (torn_bytes r m 9 8 a c torn (omega (arith, made)) (⊎_elim (λ before. inl (omega (arith, before))) (λ behind. inr (omega (arith, behind))) apart))
+    (torn_bytes r m 9 8 a c torn (omega (arith, made)) (⊎_elim (λ before. inl (omega (arith, before))) (λ after. inr (omega (arith, after))) apart))
 
 -- A write at the gate leaves a number that is below.
 pub gate_torn : (n : ℕ) (a c : List ℕ) → IsBelow n a → Torn 0 1 a c → IsBelow n c
@@ -38,16 +38,16 @@ pub beside_older : (closed : Bool) (n : ℕ) (file : List ℕ) → IsBeside clos
 beside_older true n file is = shut_older n file is
 beside_older false n file is = record { made = is.made; older = λ opened. is.below }
 
--- A write behind the gate leaves it shut.
-pub behind_torn : (r m : ℕ) (a c : List ℕ) → 1 ≤ r → IsShut a → Torn r m a c → IsShut c
-behind_torn r m a c behind is torn = record {
+-- A write after the gate leaves it shut.
+pub after_torn : (r m : ℕ) (a c : List ℕ) → 1 ≤ r → IsShut a → Torn r m a c → IsShut c
+after_torn r m a c after is torn = record {
   made = omega (arith, is.made, torn.no_shorter);
-  shut = λ opened. is.shut (sym (torn_first r m a c torn behind (omega (arith, is.made))) ∙ opened);
+  shut = λ opened. is.shut (sym (torn_first r m a c torn after (omega (arith, is.made))) ∙ opened);
 }
 
--- A write at the gate leaves what is behind it.
-pub behind_stays : (n : ℕ) (state a c : List ℕ) → IsBehindGate n state a → Torn 0 1 a c → IsBehindGate n state c
-behind_stays n state a c is torn =
+-- A write at the gate leaves what is after it.
+pub after_stays : (n : ℕ) (state a c : List ℕ) → IsAfterGate n state a → Torn 0 1 a c → IsAfterGate n state c
+after_stays n state a c is torn =
     let made : 17 ≤ length a = omega (arith, is.within) in
     record {
       number_is = number_torn 0 1 a c torn made (inr (omega arith)) ∙ is.number_is;
@@ -62,10 +62,10 @@ laid_shut a made = record {
   shut = λ opened. zero_is_one (sym (laid_first 0 a) ∙ opened);
 }
 
-pub laid_open : (n : ℕ) (state a : List ℕ) → IsBehindGate n state a → IsNewest n state (laid 0 (1 ∷ []) a)
+pub laid_open : (n : ℕ) (state a : List ℕ) → IsAfterGate n state a → IsNewest n state (laid 0 (1 ∷ []) a)
 laid_open n state a is = record {
   opened = laid_first 1 a;
-  behind = behind_stays n state a (laid 0 (1 ∷ []) a) is (torn_laid 0 (1 ∷ []) a);
+  after = after_stays n state a (laid 0 (1 ∷ []) a) is (torn_laid 0 (1 ∷ []) a);
 }
 
 -- The state, its length and its number are laid in turn.
@@ -105,8 +105,8 @@ module _ (n : ℕ) (state xs ys a b c d : List ℕ) (fits : n < 2 ^ 64) (short :
       ∙ ap (λ (l : List ℕ). from_be_bytes w64 l) (laid_bytes 9 xs b ∙ is_size)
       ∙ from_be_bytes-to_be_bytes_8 (length state) short
 
-  pub laid_behind : IsBehindGate n state d
-  laid_behind = record {
+  pub laid_after : IsAfterGate n state d
+  laid_after = record {
     number_is = number_laid;
     size_is = size_torn 1 8 c d torn_third (omega (arith, long_c)) (inr (omega arith)) ∙ size_laid;
     within = omega (arith, torn_third.no_shorter, long_c);

@@ -22,7 +22,7 @@ abbrev pub IsMade : List ℕ → Type 0
 IsMade file = HEAD ≤ length file
 
 -- This number and this state stand in the file, whole, whatever the gate is.
-pub record IsBehindGate (n : ℕ) (state file : List ℕ) : Type 0 where
+pub record IsAfterGate (n : ℕ) (state file : List ℕ) : Type 0 where
   pub number_is : number file ≡ n
   pub size_is : size file ≡ length state
   pub within : HEAD + length state ≤ length file
@@ -31,7 +31,7 @@ pub record IsBehindGate (n : ℕ) (state file : List ℕ) : Type 0 where
 -- the gate is open before them
 pub record IsNewest (n : ℕ) (state file : List ℕ) : Type 0 where
   pub opened : gate file ≡ 1
-  pub behind : IsBehindGate n state file
+  pub after : IsAfterGate n state file
 
 -- the gate isn't open
 pub record IsShut (file : List ℕ) : Type 0 where

@@ -3,7 +3,7 @@
 ghost use Rattle.std.specs.Prelude.{◌≡◌, ◌⊎◌, ℕ, List, IsTrue, OnOk};
 ghost use Rattle.ic_disk.specs.Images.{Within};
 ghost use Rattle.ic_disk.specs.Time.{CountsFailure, LeavesOnly};
-ghost use Rattle.ic_kept.specs.Sheet.{IsBehindGate, IsBelow, IsBeside, IsNewest, IsOlder, IsShut};
+ghost use Rattle.ic_kept.specs.Sheet.{IsAfterGate, IsBelow, IsBeside, IsNewest, IsOlder, IsShut};
 
 use crate::HEAD;
 use ic_disk::laws::write_synced;
@@ -22,7 +22,7 @@ fn close_gate<D: Disk>(disk: &mut D) -> Result<(), DiskFault>
     Ok(())
 }
 
-// Writes a state, its length and its number behind a closed gate.
+// Writes a state, its length and its number after a closed gate.
 pub(crate) fn write_state<D: Disk>(disk: &mut D, number: u64, state: &[u8]) -> Result<(), DiskFault>
     ensures keeps { D.keeps disk.new ≡ D.keeps disk.old }
     ensures counted { CountsFailure result (D.failures disk.old) (D.failures disk.new) }
@@ -30,8 +30,8 @@ pub(crate) fn write_state<D: Disk>(disk: &mut D, number: u64, state: &[u8]) -> R
         → LeavesOnly D.clock D.left disk.old disk.new IsShut }
     ensures shut { IsTrue (D.keeps disk.old) → Within (D.image disk.old) IsShut
         → OnOk result (Within (D.image disk.new) IsShut) }
-    ensures behind { IsTrue (D.keeps disk.old) → Within (D.image disk.old) IsShut
-        → OnOk result (Within (D.image disk.new) (IsBehindGate number state.now)) }
+    ensures after { IsTrue (D.keeps disk.old) → Within (D.image disk.old) IsShut
+        → OnOk result (Within (D.image disk.new) (IsAfterGate number state.now)) }
 {
     write_synced(disk, HEAD, state)?;
     write_synced(disk, 9, &(state.len() as u64).to_be_bytes())?;
@@ -44,10 +44,10 @@ pub(crate) fn open_gate<D: Disk>(disk: &mut D) -> Result<(), DiskFault>
     ensures keeps { D.keeps disk.new ≡ D.keeps disk.old }
     ensures counted { CountsFailure result (D.failures disk.old) (D.failures disk.new) }
     ensures any_moment { (n : ℕ) (state : List ℕ) → IsTrue (D.keeps disk.old)
-        → Within (D.image disk.old) (IsBehindGate n state)
+        → Within (D.image disk.old) (IsAfterGate n state)
         → LeavesOnly D.clock D.left disk.old disk.new (λ file. IsShut file ⊎ IsNewest n state file) }
     ensures opened { (n : ℕ) (state : List ℕ) → IsTrue (D.keeps disk.old)
-        → Within (D.image disk.old) (IsBehindGate n state)
+        → Within (D.image disk.old) (IsAfterGate n state)
         → OnOk result (Within (D.image disk.new) (IsNewest n state)) }
 {
     write_synced(disk, 0, &[1])?;

@@ -12,7 +12,7 @@ use Rattle.ic_commands.specs.ScriptSense.{ReadsScriptLine}
 use Rattle.ic_lines.specs.declared.script.TheConstants.{MAX_SCRIPT}
 use Rattle.ic_lines.specs.declared.script.ScriptFault.{ScriptFault}
 use Rattle.ic_lines.specs.Lines.{ended, lines}
-use Rattle.ic_lines.specs.Script.{ScriptLine, commands, fault_behind, numbered, first_fault, unless_refused, AreAsked, ReadsScript}
+use Rattle.ic_lines.specs.Script.{ScriptLine, commands, fault_after, numbered, first_fault, unless_refused, AreAsked, ReadsScript}
 use Rattle.ic_lines.proofs.LineLemmas.{lines_joined}
 use Rattle.ic_lines.proofs.ScriptLemmas.{first_fault-append, commands-append, AreRead, AreRead-append, SomeWay, read_somehow, IsTaken, all_taken, one_refused}
 
@@ -78,8 +78,8 @@ never_memory law (l ∷ ls) (Ok (Some c) ∷ rs) seen line read e =
     by_room (never_memory law ls rs (seen ++ Ok (Some c) ∷ []) line read.1) (nat_lt (length (commands seen)) MAX_SCRIPT) e
   where
     by_room : (first_fault (seen ++ Ok (Some c) ∷ []) rs ≡ Some (record { line = line; fault = Memory }) → ⊥) → (room : Bool) → option_or (option_map (numbered seen) (cond room None (Some Limit))) (first_fault (seen ++ Ok (Some c) ∷ []) rs) ≡ Some (record { line = line; fault = Memory }) → ⊥
-    by_room behind true is = behind is
-    by_room behind false is = let same : Limit ≡ Memory = ap fault_in is in cc
+    by_room after true is = after is
+    by_room after false is = let same : Limit ≡ Memory = ap fault_in is in cc
 
 pub script_no_memory : NoMemory → (text : List ℕ) (line : ℕ) → ¬ ReadsScript text (Err (record { line = line; fault = Memory }))
 script_no_memory law text line reads =
@@ -96,8 +96,8 @@ count_more seen r = ap length (commands-append seen (r ∷ [])) ∙ length-appen
 few : (seen rs : List ScriptLine) → length (commands seen) ≤ MAX_SCRIPT → first_fault seen rs ≡ None → length (commands (seen ++ rs)) ≤ MAX_SCRIPT
 few seen [] start e = let same = ap (λ x. length (commands x)) (append-nil seen) in omega (arith, start, same)
 few seen (r ∷ rs) start e =
-    let both = none_first (option_map (numbered seen) (fault_behind (length (commands seen)) r)) (first_fault (seen ++ r ∷ []) rs) e in
-    let next = few (seen ++ r ∷ []) rs (one_more r (is_none seen (fault_behind (length (commands seen)) r) both.0)) both.1 in
+    let both = none_first (option_map (numbered seen) (fault_after (length (commands seen)) r)) (first_fault (seen ++ r ∷ []) rs) e in
+    let next = few (seen ++ r ∷ []) rs (one_more r (is_none seen (fault_after (length (commands seen)) r) both.0)) both.1 in
     let same = ap (λ x. length (commands x)) (append_assoc seen (r ∷ []) rs) in
     omega (arith, next, same)
   where
@@ -105,7 +105,7 @@ few seen (r ∷ rs) start e =
     by_room c true is e = ltb-true (length (commands seen)) MAX_SCRIPT is
     by_room c false is e = cc
 
-    one_more : (r : ScriptLine) → fault_behind (length (commands seen)) r ≡ None → length (commands (seen ++ r ∷ [])) ≤ MAX_SCRIPT
+    one_more : (r : ScriptLine) → fault_after (length (commands seen)) r ≡ None → length (commands (seen ++ r ∷ [])) ≤ MAX_SCRIPT
     one_more (Err fault) none = cc
     one_more (Ok None) none = let count = count_more seen (Ok None) in omega (arith, start, count)
     one_more (Ok (Some c)) none =
@@ -168,21 +168,21 @@ pub script_asked : (text : List ℕ) (cs : List (Option Command)) → AreAsked (
     → ReadsScript text (Ok (filter_map (λ c. c) cs))
 script_asked text cs asked room = all_taken text (length (lines text) + 1) (filter_map (λ c. c) cs) (asked_taken text (lines text) [] cs (sym (append-nil (lines text))) asked room)
 
-pub script_refused : SomeWay → (text line : List ℕ) (before behind : List (List ℕ)) (cs : List (Option Command)) (fault : TextFault)
-    → lines text ≡ before ++ line ∷ behind → AreAsked before cs → length (filter_map (λ c. c) cs) ≤ MAX_SCRIPT → ReadsScriptLine line (Err fault)
+pub script_refused : SomeWay → (text line : List ℕ) (before after : List (List ℕ)) (cs : List (Option Command)) (fault : TextFault)
+    → lines text ≡ before ++ line ∷ after → AreAsked before cs → length (filter_map (λ c. c) cs) ≤ MAX_SCRIPT → ReadsScriptLine line (Err fault)
     → ReadsScript text (Err (record { line = length before + 1; fault = fault }))
-script_refused law text line before behind cs fault parted asked room reads =
-    one_refused law text line behind (length before + 1) (filter_map (λ c. c) cs) fault (asked_taken text before (line ∷ behind) cs parted asked room)
+script_refused law text line before after cs fault parted asked room reads =
+    one_refused law text line after (length before + 1) (filter_map (λ c. c) cs) fault (asked_taken text before (line ∷ after) cs parted asked room)
     (record { reading = Err fault; read = reads; refused = refl })
 
-pub script_too_many : SomeWay → (text line : List ℕ) (before behind : List (List ℕ)) (cs : List (Option Command)) (c : Command)
-    → lines text ≡ before ++ line ∷ behind → AreAsked before cs → length (filter_map (λ c. c) cs) ≡ MAX_SCRIPT → ReadsScriptLine line (Ok (Some c))
+pub script_too_many : SomeWay → (text line : List ℕ) (before after : List (List ℕ)) (cs : List (Option Command)) (c : Command)
+    → lines text ≡ before ++ line ∷ after → AreAsked before cs → length (filter_map (λ c. c) cs) ≡ MAX_SCRIPT → ReadsScriptLine line (Ok (Some c))
     → ReadsScript text (Err (record { line = length before + 1; fault = Limit }))
-script_too_many law text line before behind cs c parted asked full reads =
-    one_refused law text line behind (length before + 1) (filter_map (λ c. c) cs) Limit (asked_taken text before (line ∷ behind) cs parted asked (omega (arith, full)))
-    (record { reading = Ok (Some c); read = reads; refused = ap (λ n. fault_behind n (Ok (Some c))) full })
+script_too_many law text line before after cs c parted asked full reads =
+    one_refused law text line after (length before + 1) (filter_map (λ c. c) cs) Limit (asked_taken text before (line ∷ after) cs parted asked (omega (arith, full)))
+    (record { reading = Ok (Some c); read = reads; refused = ap (λ n. fault_after n (Ok (Some c))) full })
 
--- ---- scripts behind scripts
+-- ---- scripts after scripts
 
 still_unrefused : (low seen rs : List ScriptLine) → first_fault low rs ≡ None → length (commands seen) + length (commands rs) ≤ MAX_SCRIPT → first_fault seen rs ≡ None
 still_unrefused low seen [] e room = refl
@@ -192,7 +192,7 @@ still_unrefused low seen (Ok None ∷ rs) e room =
     still_unrefused (low ++ Ok None ∷ []) (seen ++ Ok None ∷ []) rs e (omega (arith, room, count))
 still_unrefused low seen (Ok (Some c) ∷ rs) e room =
     let count = count_more seen (Ok (Some c)) in
-    let both = none_first (option_map (numbered low) (fault_behind (length (commands low)) (Ok (Some c)))) (first_fault (low ++ Ok (Some c) ∷ []) rs) e in
+    let both = none_first (option_map (numbered low) (fault_after (length (commands low)) (Ok (Some c)))) (first_fault (low ++ Ok (Some c) ∷ []) rs) e in
     let is : nat_lt (length (commands seen)) MAX_SCRIPT ≡ true = has_room (length (commands seen)) (omega (arith, room)) in
     rw is (still_unrefused (low ++ Ok (Some c) ∷ []) (seen ++ Ok (Some c) ∷ []) rs both.1 (omega (arith, room, count)))
 

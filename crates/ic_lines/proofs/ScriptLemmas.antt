@@ -12,7 +12,7 @@ use Rattle.ic_text.specs.declared.fault.TextFault.{TextFault}
 use Rattle.ic_commands.specs.ScriptSense.{ReadsScriptLine}
 use Rattle.ic_lines.specs.declared.script.ScriptFault.{ScriptFault}
 use Rattle.ic_lines.specs.Lines.{has_feed, lines}
-use Rattle.ic_lines.specs.Script.{ScriptLine, command_of, commands, fault_behind, numbered, first_fault, unless_refused, ReadsScript, IsWanting, WantsMemory}
+use Rattle.ic_lines.specs.Script.{ScriptLine, command_of, commands, fault_after, numbered, first_fault, unless_refused, ReadsScript, IsWanting, WantsMemory}
 use Rattle.ic_lines.specs.inner.Adding.{AddsLine, RefusesLine}
 use Rattle.ic_lines.proofs.LineLemmas.{lines_first, lines_last}
 
@@ -20,18 +20,18 @@ or_assoc : (o p q : Option ScriptFault) → option_or (option_or o p) q ≡ opti
 or_assoc None p q = refl
 or_assoc (Some f) p q = refl
 
--- the first refusal of lines and of those behind them
+-- the first refusal of lines and of those after them
 pub first_fault-append : (seen rs ss : List ScriptLine) → first_fault seen (rs ++ ss) ≡ option_or (first_fault seen rs) (first_fault (seen ++ rs) ss)
 first_fault-append seen [] ss = ap (λ x. first_fault x ss) (sym (append-nil seen))
 first_fault-append seen (r ∷ rs) ss =
-    let here = option_map (numbered seen) (fault_behind (length (commands seen)) r) in
+    let here = option_map (numbered seen) (fault_after (length (commands seen)) r) in
     let rest = first_fault (seen ++ r ∷ []) rs in
     ap (option_or here) (first_fault-append (seen ++ r ∷ []) rs ss ∙ ap (λ x. option_or rest (first_fault x ss)) (append_assoc seen (r ∷ []) rs))
     ∙ sym (or_assoc here rest (first_fault (seen ++ r ∷ rs) ss))
 
--- behind lines without a refusal
+-- after lines without a refusal
 pub fault_next : (rs : List ScriptLine) (r : ScriptLine) (ss : List ScriptLine) → first_fault [] rs ≡ None
-    → first_fault [] (rs ++ r ∷ ss) ≡ option_or (option_map (numbered rs) (fault_behind (length (commands rs)) r)) (first_fault (rs ++ r ∷ []) ss)
+    → first_fault [] (rs ++ r ∷ ss) ≡ option_or (option_map (numbered rs) (fault_after (length (commands rs)) r)) (first_fault (rs ++ r ∷ []) ss)
 fault_next rs r ss none = first_fault-append [] rs (r ∷ ss) ∙ ap (λ o. option_or o (first_fault rs (r ∷ ss))) none
 
 option_list : (o : Option Command) → cons_option o [] ≡ option_to_list o
@@ -80,7 +80,7 @@ none_taken text = record { taken = []; readings = []; parted = refl; read = tt; 
 pub one_taken : (text line : List ℕ) (left : List (List ℕ)) (n : ℕ) (old new : List Command)
     → IsTaken text (line ∷ left) n old → AddsLine line old new → IsTaken text left (n + 1) new
 one_taken text line left n old new t adds =
-    let none : fault_behind (length (commands t.readings)) adds.reading ≡ None = ap (λ x. fault_behind (length x) adds.reading) (sym t.holds) ∙ adds.unrefused in
+    let none : fault_after (length (commands t.readings)) adds.reading ≡ None = ap (λ x. fault_after (length x) adds.reading) (sym t.holds) ∙ adds.unrefused in
     record {
       taken = t.taken ++ line ∷ [];
       readings = t.readings ++ adds.reading ∷ [];
@@ -103,7 +103,7 @@ pub one_refused : SomeWay → (text line : List ℕ) (left : List (List ℕ)) (n
 one_refused law text line left n found fault t refuses =
     let rest = read_somehow law left in
     let readings = t.readings ++ refuses.reading ∷ rest.0 in
-    let why : fault_behind (length (commands t.readings)) refuses.reading ≡ Some fault = ap (λ x. fault_behind (length x) refuses.reading) (sym t.holds) ∙ refuses.refused in
+    let why : fault_after (length (commands t.readings)) refuses.reading ≡ Some fault = ap (λ x. fault_after (length x) refuses.reading) (sym t.holds) ∙ refuses.refused in
     let first : first_fault [] readings ≡ Some (numbered t.readings fault) =
     fault_next t.readings refuses.reading rest.0 t.unrefused ∙ ap (λ o. option_or (option_map (numbered t.readings) o) (first_fault (t.readings ++ refuses.reading ∷ []) rest.0)) why in
     record {
@@ -221,7 +221,7 @@ pub wanting_at : (text line : List ℕ) (left : List (List ℕ)) (n : ℕ) (foun
 wanting_at text line left n found f t number wants = record {
   before = t.taken;
   line = line;
-  behind = left;
+  after = left;
   readings = t.readings;
   parted = t.parted;
   counted = number ∙ t.count ∙ ap (λ k. k + 1) (sym (as_many t.taken t.readings t.read));

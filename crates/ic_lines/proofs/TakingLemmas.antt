@@ -64,7 +64,7 @@ some_at bytes feed is some = elim (cases_Bool (nat_lt (position_or_len is_feed b
   | inr e ↦ (let none : feed ≡ None = rw (is, e) refl in let bad : false ≡ true = sym some ∙ ap is_none none in cc)
 ]
 
--- ---- a front and what is moved behind it
+-- ---- a front and what is moved after it
 
 unfed_both : (front bytes : List ℕ) → has_feed front ≡ false → has_feed bytes ≡ false → has_feed (front ++ bytes) ≡ false
 unfed_both front bytes p q = list_any-append is_feed front bytes ∙ or_from (has_feed front) (has_feed bytes) p q
@@ -149,7 +149,7 @@ takes_none (Some t) None line p end none = absurd p
 takes_none (Some t) (Some xs) [] p end none = let all : t ≡ [] = p ∙ end in ap lines all
 takes_none (Some t) (Some xs) (b ∷ bs) p end none = let zero : length (b ∷ bs) ≡ 0 = eqb-true (length (b ∷ bs)) 0 none in absurd (omega (arith, zero))
 
--- ---- bytes behind a place
+-- ---- bytes after a place
 
 pub seen_ahead : (seen bytes : List ℕ) (start : ℕ) → seen ≡ bytes → take (length seen - start) (drop start seen) ≡ drop start bytes
 seen_ahead seen bytes start is = take_all (length seen - start) (drop start seen) (omega (arith, length-drop start seen)) ∙ ap (drop start) is
@@ -197,29 +197,29 @@ stays None next front left p is = tt
 stays (Some t) None front left p is = absurd p
 stays (Some t) (Some xs) front left p is = ap (λ ys. ys ++ xs) is ∙ sym p
 
-pub kept_behind : (old now next : Option (List ℕ)) (front : List ℕ) → Consumes old now front → Keeps now next → Consumes old next front
-kept_behind None now next front p q = tt
-kept_behind (Some t) None next front p q = absurd p
-kept_behind (Some t) (Some xs) None front p q = absurd q
-kept_behind (Some t) (Some xs) (Some ys) front p q = p ∙ ap (λ zs. front ++ zs) (sym q)
+pub kept_after : (old now next : Option (List ℕ)) (front : List ℕ) → Consumes old now front → Keeps now next → Consumes old next front
+kept_after None now next front p q = tt
+kept_after (Some t) None next front p q = absurd p
+kept_after (Some t) (Some xs) None front p q = absurd q
+kept_after (Some t) (Some xs) (Some ys) front p q = p ∙ ap (λ zs. front ++ zs) (sym q)
 
 pub same_front : (old now : Option (List ℕ)) (front line : List ℕ) → Consumes old now front → front ≡ line → Consumes old now line
 same_front old now front line p is = subst (Consumes old now) is p
 
-pub moved_behind : (front ahead line left : List ℕ) → left ≡ [] → front ++ ahead ≡ line → line ++ left ≡ front ++ ahead
-moved_behind front ahead line left none all = ap (λ xs. line ++ xs) none ∙ append-nil line ∙ sym all
+pub moved_after : (front ahead line left : List ℕ) → left ≡ [] → front ++ ahead ≡ line → line ++ left ≡ front ++ ahead
+moved_after front ahead line left none all = ap (λ xs. line ++ xs) none ∙ append-nil line ∙ sym all
 
-pub drop_all_behind : (bytes ahead : List ℕ) (start : ℕ) {count : ℕ} → drop start bytes ≡ ahead → length ahead ≤ count → drop (start + count) bytes ≡ []
-drop_all_behind bytes ahead start {count} is all =
+pub drop_all_after : (bytes ahead : List ℕ) (start : ℕ) {count : ℕ} → drop start bytes ≡ ahead → length ahead ≤ count → drop (start + count) bytes ≡ []
+drop_all_after bytes ahead start {count} is all =
     sym (drop-drop count start bytes) ∙ ap (drop count) is ∙ drop_all count ahead all
 
-pub fed_behind : (line ahead bytes moved : List ℕ) (start count : ℕ) → Cuts ahead count → count < length ahead → drop start bytes ≡ ahead
+pub fed_after : (line ahead bytes moved : List ℕ) (start count : ℕ) → Cuts ahead count → count < length ahead → drop start bytes ≡ ahead
     → moved ≡ line ++ take count ahead → line ++ ahead ≡ moved ++ 10 ∷ drop (start + count + 1) bytes
-fed_behind line ahead bytes moved start count cuts less is items =
-    let behind : drop (suc count) ahead ≡ drop (start + count + 1) bytes =
+fed_after line ahead bytes moved start count cuts less is items =
+    let after : drop (suc count) ahead ≡ drop (start + count + 1) bytes =
     ap (drop (suc count)) (sym is) ∙ drop-drop (suc count) start bytes ∙ ap (λ n. drop n bytes) (omega arith) in
     ap (λ xs. line ++ xs) (cuts.fed less) ∙ sym (append_assoc line (take count ahead) (10 ∷ drop (suc count) ahead))
-    ∙ ap (λ xs. xs ++ 10 ∷ drop (suc count) ahead) (sym items) ∙ ap (λ xs. moved ++ 10 ∷ xs) behind
+    ∙ ap (λ xs. xs ++ 10 ∷ drop (suc count) ahead) (sym items) ∙ ap (λ xs. moved ++ 10 ∷ xs) after
 
 took_last : (old now next : Option (List ℕ)) (line more left : List ℕ) → Consumes old now line → Consumes now next more
     → more ≡ [] → IsAtEnd now → has_feed line ≡ false → (length line == 0) ≡ false → left ≡ []

@@ -82,8 +82,8 @@ round_of_job t f a =
     let defined : where_running (after_round t f.name) (Some a.job) ≡ Some (after_round t f.name a.job) = rw runs refl in
     (after_round t f.name a.job, found ∙ defined)
 
-behind : (t : List JobParts) (e : Event) (o : Outcome) → apply t e ≡ Some o → table_after t e ≡ o.table
-behind t e o is = ap (λ p. option_map_or (λ (q : Outcome). q.table) p t) is
+table_left : (t : List JobParts) (e : Event) (o : Outcome) → apply t e ≡ Some o → table_after t e ≡ o.table
+table_left t e o is = ap (λ p. option_map_or (λ (q : Outcome). q.table) p t) is
 
 one_more : (t : List JobParts) (e : Event) (o : Outcome) (es : List Event) → apply t e ≡ Some o → IsHistory (table_after t e) es → IsHistory t (e ∷ es)
 one_more t e o es is h = record {
@@ -99,7 +99,7 @@ legal_of awaited tables k place t None is sound more = record { history = []; le
 legal_of awaited tables k place t (Some f) is sound more =
     let r = round_of_job t f (awaited t place f sound is) in
     let after : IsTable r.0.table = rw r.1 at (tables t f.name sound) in
-    let next : IsTable (table_after t (Round f.name)) = rw (behind t (Round f.name) r.0 r.1) after in
+    let next : IsTable (table_after t (Round f.name)) = rw (table_left t (Round f.name) r.0 r.1) after in
     one_more t (Round f.name) r.0 _ r.1 (more (f.place + 1) (table_after t (Round f.name)) next)
 
 pub turns_legal : AwaitedLaw → TableLaw → (k place : ℕ) (t : List JobParts) → IsTable t → IsHistory t (turns k place t)

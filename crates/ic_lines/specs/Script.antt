@@ -26,10 +26,10 @@ commands rs = filter_map command_of rs
 
 -- Why a line after so many commands is refused: for its own fault, or as its command is one too
 -- many.
-abbrev pub fault_behind : ℕ → ScriptLine → Option TextFault
-fault_behind n (Err fault) = Some fault
-fault_behind n (Ok None) = None
-fault_behind n (Ok (Some command)) = if nat_lt n MAX_SCRIPT then None else Some Limit
+abbrev pub fault_after : ℕ → ScriptLine → Option TextFault
+fault_after n (Err fault) = Some fault
+fault_after n (Ok None) = None
+fault_after n (Ok (Some command)) = if nat_lt n MAX_SCRIPT then None else Some Limit
 
 -- a fault of the line after these
 abbrev pub numbered : List ScriptLine → TextFault → ScriptFault
@@ -39,7 +39,7 @@ numbered before fault = record { line = length before + 1; fault = fault }
 abbrev pub first_fault : List ScriptLine → List ScriptLine → Option ScriptFault
 first_fault before [] = None
 first_fault before (r ∷ rs) =
-    option_or (option_map (numbered before) (fault_behind (length (commands before)) r))
+    option_or (option_map (numbered before) (fault_after (length (commands before)) r))
     (first_fault (before ++ r ∷ []) rs)
 
 -- these commands, unless there is a refusal
@@ -68,9 +68,9 @@ WantsMemory many line = IsSubmitText line
 pub record IsWanting (text : List ℕ) (number : ℕ) : Type 0 where
   pub before : List (List ℕ)
   pub line : List ℕ
-  pub behind : List (List ℕ)
+  pub after : List (List ℕ)
   pub readings : List ScriptLine
-  pub parted : lines text ≡ before ++ line ∷ behind
+  pub parted : lines text ≡ before ++ line ∷ after
   pub counted : number ≡ length before + 1
   pub read : AllZip ReadsScriptLine before readings
   pub unrefused : first_fault [] readings ≡ None

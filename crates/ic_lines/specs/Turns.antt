@@ -15,7 +15,7 @@ after_events t es = fold table_after t es
 
 -- a round of a job that is due, and what comes after it
 abbrev pub round_and : (ℕ → List JobParts → List Event) → List JobParts → FlightParts → List Event
-round_and behind t f = Round f.name ∷ behind (f.place + 1) (table_after t (Round f.name))
+round_and after t f = Round f.name ∷ after (f.place + 1) (table_after t (Round f.name))
 
 -- At most so many rounds. The first is of the job that is due from a place on, and each further one
 -- of the job that is due from above the place of the one before. They end where none is due.

@@ -142,14 +142,14 @@ pub fn scripts_hold_the_commands_of_their_lines()
 /// The first fault of a script is that of its first line with one, which is numbered from 1, blank lines counted; a
 /// command after as many as a script may have passes a limit. What follows that line changes nothing.
 pub fn scripts_are_refused_at_their_first_fault()
-    ensures first { (text line : List ℕ) (before behind : List (List ℕ))
+    ensures first { (text line : List ℕ) (before rest : List (List ℕ))
         (asked : List (Option Command)) (fault : TextFault) →
-        lines text ≡ before ++ line ∷ behind → AreAsked before asked →
+        lines text ≡ before ++ line ∷ rest → AreAsked before asked →
         length (filter_map (λ c. c) asked) ≤ MAX_SCRIPT → ReadsScriptLine line (Err fault) →
         ReadsScript text (Err (record { line = length before + 1; fault = fault })) }
-    ensures too_many { (text line : List ℕ) (before behind : List (List ℕ))
+    ensures too_many { (text line : List ℕ) (before rest : List (List ℕ))
         (asked : List (Option Command)) (command : Command) →
-        lines text ≡ before ++ line ∷ behind → AreAsked before asked →
+        lines text ≡ before ++ line ∷ rest → AreAsked before asked →
         length (filter_map (λ c. c) asked) ≡ MAX_SCRIPT →
         ReadsScriptLine line (Ok (Some command)) →
         ReadsScript text (Err (record { line = length before + 1; fault = Limit })) }

@@ -77,7 +77,7 @@ copied_found t old new None there told = cc
 copied_found t old new (Some j) there told =
     (j, there, begins_found t (begun new (system_of j) None) (job_named new t) (nat_lt (length t) MAX_JOBS) refl told)
 
--- ---- behind a history
+-- ---- after a history
 
 replay_more : (t : List JobParts) (h : List Entry) (e : Entry) → replay t (h ++ e ∷ []) ≡ table_after (replay t h) e.event
 replay_more t [] e = refl
@@ -92,7 +92,7 @@ replied : (t : List JobParts) (e : Entry) (c : Command) (r : Reply) → e.event 
 replied t e c r event reply legal =
     let one : Some (after_command t c).reply ≡ Some r = ap (reply_to t) (sym event) ∙ legal.0 ∙ ap (λ (a : Reply). Some a) reply in cc
 
--- the table behind it
+-- the table after it
 left : (t : List JobParts) (h : List Entry) (e : Entry) (c : Command) → e.event ≡ by_command c → replay t (h ++ e ∷ []) ≡ (after_command (replay t h) c).table
 left t h e c event = replay_more t h e ∙ ap (table_after (replay t h)) event
 

@@ -24,36 +24,36 @@ none_left [] ys e is = let never : [] ≡ e ∷ ys = is in cc
 none_left (x ∷ xs) ys e is = let never : [] ≡ x ∷ (xs ++ e ∷ ys) = is in cc
 
 -- an entry of a longer list is the last one, or stands before it
-record IsEarlier (xs before behind : List Entry) (x e : Entry) : Type 0 where
+record IsEarlier (xs before after : List Entry) (x e : Entry) : Type 0 where
   rest : List Entry
-  back : behind ≡ rest ++ x ∷ []
+  back : after ≡ rest ++ x ∷ []
   here : xs ≡ before ++ e ∷ rest
 
-record IsLast (xs before behind : List Entry) (x e : Entry) : Type 0 where
-  none : behind ≡ []
+record IsLast (xs before after : List Entry) (x e : Entry) : Type 0 where
+  none : after ≡ []
   front : xs ≡ before
   same : x ≡ e
 
-longer : (y b : Entry) (xs before behind : List Entry) (x e : Entry) → y ≡ b → IsLast xs before behind x e ⊎ IsEarlier xs before behind x e
-    → IsLast (y ∷ xs) (b ∷ before) behind x e ⊎ IsEarlier (y ∷ xs) (b ∷ before) behind x e
-longer y b xs before behind x e first (inl last) = inl (record { none = last.none; front = (λ i. first i ∷ last.front i); same = last.same })
-longer y b xs before behind x e first (inr earlier) = inr (record { rest = earlier.rest; back = earlier.back; here = (λ i. first i ∷ earlier.here i) })
+longer : (y b : Entry) (xs before after : List Entry) (x e : Entry) → y ≡ b → IsLast xs before after x e ⊎ IsEarlier xs before after x e
+    → IsLast (y ∷ xs) (b ∷ before) after x e ⊎ IsEarlier (y ∷ xs) (b ∷ before) after x e
+longer y b xs before after x e first (inl last) = inl (record { none = last.none; front = (λ i. first i ∷ last.front i); same = last.same })
+longer y b xs before after x e first (inr earlier) = inr (record { rest = earlier.rest; back = earlier.back; here = (λ i. first i ∷ earlier.here i) })
 
-last_or_earlier : (xs before behind : List Entry) (x e : Entry) → xs ++ x ∷ [] ≡ before ++ e ∷ behind → IsLast xs before behind x e ⊎ IsEarlier xs before behind x e
-last_or_earlier [] [] behind x e is = inl (record { none = sym (ap tail_of is); front = refl; same = ap (head_or x) is })
-last_or_earlier [] (b ∷ before) behind x e is = absurd (none_left before behind e (ap tail_of is))
-last_or_earlier (y ∷ xs) [] behind x e is = inr (record { rest = xs; back = sym (ap tail_of is); here = ap (λ (z : Entry). z ∷ xs) (ap (head_or y) is) })
-last_or_earlier (y ∷ xs) (b ∷ before) behind x e is = longer y b xs before behind x e (ap (head_or y) is) (last_or_earlier xs before behind x e (ap tail_of is))
+last_or_earlier : (xs before after : List Entry) (x e : Entry) → xs ++ x ∷ [] ≡ before ++ e ∷ after → IsLast xs before after x e ⊎ IsEarlier xs before after x e
+last_or_earlier [] [] after x e is = inl (record { none = sym (ap tail_of is); front = refl; same = ap (head_or x) is })
+last_or_earlier [] (b ∷ before) after x e is = absurd (none_left before after e (ap tail_of is))
+last_or_earlier (y ∷ xs) [] after x e is = inr (record { rest = xs; back = sym (ap tail_of is); here = ap (λ (z : Entry). z ∷ xs) (ap (head_or y) is) })
+last_or_earlier (y ∷ xs) (b ∷ before) after x e is = longer y b xs before after x e (ap (head_or y) is) (last_or_earlier xs before after x e (ap tail_of is))
 
--- the move that brought an entry, and what has come before and behind it
-record ComesAt (moves : List Move) (before behind : List Entry) (e : Entry) : Type 0 where
+-- the move that brought an entry, and what has come before and after it
+record ComesAt (moves : List Move) (before after : List Entry) (e : Entry) : Type 0 where
   later : List Move
   earlier : List Move
   move : Move
   parted : moves ≡ later ++ move ∷ earlier
   brought : brings move ≡ e ∷ []
   first : come earlier ≡ before
-  next : come later ≡ behind
+  next : come later ≡ after
 
 abbrev BringsFew : Move → Type 0
 BringsFew move = (brings move ≡ []) ⊎ ((x : Entry) × (brings move ≡ x ∷ []))
@@ -69,9 +69,9 @@ brings_few stays = inl refl
 brings_few closes = inl refl
 brings_few (stops move) = brings_few move
 
-module _ (m : Move) (ms : List Move) (before behind : List Entry) (e : Entry) where
+module _ (m : Move) (ms : List Move) (before after : List Entry) (e : Entry) where
   -- it was brought by an earlier move
-  further : (rest more : List Entry) → brings m ≡ more → behind ≡ rest ++ more → ComesAt ms before rest e → ComesAt (m ∷ ms) before behind e
+  further : (rest more : List Entry) → brings m ≡ more → after ≡ rest ++ more → ComesAt ms before rest e → ComesAt (m ∷ ms) before after e
   further rest more last back is = record {
     later = m ∷ is.later;
     earlier = is.earlier;
@@ -82,8 +82,8 @@ module _ (m : Move) (ms : List Move) (before behind : List Entry) (e : Entry) wh
     next = ap (λ (es : List Entry). come is.later ++ es) last ∙ ap (λ (es : List Entry). es ++ more) is.next ∙ sym back;
   }
 
-  by_last : (x : Entry) → brings m ≡ x ∷ [] → IsLast (come ms) before behind x e ⊎ IsEarlier (come ms) before behind x e
-      → ((rest : List Entry) → come ms ≡ before ++ e ∷ rest → ComesAt ms before rest e) → ComesAt (m ∷ ms) before behind e
+  by_last : (x : Entry) → brings m ≡ x ∷ [] → IsLast (come ms) before after x e ⊎ IsEarlier (come ms) before after x e
+      → ((rest : List Entry) → come ms ≡ before ++ e ∷ rest → ComesAt ms before rest e) → ComesAt (m ∷ ms) before after e
   by_last x one (inl last) so_far = record {
     later = [];
     earlier = ms;
@@ -95,17 +95,17 @@ module _ (m : Move) (ms : List Move) (before behind : List Entry) (e : Entry) wh
   }
   by_last x one (inr earlier) so_far = further earlier.rest (x ∷ []) one earlier.back (so_far earlier.rest earlier.here)
 
-  by_bringing : BringsFew m → come ms ++ brings m ≡ before ++ e ∷ behind
-      → ((rest : List Entry) → come ms ≡ before ++ e ∷ rest → ComesAt ms before rest e) → ComesAt (m ∷ ms) before behind e
+  by_bringing : BringsFew m → come ms ++ brings m ≡ before ++ e ∷ after
+      → ((rest : List Entry) → come ms ≡ before ++ e ∷ rest → ComesAt ms before rest e) → ComesAt (m ∷ ms) before after e
   by_bringing (inl none) is so_far =
       let all = sym (append-nil (come ms)) ∙ ap (λ (es : List Entry). come ms ++ es) (sym none) ∙ is in
-      further behind [] none (sym (append-nil behind)) (so_far behind all)
+      further after [] none (sym (append-nil after)) (so_far after all)
   by_bringing (inr one) is so_far =
-      by_last one.0 one.1 (last_or_earlier (come ms) before behind one.0 e (ap (λ (es : List Entry). come ms ++ es) (sym one.1) ∙ is)) so_far
+      by_last one.0 one.1 (last_or_earlier (come ms) before after one.0 e (ap (λ (es : List Entry). come ms ++ es) (sym one.1) ∙ is)) so_far
 
-comes_at : (moves : List Move) (before behind : List Entry) (e : Entry) → come moves ≡ before ++ e ∷ behind → ComesAt moves before behind e
-comes_at [] before behind e is = absurd (none_left before behind e is)
-comes_at (m ∷ ms) before behind e is = by_bringing m ms before behind e (brings_few m) is (λ rest. comes_at ms before rest e)
+comes_at : (moves : List Move) (before after : List Entry) (e : Entry) → come moves ≡ before ++ e ∷ after → ComesAt moves before after e
+comes_at [] before after e is = absurd (none_left before after e is)
+comes_at (m ∷ ms) before after e is = by_bringing m ms before after e (brings_few m) is (λ rest. comes_at ms before rest e)
 
 pub brought_at : (moves : List Move) (front back : List Entry) (e : Entry) → StandAmong (front ++ e ∷ back) (come moves)
     → (later earlier : List Move) × (move : Move) × (moves ≡ later ++ move ∷ earlier) × (brings move ≡ e ∷ [])

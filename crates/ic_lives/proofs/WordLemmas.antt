@@ -12,7 +12,7 @@ use Rattle.ic_lives.specs.Histories.{StandAmong}
 use Rattle.ic_lives.specs.Past.{IsPast, Past}
 
 pub among_at : (front back others : List Entry) (e : Entry) → StandAmong (front ++ e ∷ back) others
-    → (before behind : List Entry) × (others ≡ before ++ e ∷ behind) × StandAmong front before × StandAmong back behind
+    → (before after : List Entry) × (others ≡ before ++ e ∷ after) × StandAmong front before × StandAmong back after
 among_at [] back [] e is = absurd is
 among_at (f ∷ front) back [] e is = absurd is
 among_at [] back (o ∷ others) e (inl here) = ([], others, ap (λ (x : Entry). x ∷ others) (sym here.0), tt, here.1)

@@ -29,8 +29,8 @@ use ic_disk::Disk;
 pub fn each_stands_in_order()
     ensures { (front back others : List Entry) (entry : Entry)
         → StandAmong (front ++ entry ∷ back) others
-        → (before behind : List Entry) × (others ≡ before ++ entry ∷ behind)
-        × StandAmong front before × StandAmong back behind }
+        → (before after : List Entry) × (others ≡ before ++ entry ∷ after)
+        × StandAmong front before × StandAmong back after }
 {}
 
 /// An entry of a history of moves was brought by one of them. What stands before it has come by earlier
@@ -73,9 +73,9 @@ pub fn each_answered_command_stands()
     ensures { (later earlier : List Move) (who : ℕ) (command : Command) (reply : Reply)
         (history : List Entry)
         → IsHistoryOf (later ++ answers who command reply ∷ earlier) history
-        → (before behind : List Entry)
-        × (history ≡ before ++ command_entry who command reply ∷ behind)
-        × StandAmong (answered earlier) before × StandAmong (answered later) behind
+        → (before after : List Entry)
+        × (history ≡ before ++ command_entry who command reply ∷ after)
+        × StandAmong (answered earlier) before × StandAmong (answered later) after
         × IsAnswered (replay [] before) (by_command command) reply }
 {
     ic_jobs::laws::histories_split_and_join();

@@ -64,7 +64,7 @@ meets_right p l x u ns ms rest s =
     (turned p l x (ns ++ rest)) (s p rest))
     (turned p u l (ms ++ rest))
 
--- a part in front goes behind two others
+-- a part in front goes after two others
 pub to_back : (l a b rest : List Piece)
     → IsPermutation (l ++ (a ++ (b ++ rest))) (a ++ (b ++ (l ++ rest)))
 to_back l a b rest =
@@ -78,12 +78,12 @@ pub linked_on : (p : Plans) (start : List Piece) (first : Piece) (ls ns ps ms qs
     → ((others : List Piece) → Steps p [] (first ∷ (ns ++ (ps ++ others))) (ms ++ (qs ++ others)))
     → Steps p [] start (ls ++ (ms ++ (qs ++ rest)))
 linked_on p start first ls ns ps ms qs rest before link =
-    let behind : Steps p [] start (first ∷ (ns ++ (ps ++ (ls ++ rest)))) =
+    let after : Steps p [] start (first ∷ (ns ++ (ps ++ (ls ++ rest)))) =
     steps_to p [] start ((first ∷ ls) ++ (ns ++ (ps ++ rest))) (first ∷ (ns ++ (ps ++ (ls ++ rest)))) before
     (IsPermutation-cons first (ls ++ (ns ++ (ps ++ rest))) (ns ++ (ps ++ (ls ++ rest))) (to_back ls ns ps rest)) in
     steps_to p [] start (ms ++ (qs ++ (ls ++ rest))) (ls ++ (ms ++ (qs ++ rest)))
     (steps_through p [] [] start (first ∷ (ns ++ (ps ++ (ls ++ rest)))) (ms ++ (qs ++ (ls ++ rest)))
-    behind (link (ls ++ rest)))
+    after (link (ls ++ rest)))
     (IsPermutation-sym (ls ++ (ms ++ (qs ++ rest))) (ms ++ (qs ++ (ls ++ rest))) (to_back ls ms qs rest))
 
 -- equations are put after others twice

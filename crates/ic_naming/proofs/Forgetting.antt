@@ -5,8 +5,8 @@ use Rattle.std.specs.List.{flat_map, list_any, range_with_len, AllByRecursion}
 use Rattle.std.proofs.lemmas.Bool.{cases_lt, eqb-true, false≢true}
 use Rattle.std.proofs.lemmas.List.{length-map}
 use Rattle.ic_term.specs.Configuration.{occurrences}
-use Rattle.ic_rules.specs.Renaming.{first_behind, first_occurrences, number_among}
-use Rattle.ic_rules.specs.lemmas.NumberingLaws.{Among, Undone, first_behind-map, number_among-map, occurrences-renamed, self_eq, undone-append}
+use Rattle.ic_rules.specs.Renaming.{first_after, first_occurrences, number_among}
+use Rattle.ic_rules.specs.lemmas.NumberingLaws.{Among, Undone, first_after-map, number_among-map, occurrences-renamed, self_eq, undone-append}
 use Rattle.ic_flat.specs.declared.word.Word.{Word}
 use Rattle.ic_flat.specs.declared.word.Word.TheVariants.{Name, Agent}
 use Rattle.ic_flat.specs.Words.{word_names}
@@ -53,8 +53,8 @@ leads_back f n (m ∷ ms) there apart = by_test (f n == f m) refl (leads_back f 
         → name_before f (m ∷ ms) (f n) ≡ n
     by_test true is rest = rw is (sym (apart.0 (eqb-true (f n) (f m) is)))
     by_test false is rest =
-        let behind : list_any (λ k. n == k) ms ≡ true = later (n == m) refl is there in
-        rw (is, one-add) (rest behind apart.1)
+        let after : list_any (λ k. n == k) ms ≡ true = later (n == m) refl is there in
+        rw (is, one-add) (rest after apart.1)
 
 undone_by : (f : ℕ → ℕ) (ns ms : List ℕ) → Among ns ms → AllByRecursion (λ m. AllByRecursion (λ n. f m ≡ f n → m ≡ n) ns) ms → Undone f (name_before f ns) ms
 undone_by f ns [] there apart = tt
@@ -62,13 +62,13 @@ undone_by f ns (m ∷ ms) there apart = (leads_back f m ns there.0 apart.0, undo
 
 -- ---- first occurrences are names of the list
 
-undone_firsts : (f back : ℕ → ℕ) (seen ns : List ℕ) → Undone f back seen → Undone f back ns → Undone f back (first_behind seen ns)
+undone_firsts : (f back : ℕ → ℕ) (seen ns : List ℕ) → Undone f back seen → Undone f back ns → Undone f back (first_after seen ns)
 undone_firsts f back seen [] us un = us
 undone_firsts f back seen (n ∷ ns) us un =
     by_test (list_any (λ m. n == m) seen) (undone_firsts f back seen ns us un.1) (undone_firsts f back (seen ++ n ∷ []) ns (undone-append f back seen (n ∷ []) us (un.0, tt)) un.1)
   where
-    by_test : (b : Bool) → Undone f back (first_behind seen ns) → Undone f back (first_behind (seen ++ n ∷ []) ns)
-        → Undone f back (cond b (first_behind seen ns) (first_behind (seen ++ n ∷ []) ns))
+    by_test : (b : Bool) → Undone f back (first_after seen ns) → Undone f back (first_after (seen ++ n ∷ []) ns)
+        → Undone f back (cond b (first_after seen ns) (first_after (seen ++ n ∷ []) ns))
     by_test true known new = known
     by_test false known new = new
 
@@ -134,7 +134,7 @@ module _ (f : ℕ → ℕ) (ns : List ℕ) (untold : RenamesUntold f ns) where
   -- its place by first occurrence stays
   same_place : (n : ℕ) → back (f n) ≡ n → number_among (first_occurrences (map f ns)) (f n) ≡ number_among (first_occurrences ns) n
   same_place n led =
-      ap (λ firsts. number_among firsts (f n)) (first_behind-map f back [] ns tt undone)
+      ap (λ firsts. number_among firsts (f n)) (first_after-map f back [] ns tt undone)
       ∙ number_among-map f back (first_occurrences ns) n (undone_firsts f back [] ns tt undone) led
 
   told_again : (n : ℕ) → back (f n) ≡ n → told_name (map f ns) (f n) ≡ told_name ns n

@@ -8,13 +8,13 @@ use Rattle.std.proofs.lemmas.List.Folds.{list_any-append, position_or_len_push}
 use Rattle.ic_names.specs.declared.table.NameTable.{NameTable}
 use Rattle.ic_names.specs.Table.{found}
 use Rattle.ic_naming.specs.inner.Numbering.{ArePlaces}
-use Rattle.ic_rules.specs.Renaming.{first_behind, first_occurrences, number_among}
+use Rattle.ic_rules.specs.Renaming.{first_after, first_occurrences, number_among}
 
 -- The places of the first occurrences so far; the search for more goes on after so many names.
 pub record ArePlacesSoFar (names : List ℕ) (next : ℕ) (place : ℕ → Option ℕ) (firsts : ℕ) : Type 0 where
   pub seen : List ℕ
   pub many : firsts ≡ length seen
-  pub rest : first_behind seen (drop next names) ≡ first_occurrences names
+  pub rest : first_after seen (drop next names) ≡ first_occurrences names
   pub known : (x : ℕ) → is_some (place x) ≡ list_any (λ m. x == m) seen
   pub placed : (x : ℕ) → unwrap_or (place x) (length seen) ≡ number_among seen x
 
@@ -102,15 +102,15 @@ module _ (seen : List ℕ) (n : ℕ) (old new : ℕ → Option ℕ) (updated : (
 
 -- the first names and what goes on
 next_known : (seen : List ℕ) (n : ℕ) (ns : List ℕ) (b : Bool) → list_any (λ m. n == m) seen ≡ b
-    → first_behind seen (n ∷ ns) ≡ cond b (first_behind seen ns) (first_behind (seen ++ n ∷ []) ns)
-next_known seen n ns b is = ap (λ t. cond t (first_behind seen ns) (first_behind (seen ++ n ∷ []) ns)) is
+    → first_after seen (n ∷ ns) ≡ cond b (first_after seen ns) (first_after (seen ++ n ∷ []) ns)
+next_known seen n ns b is = ap (λ t. cond t (first_after seen ns) (first_after (seen ++ n ∷ []) ns)) is
 
 pub place_kept : (names : List ℕ) (i n firsts : ℕ) (place : ℕ → Option ℕ) → drop i names ≡ n ∷ drop (i + 1) names → is_some (place n) ≡ true
     → ArePlacesSoFar names i place firsts → ArePlacesSoFar names (i + 1) place firsts
 place_kept names i n firsts place split there so_far = record {
   seen = so_far.seen;
   many = so_far.many;
-  rest = sym (next_known so_far.seen n (drop (i + 1) names) true (sym (so_far.known n) ∙ there)) ∙ ap (first_behind so_far.seen) (sym split) ∙ so_far.rest;
+  rest = sym (next_known so_far.seen n (drop (i + 1) names) true (sym (so_far.known n) ∙ there)) ∙ ap (first_after so_far.seen) (sym split) ∙ so_far.rest;
   known = so_far.known;
   placed = so_far.placed;
 }
@@ -121,7 +121,7 @@ pub place_more : (names : List ℕ) (i n firsts : ℕ) (old new : ℕ → Option
 place_more names i n firsts old new split fresh updated so_far = record {
   seen = so_far.seen ++ n ∷ [];
   many = ap (λ k. k + 1) so_far.many ∙ sym (length-append so_far.seen (n ∷ []));
-  rest = sym (next_known so_far.seen n (drop (i + 1) names) false (sym (so_far.known n) ∙ fresh)) ∙ ap (first_behind so_far.seen) (sym split) ∙ so_far.rest;
+  rest = sym (next_known so_far.seen n (drop (i + 1) names) false (sym (so_far.known n) ∙ fresh)) ∙ ap (first_after so_far.seen) (sym split) ∙ so_far.rest;
   known = known_more so_far.seen n old new at so_far.known so_far.placed fresh;
   placed = placed_more so_far.seen n old new at so_far.known so_far.placed fresh;
 }
@@ -141,7 +141,7 @@ places_none names place none = record {
 pub places_all : (names : List ℕ) (i firsts : ℕ) (places : NameTable) → drop i names ≡ [] → ArePlacesSoFar names i (found places) firsts
     → ArePlaces names places firsts
 places_all names i firsts places ends so_far =
-    let all : so_far.seen ≡ first_occurrences names = sym (ap (first_behind so_far.seen) ends) ∙ so_far.rest in
+    let all : so_far.seen ≡ first_occurrences names = sym (ap (first_after so_far.seen) ends) ∙ so_far.rest in
     record {
       many = so_far.many ∙ ap length all;
       each = λ x. ap (unwrap_or (found places x)) so_far.many ∙ so_far.placed x ∙ ap (λ l. number_among l x) all;

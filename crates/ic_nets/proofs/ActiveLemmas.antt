@@ -87,8 +87,8 @@ standing-thin : (es : List (ℕ × Wire)) (s : Standing) → thick (own_wires es
 standing-thin [] s thin = refl
 standing-thin (e ∷ es) s thin = by (s.name == e.0) (cond e.1.active 1 0) thin (standing-thin es s)
   where
-    behind : (a r : ℕ) → a + r ≡ 0 → r ≡ 0
-    behind a r e1 = omega arith
+    after : (a r : ℕ) → a + r ≡ 0 → r ≡ 0
+    after a r e1 = omega arith
 
     front : (r : ℕ) → r ≡ 0 → 0 + r ≡ 0
     front r e1 = omega arith
@@ -98,8 +98,8 @@ standing-thin (e ∷ es) s thin = by (s.name == e.0) (cond e.1.active 1 0) thin 
 
     by : (b : Bool) (a : ℕ) → cond e.1.active 1 0 + thick (own_wires es) ≡ 0 → (thick (own_wires es) ≡ 0 → thick (own_wires (with_standing es s)) ≡ 0)
         → thick (own_wires (cond b ((e.0, wire_of (Some e.1) s) ∷ es) (e ∷ with_standing es s))) ≡ 0
-    by true a all rest = front _ (behind _ _ all)
-    by false a all rest = both _ _ _ all (rest (behind _ _ all))
+    by true a all rest = front _ (after _ _ all)
+    by false a all rest = both _ _ _ all (rest (after _ _ all))
 
 names-thin : (es : List (ℕ × Wire)) (ss : List Standing) → thick (own_wires es) ≡ 0 → thick (own_wires (fold with_standing es ss)) ≡ 0
 names-thin es [] thin = thin

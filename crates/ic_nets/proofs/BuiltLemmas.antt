@@ -16,7 +16,7 @@ use Rattle.ic_nets.specs.declared.links.Link.{Link}
 use Rattle.ic_nets.specs.declared.port.Port.{Port}
 use Rattle.ic_nets.specs.declared.port.Port.TheVariants.{Interface, Principal, Auxiliary}
 use Rattle.ic_nets.proofs.NameLemmas.{names_of-trees_of}
-use Rattle.ic_nets.proofs.LeadLemmas.{Laws, Leads, after_these, before, behind, exchange, itself_equal, leads-itself, leads-rearranged, leads-through, parts, put_alone, put_among, put_place, put_right, stands_among, turn}
+use Rattle.ic_nets.proofs.LeadLemmas.{Laws, Leads, after_these, before, exchange, itself_equal, leads-itself, leads-rearranged, leads-through, moved_after, parts, put_alone, put_among, put_place, put_right, stands_among, turn}
 
 pub trees_of-list_of : (ts : Trees) → trees_of (list_of ts) ≡ ts
 trees_of-list_of no_trees = refl
@@ -74,7 +74,7 @@ module _ (name_of : Port → ℕ) where
         let all : (done ++ (u ∷ [])) ++ us ≡ done ++ (u ∷ us) = append_assoc done (u ∷ []) us in
         leads-through laws _ _ _ (leads-rearranged laws ts n _ _ (kept (equated (name x) u) _ _ _ (itself _) (before old hung_later es)))
         (leads-through laws _ _ _ (put_right laws x u l (agent s (trees_of with)) (agent s (trees_of put)) ts (hung_later ++ es) n there substituted)
-        (leads-through laws _ _ _ (leads-rearranged laws ts n _ _ (behind new hung_later es))
+        (leads-through laws _ _ _ (leads-rearranged laws ts n _ _ (moved_after new hung_later es))
         (leads-through laws _ _ _ (leads-itself laws _ _ (ap (λ (us : List Tree). parts ts (hung_later ++ (equated l (agent s (trees_of us)) ∷ es)) n) one_more))
         (leads-through laws _ _ _ (arguments_put port (i + 1) (done ++ (u ∷ [])) us ts l s es)
         (leads-itself laws _ _ (ap (λ (us : List Tree). parts ts (equated l (agent s (trees_of us)) ∷ es) n) all))))))
@@ -107,7 +107,7 @@ module _ (name_of : Port → ℕ) where
           let joined_to = equated v (name x) in
           let full = agent s us in
           let whole : agent s (trees_of (list_of us)) ≡ full = ap (agent s) (trees_of-list_of us) in
-          leads-through laws _ _ _ (leads-rearranged laws ts n _ _ (one_by_one _ _ _ (behind own below (joined_to ∷ (links ++ es))) (after_these below _ _ (exchange (own ∷ joined_to ∷ []) links es))))
+          leads-through laws _ _ _ (leads-rearranged laws ts n _ _ (one_by_one _ _ _ (moved_after own below (joined_to ∷ (links ++ es))) (after_these below _ _ (exchange (own ∷ joined_to ∷ []) links es))))
           (leads-through laws _ _ _ (terms-built (Auxiliary k) 1 (k + 1) us ts (own ∷ joined_to ∷ es))
           (leads-through laws _ _ _ (arguments_put (Auxiliary k) 1 [] (list_of us) ts (name x) s (joined_to ∷ es))
           (leads-through laws _ _ _ (leads-itself laws _ _ (ap (λ (u : Tree). parts ts (equated (name x) u ∷ joined_to ∷ es) n) whole))
@@ -133,7 +133,7 @@ module _ (name_of : Port → ℕ) where
           leads-through laws _ _ _ (leads-itself laws _ _ (ap (λ (ls : List Pair). parts ts ls n) parted))
           (leads-through laws _ _ _ (leads-rearranged laws ts n _ _ (after_these a1 _ _ (exchange a2 (h ∷ l1) (l2 ++ es))))
           (leads-through laws _ _ _ (term-built k t (name (name_of (port i))) ts (a2 ++ (l2 ++ es)))
-          (leads-through laws _ _ _ (leads-rearranged laws ts n _ _ (one_by_one _ _ _ (behind built a2 (l2 ++ es)) (after_these a2 _ _ (behind built l2 es))))
+          (leads-through laws _ _ _ (leads-rearranged laws ts n _ _ (one_by_one _ _ _ (moved_after built a2 (l2 ++ es)) (after_these a2 _ _ (moved_after built l2 es))))
           (leads-through laws _ _ _ (terms-built port (i + 1) j us ts (built ∷ es))
           (leads-rearranged laws ts n _ _ (before built later es))))))
 
@@ -160,7 +160,7 @@ module _ (name_of : Port → ℕ) where
         leads-through laws _ _ _ (leads-itself laws _ _ (ap (λ (ls : List Pair). parts ts ls n) parted))
         (leads-through laws _ _ _ (leads-rearranged laws ts n _ _ sorted)
         (leads-through laws _ _ _ (term-built j p.right left ts (a1 ++ (l1 ++ es)))
-        (leads-through laws _ _ _ (leads-rearranged laws ts n _ _ (one_by_one _ _ _ (turn left p.right (a1 ++ (l1 ++ es))) (behind (equated p.right left) a1 (l1 ++ es))))
+        (leads-through laws _ _ _ (leads-rearranged laws ts n _ _ (one_by_one _ _ _ (turn left p.right (a1 ++ (l1 ++ es))) (moved_after (equated p.right left) a1 (l1 ++ es))))
         (leads-through laws _ _ _ (term-built k p.left p.right ts es)
         (leads-rearranged laws ts n _ _ (turn p.right p.left es))))))
 
@@ -180,7 +180,7 @@ module _ (name_of : Port → ℕ) where
         leads-through laws _ _ _ (leads-itself laws _ _ (ap (λ (ls : List Pair). parts ts ls n) parted))
         (leads-through laws _ _ _ (leads-rearranged laws ts n _ _ (after_these a1 _ _ (exchange a2 l1 (l2 ++ es))))
         (leads-through laws _ _ _ (equation-built rs k p ts (a2 ++ (l2 ++ es)))
-        (leads-through laws _ _ _ (leads-rearranged laws ts n _ _ (one_by_one _ _ _ (behind p a2 (l2 ++ es)) (after_these a2 _ _ (behind p l2 es))))
+        (leads-through laws _ _ _ (leads-rearranged laws ts n _ _ (one_by_one _ _ _ (moved_after p a2 (l2 ++ es)) (after_these a2 _ _ (moved_after p l2 es))))
         (leads-through laws _ _ _ (equations-built rs j ps ts (p ∷ es))
         (leads-rearranged laws ts n _ _ (before p ps es))))))
 

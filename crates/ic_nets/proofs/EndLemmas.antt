@@ -48,10 +48,10 @@ module _ (n : ℕ) where
 
 all_bound : (ss : List Standing) → ((n : ℕ) → times (Free n) (standing_ports ss) ≡ 0) → AreBound ss
 all_bound [] none = tt
-all_bound (s ∷ ss) none = (by s.port none, all_bound ss (λ n. behind (cond (port_eq (Free n) s.port) 1 0) _ (none n)))
+all_bound (s ∷ ss) none = (by s.port none, all_bound ss (λ n. after (cond (port_eq (Free n) s.port) 1 0) _ (none n)))
   where
-    behind : (a b : ℕ) → a + b ≡ 0 → b ≡ 0
-    behind a b e = omega arith
+    after : (a b : ℕ) → a + b ≡ 0 → b ≡ 0
+    after a b e = omega arith
 
     by : (p : Port) → ((n : ℕ) → cond (port_eq (Free n) p) 1 0 + times (Free n) (standing_ports ss) ≡ 0) → is_bound p ≡ true
     by (Interface i) off = refl

@@ -40,18 +40,18 @@ mutual
   trees-found port p k (more_trees t ts) (more_trees u us) as_t as_u ls ms count agents links =
       let end : end_of k t ≡ end_of k u = ap (λ (l : Link). l.to) (head_is _ _ _ _ links) in
       let fewer : length (list_of ts) ≡ length (list_of us) = omega arith in
-      let behind_t = hanging port (p + 1) (k + length (agents_in t)) ts in
-      let behind_u = hanging port (p + 1) (k + length (agents_in u)) us in
+      let after_t = hanging port (p + 1) (k + length (agents_in t)) ts in
+      let after_u = hanging port (p + 1) (k + length (agents_in u)) us in
       let all_agents = sym (append_assoc (agents_in t) (agents_among ts) as_t) ∙ agents ∙ append_assoc (agents_in u) (agents_among us) as_u in
-      let all_links = sym (append_assoc (inside k t) behind_t ls) ∙ tail_is _ _ _ _ links ∙ append_assoc (inside k u) behind_u ms in
-      let first = tree-found k t u (agents_among ts ++ as_t) (agents_among us ++ as_u) (behind_t ++ ls) (behind_u ++ ms) end all_agents all_links in
+      let all_links = sym (append_assoc (inside k t) after_t ls) ∙ tail_is _ _ _ _ links ∙ append_assoc (inside k u) after_u ms in
+      let first = tree-found k t u (agents_among ts ++ as_t) (agents_among us ++ as_u) (after_t ++ ls) (after_u ++ ms) end all_agents all_links in
       let next = first.2 ∙ ap (λ x. hanging port (p + 1) (k + length (agents_in x)) us ++ ms) (sym first.0) in
       let rest = trees-found port (p + 1) (k + length (agents_in t)) ts us as_t as_u ls ms fewer first.1 next in
       (λ i. more_trees (first.0 i) (rest.0 i), rest.1, rest.2)
 
 -- ---- equations
 
--- where the sides of an equation are joined behind what is inside the left one, the left ends agree
+-- where the sides of an equation are joined after what is inside the left one, the left ends agree
 ends_found : (k : ℕ) (t u : Tree) (x y : Link) (xs ys : List Link) → x.from ≡ end_of k t → y.from ≡ end_of k u → inside k t ++ x ∷ xs ≡ inside k u ++ y ∷ ys → end_of k t ≡ end_of k u
 ends_found k (name m) (name n) x y xs ys at_x at_y e = sym at_x ∙ ap (λ (l : Link). l.from) (head_is _ _ _ _ e) ∙ at_y
 ends_found k (agent s ts) (agent r us) x y xs ys at_x at_y e = refl

@@ -55,50 +55,50 @@ pub interface-links : (ts : List Tree) (stack : List (Port × Tree)) → stack �
 interface-links ts stack is = ap (links_hung 0) is ∙ links_hung-append Interface 1 0 ts [] ∙ append-nil (hanging Interface 1 0 (trees_of ts))
 
 -- a term more is put on a stack
-pub stacked : (port : ℕ → Port) (i j : ℕ) (terms : List Term) (x : Term) (h : Port × Bor Term) (old new : List (Port × Bor Term)) (behind : List (Port × Tree)) → i ≡ j + 1
-    → drop j terms ≡ x ∷ drop (j + 1) terms → coming old ≡ hung_at port (i + 1) (map tree (drop i terms)) ++ behind → new ≡ old ++ h ∷ [] → h.0 ≡ port (j + 1) → h.1.now ≡ x
-    → coming new ≡ hung_at port (j + 1) (map tree (drop j terms)) ++ behind
-stacked port i j terms x h old new behind next here all one at same =
+pub stacked : (port : ℕ → Port) (i j : ℕ) (terms : List Term) (x : Term) (h : Port × Bor Term) (old new : List (Port × Bor Term)) (beyond : List (Port × Tree)) → i ≡ j + 1
+    → drop j terms ≡ x ∷ drop (j + 1) terms → coming old ≡ hung_at port (i + 1) (map tree (drop i terms)) ++ beyond → new ≡ old ++ h ∷ [] → h.0 ≡ port (j + 1) → h.1.now ≡ x
+    → coming new ≡ hung_at port (j + 1) (map tree (drop j terms)) ++ beyond
+stacked port i j terms x h old new beyond next here all one at same =
     ap coming one ∙ coming-append old h ∙ (λ k. (at k, tree (same k)) ∷ all k)
-    ∙ ap (λ n. (port (j + 1), tree x) ∷ (hung_at port (n + 1) (map tree (drop n terms)) ++ behind)) next
-    ∙ ap (λ (l : List Term). hung_at port (j + 1) (map tree l) ++ behind) (sym here)
+    ∙ ap (λ n. (port (j + 1), tree x) ∷ (hung_at port (n + 1) (map tree (drop n terms)) ++ beyond)) next
+    ∙ ap (λ (l : List Term). hung_at port (j + 1) (map tree l) ++ beyond) (sym here)
 
 -- ---- an agent that is opened
 
-module _ (s n : ℕ) (args : List Tree) (t : Tree) (old new : List Agent) (behind after : List (Port × Tree)) (is : t ≡ agent s (trees_of args)) (count : n ≡ length args)
-    (one : new ≡ old ++ record { sym = s; arity = n } ∷ []) (all : after ≡ hung_at (Auxiliary (length old)) 1 args ++ behind) where
+module _ (s n : ℕ) (args : List Tree) (t : Tree) (old new : List Agent) (beyond after : List (Port × Tree)) (is : t ≡ agent s (trees_of args)) (count : n ≡ length args)
+    (one : new ≡ old ++ record { sym = s; arity = n } ∷ []) (all : after ≡ hung_at (Auxiliary (length old)) 1 args ++ beyond) where
   own : agents_in t ≡ record { sym = s; arity = n } ∷ agents_among (trees_of args)
   own = ap agents_in is ∙ ap (λ m. record { sym = s; arity = m } ∷ agents_among (trees_of args)) (ap length (list_of-trees_of args) ∙ sym count)
 
-  pub agent-agents : new ++ agents_hung after ≡ old ++ (agents_in t ++ agents_hung behind)
+  pub agent-agents : new ++ agents_hung after ≡ old ++ (agents_in t ++ agents_hung beyond)
   agent-agents =
       (λ i. one i ++ agents_hung (all i))
-      ∙ append_assoc old (record { sym = s; arity = n } ∷ []) (agents_hung (hung_at (Auxiliary (length old)) 1 args ++ behind))
-      ∙ ap (λ l. old ++ record { sym = s; arity = n } ∷ l) (agents_hung-append (Auxiliary (length old)) 1 args behind)
-      ∙ ap (λ l. old ++ (l ++ agents_hung behind)) (sym own)
+      ∙ append_assoc old (record { sym = s; arity = n } ∷ []) (agents_hung (hung_at (Auxiliary (length old)) 1 args ++ beyond))
+      ∙ ap (λ l. old ++ record { sym = s; arity = n } ∷ l) (agents_hung-append (Auxiliary (length old)) 1 args beyond)
+      ∙ ap (λ l. old ++ (l ++ agents_hung beyond)) (sym own)
 
-  pub agent-links : links_hung (length new) after ≡ inside (length old) t ++ links_hung (length old + length (agents_in t)) behind
+  pub agent-links : links_hung (length new) after ≡ inside (length old) t ++ links_hung (length old + length (agents_in t)) beyond
   agent-links =
       let k = length old in
       let more : length new ≡ k + 1 = ap length one ∙ length-append old (record { sym = s; arity = n } ∷ []) in
       let whole : k + 1 + length (agents_among (trees_of args)) ≡ k + length (agents_in t) = omega (arith, ap length own) in
       (λ i. links_hung (more i) (all i))
-      ∙ links_hung-append (Auxiliary k) 1 (k + 1) args behind
-      ∙ (λ i. inside k (sym is i) ++ links_hung (whole i) behind)
+      ∙ links_hung-append (Auxiliary k) 1 (k + 1) args beyond
+      ∙ (λ i. inside k (sym is i) ++ links_hung (whole i) beyond)
 
-  pub agent-fewer : sum_by (λ (h : Port × Tree). nodes h.1) after + 1 ≡ nodes t + sum_by (λ (h : Port × Tree). nodes h.1) behind
-  agent-fewer = omega (arith, ap (sum_by (λ (h : Port × Tree). nodes h.1)) all, nodes_hung-append (Auxiliary (length old)) 1 args behind, ap nodes is)
+  pub agent-fewer : sum_by (λ (h : Port × Tree). nodes h.1) after + 1 ≡ nodes t + sum_by (λ (h : Port × Tree). nodes h.1) beyond
+  agent-fewer = omega (arith, ap (sum_by (λ (h : Port × Tree). nodes h.1)) all, nodes_hung-append (Auxiliary (length old)) 1 args beyond, ap nodes is)
 
 -- ---- a name that is opened
 
-module _ (m : ℕ) (t : Tree) (old : List Agent) (behind : List (Port × Tree)) (is : t ≡ name m) where
-  pub name-agents : old ++ agents_hung behind ≡ old ++ (agents_in t ++ agents_hung behind)
-  name-agents = ap (λ u. old ++ (agents_in u ++ agents_hung behind)) (sym is)
+module _ (m : ℕ) (t : Tree) (old : List Agent) (beyond : List (Port × Tree)) (is : t ≡ name m) where
+  pub name-agents : old ++ agents_hung beyond ≡ old ++ (agents_in t ++ agents_hung beyond)
+  name-agents = ap (λ u. old ++ (agents_in u ++ agents_hung beyond)) (sym is)
 
-  pub name-links : links_hung (length old) behind ≡ inside (length old) t ++ links_hung (length old + length (agents_in t)) behind
+  pub name-links : links_hung (length old) beyond ≡ inside (length old) t ++ links_hung (length old + length (agents_in t)) beyond
   name-links =
       let none : length old ≡ length old + length (agents_in t) = omega (arith, ap (λ u. length (agents_in u)) is) in
-      (λ i. inside (length old) (sym is i) ++ links_hung (none i) behind)
+      (λ i. inside (length old) (sym is i) ++ links_hung (none i) beyond)
 
-  pub name-fewer : sum_by (λ (h : Port × Tree). nodes h.1) behind + 1 ≡ nodes t + sum_by (λ (h : Port × Tree). nodes h.1) behind
+  pub name-fewer : sum_by (λ (h : Port × Tree). nodes h.1) beyond + 1 ≡ nodes t + sum_by (λ (h : Port × Tree). nodes h.1) beyond
   name-fewer = omega (arith, ap nodes is)

@@ -33,9 +33,9 @@ pub as_they_are : (es : List Pair) → Rearranged es es
 as_they_are [] = nothing
 as_they_are (p ∷ es) = kept p p es es (itself p) (as_they_are es)
 
-pub behind : (p : Pair) (xs es : List Pair) → Rearranged (p ∷ (xs ++ es)) (xs ++ (p ∷ es))
-behind p [] es = as_they_are (p ∷ es)
-behind p (x ∷ xs) es = one_by_one _ _ _ (swapped p x (xs ++ es)) (kept x x _ _ (itself x) (behind p xs es))
+pub moved_after : (p : Pair) (xs es : List Pair) → Rearranged (p ∷ (xs ++ es)) (xs ++ (p ∷ es))
+moved_after p [] es = as_they_are (p ∷ es)
+moved_after p (x ∷ xs) es = one_by_one _ _ _ (swapped p x (xs ++ es)) (kept x x _ _ (itself x) (moved_after p xs es))
 
 pub before : (p : Pair) (xs es : List Pair) → Rearranged (xs ++ (p ∷ es)) (p ∷ (xs ++ es))
 before p [] es = as_they_are (p ∷ es)
@@ -47,7 +47,7 @@ after_these (x ∷ xs) ys zs r = kept x x _ _ (itself x) (after_these xs ys zs r
 
 pub exchange : (xs ys es : List Pair) → Rearranged (xs ++ (ys ++ es)) (ys ++ (xs ++ es))
 exchange [] ys es = as_they_are (ys ++ es)
-exchange (x ∷ xs) ys es = one_by_one _ _ _ (kept x x _ _ (itself x) (exchange xs ys es)) (behind x ys (xs ++ es))
+exchange (x ∷ xs) ys es = one_by_one _ _ _ (kept x x _ _ (itself x) (exchange xs ys es)) (moved_after x ys (xs ++ es))
 
 pub turn : (t u : Tree) (es : List Pair) → Rearranged (equated t u ∷ es) (equated u t ∷ es)
 turn t u es = kept (equated t u) (equated u t) es es (exchanged (equated t u)) (as_they_are es)

@@ -232,8 +232,8 @@ module _ (x : ℕ) where
     Zipped xs ys = (a : Port) × (others : List Item) × ((w : Item → ℕ) → sum w xs ≡ w (stood x a) + sum w others)
         × ((w : Item → ℕ) → sum w ys ≡ w (hung_item a U) + (sum w others + sum w (items_in U)))
 
-    behind : (front : List Item) (xs ys : List Item) → Zipped xs ys → Zipped (front ++ xs) (front ++ ys)
-    behind front xs ys z = (
+    after_front : (front : List Item) (xs ys : List Item) → Zipped xs ys → Zipped (front ++ xs) (front ++ ys)
+    after_front front xs ys z = (
       z.0,
       front ++ z.1,
       λ w. one (sum w front) _ _ _ _ _ (sum-append w front xs) (z.2 w) (sum-append w front z.1),
@@ -263,7 +263,7 @@ module _ (x : ℕ) where
     noded : (k s : ℕ) (ts : Markeds) → Zipped (items_among (Auxiliary k) 1 ts) (items_among (Auxiliary k) 1 (puts x U ts)) → Zipped (items_in (node k s ts)) (items_in (put x U (node k s ts)))
     noded k s ts z =
         transport (λ (a : ℕ). Zipped (items_in (node k s ts)) (placed k (record { sym = s; arity = a }) ∷ items_among (Auxiliary k) 1 (puts x U ts))) (sym (as_many U ts))
-        (behind (placed k (shape s ts) ∷ []) _ _ z)
+        (after_front (placed k (shape s ts) ∷ []) _ _ z)
 
     all_zipped : (port : ℕ → Port) (i : ℕ) (ts : Markeds) → helds (bares ts) ≡ 1 → Zipped (items_among port i ts) (items_among port i (puts x U ts))
     all_zipped port i no_more once = absurd (omega (arith, once))
@@ -287,7 +287,7 @@ module _ (x : ℕ) where
             transport (λ (us : Markeds). Zipped (stood n (port i) ∷ tail) (hung_item (port i) U ∷ (items_in U ++ items_among port (i + 1) us)))
             (sym (kept_all U ts (omega (arith, once))))
             (port i, tail, λ w. ap (λ m. w (stood m (port i)) + sum w tail) ((unsigned_Decides n x).0 e), sums)
-        by false e once tail_zipped = behind (stood n (port i) ∷ []) _ _ (tail_zipped (omega (arith, once)))
+        by false e once tail_zipped = after_front (stood n (port i) ∷ []) _ _ (tail_zipped (omega (arith, once)))
     all_zipped port i (more (node k s us) ts) once =
         by (one_of (helds (bares us)) (helds (bares ts)) once) (λ e. noded k s us (all_zipped (Auxiliary k) 1 us e)) (all_zipped port (i + 1) ts)
       where
@@ -299,13 +299,13 @@ module _ (x : ℕ) where
             → (helds (bares ts) ≡ 1 → Zipped tail (items_among port (i + 1) (puts x U ts)))
             → Zipped (items_among port i (more (node k s us) ts)) (items_among port i (puts x U (more (node k s us) ts)))
         by (inl e) in_first in_rest =
-            behind (wired (port i) (Principal k) ∷ []) (items_in (node k s us) ++ tail) (items_in (put x U (node k s us)) ++ items_among port (i + 1) (puts x U ts))
+            after_front (wired (port i) (Principal k) ∷ []) (items_in (node k s us) ++ tail) (items_in (put x U (node k s us)) ++ items_among port (i + 1) (puts x U ts))
             (transport (λ (vs : Markeds). Zipped (items_in (node k s us) ++ tail) (items_in (put x U (node k s us)) ++ items_among port (i + 1) vs))
             (sym (kept_all U ts e.1)) (before (items_in (node k s us)) (items_in (put x U (node k s us))) tail (in_first e.0)))
         by (inr e) in_first in_rest =
-            behind (wired (port i) (Principal k) ∷ []) (items_in (node k s us) ++ tail) (items_in (put x U (node k s us)) ++ items_among port (i + 1) (puts x U ts))
+            after_front (wired (port i) (Principal k) ∷ []) (items_in (node k s us) ++ tail) (items_in (put x U (node k s us)) ++ items_among port (i + 1) (puts x U ts))
             (transport (λ (v : Marked). Zipped (items_in (node k s us) ++ tail) (items_in v ++ items_among port (i + 1) (puts x U ts)))
-            (sym (kept U (node k s us) e.0)) (behind (items_in (node k s us)) tail (items_among port (i + 1) (puts x U ts)) (in_rest e.1)))
+            (sym (kept U (node k s us) e.0)) (after_front (items_in (node k s us)) tail (items_among port (i + 1) (puts x U ts)) (in_rest e.1)))
 
     pub zipped : (k s : ℕ) (ts : Markeds) → helds (bares ts) ≡ 1 → Zipped (items_in (node k s ts)) (items_in (put x U (node k s ts)))
     zipped k s ts once = noded k s ts (all_zipped (Auxiliary k) 1 ts once)

@@ -15,7 +15,7 @@ below_apart i j lt = by (i == j) refl
     by true e = let same = (unsigned_Decides i j).0 e in absurd (omega arith)
     by false e = refl
 
--- what is counted at the head, and behind it
+-- what is counted at the head, and after it
 head_none : (b : Bool) (r : ℕ) → b ≡ false → r ≡ 0 → cond b 1 0 + r ≡ 0
 head_none true r e1 e2 = cc
 head_none false r e1 e2 = omega arith
@@ -80,7 +80,7 @@ module _ (i : ℕ) where
       (principal-once (k + 1) xs) (principal-below (k + 1) xs)
     where
       by : (b : Bool) → (i == k) ≡ b → (all c r : ℕ) → all ≡ c + r → c ≡ 0 → r ≤ 1 → (i < k + 1 → r ≡ 0) → cond b 1 0 + all ≤ 1
-      by true e all c r e1 e2 le none = let same = (unsigned_Decides i k).0 e in let zero_behind = none (omega arith) in omega arith
+      by true e all c r e1 e2 le none = let same = (unsigned_Decides i k).0 e in let zero_after = none (omega arith) in omega arith
       by false e all c r e1 e2 le none = omega arith
 
 module _ (n i : ℕ) where

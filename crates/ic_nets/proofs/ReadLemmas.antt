@@ -16,15 +16,15 @@ use Rattle.ic_nets.specs.declared.links.Standing.{Standing}
 use Rattle.ic_nets.specs.declared.port.Port.{Port}
 use Rattle.ic_nets.specs.declared.port.Port.TheVariants.{Left, Right, Free}
 use Rattle.ic_nets.proofs.NameLemmas.{AreBound, AreFew, AreOwn, few, first_low, next_few, own_added, own_wires, stands}
-use Rattle.ic_nets.proofs.LeadLemmas.{Laws, Leads, after_these, before, behind, exchange, itself_equal, leads-itself, leads-rearranged, leads-through, parts, put_alone, put_right, turn}
+use Rattle.ic_nets.proofs.LeadLemmas.{Laws, Leads, after_these, before, exchange, itself_equal, leads-itself, leads-rearranged, leads-through, moved_after, parts, put_alone, put_right, turn}
 use Rattle.ic_nets.proofs.BuiltLemmas.{end_tree, link_equations}
 
--- an equation goes behind two lists, or three
-pub behind_two : (p : Pair) (xs ys es : List Pair) → Rearranged (p ∷ (xs ++ (ys ++ es))) (xs ++ (ys ++ (p ∷ es)))
-behind_two p xs ys es = one_by_one _ _ _ (behind p xs (ys ++ es)) (after_these xs _ _ (behind p ys es))
+-- an equation goes after two lists, or three
+pub after_two : (p : Pair) (xs ys es : List Pair) → Rearranged (p ∷ (xs ++ (ys ++ es))) (xs ++ (ys ++ (p ∷ es)))
+after_two p xs ys es = one_by_one _ _ _ (moved_after p xs (ys ++ es)) (after_these xs _ _ (moved_after p ys es))
 
-pub behind_three : (p : Pair) (xs ys zs es : List Pair) → Rearranged (p ∷ (xs ++ (ys ++ (zs ++ es)))) (xs ++ (ys ++ (zs ++ (p ∷ es))))
-behind_three p xs ys zs es = one_by_one _ _ _ (behind p xs (ys ++ (zs ++ es))) (after_these xs _ _ (behind_two p ys zs es))
+pub after_three : (p : Pair) (xs ys zs es : List Pair) → Rearranged (p ∷ (xs ++ (ys ++ (zs ++ es)))) (xs ++ (ys ++ (zs ++ (p ∷ es))))
+after_three p xs ys zs es = one_by_one _ _ _ (moved_after p xs (ys ++ (zs ++ es))) (after_these xs _ _ (after_two p ys zs es))
 
 module _ (name_of : Port → ℕ) where
   -- a name at a port, as an equation
@@ -59,7 +59,7 @@ module _ (name_of : Port → ℕ) where
           let ss = standing_equations (standings j ls) in
           let front : 0 + joints_in ls ≡ joints_in ls = omega arith in
           leads-through laws _ _ _ (leads-itself laws _ _ (ap (λ (m : ℕ). parts ts (joint_equations name_of j m ++ (w ∷ (ws ++ (ss ++ es)))) n) front))
-          (leads-through laws _ _ _ (leads-rearranged laws ts n _ _ (after_these js _ _ (behind_two w ws ss es)))
+          (leads-through laws _ _ _ (leads-rearranged laws ts n _ _ (after_these js _ _ (after_two w ws ss es)))
           (leads-through laws _ _ _ (rest j (w ∷ es)) (leads-rearranged laws ts n _ _ (before w (link_equations name_of ls) es))))
       joined-by rest active (At p) (Named x) =
           let w = equated (name (name_of p)) (name x) in
@@ -68,7 +68,7 @@ module _ (name_of : Port → ℕ) where
           let ss = standing_equations (standings j ls) in
           let front : 0 + joints_in ls ≡ joints_in ls = omega arith in
           leads-through laws _ _ _ (leads-itself laws _ _ (ap (λ (m : ℕ). parts ts (joint_equations name_of j m ++ (ws ++ (w ∷ (ss ++ es)))) n) front))
-          (leads-through laws _ _ _ (leads-rearranged laws ts n _ _ (after_these js _ _ (after_these ws _ _ (behind w ss es))))
+          (leads-through laws _ _ _ (leads-rearranged laws ts n _ _ (after_these js _ _ (after_these ws _ _ (moved_after w ss es))))
           (leads-through laws _ _ _ (rest j (w ∷ es)) (leads-rearranged laws ts n _ _ (before w (link_equations name_of ls) es))))
       joined-by rest active (Named x) (At q) =
           let w = equated (name (name_of q)) (name x) in
@@ -77,7 +77,7 @@ module _ (name_of : Port → ℕ) where
           let ss = standing_equations (standings j ls) in
           let front : 0 + joints_in ls ≡ joints_in ls = omega arith in
           leads-through laws _ _ _ (leads-itself laws _ _ (ap (λ (m : ℕ). parts ts (joint_equations name_of j m ++ (ws ++ (w ∷ (ss ++ es)))) n) front))
-          (leads-through laws _ _ _ (leads-rearranged laws ts n _ _ (after_these js _ _ (after_these ws _ _ (behind w ss es))))
+          (leads-through laws _ _ _ (leads-rearranged laws ts n _ _ (after_these js _ _ (after_these ws _ _ (moved_after w ss es))))
           (leads-through laws _ _ _ (rest j (w ∷ es))
           (leads-rearranged laws ts n _ _ (one_by_one _ _ _ (before w (link_equations name_of ls) es) (turn (name (name_of q)) (name x) (link_equations name_of ls ++ es))))))
       joined-by rest active (Named x) (Named y) =
@@ -93,7 +93,7 @@ module _ (name_of : Port → ℕ) where
           let count : 1 + joints_in ls ≡ suc (joints_in ls) = omega arith in
           leads-through laws _ _ _ (leads-itself laws _ _ (ap (λ (m : ℕ). parts ts (joint_equations name_of j m ++ (ws ++ (first ∷ second ∷ (ss ++ es)))) n) count))
           (leads-through laws _ _ _ (leads-rearranged laws ts n _ _ (kept point _ _ _ (itself _) (after_these js _ _ (after_these ws _ _ (exchange (first ∷ second ∷ []) ss es)))))
-          (leads-through laws _ _ _ (leads-rearranged laws ts n _ _ (behind_three point js ws ss (first ∷ second ∷ es)))
+          (leads-through laws _ _ _ (leads-rearranged laws ts n _ _ (after_three point js ws ss (first ∷ second ∷ es)))
           (leads-through laws _ _ _ (rest (j + 1) (point ∷ first ∷ second ∷ es))
           (leads-through laws _ _ _ (leads-rearranged laws ts n _ _ (one_by_one _ _ _ (exchange links (point ∷ first ∷ second ∷ []) es)
           (one_by_one _ _ _ (swapped point first (second ∷ (links ++ es))) (kept first _ _ _ (itself _) (turn left right (second ∷ (links ++ es)))))))
@@ -153,7 +153,7 @@ module _ (name_of : Port → ℕ) where
               let w = wire_equation name_of e.1 in
               let ws = wire_equations name_of (own_wires es) in
               let more = wire_equations name_of (own_wires (with_standing es s)) in
-              leads-through laws _ _ _ (leads-rearranged laws ts n _ _ (one_by_one _ _ _ (behind w ws (standing_equation s ∷ rest)) (after_these ws _ _ (swapped w (standing_equation s) rest))))
+              leads-through laws _ _ _ (leads-rearranged laws ts n _ _ (one_by_one _ _ _ (moved_after w ws (standing_equation s ∷ rest)) (after_these ws _ _ (swapped w (standing_equation s) rest))))
               (leads-through laws _ _ _ (later less (w ∷ rest)) (leads-rearranged laws ts n _ _ (before w more rest)))
 
       pub all_stood : (ss : List Standing) (es : List (ℕ × Wire)) (rest : List Pair) → AreBound ss → AreFew es ss → AreOwn es

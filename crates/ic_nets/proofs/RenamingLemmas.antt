@@ -215,10 +215,10 @@ module _ (f : ℕ → ℕ) where
   wires_stay : (ws : List Wire) → ((m : ℕ) → 1 ≤ times (Free m) (ends ws) → f m ≡ m) → map wire_named ws ≡ ws
   wires_stay [] free = refl
   wires_stay (w ∷ ws) free =
-      λ d. record { from = w.from; to = here w.to free d; active = w.active } ∷ wires_stay ws (λ m some. free m (behind (cond (port_eq (Free m) w.from) 1 0) (cond (port_eq (Free m) w.to) 1 0) _ some)) d
+      λ d. record { from = w.from; to = here w.to free d; active = w.active } ∷ wires_stay ws (λ m some. free m (after (cond (port_eq (Free m) w.from) 1 0) (cond (port_eq (Free m) w.to) 1 0) _ some)) d
     where
-      behind : (a b r : ℕ) → 1 ≤ r → 1 ≤ a + (b + r)
-      behind a b r some = omega arith
+      after : (a b r : ℕ) → 1 ≤ r → 1 ≤ a + (b + r)
+      after a b r some = omega arith
 
       front : (a r : ℕ) → 1 ≤ a + (1 + r)
       front a r = omega arith

@@ -11,7 +11,7 @@ use Rattle.ic_term.specs.Tree.{Tree, name, agent, Trees, no_trees, more_trees, n
 use Rattle.ic_term.specs.Configuration.{occurrences}
 use Rattle.ic_term.specs.Symbol.{Symbol, has_arity, is_tree_over}
 use Rattle.ic_rules.specs.Rule.{Rule, IsRule, rule_names, rule_nodes, swapped, stands_for}
-use Rattle.ic_rules.specs.Renaming.{first_behind, first_occurrences, are_paired}
+use Rattle.ic_rules.specs.Renaming.{first_after, first_occurrences, are_paired}
 use Rattle.ic_rules.specs.RuleSet.{Rules, IsRuleSet, IsRuleOver, are_few, stands_turned}
 use Rattle.ic_rules.specs.lemmas.FitLaws.{rule_over_at}
 use Rattle.ic_rules.specs.lemmas.NumberingLaws.{length-range}
@@ -24,12 +24,12 @@ use Rattle.ic_plans.proofs.PlanLemmas.{arity_there, length-nodes}
 
 -- ---- names are no more than nodes
 
-few_firsts : (ns seen : List ℕ) → length (first_behind seen ns) ≤ length seen + length ns
+few_firsts : (ns seen : List ℕ) → length (first_after seen ns) ≤ length seen + length ns
 few_firsts [] seen = omega arith
 few_firsts (n ∷ ns) seen = by (list_any (λ m. n == m) seen) (few_firsts ns seen) (few_firsts ns (seen ++ n ∷ []))
   where
-    by : (b : Bool) → length (first_behind seen ns) ≤ length seen + length ns → length (first_behind (seen ++ n ∷ []) ns) ≤ length (seen ++ n ∷ []) + length ns
-        → length (cond b (first_behind seen ns) (first_behind (seen ++ n ∷ []) ns)) ≤ length seen + suc (length ns)
+    by : (b : Bool) → length (first_after seen ns) ≤ length seen + length ns → length (first_after (seen ++ n ∷ []) ns) ≤ length (seen ++ n ∷ []) + length ns
+        → length (cond b (first_after seen ns) (first_after (seen ++ n ∷ []) ns)) ≤ length seen + suc (length ns)
     by true known new = omega (arith, known)
     by false known new = omega (arith, new, length-append seen (n ∷ []))
 

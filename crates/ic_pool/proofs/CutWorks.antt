@@ -66,7 +66,7 @@ All-reverse P [] all = tt
 All-reverse P (x ∷ xs) all =
     subst (AllByRecursion P) (sym (reverse-cons x xs)) (All-append P (reverse xs) (x ∷ []) (All-reverse P xs all.1) (all.0, tt))
 
--- the works of the last batch behind those of the batches before it
+-- the works of the last batch after those of the batches before it
 map_joined-snoc : {X Y Z : Type 0} (f : X → List Y) (g : Y → Z) (bs : List X) (b : X)
     → map g (flat_map f (bs ++ b ∷ [])) ≡ map g (flat_map f bs) ++ map g (f b)
 map_joined-snoc f g bs b =

@@ -45,20 +45,20 @@ pub sound_steps : (rs : Rules) (c d : Configuration) → IsRuleSet rs → Sound 
 sound_steps rs c d set sound (no_step x) = sound
 sound_steps rs c d set sound (one_more x y z steps step) = sound_step rs naming y z set (sound_steps rs x y set sound steps) step
 
--- ---- an interaction before name steps is one behind them
+-- ---- an interaction before name steps is one after them
 
-pub record Behind (rs : List Rule) (i : ℕ) (b e : Configuration) : Type 0 where
+pub record After (rs : List Rule) (i : ℕ) (b e : Configuration) : Type 0 where
   pub fired : Configuration
   pub end : Configuration
   pub fires : StepOf rs (firing i) b fired
   pub steps : NameSteps e end
   pub same : Same end fired
 
-fires_one_behind : StepLaws → (rs : Rules) → IsRuleSet rs → (i : ℕ) (y z e : Configuration) → Sound rs y → NameStep y z → Behind rs.rules i y e → Behind rs.rules i z e
-fires_one_behind laws rs set i y z e sound last before = by (laws.meet rs naming (firing i) y z before.fired set sound.over sound.named last before.fires)
+fires_one_after : StepLaws → (rs : Rules) → IsRuleSet rs → (i : ℕ) (y z e : Configuration) → Sound rs y → NameStep y z → After rs.rules i y e → After rs.rules i z e
+fires_one_after laws rs set i y z e sound last before = by (laws.meet rs naming (firing i) y z before.fired set sound.over sound.named last before.fires)
   where
     by : ((naming ≡ firing i) × Same z before.fired) ⊎ ((f : Configuration) × (g : Configuration) × StepOf rs.rules (firing i) z f × StepOf rs.rules naming before.fired g × Same f g)
-        → Behind rs.rules i z e
+        → After rs.rules i z e
     by (inl both) = let bad : naming ≡ firing i = both.0 in cc
     by (inr (f, g, fires, names, net)) =
         let nets = laws.nets in
@@ -72,10 +72,10 @@ fires_one_behind laws rs set i y z e sound last before = by (laws.meet rs naming
           same = through too.0 g f (nets.other_way g too.0 too.2) (nets.other_way f g net);
         }
 
-pub fires_behind : StepLaws → (rs : Rules) → IsRuleSet rs → (i : ℕ) (d b e : Configuration) → Sound rs d → NameSteps d b → StepOf rs.rules (firing i) d e → Behind rs.rules i b e
-fires_behind laws rs set i d b e sound (no_step x) step = record { fired = e; end = e; fires = step; steps = no_step e; same = laws.nets.itself e }
-fires_behind laws rs set i d b e sound (one_more x y z steps last) step =
-    fires_one_behind laws rs set i y z e (sound_steps rs x y set sound steps) last (fires_behind laws rs set i x y e sound steps step)
+pub fires_after : StepLaws → (rs : Rules) → IsRuleSet rs → (i : ℕ) (d b e : Configuration) → Sound rs d → NameSteps d b → StepOf rs.rules (firing i) d e → After rs.rules i b e
+fires_after laws rs set i d b e sound (no_step x) step = record { fired = e; end = e; fires = step; steps = no_step e; same = laws.nets.itself e }
+fires_after laws rs set i d b e sound (one_more x y z steps last) step =
+    fires_one_after laws rs set i y z e (sound_steps rs x y set sound steps) last (fires_after laws rs set i x y e sound steps step)
 
 -- ---- equations in another order
 

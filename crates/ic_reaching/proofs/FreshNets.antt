@@ -138,8 +138,8 @@ same_elsewhere rs c p others a h u v next one other disjoint = renaming (fired_w
     equations =
         let split = map-append (renamed_pair f) (products_with rs u a) others in
         let front = renamed_products rs p a h u v f sides.0 sides.1 (λ k low. to_other u v m k one.apart (omega (arith, low, count))) in
-        let behind = renamed_pairs_stay f others (All-back (λ n. f n ≡ n) (pair_names p) (flat_map pair_names others) rest) in
-        split ∙ (λ i. front i ++ behind i)
+        let after = renamed_pairs_stay f others (All-back (λ n. f n ≡ n) (pair_names p) (flat_map pair_names others) rest) in
+        split ∙ (λ i. front i ++ after i)
 
 -- ---- any two lists of fresh names: both for one that is far from both
 

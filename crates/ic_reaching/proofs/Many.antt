@@ -25,8 +25,8 @@ given_over rs [] each = refl
 given_over rs (run ∷ runs) each = over_together rs run.given (all_together (given_of runs)) each.0.over (given_over rs runs each.1)
 
 -- the names of a part are no more than those of the whole
-behind_named : (c d : Configuration) → HasNames (together c d) → (n : ℕ) → occurrences n (configuration_names d) ≤ 2
-behind_named c d named n = let two = few_of c d.interface d.equations named n in omega (arith, two)
+after_named : (c d : Configuration) → HasNames (together c d) → (n : ℕ) → occurrences n (configuration_names d) ≤ 2
+after_named c d named n = let two = few_of c d.interface d.equations named n in omega (arith, two)
 
 given_named : (rs : Rules) (runs : List PartRun) → AllByRecursion (HasRun rs) runs → ((n : ℕ) → occurrences n (configuration_names (all_together (given_of runs))) ≤ 2) → HasNames (all_together (given_of runs))
 given_named rs [] each twice = record { below = tt; twice = twice }
@@ -47,8 +47,8 @@ all_side_by_side free laws nets shapes rs [] set each named also = begins laws.n
 all_side_by_side free laws nets shapes rs (run ∷ runs) set each named also =
     let c = all_together (given_of runs) in
     let d = all_together (reached_of runs) in
-    let named_c = given_named rs runs each.1 (behind_named run.given c named) in
-    let named_d = reached_named rs runs each.1 (behind_named run.reached d also) in
+    let named_c = given_named rs runs each.1 (after_named run.given c named) in
+    let named_d = reached_named rs runs each.1 (after_named run.reached d also) in
     let few = few_of run.reached d.interface d.equations also in
     side_by_side free laws nets shapes rs run.given c run.reached d run.fired (flat_map (λ run. run.fired) runs) set
     (record { over = each.0.over; named = each.0.names }) (record { over = given_over rs runs each.1; named = named_c })

@@ -135,9 +135,9 @@ over_before ss c d s over =
     binding term (inl e) = ap (is_pair_over ss) e ∙ term
     binding term (inr e) = ap (is_pair_over ss) e ∙ and_both term refl
 
-over_behind : (ss : List Symbol) (c d : Configuration) → NameSteps c d → is_over ss c ≡ true → is_over ss d ≡ true
-over_behind ss c d (no_step x) over = over
-over_behind ss c d (one_more x y z steps step) over = name_step-over ss y z step (over_behind ss x y steps over)
+over_after : (ss : List Symbol) (c d : Configuration) → NameSteps c d → is_over ss c ≡ true → is_over ss d ≡ true
+over_after ss c d (no_step x) over = over
+over_after ss c d (one_more x y z steps step) over = name_step-over ss y z step (over_after ss x y steps over)
 
 over_earlier : (ss : List Symbol) (c d : Configuration) → NameSteps c d → is_over ss d ≡ true → is_over ss c ≡ true
 over_earlier ss c d (no_step x) over = over
@@ -147,4 +147,4 @@ pub but_next_over : (ss : List Symbol) (c d : Configuration) → SameButNext c d
 but_next_over ss c d s over = same_over ss (raised s.more c) (raised s.others d) s.same over
 
 pub net_over : (ss : List Symbol) (c d : Configuration) → OneNet c d → is_over ss c ≡ true → is_over ss d ≡ true
-net_over ss c d net over = over_earlier ss d net.end_too net.steps_too (but_next_over ss net.end net.end_too net.same (over_behind ss c net.end net.steps over))
+net_over ss c d net over = over_earlier ss d net.end_too net.steps_too (but_next_over ss net.end net.end_too net.same (over_after ss c net.end net.steps over))

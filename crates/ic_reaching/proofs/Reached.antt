@@ -16,7 +16,7 @@ use Rattle.ic_reaching.proofs.Nets.{from_same, from_step, from_but_next, net_its
 use Rattle.ic_reaching.proofs.Orders.{permuted, rules_fired-append}
 use Rattle.ic_reaching.proofs.Over.{net_over}
 use Rattle.ic_reaching.proofs.FreshNets.{fronted, fired_with}
-use Rattle.ic_reaching.proofs.Firing.{Sound, sound_step, sound_steps, fires_behind, fires_but_next, fires_in_front, fires_alike}
+use Rattle.ic_reaching.proofs.Firing.{Sound, sound_step, sound_steps, fires_after, fires_but_next, fires_in_front, fires_alike}
 
 -- ---- chains
 
@@ -66,10 +66,10 @@ goes_on_firing laws rs i c d e fired set sound r step =
     let sound_d = reached_sound rs c d fired set sound r in
     let sound_end = chain_sound rs r.kinds c r.end set sound r.chain in
     let net = r.net in
-    let behind = fires_behind laws rs set i d net.end_too e sound_d net.steps_too step in
+    let after = fires_after laws rs set i d net.end_too e sound_d net.steps_too step in
     let sound_one = sound_steps rs r.end net.end set sound_end net.steps in
     let sound_other = sound_steps rs d net.end_too set sound_d net.steps_too in
-    let across = fires_but_next laws rs set i net.end net.end_too behind.fired sound_one sound_other net.same behind.fires in
+    let across = fires_but_next laws rs set i net.end net.end_too after.fired sound_one sound_other net.same after.fires in
     let names = names_chain rs.rules r.end net.end net.steps in
     let last = chain_joined rs.rules names.kinds (firing i ∷ []) r.end net.end across.end names.chain (one_step rs.rules (firing i) net.end across.end across.step) in
     let more : rules_fired (names.kinds ++ firing i ∷ []) ≡ i ∷ [] = rules_fired-append names.kinds (firing i ∷ []) ∙ ap (λ is. is ++ i ∷ []) names.none in
@@ -82,10 +82,10 @@ goes_on_firing laws rs i c d e fired set sound r step =
         names = (sound_step rs (firing i) net.end across.end set sound_one across.step).named;
         names_too = (sound_step rs (firing i) d e set sound_d step).named;
         end = across.end;
-        end_too = behind.end;
+        end_too = after.end;
         steps = no_step across.end;
-        steps_too = behind.steps;
-        same = but_next_through across.end behind.fired behind.end across.same (but_next behind.fired behind.end (laws.nets.other_way behind.end behind.fired behind.same));
+        steps_too = after.steps;
+        same = but_next_through across.end after.fired after.end across.same (but_next after.fired after.end (laws.nets.other_way after.end after.fired after.same));
       };
     }
 

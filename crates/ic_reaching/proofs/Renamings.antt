@@ -110,7 +110,7 @@ alike_renamed f one p q (exchanged r) = exchanged (renamed_pair f r)
 alike_renamed f one p q (rotated r s is) = rotated (renamed_pair f r) (renamed_pair f s) (rotated_renamed f one r s is)
 alike_renamed f one p q (in_turn r s t first second) = in_turn (renamed_pair f r) (renamed_pair f s) (renamed_pair f t) (alike_renamed f one r s first) (alike_renamed f one s t second)
 
--- and with others behind them
+-- and with others after them
 pub arranged_renamed : (f : ℕ → ℕ) → OneToOne f → (back es fs : List Pair) → Rearranged es fs → Rearranged (map (renamed_pair f) es ++ back) (map (renamed_pair f) fs ++ back)
 arranged_renamed f one back es fs nothing = rearranged_itself back
 arranged_renamed f one back es fs (kept p q ps qs alike rest) =

@@ -89,12 +89,12 @@ pub all_contained : {X : Type 0} (P : X → Type 0) (xs : List X) → ((x : X) �
 all_contained P [] each = tt
 all_contained P (x ∷ xs) each = (each x (contains_first x xs), all_contained P xs (λ y there. each y (contains_cons x y xs there)))
 
-behind : (ps qs : List Piece) (p q : Piece) → IsPermutation ps (p ∷ qs) → Contains qs q → Contains ps q
-behind ps qs p q taken there = Contains-permutation (p ∷ qs) ps q (IsPermutation-sym ps (p ∷ qs) taken) (contains_cons p q qs there)
+after : (ps qs : List Piece) (p q : Piece) → IsPermutation ps (p ∷ qs) → Contains qs q → Contains ps q
+after ps qs p q taken there = Contains-permutation (p ∷ qs) ps q (IsPermutation-sym ps (p ∷ qs) taken) (contains_cons p q qs there)
 
 pub step_pieces : (arities : List ℕ) (p : Piece) (s t : State) → Step arities s t → Contains t.pieces p → Contains s.pieces p
-step_pieces arities p s t (follow ts x u ws ps qs tag taken) there = behind ps qs (waits x u) p taken there
-step_pieces arities p s t (opened ts a vs ws ps qs is taken) there = behind ps qs (agent_of a vs) p taken there
+step_pieces arities p s t (follow ts x u ws ps qs tag taken) there = after ps qs (waits x u) p taken there
+step_pieces arities p s t (opened ts a vs ws ps qs is taken) there = after ps qs (agent_of a vs) p taken there
 step_pieces arities p s t (plain ts k w ws ps tag known) there = there
 step_pieces arities p s t (named ts w ws ps is) there = there
 

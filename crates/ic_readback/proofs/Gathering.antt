@@ -17,15 +17,15 @@ gathered_on arities xs ys ps qs rs first (alone_part before a vs us os ms ns ss 
     transport (λ l. Gathered arities l ps ss) (append_assoc xs before (part a us ∷ []))
     (alone_part (xs ++ before) a vs us ps ms ns ss (gathered_on arities xs before ps os ms first rest) is taken steps)
 
-behind : (ps qs : List Piece) (p q : Piece) → IsPermutation ps (p ∷ qs) → Contains qs q → Contains ps q
-behind ps qs p q taken there = Contains-permutation (p ∷ qs) ps q (IsPermutation-sym ps (p ∷ qs) taken) (contains_cons p q qs there)
+after : (ps qs : List Piece) (p q : Piece) → IsPermutation ps (p ∷ qs) → Contains qs q → Contains ps q
+after ps qs p q taken there = Contains-permutation (p ∷ qs) ps q (IsPermutation-sym ps (p ∷ qs) taken) (contains_cons p q qs there)
 
 pub gathered_pieces : (arities : List ℕ) (p : Piece) (parts : List Part) (ps qs : List Piece) → Gathered arities parts ps qs → Contains qs p → Contains ps p
 gathered_pieces arities p parts ps qs (nothing os) there = there
 gathered_pieces arities p parts ps qs (waited before x u us os ms ns ss rest tag taken steps) there =
-    gathered_pieces arities p before os ms rest (behind ms ns (waits x u) p taken (steps_pieces arities p (state [] (u ∷ []) ns) (state us [] ss) steps there))
+    gathered_pieces arities p before os ms rest (after ms ns (waits x u) p taken (steps_pieces arities p (state [] (u ∷ []) ns) (state us [] ss) steps there))
 gathered_pieces arities p parts ps qs (alone_part before a vs us os ms ns ss rest is taken steps) there =
-    gathered_pieces arities p before os ms rest (behind ms ns (agent_of a vs) p taken (steps_pieces arities p (state (Agent (a.tag - 1) ∷ []) vs ns) (state us [] ss) steps there))
+    gathered_pieces arities p before os ms rest (after ms ns (agent_of a vs) p taken (steps_pieces arities p (state (Agent (a.tag - 1) ∷ []) vs ns) (state us [] ss) steps there))
 
 pub gathered_fewer : (arities : List ℕ) (f : Piece → ℕ) (parts : List Part) (ps qs : List Piece) → Gathered arities parts ps qs → sum_by f qs ≤ sum_by f ps
 gathered_fewer arities f parts ps qs (nothing os) = omega arith

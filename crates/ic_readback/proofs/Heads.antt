@@ -200,15 +200,15 @@ sides_room w (e ∷ es) =
     let rest = sides_room w es in
     omega arith
 
-all_behind : {X : Type 0} (P : X → Type 0) (xs ys : List X) → AllByRecursion P (xs ++ ys) → AllByRecursion P ys
-all_behind P [] ys all = all
-all_behind P (x ∷ xs) ys all = all_behind P xs ys all.1
+all_after : {X : Type 0} (P : X → Type 0) (xs ys : List X) → AllByRecursion P (xs ++ ys) → AllByRecursion P ys
+all_after P [] ys all = all
+all_after P (x ∷ xs) ys all = all_after P xs ys all.1
 
 pub first_kept : (n : Numbers) (is : List Word) (es fs : List Equation) (ps : List Piece) → AreNetPieces n.arities is (map equated_of es ++ (map equated_of fs ++ ps))
     → AreGiven n.given is (map equated_of es ++ (map equated_of fs ++ ps)) → Kept n (first_state is es fs ps)
 first_kept n is es fs ps are given = record {
   separate = record { each = apart };
-  are = all_behind (IsPiece n.arities) (map equated_of fs) ps (all_behind (IsPiece n.arities) (map equated_of es) (map equated_of fs ++ ps) are.each);
+  are = all_after (IsPiece n.arities) (map equated_of fs) ps (all_after (IsPiece n.arities) (map equated_of es) (map equated_of fs ++ ps) are.each);
   given = sides_given n.given is es fs ps given;
 }
   where

@@ -101,8 +101,8 @@ steps_untold arities w s t (one_more a b c first rest) there each =
     steps_untold arities w b c rest there
     (step_untold arities w a b first (left_by w a.pieces c.pieces (λ p. steps_pieces arities p a c (one_more a b c first rest)) there) each)
 
-taken_behind : (ps qs : List Piece) (p q : Piece) → IsPermutation ps (p ∷ qs) → Contains qs q → Contains ps q
-taken_behind ps qs p q taken there = Contains-permutation (p ∷ qs) ps q (IsPermutation-sym ps (p ∷ qs) taken) (contains_cons p q qs there)
+taken_after : (ps qs : List Piece) (p q : Piece) → IsPermutation ps (p ∷ qs) → Contains qs q → Contains ps q
+taken_after ps qs p q taken there = Contains-permutation (p ∷ qs) ps q (IsPermutation-sym ps (p ∷ qs) taken) (contains_cons p q qs there)
 
 taken_there : (ps qs : List Piece) (p : Piece) → IsPermutation ps (p ∷ qs) → Contains ps p
 taken_there ps qs p taken = Contains-permutation (p ∷ qs) ps p (IsPermutation-sym ps (p ∷ qs) taken) (contains_first p qs)
@@ -137,7 +137,7 @@ gathered_others arities w parts ps qs once (waited before x u us os ms ns ss res
     let one : HoldOnce ms = (λ v. let less = gathered_fewer arities (holds v) before os ms rest in let few = once v in omega arith) in
     let held : ◌≡◌ {A = ℕ} (cond (word_eq x x) 1 0) 1 = rw (word_itself x) refl in
     all_more (λ p. EachName (Not w) p.tokens × (p.place ≡ w → ⊥)) before (part x us)
-    (gathered_others arities w before os ms once rest (left_by w ms ns (λ p. taken_behind ms ns (waits x u) p taken) after))
+    (gathered_others arities w before os ms once rest (left_by w ms ns (λ p. taken_after ms ns (waits x u) p taken) after))
     (steps_untold arities w s t steps there tt, other_place w x ms ns (waits x u) one taken held after)
 gathered_others arities w parts ps qs once (alone_part before a vs us os ms ns ss rest is taken steps) there =
     let s : State = state (Agent (a.tag - 1) ∷ []) vs ns in
@@ -146,7 +146,7 @@ gathered_others arities w parts ps qs once (alone_part before a vs us os ms ns s
     let one : HoldOnce ms = (λ v. let less = gathered_fewer arities (holds v) before os ms rest in let few = once v in omega arith) in
     let held : ◌≡◌ {A = ℕ} (cond (word_eq a a) 1 0) 1 = rw (word_itself a) refl in
     all_more (λ p. EachName (Not w) p.tokens × (p.place ≡ w → ⊥)) before (part a us)
-    (gathered_others arities w before os ms once rest (left_by w ms ns (λ p. taken_behind ms ns (agent_of a vs) p taken) after))
+    (gathered_others arities w before os ms once rest (left_by w ms ns (λ p. taken_after ms ns (agent_of a vs) p taken) after))
     (steps_untold arities w s t steps there tt, other_place w a ms ns (agent_of a vs) one taken held after)
 
 left_name : (x u : Word) (ms ns : List Piece) → x.tag ≡ NAME → IsPermutation ms (waits x u ∷ ns) → IsLeft x ms

@@ -19,14 +19,14 @@ pub first_there : (es : List Equation) (i : ℕ) (e : Equation) → i < length e
 first_there es i e within first =
     slice_get-map pair es i ∙ ap (option_map pair) (slice_get_read es (length es) i e refl within (first_from es i e within first))
 
--- without it, those behind the place are left
+-- without it, those after the place are left
 pub rest_from : (es : List Equation) (i : ℕ) (e : Equation) → i < length es → remove (drop i es) 0 ≡ drop (i + 1) es
 rest_from es i e within = ap (λ l. remove l 0) (drop-cons es i e within) ∙ ap (λ k. drop k es) (sym (add-one i))
 
 pub fired_pair-active : (rs : List Rule) (base : ℕ) (p : Pair) (a : Active) → active_pair rs p ≡ Some a → fired_pair rs base p ≡ products_by rs base a
 fired_pair-active rs base p a is = ap (λ o. option_map_or (products_by rs base) o (p ∷ [])) is
 
--- what stands in its place, between those before and those behind
+-- what stands in its place, between those before and those after it
 pub fired_at-made : (rs : List Rule) (base : ℕ) (es : List Equation) (i : ℕ) (p : Pair) (out : List Pair) (all middle : List Equation) → slice_get (map pair es) i ≡ Some p
     → out ≡ fired_pair rs base p → map pair middle ≡ map pair (take i es) ++ out → all ≡ middle ++ drop (i + 1) es
     → map pair all ≡ fired_at rs base (map pair es) i

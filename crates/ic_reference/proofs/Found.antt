@@ -45,7 +45,7 @@ there : (c : Configuration) (interface : List Term) (es : List Equation) (next i
     → Settles c (record { interface = map tree interface; equations = map pair es; next = next }) (map pair (take i es)) (pair e ∷ map pair (drop (i + 1) es))
 there c interface es next i e r a f = rw (← ap (map pair) (at_place es i e f.within f.looked_at)) f.settles
 
--- the name of an applicable side occurs just once behind the removal of its equation
+-- the name of an applicable side occurs just once after the removal of its equation
 pub found-once : (c : Configuration) (interface : List Term) (es : List Equation) (next i : ℕ) (e r : Equation) (a : Applicable) → Found c interface es next i e r a
     → occurrences a.name (names_in (map tree interface) (map pair (remove es i))) ≤ 1
 found-once c interface es next i e r a f =

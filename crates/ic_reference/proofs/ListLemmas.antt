@@ -5,7 +5,7 @@ use Rattle.std.specs.List.{remove}
 use Rattle.ic_term.specs.declared.term.Equation.{Equation}
 use Rattle.ic_term.specs.Term.{pair}
 
--- the element at a place, and those behind it
+-- the element at a place, and those after it
 pub drop_at : {X : Type 0} (xs : List X) (i : ℕ) (x : X) → i < length xs → x ≡ get_or xs i x → drop i xs ≡ x ∷ drop (i + 1) xs
 drop_at xs i x within here = drop-cons xs i x within ∙ ap (λ d. d ∷ drop (suc i) xs) (sym here) ∙ ap (λ k. x ∷ drop k xs) (sym (add-one i))
 

@@ -6,9 +6,9 @@ use Rattle.ic_settle.specs.lemmas.SubstitutionLaws.{occurrences-append, subst_al
 use Rattle.ic_term.specs.Tree.{Tree, name, agent, Trees, no_trees, more_trees, trees_of, names, names_of}
 use Rattle.ic_reference.specs.inner.Placing.{placed, placed_all, placed_terms}
 
--- a list behind what is done
-abbrev pub behind : {A : Type 0} → List A → List A × Option Tree → List A × Option Tree
-behind done rest = (done ++ rest.0, rest.1)
+-- a list after what is done
+abbrev pub put_after : {A : Type 0} → List A → List A × Option Tree → List A × Option Tree
+put_after done rest = (done ++ rest.0, rest.1)
 
 -- the arguments of an agent are placed in as a list is
 pub placed_all-trees_of : (x : ℕ) (held : Option Tree) (ts : List Tree)
@@ -18,7 +18,7 @@ placed_all-trees_of x held (t ∷ ts) =
     let rest = placed_all-trees_of x (placed x held t).1 ts in ap (λ r. (more_trees (placed x held t).0 r.0, r.1)) rest
 
 -- an agent whose arguments are all done
-pub placed-agent : (x : ℕ) (held after : Option Tree) (s : ℕ) (ts done : List Tree) → behind done (placed_terms x after []) ≡ placed_terms x held ts
+pub placed-agent : (x : ℕ) (held after : Option Tree) (s : ℕ) (ts done : List Tree) → put_after done (placed_terms x after []) ≡ placed_terms x held ts
     → placed x held (agent s (trees_of ts)) ≡ (agent s (trees_of done), after)
 placed-agent x held after s ts done e =
     let all = ap (λ r. (trees_of r.0, r.1)) (sym e ∙ ap (λ l. (l, after)) (append-nil done)) in
@@ -36,7 +36,7 @@ mutual
       ap (λ f. (more_trees f.0 (placed_all x f.1 ts).0, (placed_all x f.1 ts).1)) (placed-none x t)
       ∙ ap (λ r. (more_trees t r.0, r.1)) (placed_all-none x ts)
 
--- what is still held behind so many occurrences
+-- what is still held after so many occurrences
 abbrev pub left_over : Tree → ℕ → Option Tree
 left_over u zero = Some u
 left_over u (suc k) = None

@@ -4,7 +4,7 @@ ghost use Rattle.std.specs.Prelude.{◌≡◌, ◌≤◌, map, option_map, IfOk}
 ghost use Rattle.ic_term.specs.declared.limits.TheConstants.{MAX_NEXT};
 ghost use Rattle.ic_term.specs.Term.{pair};
 ghost use Rattle.ic_rules.specs.RuleSet.{IsRuleSet};
-ghost use Rattle.ic_round.specs.Firing.{next_behind};
+ghost use Rattle.ic_round.specs.Firing.{next_after};
 ghost use Rattle.ic_round.specs.Works.{works_from};
 ghost use Rattle.ic_round.specs.WorkViews.{work_of};
 ghost use Rattle.ic_round.specs.Gathering.{gap_at};
@@ -64,13 +64,13 @@ pub(crate) fn separate(
     equations: Vec<Equation>,
     next: u64,
 ) -> Result<Separated, AllocError>
-    requires { next_behind rules.now.rules next (map pair equations.items) ≤ MAX_NEXT }
+    requires { next_after rules.now.rules next (map pair equations.items) ≤ MAX_NEXT }
     ensures works { IfOk result (λ s. map work_of s.works.items
         ≡ works_from rules.now.rules 0 next (map pair equations.items)) }
     ensures equations { IfOk result (λ s. map (option_map pair) s.equations.items
         ≡ map (gap_at rules.now.rules) (map pair equations.items)) }
     ensures next { IfOk result (λ s. s.next
-        ≡ next_behind rules.now.rules next (map pair equations.items)) }
+        ≡ next_after rules.now.rules next (map pair equations.items)) }
     ensures sound { IsRuleSet rules.now }
 {
     let known = rules.rules();

@@ -71,16 +71,16 @@ fired_from rs base [] = []
 fired_from rs base (p ∷ ps) = fired_pair rs base p ++ fired_from rs (base + names_taken rs p) ps
 
 -- the first number after the names that the equations take
-abbrev pub next_behind : List Rule → ℕ → List Pair → ℕ
-next_behind rs base [] = base
-next_behind rs base (p ∷ ps) = next_behind rs (base + names_taken rs p) ps
+abbrev pub next_after : List Rule → ℕ → List Pair → ℕ
+next_after rs base [] = base
+next_after rs base (p ∷ ps) = next_after rs (base + names_taken rs p) ps
 
 -- a configuration with all its active equations fired
 abbrev pub fired : List Rule → Configuration → Configuration
 fired rs c = record {
   interface = c.interface;
   equations = fired_from rs c.next c.equations;
-  next = next_behind rs c.next c.equations;
+  next = next_after rs c.next c.equations;
 }
 
 -- the places of the active equations of a list, the first of which stands at this place

@@ -13,7 +13,7 @@
 //!   `mark PLACE BYTE PLACE BYTES` for those of the bytes and then of the byte, `touch` for a read of nothing,
 //!   `look PLACE BYTES` for the length and as many bytes.
 //! - Of the frames on a disk in memory: `begin BODY` makes the first, `find` opens them, `keep BODY` keeps one,
-//!   `stage BODY` writes it behind a closed gate, `usable` tells whether they are neither broken nor worn, `leave`
+//!   `stage BODY` writes it after a closed gate, `usable` tells whether they are neither broken nor worn, `leave`
 //!   closes them. `holds BODY` tells what was found.
 //! - `opens PATH`: whether a disk is opened there, without making it and with. `laws`: the calls that are laws.
 

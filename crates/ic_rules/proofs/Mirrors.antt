@@ -4,18 +4,18 @@ use Rattle.std.proofs.lemmas.List.{map-append, length-map}
 use Rattle.std.specs.Cmp.{unsigned_Decides}
 use Rattle.std.specs.List.{flat_map, list_any, AllByRecursion}
 use Rattle.ic_term.specs.Tree.{Tree, names}
-use Rattle.ic_rules.specs.Renaming.{renamed, first_behind, first_occurrences, number_among}
+use Rattle.ic_rules.specs.Renaming.{renamed, first_after, first_occurrences, number_among}
 use Rattle.ic_rules.specs.lemmas.RenamingLaws.{flat_names-renamed, Through, through-append, terms-through}
-use Rattle.ic_rules.specs.lemmas.NumberingLaws.{Undone, undone-append, each_undone, first_behind-map, number_among-map, name_at, Fixes, terms-fixed}
+use Rattle.ic_rules.specs.lemmas.NumberingLaws.{Undone, undone-append, each_undone, first_after-map, number_among-map, name_at, Fixes, terms-fixed}
 use Rattle.ic_rules.specs.Rule.{Rule, numbered, swapped, rule_eq, is_lopsided}
 use Rattle.ic_rules.specs.lemmas.RuleLaws.{rule_eq-Decides}
 use Rattle.ic_rules.specs.Mirror.{IsOwnMirror}
 
 -- a renaming that is undone on names is so on their first occurrences
-undone_firsts : (f back : ℕ → ℕ) (seen ns : List ℕ) → Undone f back seen → Undone f back ns → Undone f back (first_behind seen ns)
+undone_firsts : (f back : ℕ → ℕ) (seen ns : List ℕ) → Undone f back seen → Undone f back ns → Undone f back (first_after seen ns)
 undone_firsts f back seen [] us un = us
 undone_firsts f back seen (n ∷ ns) us un =
-    elim (list_any (λ m. n == m) seen) as (λ b. Undone f back (cond b (first_behind seen ns) (first_behind (seen ++ n ∷ []) ns))) [
+    elim (list_any (λ m. n == m) seen) as (λ b. Undone f back (cond b (first_after seen ns) (first_after (seen ++ n ∷ []) ns))) [
       | true ↦ undone_firsts f back seen ns us un.1
       | false ↦ undone_firsts f back (seen ++ n ∷ []) ns (undone-append f back seen (n ∷ []) us (un.0, tt)) un.1
     ]
@@ -23,7 +23,7 @@ undone_firsts f back seen (n ∷ ns) us un =
 -- renamed names have the numbers of the names
 numbers_of_renamed : (f back : ℕ → ℕ) (ns : List ℕ) → Undone f back ns → Through f (number_among (first_occurrences (map f ns))) (number_among (first_occurrences ns)) ns
 numbers_of_renamed f back ns un =
-    subst (λ firsts. Through f (number_among firsts) (number_among (first_occurrences ns)) ns) (sym (first_behind-map f back [] ns tt un))
+    subst (λ firsts. Through f (number_among firsts) (number_among (first_occurrences ns)) ns) (sym (first_after-map f back [] ns tt un))
     (each ns un)
   where
     each : (ms : List ℕ) → Undone f back ms → Through f (number_among (map f (first_occurrences ns))) (number_among (first_occurrences ns)) ms
@@ -31,7 +31,7 @@ numbers_of_renamed f back ns un =
     each (m ∷ ms) um = (number_among-map f back (first_occurrences ns) m (undone_firsts f back [] ns tt un) um.0, each ms um.1)
 
 count_of_renamed : (f back : ℕ → ℕ) (ns : List ℕ) → Undone f back ns → length (first_occurrences (map f ns)) ≡ length (first_occurrences ns)
-count_of_renamed f back ns un = ap length (first_behind-map f back [] ns tt un) ∙ length-map (first_occurrences ns) f
+count_of_renamed f back ns un = ap length (first_after-map f back [] ns tt un) ∙ length-map (first_occurrences ns) f
 
 -- a renaming that gives names back when it is done twice
 back_again : (f : ℕ → ℕ) (ns : List ℕ) → map f (map f ns) ≡ ns → Undone f f ns

@@ -13,7 +13,7 @@ use Rattle.ic_term.specs.Symbol.{Symbol}
 use Rattle.ic_rules.specs.declared.limits.TheConstants.{MAX_WIDE_RULES, MAX_RULE_NODES}
 use Rattle.ic_rules.specs.Renaming.{renamed, renamed_trees, number_among, first_occurrences}
 use Rattle.ic_rules.specs.Rule.{Rule, stands_for, same_pair, agents, agents_of, rule_agents, rule_names, rule_nodes, numbered, IsRule}
-use Rattle.ic_rules.specs.RuleSet.{repeated_behind, first_repeated, first_unfit, unfit_among, are_few, IsRuleSet}
+use Rattle.ic_rules.specs.RuleSet.{repeated_after, first_repeated, first_unfit, unfit_among, are_few, IsRuleSet}
 use Rattle.std.proofs.lemmas.List.Sums.{sum_by-append}
 use Rattle.ic_rules.specs.Written.{written}
 use Rattle.ic_rules.specs.inner.Places.{ArePlaces, pair_eq}
@@ -74,13 +74,13 @@ length_written rs i within = length-map (take i rs) written ∙ length-take-le i
 -- the pair of the next rule is there already
 pub repeated_here : (rs : List (Cell × Cell)) (i : ℕ) (d : Cell × Cell) → i < length rs
     → list_any (same_pair (written (get_or rs i d))) (map written (take i rs)) ≡ true
-    → repeated_behind (map written (take i rs)) (map written (drop i rs)) ≡ Some i
+    → repeated_after (map written (take i rs)) (map written (drop i rs)) ≡ Some i
 repeated_here rs i d within there = rw (drop_written rs i d within, there) (ap Some (length_written rs i within))
 
 -- the pair of the next rule is new
 pub repeated_later : (rs : List (Cell × Cell)) (i : ℕ) (d : Cell × Cell) → i < length rs
     → list_any (same_pair (written (get_or rs i d))) (map written (take i rs)) ≡ false
-    → repeated_behind (map written (take i rs)) (map written (drop i rs)) ≡ repeated_behind (map written (take (i + 1) rs)) (map written (drop (i + 1) rs))
+    → repeated_after (map written (take i rs)) (map written (drop i rs)) ≡ repeated_after (map written (take (i + 1) rs)) (map written (drop (i + 1) rs))
 repeated_later rs i d within new = rw (drop_written rs i d within, new, take_written rs i d within) refl
 
 -- whether the pair of a rule is among those of others, by the map of their places
@@ -175,10 +175,10 @@ pairs-numbered : (p : Rule → Rule → Bool) → ((r s : Rule) → p (numbered 
 pairs-numbered p same r [] = refl
 pairs-numbered p same r (s ∷ rs) = λ i. same r s i || pairs-numbered p same r rs i
 
-repeated-numbered : (seen rs : List Rule) → repeated_behind (map numbered seen) (map numbered rs) ≡ repeated_behind seen rs
+repeated-numbered : (seen rs : List Rule) → repeated_after (map numbered seen) (map numbered rs) ≡ repeated_after seen rs
 repeated-numbered seen [] = refl
 repeated-numbered seen (r ∷ rs) =
-    (λ i. cond (pairs-numbered same_pair (λ _ _. refl) r seen i) (Some (length-map seen numbered i)) (repeated_behind (sym (map-append numbered seen (r ∷ [])) i) (map numbered rs)))
+    (λ i. cond (pairs-numbered same_pair (λ _ _. refl) r seen i) (Some (length-map seen numbered i)) (repeated_after (sym (map-append numbered seen (r ∷ [])) i) (map numbered rs)))
     ∙ ap (cond (list_any (same_pair r) seen) (Some (length seen))) (repeated-numbered (seen ++ r ∷ []) rs)
 
 position-numbered : (a b j : ℕ) (rs : List Rule) → position_from (stands_for a b) j (map numbered rs) ≡ position_from (stands_for a b) j rs

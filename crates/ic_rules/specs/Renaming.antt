@@ -14,14 +14,14 @@ abbrev mutual
   renamed_trees f (more_trees t ts) = more_trees (renamed f t) (renamed_trees f ts)
 
 -- the names of a list in the order in which they first occur, after those seen
-abbrev pub first_behind : List ℕ → List ℕ → List ℕ
-first_behind seen [] = seen
-first_behind seen (n ∷ ns) = if list_any (λ m. n == m) seen then first_behind seen ns
-    else first_behind (seen ++ n ∷ []) ns
+abbrev pub first_after : List ℕ → List ℕ → List ℕ
+first_after seen [] = seen
+first_after seen (n ∷ ns) = if list_any (λ m. n == m) seen then first_after seen ns
+    else first_after (seen ++ n ∷ []) ns
 
 -- the names of a list in the order in which they first occur, each once
 abbrev pub first_occurrences : List ℕ → List ℕ
-first_occurrences ns = first_behind [] ns
+first_occurrences ns = first_after [] ns
 
 -- the number of a name: its place among the first occurrences
 abbrev pub number_among : List ℕ → ℕ → ℕ

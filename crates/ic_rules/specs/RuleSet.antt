@@ -42,14 +42,14 @@ abbrev pub first_uncounted : List Rule → Option ℕ
 first_uncounted rs = position_from (λ r. not (are_paired (rule_names r))) 0 rs
 
 -- the first rule, after earlier ones, whose unordered pair an earlier one has
-abbrev pub repeated_behind : List Rule → List Rule → Option ℕ
-repeated_behind earlier [] = None
-repeated_behind earlier (r ∷ rs) = if list_any (same_pair r) earlier then Some (length earlier)
-    else repeated_behind (earlier ++ r ∷ []) rs
+abbrev pub repeated_after : List Rule → List Rule → Option ℕ
+repeated_after earlier [] = None
+repeated_after earlier (r ∷ rs) = if list_any (same_pair r) earlier then Some (length earlier)
+    else repeated_after (earlier ++ r ∷ []) rs
 
 -- the first rule whose unordered pair an earlier rule has
 abbrev pub first_repeated : List Rule → Option ℕ
-first_repeated rs = repeated_behind [] rs
+first_repeated rs = repeated_after [] rs
 
 -- the first rule of a symbol with itself that isn't its own swap
 abbrev pub first_lopsided : List Rule → Option ℕ

@@ -37,17 +37,17 @@ pub fn clients_are_told_in_order()
 /// The fault that is told of several is the first client's, else the first runner's, else the
 /// keep's. None is told where all ended well.
 pub fn the_first_fault_is_told()
-    ensures client { (before behind : List ClientRun) (run : ClientRun) (ends : List RunnerEnd)
+    ensures client { (before after : List ClientRun) (run : ClientRun) (ends : List RunnerEnd)
         (fault : BookFault) (kept : Result (Unit {0}) BookFault)
         (told : Result (Unit {0}) ScriptsFault)
         → AllByRecursion (λ earlier. earlier.end ≡ None) before → run.end ≡ Some fault
-        → IsFirstOf (faults_of (before ++ run ∷ behind) ends kept) told → told ≡ Err (Book fault) }
-    ensures runner { (runs : List ClientRun) (before behind : List RunnerEnd) (end : RunnerEnd)
+        → IsFirstOf (faults_of (before ++ run ∷ after) ends kept) told → told ≡ Err (Book fault) }
+    ensures runner { (runs : List ClientRun) (before after : List RunnerEnd) (end : RunnerEnd)
         (fault : ScriptsFault) (kept : Result (Unit {0}) BookFault)
         (told : Result (Unit {0}) ScriptsFault) → AllByRecursion (λ run. run.end ≡ None) runs
         → AllByRecursion (λ earlier. runner_fault earlier ≡ None) before
         → runner_fault end ≡ Some fault
-        → IsFirstOf (faults_of runs (before ++ end ∷ behind) kept) told → told ≡ Err fault }
+        → IsFirstOf (faults_of runs (before ++ end ∷ after) kept) told → told ≡ Err fault }
     ensures keep { (runs : List ClientRun) (ends : List RunnerEnd) (fault : BookFault)
         (kept : Result (Unit {0}) BookFault) (told : Result (Unit {0}) ScriptsFault)
         → AllByRecursion (λ run. run.end ≡ None) runs

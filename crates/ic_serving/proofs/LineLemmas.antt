@@ -44,6 +44,6 @@ pub after_event : (t u : List JobParts) (e : Event) (r : Reply) → apply t e �
 after_event t u e r is = sym (ap (λ o. option_map_or (λ (p : Outcome). p.table) o t) is)
 
 -- the table that was kept last, where one entry more stands in the history
-pub kept_behind : (s n : List JobParts) (h l : List Entry) (e : Entry) (k m : ℕ) → n ≡ s → l ≡ h ++ e ∷ [] → m ≡ k → k ≤ length h
+pub kept_after : (s n : List JobParts) (h l : List Entry) (e : Entry) (k m : ℕ) → n ≡ s → l ≡ h ++ e ∷ [] → m ≡ k → k ≤ length h
     → table_kept n l m ≡ table_kept s h k
-kept_behind s n h l e k m a b c within = rw (a, b, c) (ap (replay s) (take-append-le k h (e ∷ []) within))
+kept_after s n h l e k m a b c within = rw (a, b, c) (ap (replay s) (take-append-le k h (e ∷ []) within))

@@ -68,7 +68,7 @@ module _ {D : Type 0} {ghosts : Ghosts D} where
   pub same_then : (old mid new : Book D ghosts) → IsSamePage old mid → start_of new ≡ start_of mid → log_of new ≡ log_of mid → IsSamePage old new
   same_then old mid new same start log = record { start = start ∙ same.start; log = log ∙ same.log }
 
-  -- a command, behind a page that stays
+  -- a command, after a page that stays
   pub one_room : (book : Book D ghosts) (c : Command) → HasRoom (by_command c ∷ []) book → length (log_of book) < MAX_ENTRIES
   one_room book c room = omega (arith, room)
 
@@ -77,21 +77,21 @@ module _ {D : Type 0} {ghosts : Ghosts D} where
   command_goes c reply old mid new same start log = goes_after (by_command c ∷ []) old mid new same
       (record { entries = command_entry 0 c reply ∷ []; start = start; log = log; events = refl; senders = (refl, tt) })
 
-  -- how long the log is behind these events
-  long_behind : (es : List Event) (old new : Book D ghosts) → GoesOn es old new → length (log_of new) ≡ length (log_of old) + length es
-  long_behind es old new goes =
+  -- how long the log is after these events
+  long_after : (es : List Event) (old new : Book D ghosts) → GoesOn es old new → length (log_of new) ≡ length (log_of old) + length es
+  long_after es old new goes =
       let grown = ap length goes.log ∙ length-append (log_of old) goes.entries in
       let many : length goes.entries ≡ length es = sym (length-map goes.entries (λ (e : Entry). e.event)) ∙ ap length goes.events in
       grown ∙ ap (λ n. length (log_of old) + n) many
 
-  -- where there is room for all events, there is room behind a front of them
-  pub room_behind : (all front rest : List Event) (old book : Book D ghosts) → all ≡ front ++ rest → HasRoom all old → GoesOn front old book → length (log_of book) < MAX_ENTRIES
-  room_behind all front rest old book parted room goes =
-      let long = long_behind front old book goes in
+  -- where there is room for all events, there is room after a front of them
+  pub room_after : (all front rest : List Event) (old book : Book D ghosts) → all ≡ front ++ rest → HasRoom all old → GoesOn front old book → length (log_of book) < MAX_ENTRIES
+  room_after all front rest old book parted room goes =
+      let long = long_after front old book goes in
       let sum = ap length parted ∙ length-append front rest in
       omega (arith, room, long, sum)
 
-  -- a round was made behind a page that was begun or stays
+  -- a round was made after a page that was begun or stays
   pub makes_round : (after place : ℕ) (old mid new : Book D ghosts) (f : FlightParts) (reply : Reply) → due (table_of old) after ≡ Some f → place ≡ f.place
       → StaysPut old mid → Advances (Round f.name) mid new → start_of new ≡ start_of mid → log_of new ≡ log_of mid ++ round_entry f.name reply ∷ []
       → MakesRound after place old new
@@ -126,9 +126,9 @@ module _ {D : Type 0} {ghosts : Ghosts D} where
 
   module _ (count made place : ℕ) (first book : Book D ghosts) (p : PageInRun count made place first book) where
     left : HasRoom (turns count 0 (table_of first)) first → length (log_of book) < MAX_ENTRIES
-    left room = room_behind (turns count 0 (table_of first)) p.events (turns (count - made) place (table_of book)) first book p.parted room (p.goes room)
+    left room = room_after (turns count 0 (table_of first)) p.events (turns (count - made) place (table_of book)) first book p.parted room (p.goes room)
 
-    -- one round more, behind which the page stays
+    -- one round more, after which the page stays
     pub page_more : (f : FlightParts) (mid new : Book D ghosts) → made < count → due (table_of book) place ≡ Some f → table_of mid ≡ table_after (table_of book) (Round f.name)
         → (length (log_of book) < MAX_ENTRIES → GoesOn (Round f.name ∷ []) book mid) → table_of new ≡ table_of mid → IsSamePage mid new
         → PageInRun count (made + 1) (f.place + 1) first new

@@ -22,11 +22,11 @@ use Rattle.ic_lines.specs.declared.buffer.LineFault.{LineFault}
 use Rattle.ic_lines.specs.declared.buffer.LineFault.TheVariants as line_fault
 use Rattle.ic_serving.specs.inner.Progress.{AreFirst, AreToCome, IsUnderWay}
 use Rattle.ic_serving.specs.lemmas.Reaching.{SomeWay, in_first, served_none}
-use Rattle.ic_serving.proofs.WriteLemmas.{appends_none, appends_kept, appends_more, front_none, front_behind}
+use Rattle.ic_serving.proofs.WriteLemmas.{appends_none, appends_kept, appends_more, front_none, front_after}
 
 -- ---- lines that were answered
 
--- lines behind other lines are served from the table that those leave
+-- lines after other lines are served from the table that those leave
 abbrev pub Joined : Type 0
 Joined = (t u v : List JobParts) (ls more : List (List ℕ)) (a b : List ℕ) → IsServed t ls a u → IsServed u more b v → IsServed t (ls ++ more) (a ++ b) v
 
@@ -179,10 +179,10 @@ cut_before ls t u old mid new answered kept = record {
   written = front_none old new answered.answers (appends_kept old mid new answered.answers answered.written kept);
 }
 
-pub cut_behind : (ls : List (List ℕ)) (n : ℕ) (t u v : List JobParts) (old mid seen new : Option (List ℕ)) (line bytes : List ℕ) (r : Reading)
+pub cut_after : (ls : List (List ℕ)) (n : ℕ) (t u v : List JobParts) (old mid seen new : Option (List ℕ)) (line bytes : List ℕ) (r : Reading)
     → AreAnswered ls t u old mid → length ls ≡ n → length line ≤ MAX_TEXT → n < MAX_LINES
     → ReadsLine line r → bytes ≡ answer u r → v ≡ after_line u r → Keeps mid seen → AppendsFront seen new [] bytes → IsCut (ls ++ line ∷ []) t v old new
-cut_behind ls n t u v old mid seen new line bytes r answered counted short less reads is left kept written = record {
+cut_after ls n t u v old mid seen new line bytes r answered counted short less reads is left kept written = record {
   whole = ls;
   last = line ∷ [];
   between = u;
@@ -193,7 +193,7 @@ cut_behind ls n t u v old mid seen new line bytes r answered counted short less 
   within = within_more ls line n answered.within counted less short;
   answered = answered.served;
   done = served_line u line bytes r v reads is left;
-  written = front_behind old mid seen new answered.answers bytes answered.written kept written;
+  written = front_after old mid seen new answered.answers bytes answered.written kept written;
 }
 
 -- ---- where a table stands
@@ -242,15 +242,15 @@ not_taken line_fault.LongLine rest front long =
     record { more = comes.line ∷ comes.more; coming = comes.coming; says = (is.0, comes.long) }
 not_taken line_fault.Memory rest front long = record { more = ahead rest; coming = is_ahead rest; says = tt }
 
--- nor behind the last line that may be served
-pub none_behind : (e : LineFault) (f : ServeFault) (rest : Option (List ℕ)) (front : List (List ℕ)) → (e ≡ line_fault.LongLine → f ≡ TooManyLines) → (e ≢ line_fault.LongLine → f ≡ fault_of_line e)
+-- nor after the last line that may be served
+pub none_after : (e : LineFault) (f : ServeFault) (rest : Option (List ℕ)) (front : List (List ℕ)) → (e ≡ line_fault.LongLine → f ≡ TooManyLines) → (e ≢ line_fault.LongLine → f ≡ fault_of_line e)
     → length front ≡ MAX_LINES → (e ≡ line_fault.LongLine → HasLongLine rest) → NotTaken f rest front
-none_behind line_fault.LongLine f rest front many others full long =
+none_after line_fault.LongLine f rest front many others full long =
     let comes = comes_long rest (long refl) in
     record { more = comes.line ∷ comes.more; coming = comes.coming; says = (let is = many refl in rw is full) }
-none_behind line_fault.Read f rest front many others full long = let is = others (λ e. cc) in record { more = ahead rest; coming = is_ahead rest; says = rw is tt }
-none_behind line_fault.Write f rest front many others full long = let is = others (λ e. cc) in record { more = ahead rest; coming = is_ahead rest; says = rw is tt }
-none_behind line_fault.Memory f rest front many others full long = let is = others (λ e. cc) in record { more = ahead rest; coming = is_ahead rest; says = rw is tt }
+none_after line_fault.Read f rest front many others full long = let is = others (λ e. cc) in record { more = ahead rest; coming = is_ahead rest; says = rw is tt }
+none_after line_fault.Write f rest front many others full long = let is = others (λ e. cc) in record { more = ahead rest; coming = is_ahead rest; says = rw is tt }
+none_after line_fault.Memory f rest front many others full long = let is = others (λ e. cc) in record { more = ahead rest; coming = is_ahead rest; says = rw is tt }
 
 -- where all was kept, the table that was kept last is before the events or after a front of them
 pub kept_part : (u kept : List JobParts) (es : List Event) (w : List JobParts) → kept ≡ u → IsKeptWithin u kept es w → IsPart u es w
@@ -264,22 +264,22 @@ counts_line line_fault.Write old new same = same
 counts_line line_fault.LongLine old new same = same
 counts_line line_fault.Memory old new same = same
 
-pub counts_behind : (e : LineFault) (f : ServeFault) (old new : ℕ) → (e ≡ line_fault.LongLine → f ≡ TooManyLines) → (e ≢ line_fault.LongLine → f ≡ fault_of_line e)
+pub counts_after : (e : LineFault) (f : ServeFault) (old new : ℕ) → (e ≡ line_fault.LongLine → f ≡ TooManyLines) → (e ≢ line_fault.LongLine → f ≡ fault_of_line e)
     → new ≡ old → CountsServe {T = Unit {0}} (Err f) old new
-counts_behind line_fault.LongLine f old new many others same = let is = many refl in rw is same
-counts_behind line_fault.Read f old new many others same = let is = others (λ e. cc) in rw is same
-counts_behind line_fault.Write f old new many others same = let is = others (λ e. cc) in rw is same
-counts_behind line_fault.Memory f old new many others same = let is = others (λ e. cc) in rw is same
+counts_after line_fault.LongLine f old new many others same = let is = many refl in rw is same
+counts_after line_fault.Read f old new many others same = let is = others (λ e. cc) in rw is same
+counts_after line_fault.Write f old new many others same = let is = others (λ e. cc) in rw is same
+counts_after line_fault.Memory f old new many others same = let is = others (λ e. cc) in rw is same
 
 -- nor is the book broken
-pub ready_behind : (e : LineFault) (f : ServeFault) (broken : Bool) (number : ℕ) → (e ≡ line_fault.LongLine → f ≡ TooManyLines) → (e ≢ line_fault.LongLine → f ≡ fault_of_line e)
+pub ready_after : (e : LineFault) (f : ServeFault) (broken : Bool) (number : ℕ) → (e ≡ line_fault.LongLine → f ≡ TooManyLines) → (e ≢ line_fault.LongLine → f ≡ fault_of_line e)
     → broken ≡ false → StaysReady f broken number
-ready_behind line_fault.LongLine f broken number many others same = let is = many refl in rw is same
-ready_behind line_fault.Read f broken number many others same = let is = others (λ e. cc) in rw is same
-ready_behind line_fault.Write f broken number many others same = let is = others (λ e. cc) in rw is same
-ready_behind line_fault.Memory f broken number many others same = let is = others (λ e. cc) in rw is same
+ready_after line_fault.LongLine f broken number many others same = let is = many refl in rw is same
+ready_after line_fault.Read f broken number many others same = let is = others (λ e. cc) in rw is same
+ready_after line_fault.Write f broken number many others same = let is = others (λ e. cc) in rw is same
+ready_after line_fault.Memory f broken number many others same = let is = others (λ e. cc) in rw is same
 
--- which faults a serving has where no line is taken, and behind one
+-- which faults a serving has where no line is taken, and after one
 pub comes_by_line : (e : LineFault) → MayCome (fault_of_line e)
 comes_by_line line_fault.Read = tt
 comes_by_line line_fault.Write = tt

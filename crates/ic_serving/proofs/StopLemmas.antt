@@ -44,7 +44,7 @@ use Rattle.ic_lines.specs.Serving.{IsServed}
 use Rattle.ic_serving.specs.inner.Progress.{AreFirst, AreToCome, IsUnderWay}
 use Rattle.ic_book.specs.lemmas.Chains.{by_calls_then}
 use Rattle.ic_serving.specs.lemmas.Leaving.{leaves_more, leaves_then, leaves_nothing}
-use Rattle.ic_serving.proofs.LineLemmas.{kept_behind}
+use Rattle.ic_serving.proofs.LineLemmas.{kept_after}
 use Rattle.ic_serving.proofs.RunLemmas.{InRun, run_begun}
 use Rattle.ic_serving.specs.lemmas.Reaching.{SomeWay, in_line, reached_now, reached_longer}
 use Rattle.ic_serving.proofs.ServeLemmas.{of_lines, none_ahead, over, ended_at, cut_before, left_first, may_come, counts_as}
@@ -56,7 +56,7 @@ pub kept_or_now : (t kept : List JobParts) (es : List Event) (u : List JobParts)
 kept_or_now t kept es u (inl stays) = inl stays
 kept_or_now t kept es u (inr now) = inr (record { front = []; rest = es; parted = refl; leaves = now })
 
--- behind all of them
+-- after all of them
 pub kept_or_all : (t kept : List JobParts) (es : List Event) (v w u : List JobParts) → v ≡ after_events t es → IsKeptWithin t kept es w
     → (u ≡ w) ⊎ (u ≡ v) → IsKeptWithin t kept es u
 kept_or_all t kept es v w u all within (inl stays) = rw stays within
@@ -125,7 +125,7 @@ module _ {D : Type 0} {ghosts : Ghosts D} where
       → IsByCalls mid new → Leaves old new (IsKeptWithin (table_of old) (last_kept old) (by_command c ∷ []))
   leaves_command old mid new c r so_far put replayed within adds keeps made run done =
       let kept_there : table_kept (start_of mid) (log_of new) (kept_of mid) ≡ last_kept mid =
-      kept_behind (start_of mid) (start_of mid) (log_of mid) (log_of new) (command_entry 0 c r) (kept_of mid) (kept_of mid) refl adds.entry refl within in
+      kept_after (start_of mid) (start_of mid) (log_of mid) (log_of new) (command_entry 0 c r) (kept_of mid) (kept_of mid) refl adds.entry refl within in
       let all_there : replay (start_of mid) (log_of new) ≡ table_after (table_of old) (by_command c) =
       ap (replay (start_of mid)) adds.entry ∙ replay_more (start_of mid) (log_of mid) (command_entry 0 c r)
       ∙ ap (λ y. table_after y (by_command c)) (replayed ∙ put.table) in
@@ -228,7 +228,7 @@ module _ {D : Type 0} {ghosts : Ghosts D} where
         rest = [];
         parted = refl;
         all = refl;
-        turns = record { between = book; answered = s.turns; behind = idle };
+        turns = record { between = book; answered = s.turns; after = idle };
         served = over s.way.front (table_of first) (table_of book) old mid new s.way.answered kept;
         kept = s.kept;
         ended = tt;
@@ -237,22 +237,22 @@ module _ {D : Type 0} {ghosts : Ghosts D} where
         crash = stops_longer law first book s.way.front [] s.moments;
       })
 
-  -- a fault came behind these lines, and before those that are to come
+  -- a fault came after these lines, and before those that are to come
   pub serving_err : {T : Type 0} (r : Result T ServeFault) (fault : ServeFault) → IsErrAnd r (λ x. x ≡ fault)
       → (text rest : Option (List ℕ)) (front more : List (List ℕ)) (first book new : Book D ghosts) (old now : Option (List ℕ))
       → AreFirst text front rest → AreToCome rest more
       → (fault ≢ Write → IsEnded fault (IsAllKept first) front more (table_of first) (table_of new) (last_kept new) old now)
       → (fault ≡ Write → IsCut front (table_of first) (table_of new) old now) → (fault ≡ Write → IsAllKept first → IsAllKept new)
       → LeavesServed first new (front ++ more) → AreAnsweredInTurn front first book → IsByCalls book new → OfLines text (λ ls. IsServing r ls first new old now)
-  serving_err (Ok v) fault is text rest front more first book new old now begins coming ended cut kept run turns behind = absurd is
-  serving_err {T} (Err e) fault is text rest front more first book new old now begins coming ended cut kept run turns behind =
+  serving_err (Ok v) fault is text rest front more first book new old now begins coming ended cut kept run turns after = absurd is
+  serving_err {T} (Err e) fault is text rest front more first book new old now begins coming ended cut kept run turns after =
       let same : e ≡ fault = is in
       of_lines text rest front more (λ ls. IsServing {T = T} (Err e) ls first new old now) begins coming (record {
         front = front;
         rest = more;
         parted = refl;
         all = tt;
-        turns = record { between = book; answered = turns; behind = behind };
+        turns = record { between = book; answered = turns; after = after };
         served = tt;
         kept = tt;
         ended = λ other. subst (λ f. IsEnded f (IsAllKept first) front more (table_of first) (table_of new) (last_kept new) old now) (sym same) (ended (λ write. other (same ∙ write)));
@@ -276,12 +276,12 @@ module _ {D : Type 0} {ghosts : Ghosts D} where
 
   -- ---- the fault of a call
 
-  -- a call behind others that went well
-  pub fault_behind : {T U : Type 0} (r : Result T ServeFault) (fault : ServeFault) → IsErrAnd r (λ x. x ≡ fault) → (first book new : Book D ghosts)
+  -- a call after others that went well
+  pub fault_after : {T U : Type 0} (r : Result T ServeFault) (fault : ServeFault) → IsErrAnd r (λ x. x ≡ fault) → (first book new : Book D ghosts)
       → ghosts.failures (disk_of book) ≡ ghosts.failures (disk_of first) → (is_broken first ≡ false → is_broken book ≡ false)
       → FaultLeaves {T = U} ComesInLine (Err fault) book new → FaultLeaves MayCome r first new
-  fault_behind (Ok v) fault is first book new counted ready left = absurd is
-  fault_behind {T} {U} (Err e) fault is first book new counted ready left =
+  fault_after (Ok v) fault is first book new counted ready left = absurd is
+  fault_after {T} {U} (Err e) fault is first book new counted ready left =
       let same : e ≡ fault = is in
       let counts : CountsServe {T = T} (Err fault) (ghosts.failures (disk_of first)) (ghosts.failures (disk_of new)) =
       subst (λ n. CountsServe {T = T} (Err fault) n (ghosts.failures (disk_of new))) counted (counts_as U T fault (ghosts.failures (disk_of book)) (ghosts.failures (disk_of new)) left.counted) in

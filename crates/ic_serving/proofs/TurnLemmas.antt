@@ -9,7 +9,7 @@ use Rattle.ic_serving.specs.Answered.{EndsWith, IsAnswered}
 use Rattle.ic_serving.specs.InTurn.{AreAnsweredInTurn}
 
 module _ {D : Type 0} {ghosts : Ghosts D} where
-  -- behind other calls
+  -- after other calls
   pub ends_then : (move : Move) (old mid new : Book D ghosts) → IsByCalls old mid → EndsWith move mid new → EndsWith move old new
   ends_then move old mid new first ends = record {
     done = by_calls_then old mid new first ends.done;

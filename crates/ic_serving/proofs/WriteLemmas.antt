@@ -47,13 +47,13 @@ sent_all answer old now s = subst (Appends old now) (sym (s.parted ∙ append-ni
 pub sent_front : (answer rest : List ℕ) (old now : Option (List ℕ)) → IsSent answer rest old now → AppendsFront old now [] answer
 sent_front answer rest old now s = record { sent = s.sent; unsent = rest; parted = s.parted; written = s.written }
 
--- these bytes, and none behind them
+-- these bytes, and none after them
 pub front_none : (old now : Option (List ℕ)) (bytes : List ℕ) → Appends old now bytes → AppendsFront old now bytes []
 front_none old now bytes written = record { sent = []; unsent = []; parted = refl; written = subst (Appends old now) (sym (append-nil bytes)) written }
 
--- behind bytes that were written
-pub front_behind : (old mid seen new : Option (List ℕ)) (a b : List ℕ) → Appends old mid a → Keeps mid seen → AppendsFront seen new [] b → AppendsFront old new a b
-front_behind old mid seen new a b written kept front = record {
+-- after bytes that were written
+pub front_after : (old mid seen new : Option (List ℕ)) (a b : List ℕ) → Appends old mid a → Keeps mid seen → AppendsFront seen new [] b → AppendsFront old new a b
+front_after old mid seen new a b written kept front = record {
   sent = front.sent;
   unsent = front.unsent;
   parted = front.parted;

@@ -54,4 +54,4 @@ pub record AreServedInTurn {D : Type 0} {ghosts : Ghosts D} (ls : List (List ℕ
     (old new : Book D ghosts) : Type 0 where
   pub between : Book D ghosts
   pub answered : AreAnsweredInTurn ls old between
-  pub behind : IsByCalls between new
+  pub after : IsByCalls between new

@@ -63,10 +63,10 @@ pub record IsEnded (fault : ServeFault) (all_kept : Type 0) (front rest : List (
   pub keeps : all_kept → IsLeftBy fault between rest kept
 
 -- these bytes were written, and after them a front of these
-pub record AppendsFront (old new : Option (List ℕ)) (before behind : List ℕ) : Type 0 where
+pub record AppendsFront (old new : Option (List ℕ)) (before after : List ℕ) : Type 0 where
   pub sent : List ℕ
   pub unsent : List ℕ
-  pub parted : behind ≡ sent ++ unsent
+  pub parted : after ≡ sent ++ unsent
   pub written : Appends old new (before ++ sent)
 
 -- The writer failed: this front of the lines is done. The answers to all of them are written, except

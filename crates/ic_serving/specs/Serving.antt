@@ -18,17 +18,17 @@ use Rattle.ic_serving.specs.InTurn.{AreServedInTurn}
 -- Where all was kept, all is kept after each answer. A crash at any moment leaves a table that the
 -- lines reach, or where not all was kept before, the one that was.
 pub record IsServing {T : Type 0} {D : Type 0} {ghosts : Ghosts D} (result : Result T ServeFault)
-    (ls : List (List ℕ)) (old new : Book D ghosts) (before behind : Option (List ℕ)) : Type 0 where
+    (ls : List (List ℕ)) (old new : Book D ghosts) (before after : Option (List ℕ)) : Type 0 where
   pub front : List (List ℕ)
   pub rest : List (List ℕ)
   pub parted : ls ≡ front ++ rest
   pub all : OnOk result (rest ≡ [])
   pub turns : AreServedInTurn front old new
-  pub served : OnOk result (AreAnswered ls (table_of old) (table_of new) before behind)
+  pub served : OnOk result (AreAnswered ls (table_of old) (table_of new) before after)
   pub kept : OnOk result (IsAllKept old → IsAllKept new)
   pub ended : IfErr result (λ fault. fault ≢ Write → IsEnded fault (IsAllKept old) front rest
-      (table_of old) (table_of new) (last_kept new) before behind)
-  pub cut : result ≡ Err Write → IsCut front (table_of old) (table_of new) before behind
+      (table_of old) (table_of new) (last_kept new) before after)
+  pub cut : result ≡ Err Write → IsCut front (table_of old) (table_of new) before after
   pub kept_at_cut : result ≡ Err Write → IsAllKept old → IsAllKept new
   pub crash : Leaves old new
       (MayStand (IsAllKept old) (last_kept old) (table_of old) ls)

@@ -128,7 +128,7 @@ fn serve_with<T: Threads + Wait + Copy + Send + 'static, D: Disk, R: Read, W: Wr
     match lines.take_line(reader, writer) {
         Ok(false) => Ok(()),
         Ok(true) => Err(ServeFault::TooManyLines),
-        Err(fault) => Err(behind_the_last(fault)),
+        Err(fault) => Err(after_the_last(fault)),
     }
 }
 
@@ -158,7 +158,7 @@ fn may_take_long(reading: &Reading) -> bool {
 
 /// Why no line is taken after the last one that may be served: one that is too long is one too
 /// many.
-fn behind_the_last(fault: LineFault) -> ServeFault
+fn after_the_last(fault: LineFault) -> ServeFault
     ensures long { fault ≡ LongLine → result ≡ ServeFault.TooManyLines }
     ensures others { fault ≢ LongLine → result ≡ fault_of_line fault }
     ensures causes { MayCome result }

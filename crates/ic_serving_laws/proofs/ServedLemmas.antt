@@ -61,7 +61,7 @@ module _ {D : Type 0} {ghosts : Ghosts D} where
     runs = runs_join done.moves moves (down run.disk) (up old) (up new) run.runs (calls_run done.moves old new done.calls);
   }
 
-  -- lines that were answered in turn, and what is done behind some of them
+  -- lines that were answered in turn, and what is done after some of them
   pub reaches_turns : (moves : List Move) (ls : List (List ℕ)) (first last : Book D ghosts) (turns : AreAnsweredInTurn ls first last) → Reaches moves (up first)
       → Reaches (moves_in_turn ls first last turns ++ moves) (up last)
   reaches_turns moves [] first last turns run = subst (λ (b : Book D ghosts). Reaches moves (up b)) (sym turns) run
@@ -143,12 +143,12 @@ module _ {D : Type 0} {ghosts : Ghosts D} where
         (at.0, at.1, next, refused_so replays joins one content_is_image image_is_left left_is_image (at.0 ++ moves) cause after next)
 
     -- in the words of the lines
-    pub lines_stopped : {T : Type 0} (result : Result T ServeFault) (moves : List Move) (old new : Book D ghosts) (ls : List (List ℕ)) (before behind : Option (List ℕ))
-        (serving : IsServing result ls old new before behind) (found : D) → Reaches moves (up old) → IsFound ghosts (disk_of old) (disk_of new) found
+    pub lines_stopped : {T : Type 0} (result : Result T ServeFault) (moves : List Move) (old new : Book D ghosts) (ls : List (List ℕ)) (before after : Option (List ℕ))
+        (serving : IsServing result ls old new before after) (found : D) → Reaches moves (up old) → IsFound ghosts (disk_of old) (disk_of new) found
         → (cut : List Move) × IsCutShort serving.crash.done.moves cut × Reaches {ghosts = ghosts} (cut ++ moves) (down found)
         × ((file : List ℕ) → ghosts.image found file → (t : List JobParts) × HoldsTable t file × MayStand (IsAllKept old) (last_kept old) (table_of old) ls t
         × (history : List Entry) × IsHistoryOf (cut ++ moves) history × (t ≡ replay [] history))
-    lines_stopped result moves old new ls before behind serving found run here =
+    lines_stopped result moves old new ls before after serving found run here =
         let so = stopped_so moves old new serving.crash.done found run here in (
           so.0,
           so.1,
@@ -160,7 +160,7 @@ module _ {D : Type 0} {ghosts : Ghosts D} where
               (held.0, held.2, held.1, told.0, told.1, same),
         )
 
-    -- behind any number of answered lines
+    -- after any number of answered lines
     pub turns_stopped : (moves : List Move) (old new : Book D ghosts) (found : D)
         (all : List (List ℕ)) (served : AreServedInTurn all old new) (front more : List (List ℕ)) → all ≡ front ++ more → Reaches moves (up old)
         → (mid : Book D ghosts) × (turns : AreAnsweredInTurn front old mid) × (others : AreAnsweredInTurn more mid served.between) × (later : IsByCalls mid new)
@@ -169,7 +169,7 @@ module _ {D : Type 0} {ghosts : Ghosts D} where
         × Reaches {ghosts = ghosts} (cut ++ (moves_in_turn front old mid turns ++ moves)) (down found))
     turns_stopped moves old new found all served front more parted run =
         let split = turns_split front more old served.between (subst (λ (xs : List (List ℕ)). AreAnsweredInTurn xs old served.between) parted served.answered) in
-        let later = turns_calls more split.0 served.between new split.2 served.behind in
+        let later = turns_calls more split.0 served.between new split.2 served.after in
         let there = reaches_turns moves front old split.0 split.1 run in
         (split.0, split.1, split.2, later, there, λ here. stopped_so (moves_in_turn front old split.0 split.1 ++ moves) split.0 new later found there here)
 
@@ -182,8 +182,8 @@ not_both b one other = let never : true ≡ false = sym one ∙ other in cc
 pub record StandsUnkept {D : Type 0} {ghosts : Ghosts D} (entry : Entry) (book : Book D ghosts) : Type 0 where
   pub broken : is_broken book ≡ true
   pub front : List Entry
-  pub behind : List Entry
-  pub log : log_of book ≡ front ++ entry ∷ behind
+  pub after : List Entry
+  pub log : log_of book ≡ front ++ entry ∷ after
   pub unkept : kept_of book ≤ length front
 
 module _ {D : Type 0} {ghosts : Ghosts D} where
@@ -196,15 +196,15 @@ module _ {D : Type 0} {ghosts : Ghosts D} where
       record {
         broken = does.broken is.broken;
         front = is.front;
-        behind = is.behind ++ one;
-        log = does.page.0.adds.entry ∙ ap (λ (es : List Entry). es ++ one) is.log ∙ append_assoc is.front (entry ∷ is.behind) one;
+        after = is.after ++ one;
+        log = does.page.0.adds.entry ∙ ap (λ (es : List Entry). es ++ one) is.log ∙ append_assoc is.front (entry ∷ is.after) one;
         unkept = omega (arith, is.unkept, does.page.1);
       }
   unkept_on entry keeps old new does is = absurd (not_both (is_broken new) (does.broken is.broken) does.page.2)
   unkept_on entry stays old new does is = record {
     broken = does.broken is.broken;
     front = is.front;
-    behind = is.behind;
+    after = is.after;
     log = does.page.0.log ∙ is.log;
     unkept = omega (arith, is.unkept, does.page.1);
   }
@@ -218,28 +218,28 @@ module _ {D : Type 0} {ghosts : Ghosts D} where
     failed old new does = record {
       broken = does.page.3;
       front = log_of old;
-      behind = [];
+      after = [];
       log = does.page.0.adds.entry;
       unkept = omega (arith, (history_of old).within, does.page.1);
     }
 
-    unkept_behind : (later earlier : List Move) (old new : Book D ghosts) → Calls (later ++ fails who command reply ∷ earlier) old new → StandsUnkept (command_entry who command reply) new
-    unkept_behind [] earlier old new calls = failed calls.0 new calls.2
-    unkept_behind (move ∷ later) earlier old new calls = unkept_on (command_entry who command reply) move calls.0 new calls.2 (unkept_behind later earlier old calls.0 calls.1)
+    unkept_after : (later earlier : List Move) (old new : Book D ghosts) → Calls (later ++ fails who command reply ∷ earlier) old new → StandsUnkept (command_entry who command reply) new
+    unkept_after [] earlier old new calls = failed calls.0 new calls.2
+    unkept_after (move ∷ later) earlier old new calls = unkept_on (command_entry who command reply) move calls.0 new calls.2 (unkept_after later earlier old calls.0 calls.1)
 
     pub failed_by : (moves later earlier : List Move) (old new : Book D ghosts) → Calls moves old new → moves ≡ later ++ fails who command reply ∷ earlier
         → StandsUnkept (command_entry who command reply) new
-    failed_by moves later earlier old new calls same = unkept_behind later earlier old new (subst (λ (ms : List Move). Calls {ghosts = ghosts} ms old new) same calls)
+    failed_by moves later earlier old new calls same = unkept_after later earlier old new (subst (λ (ms : List Move). Calls {ghosts = ghosts} ms old new) same calls)
 
-  -- behind it the disk fails at no other
-  once_behind : (later between earlier : List Move) (who other : ℕ) (command second : Command) (reply answer : Reply) (old new : Book D ghosts)
+  -- after it the disk fails at no other
+  once_after : (later between earlier : List Move) (who other : ℕ) (command second : Command) (reply answer : Reply) (old new : Book D ghosts)
       → ¬ Calls (later ++ fails who command reply ∷ (between ++ fails other second answer ∷ earlier)) old new
-  once_behind [] between earlier who other command second reply answer old new calls =
-      not_both (is_broken calls.0) (unkept_behind other second answer between earlier old calls.0 calls.1).broken calls.2.page.2
-  once_behind (move ∷ later) between earlier who other command second reply answer old new calls =
-      once_behind later between earlier who other command second reply answer old calls.0 calls.1
+  once_after [] between earlier who other command second reply answer old new calls =
+      not_both (is_broken calls.0) (unkept_after other second answer between earlier old calls.0 calls.1).broken calls.2.page.2
+  once_after (move ∷ later) between earlier who other command second reply answer old new calls =
+      once_after later between earlier who other command second reply answer old calls.0 calls.1
 
   pub once_by : (moves later between earlier : List Move) (who other : ℕ) (command second : Command) (reply answer : Reply) (old new : Book D ghosts)
       → Calls moves old new → ¬ (moves ≡ later ++ fails who command reply ∷ (between ++ fails other second answer ∷ earlier))
   once_by moves later between earlier who other command second reply answer old new calls same =
-      once_behind later between earlier who other command second reply answer old new (subst (λ (ms : List Move). Calls {ghosts = ghosts} ms old new) same calls)
+      once_after later between earlier who other command second reply answer old new (subst (λ (ms : List Move). Calls {ghosts = ghosts} ms old new) same calls)

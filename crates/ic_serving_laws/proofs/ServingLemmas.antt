@@ -22,7 +22,7 @@ use Rattle.ic_serving.specs.Serving.{IsServing}
 use Rattle.ic_lives.specs.Histories.{answered, StandAmong, IsHistoryOf}
 use Rattle.ic_serving_laws.specs.Servings.{Serving, Part, ended, stopped, other, ArePartsOf, AreMovesOf, line_moves, line_replies, answered_by}
 use Rattle.ic_lives.specs.lemmas.JobLemmas.{Lives}
-use Rattle.ic_lives.specs.lemmas.AmongLemmas.{answered_join, among_self, among_behind, among_join, among_longer, among_trans, file_stands, table_stands}
+use Rattle.ic_lives.specs.lemmas.AmongLemmas.{answered_join, among_self, among_after, among_join, among_longer, among_trans, file_stands, table_stands}
 use Rattle.ic_lives.specs.lemmas.RunLemmas.{Replays, Joins, HoldsOne, prefix_after, table_after}
 use Rattle.ic_serving_laws.proofs.ServedLemmas.{reaches_more, reaches_turns, runs_join, stopped_so, turns_calls, turns_split}
 
@@ -33,7 +33,7 @@ among_moves : (es more : List Entry) (later earlier : List Move) → StandAmong 
 among_moves es more later earlier first second = subst (λ (l : List Entry). StandAmong (es ++ more) l) (sym (answered_join later earlier))
     (among_join es more (answered earlier) (answered later) first second)
 
--- also with moves behind them
+-- also with moves after them
 among_earlier : (es : List Entry) (later earlier : List Move) → StandAmong es (answered earlier) → StandAmong es (answered (later ++ earlier))
 among_earlier es later earlier first = subst (λ (l : List Entry). StandAmong es l) (sym (answered_join later earlier)) (among_longer es (answered earlier) (answered later) first)
 
@@ -45,7 +45,7 @@ module _ {D : Type 0} {ghosts : Ghosts D} where
   reply_among (Ok Blank) bytes old new done = tt
   reply_among (Ok (Command command)) bytes old new done =
       let e = command_entry 0 command done.reply in
-      subst (λ (ms : List Move). StandAmong (e ∷ []) (answered ms)) (sym done.made.last) (among_behind (answered done.made.earlier) (e ∷ []))
+      subst (λ (ms : List Move). StandAmong (e ∷ []) (answered ms)) (sym done.made.last) (among_after (answered done.made.earlier) (e ∷ []))
   reply_among (Ok (Run count)) bytes old new done = tt
   reply_among (Err fault) bytes old new done = tt
 
@@ -59,7 +59,7 @@ module _ {D : Type 0} {ghosts : Ghosts D} where
 
   -- ---- of parts
 
-  -- with the first lines of a serving, and moves behind them
+  -- with the first lines of a serving, and moves after them
   serving_among : (s : Serving ghosts) (es : List Entry) (later earlier moves : List Move) → StandAmong es (answered earlier) → moves ≡ later ++ (line_moves s ++ earlier)
       → StandAmong (es ++ line_replies s) (answered moves)
   serving_among s es later earlier moves first same =
@@ -78,10 +78,10 @@ module _ {D : Type 0} {ghosts : Ghosts D} where
 
   -- ---- a call is a serving
 
-  pub call_serves : (old new : Book D ghosts) (result : Result (Unit {0}) ServeFault) (ls : List (List ℕ)) (before behind : Option (List ℕ))
-      (serves : IsServing result ls old new before behind) (front more : List (List ℕ)) → serves.front ≡ front ++ more
+  pub call_serves : (old new : Book D ghosts) (result : Result (Unit {0}) ServeFault) (ls : List (List ℕ)) (before after : Option (List ℕ))
+      (serves : IsServing result ls old new before after) (front more : List (List ℕ)) → serves.front ≡ front ++ more
       → (serving : Serving ghosts) × (serving.old ≡ old) × (serving.new ≡ new) × (serving.ls ≡ ls) × (serving.result ≡ result) × (serving.front ≡ front)
-  call_serves old new result ls before behind serves front more parted =
+  call_serves old new result ls before after serves front more parted =
       let between = serves.turns.between in
       let split = turns_split front more old between (subst (λ (xs : List (List ℕ)). AreAnsweredInTurn xs old between) parted serves.turns.answered) in (
         record {
@@ -90,7 +90,7 @@ module _ {D : Type 0} {ghosts : Ghosts D} where
           result = result;
           ls = ls;
           before = before;
-          behind = behind;
+          after = after;
           serves = serves;
           front = front;
           more = more;
@@ -112,10 +112,10 @@ module _ {D : Type 0} {ghosts : Ghosts D} where
       (image_is_left : (disk : D) (t : ℕ) (file : List ℕ) → t ≤ ghosts.clock disk → ghosts.image disk file → LeftSince (ghosts.left disk) t file)
       (left_is_image : (disk : D) (file : List ℕ) → LeftSince (ghosts.left disk) (ghosts.clock disk) file → ghosts.image disk file) where
     later_calls : (s : Serving ghosts) → IsByCalls s.answering s.new
-    later_calls s = turns_calls s.more s.answering s.serves.turns.between s.new s.other_lines s.serves.turns.behind
+    later_calls s = turns_calls s.more s.answering s.serves.turns.between s.new s.other_lines s.serves.turns.after
 
-    behind_lines : (s : Serving ghosts) (moves : List Move) → Reaches moves (up s.old) → Reaches (line_moves s ++ moves) (up s.answering)
-    behind_lines s moves run = reaches_turns moves s.front s.old s.answering s.first_lines run
+    after_lines : (s : Serving ghosts) (moves : List Move) → Reaches moves (up s.old) → Reaches (line_moves s ++ moves) (up s.answering)
+    after_lines s moves run = reaches_turns moves s.front s.old s.answering s.first_lines run
 
     pub parts_run : (parts : List (Part ghosts)) (first : D) (last : Server ghosts) → IsTrue (ghosts.keeps first) → Within (ghosts.image first) (HoldsTable [])
         → ArePartsOf parts (down first) last → (moves : List Move) × AreMovesOf parts moves × Reaches moves last
@@ -124,12 +124,12 @@ module _ {D : Type 0} {ghosts : Ghosts D} where
         let so_far = parts_run parts first (up s.old) model created are.0 in
         let later = later_calls s in
         let moves = later.moves ++ (line_moves s ++ so_far.0) in
-        let there = reaches_more (line_moves s ++ so_far.0) s.answering s.new later (behind_lines s so_far.0 so_far.2) in
+        let there = reaches_more (line_moves s ++ so_far.0) s.answering s.new later (after_lines s so_far.0 so_far.2) in
         (moves, (so_far.0, so_far.1, later, refl), subst (λ (server : Server ghosts). Reaches moves server) (sym are.1) there)
     parts_run (stopped s found ∷ parts) first last model created are =
         let so_far = parts_run parts first (up s.old) model created are.0 in
         let later = later_calls s in
-        let at = stopped_so replays joins one content_is_image image_is_left left_is_image (line_moves s ++ so_far.0) s.answering s.new later found (behind_lines s so_far.0 so_far.2) are.1 in
+        let at = stopped_so replays joins one content_is_image image_is_left left_is_image (line_moves s ++ so_far.0) s.answering s.new later found (after_lines s so_far.0 so_far.2) are.1 in
         let moves = at.0 ++ (line_moves s ++ so_far.0) in
         (moves, (so_far.0, so_far.1, later, at.0, at.1, refl), subst (λ (server : Server ghosts). Reaches moves server) (sym are.2) at.2)
     parts_run (other more server ∷ parts) first last model created are =

@@ -35,11 +35,11 @@ module _ {D : Type 0} {ghosts : Ghosts D} where
   record RepliesAt (front back : List (List ℕ)) (line : List ℕ) (first last : Book D ghosts) (turns : AreAnsweredInTurn (front ++ line ∷ back) first last) : Type 0 where
     here : IsAnsweredBetween front line back first last
     replies : replies_in_turn (front ++ line ∷ back) first last turns ≡ replies_in_turn front first here.before here.in_front
-        ++ (reply_for here.answered.reading here.bytes here.before here.after here.answered.done ++ replies_in_turn back here.after last here.behind)
+        ++ (reply_for here.answered.reading here.bytes here.before here.after here.answered.done ++ replies_in_turn back here.after last here.later)
 
   replies_at : (front back : List (List ℕ)) (line : List ℕ) (first last : Book D ghosts) (turns : AreAnsweredInTurn (front ++ line ∷ back) first last) → RepliesAt front back line first last turns
   replies_at [] back line first last turns = record {
-    here = record { before = first; after = turns.0; bytes = turns.1; in_front = refl; answered = turns.2; behind = turns.3 };
+    here = record { before = first; after = turns.0; bytes = turns.1; in_front = refl; answered = turns.2; later = turns.3 };
     replies = refl;
   }
   replies_at (one ∷ front) back line first last turns =
@@ -47,16 +47,16 @@ module _ {D : Type 0} {ghosts : Ghosts D} where
       let at = rest.here in
       let own = reply_for turns.2.reading turns.1 first turns.0 turns.2.done in
       record {
-        here = record { before = at.before; after = at.after; bytes = at.bytes; in_front = (turns.0, turns.1, turns.2, at.in_front); answered = at.answered; behind = at.behind };
+        here = record { before = at.before; after = at.after; bytes = at.bytes; in_front = (turns.0, turns.1, turns.2, at.in_front); answered = at.answered; later = at.later };
         replies = ap (λ (es : List Entry). own ++ es) rest.replies ∙ sym (append_assoc own (replies_in_turn front turns.0 at.before at.in_front)
-            (reply_for at.answered.reading at.bytes at.before at.after at.answered.done ++ replies_in_turn back at.after last at.behind));
+            (reply_for at.answered.reading at.bytes at.before at.after at.answered.done ++ replies_in_turn back at.after last at.later));
       }
 
   pub command_told : ((text : List ℕ) (a b : Reading) → ReadsLine text a → ReadsLine text b → a ≡ b) → (front back : List (List ℕ)) (line : List ℕ) (command : Command)
       (first last : Book D ghosts) (turns : AreAnsweredInTurn (front ++ line ∷ back) first last) → ReadsLine line (Ok (Asks command))
       → (here : IsAnsweredBetween front line back first last) × (reply : Reply) × (here.bytes ≡ line_of (reply_text reply))
       × (replies_in_turn (front ++ line ∷ back) first last turns
-      ≡ replies_in_turn front first here.before here.in_front ++ command_entry 0 command reply ∷ replies_in_turn back here.after last here.behind)
+      ≡ replies_in_turn front first here.before here.in_front ++ command_entry 0 command reply ∷ replies_in_turn back here.after last here.later)
   command_told one front back line command first last turns reads =
       let is = replies_at front back line first last turns in
       let at = is.here in
@@ -64,18 +64,18 @@ module _ {D : Type 0} {ghosts : Ghosts D} where
         at,
         own.0,
         own.1,
-        is.replies ∙ ap (λ (es : List Entry). replies_in_turn front first at.before at.in_front ++ (es ++ replies_in_turn back at.after last at.behind)) own.2,
+        is.replies ∙ ap (λ (es : List Entry). replies_in_turn front first at.before at.in_front ++ (es ++ replies_in_turn back at.after last at.later)) own.2,
       )
 
   pub other_told : (front back : List (List ℕ)) (line : List ℕ) (first last : Book D ghosts) (turns : AreAnsweredInTurn (front ++ line ∷ back) first last)
       → ((command : Command) → ¬ ReadsLine line (Ok (Asks command))) → (here : IsAnsweredBetween front line back first last)
-      × (replies_in_turn (front ++ line ∷ back) first last turns ≡ replies_in_turn front first here.before here.in_front ++ replies_in_turn back here.after last here.behind)
+      × (replies_in_turn (front ++ line ∷ back) first last turns ≡ replies_in_turn front first here.before here.in_front ++ replies_in_turn back here.after last here.later)
   other_told front back line first last turns none =
       let is = replies_at front back line first last turns in
       let at = is.here in
       let own = no_entry at.answered.reading at.bytes at.before at.after at.answered.done (λ command same. none command (subst (λ (r : Reading). ReadsLine line r) same at.answered.read)) in (
         at,
-        is.replies ∙ ap (λ (es : List Entry). replies_in_turn front first at.before at.in_front ++ (es ++ replies_in_turn back at.after last at.behind)) own,
+        is.replies ∙ ap (λ (es : List Entry). replies_in_turn front first at.before at.in_front ++ (es ++ replies_in_turn back at.after last at.later)) own,
       )
 
   -- ---- what parts tell

@@ -11,7 +11,7 @@ come_join [] earlier = sym (append-nil (come earlier))
 come_join (move ∷ later) earlier =
     ap (λ (es : List Entry). es ++ brings move) (come_join later earlier) ∙ append_assoc (come earlier) (come later) (brings move)
 
-pub cut_front : (moves cut : List Move) → IsCutShort moves cut → (behind : List Entry) × (come moves ≡ come cut ++ behind)
+pub cut_front : (moves cut : List Move) → IsCutShort moves cut → (after : List Entry) × (come moves ≡ come cut ++ after)
 cut_front moves cut is = (
   come is.later,
   ap come is.parted ∙ come_join is.later (is.move ∷ is.earlier)

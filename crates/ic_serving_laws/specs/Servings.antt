@@ -23,7 +23,7 @@ pub record IsAnsweredBetween {D : Type 0} {ghosts : Ghosts D} (front : List (Lis
   pub bytes : List ℕ
   pub in_front : AreAnsweredInTurn front first before
   pub answered : IsAnswered line bytes before after
-  pub behind : AreAnsweredInTurn back after last
+  pub later : AreAnsweredInTurn back after last
 
 -- A serving is what a call of `serve_lines` says of its two books, or would say. Some of the lines
 -- that it answers come first, and lead to the book `answering`; the others lead on from there.
@@ -33,8 +33,8 @@ pub record Serving {D : Type 0} (ghosts : Ghosts D) : Type 0 where
   pub result : Result (Unit {0}) ServeFault
   pub ls : List (List ℕ)
   pub before : Option (List ℕ)
-  pub behind : Option (List ℕ)
-  pub serves : IsServing result ls old new before behind
+  pub after : Option (List ℕ)
+  pub serves : IsServing result ls old new before after
   pub front : List (List ℕ)
   pub more : List (List ℕ)
   pub parted : serves.front ≡ front ++ more

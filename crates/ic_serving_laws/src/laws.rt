@@ -159,8 +159,8 @@ pub fn a_fault_ends_a_serving()
 /// A failing writer ends a serving after a front of the lines, which are done. All of them are
 /// answered but at most the last one, of whose answer a front was written.
 pub fn a_failing_writer_cuts_a_serving()
-    ensures sent { (before behind a b : List ℕ) → AppendsFront (Some a) (Some b) before behind
-        → (n : ℕ) × (n ≤ length behind) × (b ≡ a ++ (before ++ take n behind)) }
+    ensures sent { (before after a b : List ℕ) → AppendsFront (Some a) (Some b) before after
+        → (n : ℕ) × (n ≤ length after) × (b ≡ a ++ (before ++ take n after)) }
     ensures answered { (front : List (List ℕ)) (t u : List JobParts) (old new : Option (List ℕ))
         → IsCut front t u old new
         → (whole : List (List ℕ)) × (last : List (List ℕ)) × (answers : List ℕ)
@@ -188,23 +188,23 @@ pub fn all_is_kept_where_each_entry_is<D: Disk>(book: &Book<D>)
 /// A line that is answered is served: this answers it, and it leaves this table. After a command and
 /// a run all is kept; after a blank and a refused line nothing has changed. Where a line was only
 /// begun, the table is within it, and what is kept is what was kept before it, or within it too.
-pub fn a_line_is_answered_as_it_is_served<D: Disk>(before: &Book<D>, behind: &Book<D>)
-    ensures served { (line bytes : List ℕ) → IsAnswered line bytes before.now behind.now
-        → IsServed (table_of before.now) (line ∷ []) bytes (table_of behind.now) }
-    ensures kept { (line bytes : List ℕ) → IsAnswered line bytes before.now behind.now
-        → IsAllKept behind.now ⊎ IsUnchanged before.now behind.now }
+pub fn a_line_is_answered_as_it_is_served<D: Disk>(before: &Book<D>, after: &Book<D>)
+    ensures served { (line bytes : List ℕ) → IsAnswered line bytes before.now after.now
+        → IsServed (table_of before.now) (line ∷ []) bytes (table_of after.now) }
+    ensures kept { (line bytes : List ℕ) → IsAnswered line bytes before.now after.now
+        → IsAllKept after.now ⊎ IsUnchanged before.now after.now }
     ensures blank { (line bytes : List ℕ) → ReadsLine line (Ok Blank)
-        → IsAnswered line bytes before.now behind.now → IsUnchanged before.now behind.now }
+        → IsAnswered line bytes before.now after.now → IsUnchanged before.now after.now }
     ensures refused { (line bytes : List ℕ) (fault : TextFault) → ReadsLine line (Err fault)
-        → IsAnswered line bytes before.now behind.now → IsUnchanged before.now behind.now }
+        → IsAnswered line bytes before.now after.now → IsUnchanged before.now after.now }
     ensures command { (line bytes : List ℕ) (c : Command) → ReadsLine line (Ok (Asks c))
-        → IsAnswered line bytes before.now behind.now → IsAllKept behind.now }
+        → IsAnswered line bytes before.now after.now → IsAllKept after.now }
     ensures run { (line bytes : List ℕ) (k : ℕ) → ReadsLine line (Ok (Run k))
-        → IsAnswered line bytes before.now behind.now → IsAllKept behind.now }
-    ensures begun { (line : List ℕ) → IsBegun line before.now behind.now
-        → IsInLine (table_of before.now) line (table_of behind.now) }
-    ensures kept_within { (line : List ℕ) → IsBegun line before.now behind.now
-        → IsKeptInLine (table_of before.now) (last_kept before.now) line (last_kept behind.now) }
+        → IsAnswered line bytes before.now after.now → IsAllKept after.now }
+    ensures begun { (line : List ℕ) → IsBegun line before.now after.now
+        → IsInLine (table_of before.now) line (table_of after.now) }
+    ensures kept_within { (line : List ℕ) → IsBegun line before.now after.now
+        → IsKeptInLine (table_of before.now) (last_kept before.now) line (last_kept after.now) }
     ensures within { (t kept u : List JobParts) (line : List ℕ) → IsKeptInLine t kept line u
         ↔ ((u ≡ kept) ⊎ IsInLine t line u) }
 {
@@ -213,22 +213,22 @@ pub fn a_line_is_answered_as_it_is_served<D: Disk>(before: &Book<D>, behind: &Bo
 
 /// A command or a run is answered over no broken book, and a command over none whose slots' numbers
 /// are used up. A line's events stand after the log of the page, where there is room for them.
-pub fn an_answered_line_tells_of_its_book<D: Disk>(before: &Book<D>, behind: &Book<D>)
+pub fn an_answered_line_tells_of_its_book<D: Disk>(before: &Book<D>, after: &Book<D>)
     ensures whole { (line bytes : List ℕ) (c : Command) → ReadsLine line (Ok (Asks c))
-        → IsAnswered line bytes before.now behind.now → is_broken behind.now ≡ false }
+        → IsAnswered line bytes before.now after.now → is_broken after.now ≡ false }
     ensures whole_run { (line bytes : List ℕ) (k : ℕ) → ReadsLine line (Ok (Run k))
-        → IsAnswered line bytes before.now behind.now → is_broken behind.now ≡ false }
+        → IsAnswered line bytes before.now after.now → is_broken after.now ≡ false }
     ensures fresh { (line bytes : List ℕ) (c : Command) → ReadsLine line (Ok (Asks c))
-        → IsAnswered line bytes before.now behind.now → length (log_of before.now) < 65536
+        → IsAnswered line bytes before.now after.now → length (log_of before.now) < 65536
         → number_of before.now ≢ 2 ^ 64 - 1 }
     ensures page { (line bytes : List ℕ) (a : Reading) → ReadsLine line a
-        → IsAnswered line bytes before.now behind.now
+        → IsAnswered line bytes before.now after.now
         → HasRoom (events (table_of before.now) a) before.now
-        → GoesOn (events (table_of before.now) a) before.now behind.now }
+        → GoesOn (events (table_of before.now) a) before.now after.now }
     ensures begun_page { (line : List ℕ) (a : Reading) → ReadsLine line a
-        → IsBegun line before.now behind.now
+        → IsBegun line before.now after.now
         → HasRoom (events (table_of before.now) a) before.now
-        → GoesOnWithin (events (table_of before.now) a) before.now behind.now }
+        → GoesOnWithin (events (table_of before.now) a) before.now after.now }
 {
     ic_commands::laws::one_line_reading();
 }
@@ -236,18 +236,18 @@ pub fn an_answered_line_tells_of_its_book<D: Disk>(before: &Book<D>, behind: &Bo
 /// A page that goes on begins with the table that it began with, and its log is the one that it had
 /// with the entries of these events after it, one for each, in their order, sent by 0. So the old
 /// log is a front of the new one. It goes on within events by the first so many of them.
-pub fn a_page_goes_on<D: Disk>(before: &Book<D>, behind: &Book<D>)
-    ensures start { (es : List Event) → GoesOn es before.now behind.now
-        → start_of behind.now ≡ start_of before.now }
-    ensures front { (es : List Event) → GoesOn es before.now behind.now
-        → take (length (log_of before.now)) (log_of behind.now) ≡ log_of before.now }
-    ensures events { (es : List Event) → GoesOn es before.now behind.now
-        → map (λ (e : Entry). e.event) (drop (length (log_of before.now)) (log_of behind.now)) ≡ es }
-    ensures senders { (es : List Event) → GoesOn es before.now behind.now
+pub fn a_page_goes_on<D: Disk>(before: &Book<D>, after: &Book<D>)
+    ensures start { (es : List Event) → GoesOn es before.now after.now
+        → start_of after.now ≡ start_of before.now }
+    ensures front { (es : List Event) → GoesOn es before.now after.now
+        → take (length (log_of before.now)) (log_of after.now) ≡ log_of before.now }
+    ensures events { (es : List Event) → GoesOn es before.now after.now
+        → map (λ (e : Entry). e.event) (drop (length (log_of before.now)) (log_of after.now)) ≡ es }
+    ensures senders { (es : List Event) → GoesOn es before.now after.now
         → AllByRecursion (λ (e : Entry). e.who ≡ 0)
-        (drop (length (log_of before.now)) (log_of behind.now)) }
-    ensures within { (es : List Event) → GoesOnWithin es before.now behind.now
-        → (n : ℕ) × (n ≤ length es) × GoesOn (take n es) before.now behind.now }
+        (drop (length (log_of before.now)) (log_of after.now)) }
+    ensures within { (es : List Event) → GoesOnWithin es before.now after.now
+        → (n : ℕ) × (n ≤ length es) × GoesOn (take n es) before.now after.now }
     ensures room { (es : List Event) → HasRoom es before.now
         ↔ (length (log_of before.now) + length es < 65536) }
 {}
@@ -273,17 +273,17 @@ pub fn causes_say()
 /// What a stop in the midst of a call leaves is claimed of a disk that keeps the model and is made:
 /// a file that holds one of these tables. After the call it keeps the model where it did before,
 /// and is made.
-pub fn a_stop_leaves_one_of_these_tables<D: Disk>(before: &Book<D>, behind: &Book<D>)
+pub fn a_stop_leaves_one_of_these_tables<D: Disk>(before: &Book<D>, after: &Book<D>)
     ensures made { IsOnMadeDisk before.now
         ↔ (IsTrue (D.keeps (disk_of before.now)) × Within (D.image (disk_of before.now)) IsMade) }
-    ensures crash { (p : List JobParts → Bool) → Leaves before.now behind.now (λ t. p t ≡ true)
+    ensures crash { (p : List JobParts → Bool) → Leaves before.now after.now (λ t. p t ≡ true)
         → IsOnMadeDisk before.now
-        → LeavesOnly D.clock D.left (disk_of before.now) (disk_of behind.now)
+        → LeavesOnly D.clock D.left (disk_of before.now) (disk_of after.now)
         (λ file. (t : List JobParts) × (p t ≡ true) × HoldsTable t file) }
-    ensures stays { (p : List JobParts → Bool) → Leaves before.now behind.now (λ t. p t ≡ true)
-        → IsOnMadeDisk before.now → IsOnMadeDisk behind.now }
-    ensures keeps { (p : List JobParts → Bool) → Leaves before.now behind.now (λ t. p t ≡ true)
-        → D.keeps (disk_of behind.now) ≡ D.keeps (disk_of before.now) }
+    ensures stays { (p : List JobParts → Bool) → Leaves before.now after.now (λ t. p t ≡ true)
+        → IsOnMadeDisk before.now → IsOnMadeDisk after.now }
+    ensures keeps { (p : List JobParts → Bool) → Leaves before.now after.now (λ t. p t ≡ true)
+        → D.keeps (disk_of after.now) ≡ D.keeps (disk_of before.now) }
 {}
 
 /// A stop in the midst of a serving leaves a table that lines reach: a front of them is served, and

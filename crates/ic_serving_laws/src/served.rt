@@ -57,8 +57,8 @@ pub fn the_served_headline<D: Disk>(old: &Book<D>, new: &Book<D>, found: &D)
     ensures broken { (done : IsByCalls old.now new.now) (later earlier : List Move)
         (who : ℕ) (command : Command) (reply : Reply)
         → done.moves ≡ later ++ fails who command reply ∷ earlier
-        → (is_broken new.now ≡ true) × (front behind : List Entry)
-        × (log_of new.now ≡ front ++ command_entry who command reply ∷ behind)
+        → (is_broken new.now ≡ true) × (front after : List Entry)
+        × (log_of new.now ≡ front ++ command_entry who command reply ∷ after)
         × (kept_of new.now ≤ length front) }
 
     // And there is one such command at most: all others were answered.
@@ -145,8 +145,8 @@ pub fn servings_are_a_run<D: Disk>(first: &D, last: &D, book: &Book<D>)
 /// one likes may be its first lines.
 pub fn a_call_is_a_serving<D: Disk>(old: &Book<D>, new: &Book<D>)
     ensures { (result : Result (Unit {0}) ServeFault)
-        (ls : List (List ℕ)) (before behind : Option (List ℕ))
-        (serves : IsServing result ls old.now new.now before behind)
+        (ls : List (List ℕ)) (before after : Option (List ℕ))
+        (serves : IsServing result ls old.now new.now before after)
         (front more : List (List ℕ)) → serves.front ≡ front ++ more
         → (serving : Serving D.Disk) × (serving.old ≡ old.now) × (serving.new ≡ new.now)
         × (serving.ls ≡ ls) × (serving.result ≡ result) × (serving.front ≡ front) }
@@ -161,13 +161,13 @@ pub fn a_call_is_a_serving<D: Disk>(old: &Book<D>, new: &Book<D>)
 /// the one after a legal history of the moves that were cut short, which has every answered command.
 pub fn lines_are_moves<D: Disk>(old: &Book<D>, new: &Book<D>, found: &D)
     ensures answered { (moves : List Move) (result : Result (Unit {0}) ServeFault)
-        (ls : List (List ℕ)) (before behind : Option (List ℕ))
-        (serving : IsServing result ls old.now new.now before behind) → Reaches moves (up old.now)
-        → OnOk result (AreAnswered ls (table_of old.now) (table_of new.now) before behind)
+        (ls : List (List ℕ)) (before after : Option (List ℕ))
+        (serving : IsServing result ls old.now new.now before after) → Reaches moves (up old.now)
+        → OnOk result (AreAnswered ls (table_of old.now) (table_of new.now) before after)
         × IsTableAfter (serving.crash.done.moves ++ moves) (table_of new.now) }
     ensures stopped { (moves : List Move) (result : Result (Unit {0}) ServeFault)
-        (ls : List (List ℕ)) (before behind : Option (List ℕ))
-        (serving : IsServing result ls old.now new.now before behind) → Reaches moves (up old.now)
+        (ls : List (List ℕ)) (before after : Option (List ℕ))
+        (serving : IsServing result ls old.now new.now before after) → Reaches moves (up old.now)
         → IsFound D.Disk (disk_of old.now) (disk_of new.now) found.now
         → (cut : List Move) × IsCutShort serving.crash.done.moves cut
         × Reaches {ghosts = D.Disk} (cut ++ moves) (down found.now)
@@ -190,8 +190,8 @@ pub fn lines_are_moves<D: Disk>(old: &Book<D>, new: &Book<D>, found: &D)
 /// clock on is one in the midst of a later call: the moves of these lines are all there.
 pub fn answered_lines_stay<D: Disk>(old: &Book<D>, new: &Book<D>, found: &D)
     ensures { (moves : List Move) (result : Result (Unit {0}) ServeFault)
-        (ls : List (List ℕ)) (before behind : Option (List ℕ))
-        (serving : IsServing result ls old.now new.now before behind)
+        (ls : List (List ℕ)) (before after : Option (List ℕ))
+        (serving : IsServing result ls old.now new.now before after)
         (front more : List (List ℕ)) → serving.front ≡ front ++ more
         → Reaches moves (up old.now)
         → (mid : BookOver D.Disk) × (turns : AreAnsweredInTurn front old.now mid)

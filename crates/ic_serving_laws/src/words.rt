@@ -30,14 +30,14 @@ pub fn each_command_line_is_told<D: Disk>(first: &Book<D>, last: &Book<D>)
         × (replies_in_turn (front ++ line ∷ back) first.now last.now turns
         ≡ replies_in_turn front first.now here.before here.in_front
         ++ command_entry 0 command reply
-        ∷ replies_in_turn back here.after last.now here.behind) }
+        ∷ replies_in_turn back here.after last.now here.later) }
     ensures other { (front back : List (List ℕ)) (line : List ℕ)
         (turns : AreAnsweredInTurn (front ++ line ∷ back) first.now last.now)
         → ((command : Command) → ¬ ReadsLine line (Ok (Asks command)))
         → (here : IsAnsweredBetween front line back first.now last.now)
         × (replies_in_turn (front ++ line ∷ back) first.now last.now turns
         ≡ replies_in_turn front first.now here.before here.in_front
-        ++ replies_in_turn back here.after last.now here.behind) }
+        ++ replies_in_turn back here.after last.now here.later) }
     ensures none { (turns : AreAnsweredInTurn [] first.now last.now)
         → replies_in_turn [] first.now last.now turns ≡ [] }
 {
@@ -65,5 +65,5 @@ pub fn each_part_is_told<D: Disk>(disk: &D)
 /// What has come by moves that were cut short begins what comes by all of them.
 pub fn cut_short_is_a_front()
     ensures { (moves cut : List Move) → IsCutShort moves cut
-        → (behind : List Entry) × (come moves ≡ come cut ++ behind) }
+        → (after : List Entry) × (come moves ≡ come cut ++ after) }
 {}

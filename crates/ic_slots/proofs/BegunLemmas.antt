@@ -5,7 +5,7 @@ use Rattle.std.proofs.lemmas.List.{get_or_past, get_or-replicate, length-replica
 use Rattle.std.specs.Prelude.{replicate, slice_index}
 use Rattle.ic_codec.specs.Tables.{old_table_bytes, table_bytes}
 use Rattle.ic_disk.specs.Content.{laid}
-use Rattle.ic_disk.specs.lemmas.ContentLaws.{laid-before, laid-behind, laid-inside, length-laid}
+use Rattle.ic_disk.specs.lemmas.ContentLaws.{laid-after, laid-before, laid-inside, length-laid}
 use Rattle.ic_slots.specs.Unused.{IsBegun, IsPartOf, first_bytes}
 
 -- a place of the file is zero where that of the bytes is
@@ -31,8 +31,8 @@ begun-byte file begun i = ⊎_elim
     (λ part. ⊎_elim (λ zero. inl zero) (λ old. inr (inr old)) (part-byte (first_bytes (old_table_bytes [])) file part i))
     begun.1
 
-pub behind-zero : (i : ℕ) → 18 ≤ i → (slice_index (first_bytes (table_bytes [])) i ≡ 0) × (slice_index (first_bytes (old_table_bytes [])) i ≡ 0)
-behind-zero i past = (get_or_past (first_bytes (table_bytes [])) i 0 past, get_or_past (first_bytes (old_table_bytes [])) i 0 past)
+pub after-zero : (i : ℕ) → 18 ≤ i → (slice_index (first_bytes (table_bytes [])) i ≡ 0) × (slice_index (first_bytes (old_table_bytes [])) i ≡ 0)
+after-zero i past = (get_or_past (first_bytes (table_bytes [])) i 0 past, get_or_past (first_bytes (old_table_bytes [])) i 0 past)
 
 abbrev with_head : List ℕ
 with_head = laid 4194304 (replicate 13 0) []
@@ -64,7 +64,7 @@ slot-part i inside = ⊎_elim
     (λ before.
     let same : i - 0 ≡ i = omega arith in
     inr (laid-inside 0 (first_bytes (table_bytes [])) with_head i (omega arith) before ∙ ap (λ n. get_or (first_bytes (table_bytes [])) n 0) same))
-    (λ past. inl (laid-behind 0 (first_bytes (table_bytes [])) with_head i past ∙ ⊎_elim (head-zero i) (λ end. get_or_past with_head i 0 end) (cases_lt i (length with_head))))
+    (λ past. inl (laid-after 0 (first_bytes (table_bytes [])) with_head i past ∙ ⊎_elim (head-zero i) (λ end. get_or_past with_head i 0 end) (cases_lt i (length with_head))))
     (cases_lt i 18)
 
 pub slot-begun : IsBegun with_slot

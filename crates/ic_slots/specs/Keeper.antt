@@ -30,6 +30,6 @@ is_broken keeper = frames.is_broken keeper.frames
 abbrev pub is_closed : {D : Type 0} {ghosts : Ghosts D} → Keeper D ghosts → Bool
 is_closed keeper = frames.is_closed keeper.frames
 
--- its number and a table are written behind the closed gate
+-- its number and a table are written after the closed gate
 abbrev pub is_staged : {D : Type 0} {ghosts : Ghosts D} → Keeper D ghosts → Bool
 is_staged keeper = frames.is_staged keeper.frames

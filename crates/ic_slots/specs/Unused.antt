@@ -1,7 +1,7 @@
 -- When a disk may be made anew without a loss (this project's choice).
 use Rattle.std.specs.Prelude.{◌≡◌, ◌⊎◌, ◌+◌, ◌≤◌, ℕ, List, [], ◌∷◌, Result, Ok, Err, length, slice_index, EachIndex}
 use Rattle.ic_codec.specs.Tables.{old_table_bytes, table_bytes}
-use Rattle.ic_frames.specs.Layout.{behind_gate}
+use Rattle.ic_frames.specs.Layout.{after_gate}
 use Rattle.ic_frames.specs.declared.frame.TheConstants.{HEAD}
 use Rattle.ic_frames.specs.declared.slot.TheConstants.{SECOND_AT}
 use Rattle.ic_frames.specs.declared.faults.OpenCause.{OpenCause}
@@ -10,9 +10,9 @@ use Rattle.ic_slots.specs.declared.fault.CreateFault.{CreateFault}
 use Rattle.ic_slots.specs.declared.fault.CreateFault.TheVariants as fault
 use Rattle.ic_slots.specs.Held.{IsHeld, the_table}
 
--- what `create` puts in the first slot: a form of the empty table, behind a gate that is closed as yet
+-- what `create` puts in the first slot: a form of the empty table, after a gate that is closed as yet
 abbrev pub first_bytes : List ℕ → List ℕ
-first_bytes form = 0 ∷ behind_gate 1 form
+first_bytes form = 0 ∷ after_gate 1 form
 
 -- nothing but these bytes in their places, and zeros
 abbrev pub IsPartOf : (bytes file : List ℕ) → Type 0

@@ -3,7 +3,7 @@
 ghost use Rattle.std.specs.Prelude.{◌≡◌, ◌↔◌, ◌⊎◌, IsTrue, EachIndex, slice_index};
 ghost use Rattle.ic_slots.specs.Unused.{IsFirst, IsPartOf};
 
-/// What is put in the first slot of an empty disk, behind a gate that is closed as yet.
+/// What is put in the first slot of an empty disk, after a gate that is closed as yet.
 const FIRST: [u8; 18] = [
     0, 0, 0, 0, 0, 0, 0, 0, 1, 0, 0, 0, 5, b'I', b'C', b'T', b'2', 0,
 ];

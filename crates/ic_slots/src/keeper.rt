@@ -83,7 +83,7 @@ impl<D: Disk> Keeper<D> {
         self.frames.close_gate()
     }
 
-    /// Writes this table, and the next number, behind the closed gate. On a disk that isn't made the
+    /// Writes this table, and the next number, after the closed gate. On a disk that isn't made the
     /// gate is written too, as closed.
     pub fn write_body(&mut self, table: &Table) -> Result<(), KeepFault>
         requires { is_closed self.old ≡ true }

@@ -31,17 +31,17 @@ pub same_words : (xs ys : List Word) (a b : List ℕ) → AllByRecursion IsKeptW
 same_words xs ys a b = same_spelled word_bytes length-word_bytes IsKeptWord word_bytes-injective xs ys a b
 
 -- the parts of the bytes of a state
-abbrev behind_head : Kept → List ℕ
-behind_head k = flat_map eight_bytes k.by_rule ++ (flat_map word_bytes k.words ++ k.text)
+abbrev after_head : Kept → List ℕ
+after_head k = flat_map eight_bytes k.by_rule ++ (flat_map word_bytes k.words ++ k.text)
 
 pub too_short : (k : Kept) (bytes : List ℕ) → length bytes < 8 * 7 → bytes ≡ state_bytes k → ⊥
-too_short k bytes short is = omega (arith, short, ap length is, length-append (flat_map eight_bytes (head_numbers k)) (behind_head k), length-spelled eight_bytes length-eight_bytes (head_numbers k))
+too_short k bytes short is = omega (arith, short, ap length is, length-append (flat_map eight_bytes (head_numbers k)) (after_head k), length-spelled eight_bytes length-eight_bytes (head_numbers k))
 
 -- What was read of the head is that of each state with these bytes.
 module _ (head bytes rest : List ℕ) (long : length head ≡ 7) (small : AllByRecursion IsSmall head) (read : bytes ≡ flat_map eight_bytes head ++ rest)
     (k : Kept) (kept : IsKept k) (is : bytes ≡ state_bytes k) where
-  pub head_is : (head ≡ head_numbers k) × (rest ≡ behind_head k)
-  head_is = same_numbers head (head_numbers k) rest (behind_head k) small (head_fits k kept) long (sym read ∙ is)
+  pub head_is : (head ≡ head_numbers k) × (rest ≡ after_head k)
+  head_is = same_numbers head (head_numbers k) rest (after_head k) small (head_fits k kept) long (sym read ∙ is)
 
   pub format_is : get_or head 0 0 ≡ FORMAT
   format_is = ap (λ (l : List ℕ). get_or l 0 0) head_is.0
@@ -74,10 +74,10 @@ module _ (head bytes rest : List ℕ) (long : length head ≡ 7) (small : AllByR
     length-spelled eight_bytes length-eight_bytes k.by_rule,
   )
 
-  pub words_fit : (by_rule behind : List ℕ) → length by_rule ≡ get_or head 4 0 → AllByRecursion IsSmall by_rule → rest ≡ flat_map eight_bytes by_rule ++ behind
-      → length behind < 8 * get_or head 5 0 → ⊥
-  words_fit by_rule behind count fits next short =
-      let both = same_numbers by_rule k.by_rule behind (flat_map word_bytes k.words ++ k.text) fits kept.by_rule (count ∙ rules_are) (sym next ∙ head_is.1) in
+  pub words_fit : (by_rule after : List ℕ) → length by_rule ≡ get_or head 4 0 → AllByRecursion IsSmall by_rule → rest ≡ flat_map eight_bytes by_rule ++ after
+      → length after < 8 * get_or head 5 0 → ⊥
+  words_fit by_rule after count fits next short =
+      let both = same_numbers by_rule k.by_rule after (flat_map word_bytes k.words ++ k.text) fits kept.by_rule (count ∙ rules_are) (sym next ∙ head_is.1) in
       omega (arith, short, words_are, ap length both.1, length-append (flat_map word_bytes k.words) k.text, length-spelled word_bytes length-word_bytes k.words)
 
 pub ended_told : (b : Bool) (n : ℕ) → n ≡ ended_number b → nat_eq n 1 ≡ b
@@ -93,7 +93,7 @@ one_ended false true e = absurd (omega (arith, e))
 -- two states of the same bytes
 pub one_state : (k other : Kept) → IsKept k → IsKept other → state_bytes k ≡ state_bytes other → k ≡ other
 one_state k other kept kept_too e =
-    let heads = head_is (head_numbers k) (state_bytes k) (behind_head k) refl (head_fits k kept) refl other kept_too e in
+    let heads = head_is (head_numbers k) (state_bytes k) (after_head k) refl (head_fits k kept) refl other kept_too e in
     let at = λ (i : ℕ). ap (λ (l : List ℕ). get_or l i 0) heads.0 in
     let rules = same_numbers k.by_rule other.by_rule (flat_map word_bytes k.words ++ k.text) (flat_map word_bytes other.words ++ other.text) kept.by_rule kept_too.by_rule (at 4) heads.1 in
     let words = same_words k.words other.words k.text other.text kept.words kept_too.words (at 5) rules.1 in

@@ -115,7 +115,7 @@ symbols-insert m k text arity is absent =
     let none : get same_bytes m k ≡ None = ap (λ t. get_by (λ (key : Vec ℕ Global). bytes_eq t key.items) m) is ∙ absent in
     rw (insert_entry-new same_bytes m k arity none, map-append symbol_of m.entries ((k, arity) ∷ [])) (ap (λ t. map symbol_of m.entries ++ record { text = t; arity = arity } ∷ []) is)
 
--- two lists from a place on: the test of the elements there, and of those behind them
+-- two lists from a place on: the test of the elements there, and of those after them
 pub pointwise-drop : {X : Type 0} (e : X → X → Bool) (xs ys : List X) (i : ℕ) (r : Bool) → i < length xs → i < length ys
     → IfSome (slice_get xs i) (λ x. IfSome (slice_get ys i) (λ y. r ≡ e x y))
     → pointwise e (drop i xs) (drop i ys) ≡ (r && pointwise e (drop (i + 1) xs) (drop (i + 1) ys))

@@ -39,7 +39,7 @@ use Rattle.ic_text.proofs.PrefixWords.{symbols_among-append, names_among-append,
 use Rattle.ic_text.proofs.LimitLemmas.{symbols-low}
 use Rattle.ic_text.proofs.TableLemmas.{slice_get-append, number_of_text-append, number_of_text-lt}
 
--- the table over words behind words
+-- the table over words after words
 table_over-append : (vs ws table : List Symbol) → table_over table (vs ++ ws) ≡ table_over (table_over table vs) ws
 table_over-append [] ws table = refl
 table_over-append (v ∷ vs) ws table = table_over-append vs ws (table_with table v)
@@ -75,7 +75,7 @@ all_over_more table more (v ∷ vs) over =
     let parts = and_parts (is_word_over table v) (list_all (is_word_over table) vs) over in
     and_from _ _ (over_more table more v parts.0) (all_over_more table more vs parts.1)
 
--- a word behind words that are within the limits
+-- a word after words that are within the limits
 module _ (limits : Limits) (front : List Symbol) (w : Symbol) (within : are_within limits front ≡ true) where
   abbrev table : List Symbol
   table = table_over [] front
@@ -284,14 +284,14 @@ standing nodes k x below is =
       here = slice_get-get_or (nodes_of nodes) k (node_of x) long ∙ ap Some same;
     }
 
--- the word behind so many others
+-- the word after so many others
 pub standing_at : (nodes : List Node) (k : ℕ) (d : Node) → k < length nodes → Standing (nodes_of nodes) k (node_of (get_or nodes k d))
 standing_at nodes k d below =
     let x = get_or nodes k d in
     let same : x ≡ get_or nodes k x = sym (get_or_from_slice_get nodes k x x (slice_get-get_or nodes k d below)) in
     standing nodes k x below same
 
--- what is known of a clash, or of none, behind so many words
+-- what is known of a clash, or of none, after so many words
 abbrev pub ClashIn : List Symbol → ℕ → Option Clash → Type 0
 ClashIn ws k None = (j : ℕ) → j ≤ k → agree (take j ws) ≡ true
 ClashIn ws k (Some c) = IsSecondUse c.first c.second ws c.word
@@ -438,7 +438,7 @@ all_drop (suc k) (w ∷ ws) all = all_drop k ws all.1
 pub word_at : (ws : List Symbol) (k : ℕ) (w : Symbol) → AllByRecursion IsWord ws → Standing ws k w → IsWord w
 word_at ws k w all stands = (subst (AllByRecursion IsWord) stands.rest (all_drop k ws all)).0
 
--- the same of the word behind so many others
+-- the same of the word after so many others
 module _ (nodes : List Node) (k : ℕ) (d : Node) (inside : k < length nodes) where
   abbrev the_word : Symbol
   the_word = node_of (get_or nodes k d)

@@ -37,11 +37,11 @@ module _ (table : List Symbol) where
     built-prefix : (t : Source) (us : List Word) → IsSource t → forest (over (prefix t) us) ≡ numbered_tree table t ∷ forest us
     built-prefix (leaf n) us is = rw (is_name-name_text n) (ap (λ m. name m ∷ forest us) (name_number-name_text n))
     built-prefix (node text ts) us is =
-        let behind = built-sources ts us is.1 in
+        let after = built-sources ts us is.1 in
         let size = length-numbered_trees ts in
         let args = list_of (numbered_trees table ts) in
         rw (isnt_name-symbol text is.0)
-        (ap (λ l. agent (number_in_table table text) (trees_of (take (count_of ts) l)) ∷ drop (count_of ts) l) behind
+        (ap (λ l. agent (number_in_table table text) (trees_of (take (count_of ts) l)) ∷ drop (count_of ts) l) after
         ∙ ap (λ l. agent (number_in_table table text) (trees_of l) ∷ drop (count_of ts) (args ++ forest us)) (take_at args (forest us) (count_of ts) size)
         ∙ ap (λ l. agent (number_in_table table text) (trees_of args) ∷ l) (drop_at args (forest us) (count_of ts) size)
         ∙ ap (λ l. agent (number_in_table table text) l ∷ forest us) (trees_of-list_of (numbered_trees table ts)))
@@ -51,7 +51,7 @@ module _ (table : List Symbol) where
     built-sources (more_sources t ts) us are =
         ap forest (over-append (prefix t) (prefix_of_sources ts) us) ∙ built-prefix t (over (prefix_of_sources ts) us) are.0 ∙ ap (λ l. numbered_tree table t ∷ l) (built-sources ts us are.1)
 
-  -- each of them has its arguments behind it
+  -- each of them has its arguments after it
   mutual
     whole-prefix : (t : Source) (us : List Word) → IsSource t → IsWhole us → IsWhole (over (prefix t) us)
     whole-prefix (leaf n) us is whole = rw (is_name-name_text n) (omega arith, whole)
@@ -72,7 +72,7 @@ module _ (table : List Symbol) where
   whole-interface [] us are whole = whole
   whole-interface (t ∷ ts) us are whole = rw (over-append (prefix t) (flat_map prefix ts) us) (whole-prefix t (over (flat_map prefix ts) us) are.0 (whole-interface ts us are.1 whole))
 
-  -- the sides of equations, one behind the other
+  -- the sides of equations, one after the other
   abbrev pub sides_trees : List Sides → List Tree
   sides_trees [] = []
   sides_trees (e ∷ es) = numbered_tree table e.left ∷ numbered_tree table e.right ∷ sides_trees es

@@ -9,7 +9,7 @@ use Rattle.ic_term.specs.Symbol.{Symbol}
 use Rattle.ic_text.specs.Source.{Source, leaf, node, Sources, no_sources, more_sources, Sides, Phrase, count_of}
 use Rattle.ic_text.specs.SystemSource.{RulePhrase, agent_source}
 use Rattle.ic_text.specs.Words.{prefix, prefix_of_sources, phrase_prefix, rules_prefix}
-use Rattle.ic_text.specs.WordFaults.{IsFirstWord, count_words, due_behind, is_counted}
+use Rattle.ic_text.specs.WordFaults.{IsFirstWord, count_words, due_after, is_counted}
 use Rattle.ic_text.specs.inner.Counted.{due_over}
 use Rattle.ic_text.specs.declared.prefix.Node.{Node}
 use Rattle.ic_text.specs.inner.Prefix.{node_of, nodes_of}
@@ -19,19 +19,19 @@ abbrev pub arities : List Symbol → ℕ
 arities ws = sum_by (λ (w : Symbol). w.arity) ws
 
 -- one word more
-pub due-push : (ws : List Symbol) (w : Symbol) (due : ℕ) → due_over due (ws ++ w ∷ []) ≡ due_behind (due_over due ws) w.arity
+pub due-push : (ws : List Symbol) (w : Symbol) (due : ℕ) → due_over due (ws ++ w ∷ []) ≡ due_after (due_over due ws) w.arity
 due-push [] w due = refl
-due-push (x ∷ ws) w due = due-push ws w (due_behind due x.arity)
+due-push (x ∷ ws) w due = due-push ws w (due_after due x.arity)
 
 pub count-push : (ws : List Symbol) (w : Symbol) (outer : Bool) (due : ℕ) → count_words outer due (ws ++ w ∷ []) ≡ count_words outer due ws + cond (is_counted outer (due_over due ws)) 1 0
 count-push [] w outer due = omega arith
-count-push (x ∷ ws) w outer due = omega (arith, count-push ws w outer (due_behind due x.arity))
+count-push (x ∷ ws) w outer due = omega (arith, count-push ws w outer (due_after due x.arity))
 
 -- a front has no more of them
 pub count-take : (j : ℕ) (ws : List Symbol) (outer : Bool) (due : ℕ) → count_words outer due (take j ws) ≤ count_words outer due ws
 count-take zero ws outer due = omega arith
 count-take (suc j) [] outer due = omega arith
-count-take (suc j) (w ∷ ws) outer due = omega (arith, count-take j ws outer (due_behind due w.arity))
+count-take (suc j) (w ∷ ws) outer due = omega (arith, count-take j ws outer (due_after due w.arity))
 
 -- each word is one of both
 both : (due : ℕ) → cond (is_counted true due) 1 0 + cond (is_counted false due) 1 0 ≡ 1
@@ -40,23 +40,23 @@ both (suc due) = refl
 
 pub count-both : (ws : List Symbol) (due : ℕ) → count_words true due ws + count_words false due ws ≡ length ws
 count-both [] due = refl
-count-both (w ∷ ws) due = omega (arith, both due, count-both ws (due_behind due w.arity))
+count-both (w ∷ ws) due = omega (arith, both due, count-both ws (due_after due w.arity))
 
 -- no more terms are due than the words have arguments
-behind-le : (due arity : ℕ) → due_behind due arity ≤ due + arity
-behind-le zero arity = omega arith
-behind-le (suc due) arity = omega arith
+after-le : (due arity : ℕ) → due_after due arity ≤ due + arity
+after-le zero arity = omega arith
+after-le (suc due) arity = omega arith
 
 pub due-arities : (ws : List Symbol) (due : ℕ) → due_over due ws ≤ due + arities ws
 due-arities [] due = omega arith
-due-arities (w ∷ ws) due = omega (arith, behind-le due w.arity, due-arities ws (due_behind due w.arity), sum_by-cons (λ (x : Symbol). x.arity) w ws)
+due-arities (w ∷ ws) due = omega (arith, after-le due w.arity, due-arities ws (due_after due w.arity), sum_by-cons (λ (x : Symbol). x.arity) w ws)
 
 pub arities-take : (j : ℕ) (ws : List Symbol) → arities (take j ws) ≤ arities ws
 arities-take zero ws = omega arith
 arities-take (suc j) [] = omega arith
 arities-take (suc j) (w ∷ ws) = omega (arith, arities-take j ws, sum_by-cons (λ (x : Symbol). x.arity) w ws, sum_by-cons (λ (x : Symbol). x.arity) w (take j ws))
 
--- a term that is due is no longer so behind its words, none of which is an outer one
+-- a term that is due is no longer so after its words, none of which is an outer one
 mutual
   count-within : (t : Source) (due : ℕ) (rest : List Symbol) → count_words true (suc due) (prefix t ++ rest) ≡ count_words true due rest
   count-within (leaf n) due rest =
@@ -180,14 +180,14 @@ module _ (ws : List Symbol) (k : ℕ) (inside : k < length ws) (outer : Bool) wh
     guilty = gt_test (count_words outer 0 (take (k + 1) ws)) most (omega (arith, count-next true is, all));
   }
 
--- the terms that are due behind a word
+-- the terms that are due after a word
 module _ (nodes : List Node) (k : ℕ) (d : Node) (inside : k < length nodes) (due : ℕ) (is : due ≡ due_over 0 (take k (nodes_of nodes))) where
   abbrev stands : Standing (nodes_of nodes) k (node_of (get_or nodes k d))
   stands = standing_at nodes k d inside
 
-  pub due-next : (n : ℕ) → n ≡ due_behind due (get_or nodes k d).arity → n ≡ due_over 0 (take (k + 1) (nodes_of nodes))
+  pub due-next : (n : ℕ) → n ≡ due_after due (get_or nodes k d).arity → n ≡ due_over 0 (take (k + 1) (nodes_of nodes))
   due-next n e =
-      e ∙ ap (λ m. due_behind m (get_or nodes k d).arity) is ∙ sym (ap (due_over 0) stands.front ∙ due-push (take k (nodes_of nodes)) (node_of (get_or nodes k d)) 0)
+      e ∙ ap (λ m. due_after m (get_or nodes k d).arity) is ∙ sym (ap (due_over 0) stands.front ∙ due-push (take k (nodes_of nodes)) (node_of (get_or nodes k d)) 0)
 
   pub due-fits : arities (nodes_of nodes) < 2 ^ 64 → due + (get_or nodes k d).arity < 2 ^ 64
   due-fits low =

@@ -9,7 +9,7 @@ use Rattle.ic_text.specs.declared.token.Mark.TheVariants.{LeftBrace, RightBrace,
 use Rattle.ic_text.specs.Token.{Token, mark, is_blank, is_word_byte, mark_of, word_of, tokens_at, tokens}
 use Rattle.ic_text.specs.inner.Prefix.{Scanned, Cut, cut_at, cut_from, cut_run, mark_scan, scan, scan_at, scan_passed, scan_run, term_more}
 use Rattle.ic_text.specs.lemmas.ReadOnce.{some-injective}
-use Rattle.ic_text.proofs.ScanningText.{IsScanned, all_scanned, behind_run, byte_of_run, counts_room_behind, one_back, run_ended, terms_room, tokens_here}
+use Rattle.ic_text.proofs.ScanningText.{IsScanned, after_run, all_scanned, byte_of_run, counts_room_after, one_back, run_ended, terms_room, tokens_here}
 
 pub none_left : (n : ℕ) → eqb n 0 ≡ true → n ≡ 0
 none_left n e = grind (arith, nat_tests)
@@ -102,7 +102,7 @@ module _ (text : List ℕ) (place end skip : ℕ) (c : Cut) (cut : IsCut text pl
   pub counts_here : (r : Cut) → r ≡ cut_run run c → length text < 2 ^ 64 → 0 < place → AllByRecursion (λ n. n + 1 < 2 ^ 64) r.seen.counts
   counts_here r is fits some =
       subst (AllByRecursion (λ n. n + 1 < 2 ^ 64)) (sym (ap (λ (x : Cut). x.seen.counts) (run_cut r is)))
-      (counts_room_behind text place end cut.all cut.so_far run is_run (scan_run run cut.all) refl fits some)
+      (counts_room_after text place end cut.all cut.so_far run is_run (scan_run run cut.all) refl fits some)
 
 -- the byte before the run
 module _ (text : List ℕ) (place end skip : ℕ) (c : Cut) (inside : place < length text) (cut : IsCut text (place + 1) end skip c) where
@@ -112,9 +112,9 @@ module _ (text : List ℕ) (place end skip : ℕ) (c : Cut) (inside : place < le
   pub cut_along : is_word_byte byte ≡ true → IsCut text place end skip c
   cut_along is_word = record { all = cut.all; so_far = byte_of_run text place end cut.all inside cut.so_far is_word; is = cut.is }
 
-  pub cut_behind : (ts : List Token) → tokens text ≡ Some ts → is_word_byte byte ≡ false → (r q : Cut) → r ≡ cut_run (take (end - (place + 1)) (drop (place + 1) text)) c → q ≡ cut_at (mark_of byte) r
+  pub cut_after : (ts : List Token) → tokens text ≡ Some ts → is_word_byte byte ≡ false → (r q : Cut) → r ≡ cut_run (take (end - (place + 1)) (drop (place + 1) text)) c → q ≡ cut_at (mark_of byte) r
       → IsCut text place place skip q
-  cut_behind ts spelled apart r q run at =
+  cut_after ts spelled apart r q run at =
       let us = tokens_here text place ts inside apart spelled in
       let word = take (end - (place + 1)) (drop (place + 1) text) in
       let scanned = scan_run word cut.all in
@@ -123,7 +123,7 @@ module _ (text : List ℕ) (place end skip : ℕ) (c : Cut) (inside : place < le
       record {
         all = scan_at (mark_of byte) scanned;
         so_far = run_ended text place end cut.all inside cut.so_far apart us.0 us.1 here.1 (scan_at (mark_of byte) scanned)
-            (ap (scan_at (mark_of byte)) (behind_run text (place + 1) end cut.all cut.so_far word refl scanned refl) ∙ here.0);
+            (ap (scan_at (mark_of byte)) (after_run text (place + 1) end cut.all cut.so_far word refl scanned refl) ∙ here.0);
         is = at ∙ ap (cut_at (mark_of byte)) (run_cut text (place + 1) end skip c cut word refl r run) ∙ cut-at (mark_of byte) skip scanned;
       }
 

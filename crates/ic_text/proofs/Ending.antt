@@ -107,15 +107,15 @@ settled_step p s d t (Some next) wants = settled_before p next.0 next.1 wants
 settled_step p s d (word text) None wants = tt
 settled_step p s d (mark m) None wants = settled_mark p s d m
 
--- behind the end no token is taken
-none_behind : (t : Token) → step (record { part = End; spot = After; depth = 0 }) t ≡ None
-none_behind (word text) = refl
-none_behind (mark Comma) = refl
-none_behind (mark Close) = refl
-none_behind (mark m) = refl
+-- after the end no token is taken
+none_after : (t : Token) → step (record { part = End; spot = After; depth = 0 }) t ≡ None
+none_after (word text) = refl
+none_after (mark Comma) = refl
+none_after (mark Close) = refl
+none_after (mark m) = refl
 
 none_at_end : (s : Spot) (d : ℕ) (t : Token) → (s ≡ After) × (d ≡ 0) → step (record { part = End; spot = s; depth = d }) t ≡ None
-none_at_end s d t is = (λ i. step (record { part = End; spot = is.0 i; depth = is.1 i }) t) ∙ none_behind t
+none_at_end s d t is = (λ i. step (record { part = End; spot = is.0 i; depth = is.1 i }) t) ∙ none_after t
 
 stays_settled : (p : Part) (s : Spot) (d : ℕ) (t : Token) → IsSettled p s d → StateSettled (step (record { part = p; spot = s; depth = d }) t)
 stays_settled End s d t is = subst StateSettled (sym (none_at_end s d t is)) tt
@@ -136,7 +136,7 @@ begins_settled : (part : Part) → IsSettled part After 0
 begins_settled End = (refl, refl)
 begins_settled part = tt
 
--- tokens behind other ones in a text
+-- tokens after other ones in a text
 split_front : (a t d : Option (List Token)) (front ws : List Token) → followed a (followed t (Some [])) ≡ Some front → followed a (followed t d) ≡ Some ws → (rest : List Token) × (ws ≡ front ++ rest)
 split_front None t d front ws e f = absurd (none_is_some front e)
 split_front (Some x) None d front ws e f = absurd (none_is_some front e)

@@ -180,17 +180,17 @@ module _ (limits : Limits) (w : Written) where
     pub excess_in_config : (e f : Excess) → IsExcess (λ b j. config_keeps limits w.terms b (take j w.config)) (length w.config) e → f.word ≡ length the_rules + e.word → f.limit ≡ e.limit
         → IsExcess (λ b j. counts_keep limits b w j) (length (all_words w)) f
     excess_in_config e f is at same =
-        let behind : f.word + 1 - length the_rules ≡ e.word + 1 = omega (arith, at) in
+        let after : f.word + 1 - length the_rules ≡ e.word + 1 = omega (arith, at) in
         record {
           inside = omega (arith, is.inside, size, at);
           kept = λ j le b. and_from (rules_keep limits b (take j the_rules)) _ (rules_kept j b) (is.kept (j - length the_rules) (omega (arith, le, at)) b);
           passed =
-              (λ i. rules_keep limits f.limit (take (f.word + 1) the_rules) && config_keeps limits w.terms (same i) (take (behind i) w.config))
+              (λ i. rules_keep limits f.limit (take (f.word + 1) the_rules) && config_keeps limits w.terms (same i) (take (after i) w.config))
               ∙ ap (λ x. rules_keep limits f.limit (take (f.word + 1) the_rules) && x) is.passed
               ∙ and_false (rules_keep limits f.limit (take (f.word + 1) the_rules));
           first = λ b less.
               and_from (rules_keep limits b (take (f.word + 1) the_rules)) _ (rules_kept (f.word + 1) b)
-              (ap (λ n. config_keeps limits w.terms b (take n w.config)) behind ∙ is.first b (subst (λ y. rank b < rank y) same less));
+              (ap (λ n. config_keeps limits w.terms b (take n w.config)) after ∙ is.first b (subst (λ y. rank b < rank y) same less));
         }
 
     pub no_excess : ((j : ℕ) (b : Bound) → config_keeps limits w.terms b (take j w.config) ≡ true) → IsFirstExcess (λ b j. counts_keep limits b w j) (length (all_words w)) None

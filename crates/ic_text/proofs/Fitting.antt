@@ -28,7 +28,7 @@ use Rattle.ic_text.proofs.HasFaults.{alone}
 use Rattle.ic_text.proofs.JoinedPhrase.{joined_phrase, length-rules_prefix}
 use Rattle.ic_text.proofs.PrefixWords.{length-phrase_prefix}
 use Rattle.ic_text.proofs.Refusing.{written-system}
-use Rattle.ic_text.proofs.RulePlaces.{config_behind, front_of}
+use Rattle.ic_text.proofs.RulePlaces.{config_after, front_of}
 use Rattle.ic_text.proofs.RuleNodes.{kept_small, small_kept}
 use Rattle.ic_text.proofs.Sensing.{finished, phrase_within, sense-unfit, sense-words}
 use Rattle.ic_text.proofs.SensingSystem.{finished_system, sense-system, system-unfit, system_within}
@@ -134,7 +134,7 @@ module _ (limits : Limits) (s : SystemPhrase) (nodes : List Node) (rules agents 
   rules_front = front_of nodes rules ∙ ap (take rules) counted.words ∙ take_at (rules_prefix s.rules) (phrase_prefix s.config) rules (sym counted.before)
 
   pub config_rest : nodes_of (take (length nodes - rules) (drop rules nodes)) ≡ phrase_prefix s.config
-  config_rest = config_behind s nodes rules counted.words counted.before
+  config_rest = config_after s nodes rules counted.words counted.before
 
   pub rules_arities : rules < 2 ^ 64 → arities (nodes_of (take rules nodes)) < 2 ^ 64
   rules_arities low = omega (arith, ap arities rules_front, arities-rules s.rules, counted.before, low)

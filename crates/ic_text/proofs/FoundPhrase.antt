@@ -11,7 +11,7 @@ use Rattle.ic_text.specs.Token.{Token, word, mark}
 use Rattle.ic_text.specs.Source.{Source, Sides, Phrase, IsSource, IsPhrase, words, sides_words, separated, phrase_words}
 use Rattle.ic_text.specs.inner.Syntax.{word_spot, beside, either_step, accepts}
 use Rattle.ic_text.proofs.Accepted.{at}
-use Rattle.ic_text.proofs.Grammar.{behind_commas, AreSides, accepts-phrase_words}
+use Rattle.ic_text.proofs.Grammar.{after_commas, AreSides, accepts-phrase_words}
 use Rattle.ic_text.proofs.Found.{TermFound, term_due, rest_is_less}
 
 -- some configuration has these tokens
@@ -35,29 +35,29 @@ record InterfaceFound (front : List (List Token) → List Token) (ts : List Toke
   goes : accepts (at Left First 0) rest ≡ true
 
 -- a term of the interface and those after it
-interface_more : (ts : List Token) (t : TermFound Interface 0 ts) → InterfaceFound behind_commas t.rest → InterfaceFound (separated Comma) ts
+interface_more : (ts : List Token) (t : TermFound Interface 0 ts) → InterfaceFound after_commas t.rest → InterfaceFound (separated Comma) ts
 interface_more ts t others = record {
   terms = t.term ∷ others.terms;
   are = (t.is, others.are);
   rest = others.rest;
-  spelled = t.spelled ∙ ap (λ r. words t.term ++ r) others.spelled ∙ sym (append_assoc (words t.term) (behind_commas (map words others.terms)) (mark Bar ∷ others.rest));
+  spelled = t.spelled ∙ ap (λ r. words t.term ++ r) others.spelled ∙ sym (append_assoc (words t.term) (after_commas (map words others.terms)) (mark Bar ∷ others.rest));
   goes = others.goes;
 }
 
-behind_from_separated : (ts : List Token) (t : TermFound Interface 0 ts) → InterfaceFound behind_commas t.rest → InterfaceFound behind_commas (mark Comma ∷ ts)
+after_from_separated : (ts : List Token) (t : TermFound Interface 0 ts) → InterfaceFound after_commas t.rest → InterfaceFound after_commas (mark Comma ∷ ts)
 unfolding interface_more
-behind_from_separated ts t others =
+after_from_separated ts t others =
     let all = interface_more ts t others in
     record { terms = all.terms; are = all.are; rest = all.rest; spelled = ap (λ r. mark Comma ∷ r) all.spelled; goes = all.goes }
 
-interface_rest : (n : ℕ) (ts : List Token) → length ts ≤ n → accepts (at Interface After 0) ts ≡ true → InterfaceFound behind_commas ts
+interface_rest : (n : ℕ) (ts : List Token) → length ts ≤ n → accepts (at Interface After 0) ts ≡ true → InterfaceFound after_commas ts
 interface_rest n [] le goes = absurd (false≢true goes)
 interface_rest n (word text ∷ ts) le goes = absurd (false≢true goes)
 interface_rest n (mark Bar ∷ ts) le goes = record { terms = []; are = tt; rest = ts; spelled = refl; goes = goes }
 interface_rest zero (mark Comma ∷ ts) le goes = absurd (omega arith)
 interface_rest (suc n) (mark Comma ∷ ts) le goes =
     let t = term_due ts Interface tt goes in
-    behind_from_separated ts t (interface_rest n t.rest (rest_is_less ts t.rest n (words t.term) t.spelled (omega arith)) t.goes)
+    after_from_separated ts t (interface_rest n t.rest (rest_is_less ts t.rest n (words t.term) t.spelled (omega arith)) t.goes)
 interface_rest n (mark m ∷ ts) le goes = absurd (false≢true goes)
 
 interface_found : (ts : List Token) → accepts (at Interface First 0) ts ≡ true → InterfaceFound (separated Comma) ts
@@ -101,16 +101,16 @@ record EquationsFound (front : List (List Token) → List Token) (ts : List Toke
   are : AreSides equations
   spelled : ts ≡ front (map sides_words equations) ++ mark Greater ∷ []
 
-equations_more : (ts : List Token) (e : EquationFound ts) → EquationsFound behind_commas e.rest → EquationsFound (separated Comma) ts
+equations_more : (ts : List Token) (e : EquationFound ts) → EquationsFound after_commas e.rest → EquationsFound (separated Comma) ts
 equations_more ts e others = record {
   equations = e.sides ∷ others.equations;
   are = (e.are, others.are);
-  spelled = e.spelled ∙ ap (λ r. sides_words e.sides ++ r) others.spelled ∙ sym (append_assoc (sides_words e.sides) (behind_commas (map sides_words others.equations)) (mark Greater ∷ []));
+  spelled = e.spelled ∙ ap (λ r. sides_words e.sides ++ r) others.spelled ∙ sym (append_assoc (sides_words e.sides) (after_commas (map sides_words others.equations)) (mark Greater ∷ []));
 }
 
-equations_behind : (ts : List Token) (e : EquationFound ts) → EquationsFound behind_commas e.rest → EquationsFound behind_commas (mark Comma ∷ ts)
+equations_after : (ts : List Token) (e : EquationFound ts) → EquationsFound after_commas e.rest → EquationsFound after_commas (mark Comma ∷ ts)
 unfolding equations_more
-equations_behind ts e others =
+equations_after ts e others =
     let all = equations_more ts e others in
     record { equations = all.equations; are = all.are; spelled = ap (λ r. mark Comma ∷ r) all.spelled }
 
@@ -123,14 +123,14 @@ nothing_after (mark m ∷ ts) goes = absurd (false≢true goes)
 end_found : (front : List (List Token) → List Token) → front [] ≡ [] → (ts : List Token) → accepts (at End After 0) ts ≡ true → EquationsFound front (mark Greater ∷ ts)
 end_found front none ts goes = record { equations = []; are = tt; spelled = ap (λ r. mark Greater ∷ r) (nothing_after ts goes) ∙ ap (λ r. r ++ mark Greater ∷ []) (sym none) }
 
-equations_rest : (n : ℕ) (ts : List Token) → length ts ≤ n → accepts (at Right After 0) ts ≡ true → EquationsFound behind_commas ts
+equations_rest : (n : ℕ) (ts : List Token) → length ts ≤ n → accepts (at Right After 0) ts ≡ true → EquationsFound after_commas ts
 equations_rest n [] le goes = absurd (false≢true goes)
 equations_rest n (word text ∷ ts) le goes = absurd (false≢true goes)
-equations_rest n (mark Greater ∷ ts) le goes = end_found behind_commas refl ts goes
+equations_rest n (mark Greater ∷ ts) le goes = end_found after_commas refl ts goes
 equations_rest zero (mark Comma ∷ ts) le goes = absurd (omega arith)
 equations_rest (suc n) (mark Comma ∷ ts) le goes =
     let e = equation_due ts goes in
-    equations_behind ts e (equations_rest n e.rest (rest_is_less ts e.rest n (sides_words e.sides) e.spelled (omega arith)) e.goes)
+    equations_after ts e (equations_rest n e.rest (rest_is_less ts e.rest n (sides_words e.sides) e.spelled (omega arith)) e.goes)
 equations_rest n (mark m ∷ ts) le goes = absurd (false≢true goes)
 
 equations_found : (ts : List Token) → accepts (at Left First 0) ts ≡ true → EquationsFound (separated Comma) ts

@@ -14,7 +14,7 @@ use Rattle.ic_text.specs.SystemSource.{AgentPhrase, RulePhrase, IsRulePhrase, Sy
 use Rattle.ic_text.proofs.Accepted.{at}
 use Rattle.ic_text.proofs.Found.{IsInner, goes_on, arguments_due, rest_is_less}
 use Rattle.ic_text.proofs.FoundPhrase.{SpelledBy-accepts}
-use Rattle.ic_text.proofs.GrammarSystem.{behind_semicolons, accepts-system_words}
+use Rattle.ic_text.proofs.GrammarSystem.{after_semicolons, accepts-system_words}
 
 -- some system has these tokens
 abbrev pub SystemSpelledBy : List Token → Type 0
@@ -98,9 +98,9 @@ record RulesFound (front : List (List Token) → List Token) (ts : List Token) :
   goes : accepts (at Begin After 0) rest ≡ true
 
 -- a rule and those after it
-rules_more : (ts : List Token) (found : RuleFound ts) → RulesFound behind_semicolons found.rest → RulesFound (separated Semicolon) ts
+rules_more : (ts : List Token) (found : RuleFound ts) → RulesFound after_semicolons found.rest → RulesFound (separated Semicolon) ts
 rules_more ts found others =
-    let behind = behind_semicolons (map rule_words others.rules) in
+    let after = after_semicolons (map rule_words others.rules) in
     record {
       rules = found.rule ∷ others.rules;
       are = (found.is, others.are);
@@ -108,14 +108,14 @@ rules_more ts found others =
       spelled =
           found.spelled
           ∙ ap (λ r. rule_words found.rule ++ r) others.spelled
-          ∙ sym (append_assoc (rule_words found.rule) behind (mark RightBrace ∷ others.rest));
+          ∙ sym (append_assoc (rule_words found.rule) after (mark RightBrace ∷ others.rest));
       goes = others.goes;
     }
 
-behind_from_separated : (ts : List Token) (found : RuleFound ts)
-    → RulesFound behind_semicolons found.rest → RulesFound behind_semicolons (mark Semicolon ∷ ts)
+after_from_separated : (ts : List Token) (found : RuleFound ts)
+    → RulesFound after_semicolons found.rest → RulesFound after_semicolons (mark Semicolon ∷ ts)
 unfolding rules_more
-behind_from_separated ts found others =
+after_from_separated ts found others =
     let all = rules_more ts found others in
     record {
       rules = all.rules;
@@ -126,7 +126,7 @@ behind_from_separated ts found others =
     }
 
 rules_rest : (n : ℕ) (ts : List Token) → length ts ≤ n → accepts (at RuleRight After 0) ts ≡ true
-    → RulesFound behind_semicolons ts
+    → RulesFound after_semicolons ts
 rules_rest n [] le goes = absurd (false≢true goes)
 rules_rest n (word text ∷ ts) le goes = absurd (false≢true goes)
 rules_rest n (mark RightBrace ∷ ts) le goes = record { rules = []; are = tt; rest = ts; spelled = refl; goes = goes }
@@ -134,7 +134,7 @@ rules_rest zero (mark Semicolon ∷ ts) le goes = absurd (omega arith)
 rules_rest (suc n) (mark Semicolon ∷ ts) le goes =
     let found = rule_due ts goes in
     let less = rest_is_less ts found.rest n (rule_words found.rule) found.spelled (omega arith) in
-    behind_from_separated ts found (rules_rest n found.rest less found.goes)
+    after_from_separated ts found (rules_rest n found.rest less found.goes)
 rules_rest n (mark m ∷ ts) le goes = absurd (false≢true goes)
 
 rules_found : (ts : List Token) → accepts (at RuleLeft FirstAgent 0) ts ≡ true → RulesFound (separated Semicolon) ts

@@ -14,7 +14,7 @@ use Rattle.ic_text.specs.Token.{Token, word, mark, words_among, tokens}
 use Rattle.ic_text.specs.Source.{leaf, words}
 use Rattle.ic_text.specs.Places.{GoesOn, IsLastPlace, IsSyntaxPlace}
 use Rattle.ic_text.specs.inner.Syntax.{step, at_beginning, accepts}
-use Rattle.ic_text.specs.inner.Survey.{taken, taken_behind, begun, Leads}
+use Rattle.ic_text.specs.inner.Survey.{taken, taken_after, begun, Leads}
 use Rattle.ic_text.specs.lemmas.ReadOnce.{IsTold}
 use Rattle.ic_text.proofs.Accepted.{at, IsClosed, symbol_is_term, close_step, accepts-words}
 use Rattle.ic_text.proofs.Surveying.{taken-none}
@@ -33,7 +33,7 @@ abbrev pub closes : ℕ → List Token
 closes zero = []
 closes (suc d) = mark Close ∷ closes d
 
--- what ends a phrase behind a term of a part
+-- what ends a phrase after a term of a part
 abbrev config_end : List Token
 config_end = mark Less ∷ mark Bar ∷ mark Greater ∷ []
 
@@ -133,7 +133,7 @@ module _ {P : Type 0} (IsOne : P → Type 0) (words_of : P → List Token) (told
   pub ended : (text : List ℕ) (leads : Leads part text) → IsEnded text leads.0.state
   ended text leads = by_tokens (tokens text) refl leads.1
     where
-      by_tokens : (o : Option (List Token)) → tokens text ≡ o → taken_behind (Some (begun part)) o ≡ Some leads.0 → IsEnded text leads.0.state
+      by_tokens : (o : Option (List Token)) → tokens text ≡ o → taken_after (Some (begun part)) o ≡ Some leads.0 → IsEnded text leads.0.state
       by_tokens None e goes = absurd (none_isnt leads.0 goes)
       by_tokens (Some ts) e goes =
           let us = state_end leads.0.state in
@@ -155,7 +155,7 @@ module _ {P : Type 0} (IsOne : P → Type 0) (words_of : P → List Token) (told
 
       by_taken : (o : Option Progress) → taken (Some (begun part)) goes.front ≡ o → Leads part text
       by_taken None e = absurd (false≢true (ap (λ o. accepts (state_in o) goes.rest) (sym e) ∙ sym (accepts-taken goes.front goes.rest (begun part)) ∙ all))
-      by_taken (Some p) e = (p, ap (taken_behind (Some (begun part))) goes.tokens ∙ e)
+      by_taken (Some p) e = (p, ap (taken_after (Some (begun part))) goes.tokens ∙ e)
 
   -- so where a check stops is the place of a fault
   pub last_place : (text : List ℕ) (place : ℕ) → IsLastPlace (Leads part) text place → IsLastPlace (GoesOn IsOne words_of) text place

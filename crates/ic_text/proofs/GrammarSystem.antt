@@ -12,7 +12,7 @@ use Rattle.ic_text.specs.SystemSource.{RulePhrase, SystemPhrase, IsRulePhrase, I
 use Rattle.ic_text.proofs.Accepted.{at, TakesAgent, IsClosed, accepts-agent_words}
 use Rattle.ic_text.proofs.Grammar.{accepts-phrase_words}
 
--- the tokens before the first `}`, and those behind it
+-- the tokens before the first `}`, and those after it
 abbrev pub split_at_brace : List Token → List Token × List Token
 split_at_brace [] = ([], [])
 split_at_brace (mark RightBrace ∷ ts) = ([], ts)
@@ -22,7 +22,7 @@ split_at_brace (t ∷ ts) = let rest = split_at_brace ts in (t ∷ rest.0, rest.
 abbrev pub in_front : List Token → List Token × List Token → List Token × List Token
 in_front front parts = (front ++ parts.0, parts.1)
 
--- tokens without a `}` stay in front of what is split behind them
+-- tokens without a `}` stay in front of what is split after them
 abbrev StaysInFront : List Token → List Token → Type 0
 StaysInFront ts r = split_at_brace (ts ++ r) ≡ in_front ts (split_at_brace r)
 
@@ -59,31 +59,31 @@ split-rule_words rule r =
     let second = ap (in_front turn) (split-words (agent_source rule.right) r) in
     split-joined (words (agent_source rule.left)) (turn ++ right) r first second
 
--- lists of tokens, each behind a `;`
-abbrev pub behind_semicolons : List (List Token) → List Token
-behind_semicolons tss = flat_map (λ us. mark Semicolon ∷ us) tss
+-- lists of tokens, each after a `;`
+abbrev pub after_semicolons : List (List Token) → List Token
+after_semicolons tss = flat_map (λ us. mark Semicolon ∷ us) tss
 
-split-rules_behind : (rs : List RulePhrase) (r : List Token)
-    → split_at_brace (behind_semicolons (map rule_words rs) ++ mark RightBrace ∷ r)
-    ≡ (behind_semicolons (map rule_words rs), r)
-split-rules_behind [] r = refl
-split-rules_behind (rule ∷ rs) r =
-    let behind = behind_semicolons (map rule_words rs) in
-    ap (λ ts. split_at_brace (mark Semicolon ∷ ts)) (append_assoc (rule_words rule) behind (mark RightBrace ∷ r))
-    ∙ ap (in_front (mark Semicolon ∷ [])) (split-rule_words rule (behind ++ mark RightBrace ∷ r))
-    ∙ ap (in_front (mark Semicolon ∷ rule_words rule)) (split-rules_behind rs r)
+split-rules_after : (rs : List RulePhrase) (r : List Token)
+    → split_at_brace (after_semicolons (map rule_words rs) ++ mark RightBrace ∷ r)
+    ≡ (after_semicolons (map rule_words rs), r)
+split-rules_after [] r = refl
+split-rules_after (rule ∷ rs) r =
+    let after = after_semicolons (map rule_words rs) in
+    ap (λ ts. split_at_brace (mark Semicolon ∷ ts)) (append_assoc (rule_words rule) after (mark RightBrace ∷ r))
+    ∙ ap (in_front (mark Semicolon ∷ [])) (split-rule_words rule (after ++ mark RightBrace ∷ r))
+    ∙ ap (in_front (mark Semicolon ∷ rule_words rule)) (split-rules_after rs r)
 
--- the rules stand before the first `}`, and the configuration behind it
+-- the rules stand before the first `}`, and the configuration after it
 pub split-rules_words : (rs : List RulePhrase) (r : List Token)
     → split_at_brace (rules_words rs ++ mark RightBrace ∷ r) ≡ (rules_words rs, r)
 split-rules_words [] r = refl
 split-rules_words (rule ∷ rs) r =
-    let behind = behind_semicolons (map rule_words rs) in
-    ap split_at_brace (append_assoc (rule_words rule) behind (mark RightBrace ∷ r))
-    ∙ split-rule_words rule (behind ++ mark RightBrace ∷ r)
-    ∙ ap (in_front (rule_words rule)) (split-rules_behind rs r)
+    let after = after_semicolons (map rule_words rs) in
+    ap split_at_brace (append_assoc (rule_words rule) after (mark RightBrace ∷ r))
+    ∙ split-rule_words rule (after ++ mark RightBrace ∷ r)
+    ∙ ap (in_front (rule_words rule)) (split-rules_after rs r)
 
-semicolons_are_closed : (tss : List (List Token)) (r : List Token) → IsClosed r → IsClosed (behind_semicolons tss ++ r)
+semicolons_are_closed : (tss : List (List Token)) (r : List Token) → IsClosed r → IsClosed (after_semicolons tss ++ r)
 semicolons_are_closed [] r closed = closed
 semicolons_are_closed (ts ∷ tss) r closed = tt
 
@@ -96,24 +96,24 @@ accepts-rule_words rule s r is takes closed =
     ∙ accepts-agent_words rule.left RuleLeft s (mark Greater ∷ mark Less ∷ (right ++ r)) is.0 takes tt
     ∙ accepts-agent_words rule.right RuleRight DueAgent r is.1 tt closed
 
-rules_behind : (rs : List RulePhrase) (r : List Token) → AllByRecursion IsRulePhrase rs → IsClosed r
-    → accepts (at RuleRight After 0) (behind_semicolons (map rule_words rs) ++ r) ≡ accepts (at RuleRight After 0) r
-rules_behind [] r are closed = refl
-rules_behind (rule ∷ rs) r are closed =
-    let behind = behind_semicolons (map rule_words rs) in
-    ap (accepts (at RuleLeft DueAgent 0)) (append_assoc (rule_words rule) behind r)
-    ∙ accepts-rule_words rule DueAgent (behind ++ r) are.0 tt (semicolons_are_closed (map rule_words rs) r closed)
-    ∙ rules_behind rs r are.1 closed
+rules_after : (rs : List RulePhrase) (r : List Token) → AllByRecursion IsRulePhrase rs → IsClosed r
+    → accepts (at RuleRight After 0) (after_semicolons (map rule_words rs) ++ r) ≡ accepts (at RuleRight After 0) r
+rules_after [] r are closed = refl
+rules_after (rule ∷ rs) r are closed =
+    let after = after_semicolons (map rule_words rs) in
+    ap (accepts (at RuleLeft DueAgent 0)) (append_assoc (rule_words rule) after r)
+    ∙ accepts-rule_words rule DueAgent (after ++ r) are.0 tt (semicolons_are_closed (map rule_words rs) r closed)
+    ∙ rules_after rs r are.1 closed
 
 accepts-rules_words : (rs : List RulePhrase) (r : List Token) → AllByRecursion IsRulePhrase rs
     → accepts (at RuleLeft FirstAgent 0) (rules_words rs ++ mark RightBrace ∷ r) ≡ accepts (at Begin After 0) r
 accepts-rules_words [] r are = refl
 accepts-rules_words (rule ∷ rs) r are =
-    let behind = behind_semicolons (map rule_words rs) in
+    let after = after_semicolons (map rule_words rs) in
     let closed = semicolons_are_closed (map rule_words rs) (mark RightBrace ∷ r) tt in
-    ap (accepts (at RuleLeft FirstAgent 0)) (append_assoc (rule_words rule) behind (mark RightBrace ∷ r))
-    ∙ accepts-rule_words rule FirstAgent (behind ++ mark RightBrace ∷ r) are.0 tt closed
-    ∙ rules_behind rs (mark RightBrace ∷ r) are.1 tt
+    ap (accepts (at RuleLeft FirstAgent 0)) (append_assoc (rule_words rule) after (mark RightBrace ∷ r))
+    ∙ accepts-rule_words rule FirstAgent (after ++ mark RightBrace ∷ r) are.0 tt closed
+    ∙ rules_after rs (mark RightBrace ∷ r) are.1 tt
 
 -- each system is accepted
 pub accepts-system_words : (s : SystemPhrase) → IsSystemPhrase s → accepts (at Start After 0) (system_words s) ≡ true

@@ -1,4 +1,4 @@
--- What a system or a configuration is refused for behind its limits and arities, it has.
+-- What a system or a configuration is refused for after its limits and arities, it has.
 use Rattle.std.proofs.Common.{◌≡◌, ℕ, zero, suc, ◌+◌, ◌<◌, ◌≤◌, ◌==◌, Bool, true, false, not, cond, List, [], ◌∷◌, ◌++◌, Option, None, Some, Result, Ok, Err, length, map, refl, sym, ap, ◌∙◌, subst, arith, append_assoc, length-append}
 use Rattle.std.specs.Prelude.{nat_le}
 use Rattle.std.specs.List.{list_all, list_any, slice_get, flat_map, position_from, AllByRecursion}
@@ -13,7 +13,7 @@ use Rattle.ic_term.specs.declared.config.ConfigFault.{ConfigFault}
 use Rattle.ic_term.specs.declared.config.ConfigFault.TheVariants.{Limit as TooMuch, Name as Third, Memory as NoRoom}
 use Rattle.ic_rules.specs.Renaming.{are_paired}
 use Rattle.ic_rules.specs.Rule.{Rule, rule_names as names_of_rule, numbered, is_lopsided, same_pair}
-use Rattle.ic_rules.specs.RuleSet.{first_uncounted, repeated_behind, first_repeated, first_lopsided}
+use Rattle.ic_rules.specs.RuleSet.{first_uncounted, repeated_after, first_repeated, first_lopsided}
 use Rattle.ic_rules.specs.System.{SystemParts}
 use Rattle.ic_text.specs.declared.limits.Limits.{Limits}
 use Rattle.ic_text.specs.declared.fault.TextFault.{TextFault}
@@ -30,7 +30,7 @@ use Rattle.ic_text.specs.inner.Numbered.{Refuses, as_text_answer}
 use Rattle.ic_text.specs.inner.Refused.{HasFault}
 use Rattle.ic_text.proofs.BuiltRules.{flat_names}
 use Rattle.ic_text.proofs.PrefixWords.{names_among-append, names_among-prefix, names_among-phrase}
-use Rattle.ic_text.proofs.Refusing.{config_syntax, config_arity, found_behind, system_syntax, system_arity, system_limit}
+use Rattle.ic_text.proofs.Refusing.{config_syntax, config_arity, found_after, system_syntax, system_arity, system_limit}
 use Rattle.ic_text.proofs.Sensing.{names-numbered_trees}
 use Rattle.ic_text.proofs.Uses.{occurrences-uses}
 
@@ -118,12 +118,12 @@ third p is n low e =
     (low_name (phrase_names p) n low (omega (arith, thrice)), omega (arith, thrice, same))
 
 -- a rule that is found is one of the rules
-repeated_inside : (earlier rs : List Rule) (i : ℕ) → repeated_behind earlier rs ≡ Some i → i < length earlier + length rs
+repeated_inside : (earlier rs : List Rule) (i : ℕ) → repeated_after earlier rs ≡ Some i → i < length earlier + length rs
 repeated_inside earlier [] i e = cc
 repeated_inside earlier (r ∷ rs) i e = by_test (list_any (same_pair r) earlier) e (λ x. repeated_inside (earlier ++ r ∷ []) rs i x)
   where
-    by_test : (b : Bool) → cond b (Some (length earlier)) (repeated_behind (earlier ++ r ∷ []) rs) ≡ Some i
-        → (repeated_behind (earlier ++ r ∷ []) rs ≡ Some i → i < length (earlier ++ r ∷ []) + length rs) → i < length earlier + length (r ∷ rs)
+    by_test : (b : Bool) → cond b (Some (length earlier)) (repeated_after (earlier ++ r ∷ []) rs) ≡ Some i
+        → (repeated_after (earlier ++ r ∷ []) rs ≡ Some i → i < length (earlier ++ r ∷ []) + length rs) → i < length earlier + length (r ∷ rs)
     by_test true e rest = let same : length earlier ≡ i = cc in omega (arith, same)
     by_test false e rest = omega (arith, rest e, length-append earlier (r ∷ []))
 
@@ -135,29 +135,29 @@ position_inside p (r ∷ rs) k i e = by_test (p r) e (λ x. position_inside p rs
     by_test true e rest = let same : k ≡ i = cc in omega (arith, same)
     by_test false e rest = omega (arith, rest e)
 
--- what is found behind limits and arities
-by_count : (a b c d : Option ℕ) (v : SystemParts) (i : ℕ) → Err (NameCount i) ≡ found_behind a b c d v → a ≡ Some i
+-- what is found after limits and arities
+by_count : (a b c d : Option ℕ) (v : SystemParts) (i : ℕ) → Err (NameCount i) ≡ found_after a b c d v → a ≡ Some i
 by_count (Some j) b c d v i e = let same : j ≡ i = cc in ap Some same
 by_count None (Some j) c d v i e = cc
 by_count None None (Some j) d v i e = cc
 by_count None None None (Some j) v i e = cc
 by_count None None None None v i e = cc
 
-by_third : (a b c d : Option ℕ) (v : SystemParts) (i : ℕ) → Err (Name i) ≡ found_behind a b c d v → b ≡ Some i
+by_third : (a b c d : Option ℕ) (v : SystemParts) (i : ℕ) → Err (Name i) ≡ found_after a b c d v → b ≡ Some i
 by_third (Some j) b c d v i e = cc
 by_third None (Some j) c d v i e = let same : j ≡ i = cc in ap Some same
 by_third None None (Some j) d v i e = cc
 by_third None None None (Some j) v i e = cc
 by_third None None None None v i e = cc
 
-by_twice : (a b c d : Option ℕ) (v : SystemParts) (i : ℕ) → Err (Twice i) ≡ found_behind a b c d v → c ≡ Some i
+by_twice : (a b c d : Option ℕ) (v : SystemParts) (i : ℕ) → Err (Twice i) ≡ found_after a b c d v → c ≡ Some i
 by_twice (Some j) b c d v i e = cc
 by_twice None (Some j) c d v i e = cc
 by_twice None None (Some j) d v i e = let same : j ≡ i = cc in ap Some same
 by_twice None None None (Some j) v i e = cc
 by_twice None None None None v i e = cc
 
-by_lopsided : (a b c d : Option ℕ) (v : SystemParts) (i : ℕ) → Err (Lopsided i) ≡ found_behind a b c d v → d ≡ Some i
+by_lopsided : (a b c d : Option ℕ) (v : SystemParts) (i : ℕ) → Err (Lopsided i) ≡ found_after a b c d v → d ≡ Some i
 by_lopsided (Some j) b c d v i e = cc
 by_lopsided None (Some j) c d v i e = cc
 by_lopsided None None (Some j) d v i e = cc
@@ -166,10 +166,10 @@ by_lopsided None None None None v i e = cc
 
 module _ (limits : Limits) (s : SystemPhrase) (is : IsSystemPhrase s) where
   abbrev found : Result SystemParts TextFault
-  found = found_behind (first_uncounted (rules_over s)) (third_occurrence (phrase_names s.config)) (first_repeated (rules_over s)) (first_lopsided (rules_over s)) (system_parts s)
+  found = found_after (first_uncounted (rules_over s)) (third_occurrence (phrase_names s.config)) (first_repeated (rules_over s)) (first_lopsided (rules_over s)) (system_parts s)
 
-  behind : (f : TextFault) → (f ≡ Limit → ⊥) → (f ≡ Arity → ⊥) → Err f ≡ system_sense_within limits s → (is_system_in_limits_within limits s ≡ true) × (Err f ≡ found)
-  behind f no_limit no_arity = by_cases (is_system_in_limits_within limits s) (list_all (has_its_arity (system_table s)) (system_symbols s)) refl
+  after : (f : TextFault) → (f ≡ Limit → ⊥) → (f ≡ Arity → ⊥) → Err f ≡ system_sense_within limits s → (is_system_in_limits_within limits s ≡ true) × (Err f ≡ found)
+  after f no_limit no_arity = by_cases (is_system_in_limits_within limits s) (list_all (has_its_arity (system_table s)) (system_symbols s)) refl
     where
       by_cases : (l o : Bool) → is_system_in_limits_within limits s ≡ l → Err f ≡ cond l (cond o found (Err Arity)) (Err Limit) → (is_system_in_limits_within limits s ≡ true) × (Err f ≡ found)
       by_cases false o low e = let same : f ≡ Limit = cc in absurd (no_limit same)
@@ -189,16 +189,16 @@ module _ (limits : Limits) (s : SystemPhrase) (is : IsSystemPhrase s) where
   has_fault low agreed Limit e = system_limit limits s low e
   has_fault low agreed Arity e = system_arity limits s agreed e
   has_fault low agreed (NameCount i) e =
-      let e = behind (NameCount i) (λ x. cc) (λ x. cc) e in
+      let e = after (NameCount i) (λ x. cc) (λ x. cc) e in
       uncounted s is i (by_count _ _ _ _ _ i e.1)
   has_fault low agreed (Name n) e =
-      let e = behind (Name n) (λ x. cc) (λ x. cc) e in
+      let e = after (Name n) (λ x. cc) (λ x. cc) e in
       third s.config is.config n (low_names e.0) (by_third _ _ _ _ _ n e.1)
   has_fault low agreed (Twice i) e =
-      let e = behind (Twice i) (λ x. cc) (λ x. cc) e in
+      let e = after (Twice i) (λ x. cc) (λ x. cc) e in
       omega (arith, size, repeated_inside [] (rules_over s) i (by_twice _ _ _ _ _ i e.1))
   has_fault low agreed (Lopsided i) e =
-      let e = behind (Lopsided i) (λ x. cc) (λ x. cc) e in
+      let e = after (Lopsided i) (λ x. cc) (λ x. cc) e in
       omega (arith, size, length-map (rules_over s) numbered, position_inside is_lopsided (map numbered (rules_over s)) 0 i (by_lopsided _ _ _ _ _ i e.1))
   has_fault low agreed Memory e = tt
 

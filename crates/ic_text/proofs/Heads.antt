@@ -49,8 +49,8 @@ module _ (ts : List Source) (others : List Symbol) where
       let rest : flat_map prefix (drop n ts) ≡ prefix t ++ flat_map prefix (drop (n + 1) ts) = ap (flat_map prefix) (drop_more ts n d less) in
       omega (arith, ap length (parts n), length-append (flat_map prefix (take n ts)) (flat_map prefix (drop n ts) ++ others), length-append (flat_map prefix (drop n ts)) others, ap length rest, length-append (prefix t) (flat_map prefix (drop (n + 1) ts)), length-prefix t, some_node t)
 
-  pub behind_term : (n : ℕ) → n < length ts → heads (words_before n + 1) ≡ n + 1
-  behind_term n less =
+  pub after_term : (n : ℕ) → n < length ts → heads (words_before n + 1) ≡ n + 1
+  after_term n less =
       let x = get_or all (words_before n) (record { text = []; arity = 0 }) in
       let more : take (words_before n + 1) all ≡ flat_map prefix (take n ts) ++ x ∷ [] = take_more all (words_before n) (record { text = []; arity = 0 }) (stands n less) ∙ ap (λ l. l ++ x ∷ []) (front n) in
       let count : count_words true 0 (flat_map prefix (take n ts) ++ x ∷ []) ≡ length (take n ts) + 1 = count-terms (take n ts) (x ∷ []) in
@@ -65,17 +65,17 @@ module _ (ts : List Source) (others : List Symbol) where
   -- the first word with which there are more than so many begins the next one
   pub one_too_many : (most k : ℕ) → most < length ts → heads k ≤ most → most < heads (k + 1) → k ≡ words_before most
   one_too_many most k less kept passed = ⊎_elim (λ low. absurd (omega (arith, more_heads (k + 1) (words_before most) (omega (arith, low)), at_term most (omega (arith, less)), passed)))
-      (λ ge. ⊎_elim (λ high. absurd (omega (arith, more_heads (words_before most + 1) k (omega (arith, high)), behind_term most less, kept))) (λ le. omega (arith, ge, le)) (cases_lt (words_before most) k)) (cases_lt k (words_before most))
+      (λ ge. ⊎_elim (λ high. absurd (omega (arith, more_heads (words_before most + 1) k (omega (arith, high)), after_term most less, kept))) (λ le. omega (arith, ge, le)) (cases_lt (words_before most) k)) (cases_lt k (words_before most))
 
-  -- the word behind so many heads, if it is none itself, stands within the last of them
+  -- the word after so many heads, if it is none itself, stands within the last of them
   pub within_term : (n k : ℕ) → n < length ts → heads k ≡ n + 1 → heads (k + 1) ≡ n + 1 → k < length (flat_map prefix ts) → (words_before n < k) × (k < words_before (n + 1))
-  within_term n k less here next inside = (behind, before)
+  within_term n k less here next inside = (after, before)
     where
-      behind : words_before n < k
-      behind = ⊎_elim (λ is. is) (λ le. absurd (omega (arith, more_heads k (words_before n) le, at_term n (omega (arith, less)), here))) (cases_lt (words_before n) k)
+      after : words_before n < k
+      after = ⊎_elim (λ is. is) (λ le. absurd (omega (arith, more_heads k (words_before n) le, at_term n (omega (arith, less)), here))) (cases_lt (words_before n) k)
 
       past : words_before (n + 1) ≤ k → n + 1 < length ts → ⊥
-      past le more = omega (arith, more_heads (words_before (n + 1) + 1) (k + 1) (omega (arith, le)), behind_term (n + 1) more, next)
+      past le more = omega (arith, more_heads (words_before (n + 1) + 1) (k + 1) (omega (arith, le)), after_term (n + 1) more, next)
 
       last : words_before (n + 1) ≤ k → length ts ≤ n + 1 → ⊥
       last le end = omega (arith, le, inside, ap (λ us. length (flat_map prefix us)) (take_all (n + 1) ts end))

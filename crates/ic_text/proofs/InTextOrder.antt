@@ -44,13 +44,13 @@ mutual
       both (words t) (further_words ts) (prefix t) (prefix_of_sources ts) (among-words t) (among-further ts)
 
 module _ {X : Type 0} (f : X → List Token) (g : X → List Symbol) (same : (x : X) → words_among (f x) ≡ texts (g x)) (m : Mark) where
-  among-behind : (xs : List X) → words_among (flat_map (λ us. mark m ∷ us) (map f xs)) ≡ texts (flat_map g xs)
-  among-behind [] = refl
-  among-behind (x ∷ xs) = both (f x) (flat_map (λ us. mark m ∷ us) (map f xs)) (g x) (flat_map g xs) (same x) (among-behind xs)
+  among-after : (xs : List X) → words_among (flat_map (λ us. mark m ∷ us) (map f xs)) ≡ texts (flat_map g xs)
+  among-after [] = refl
+  among-after (x ∷ xs) = both (f x) (flat_map (λ us. mark m ∷ us) (map f xs)) (g x) (flat_map g xs) (same x) (among-after xs)
 
   among-separated : (xs : List X) → words_among (separated m (map f xs)) ≡ texts (flat_map g xs)
   among-separated [] = refl
-  among-separated (x ∷ xs) = both (f x) (flat_map (λ us. mark m ∷ us) (map f xs)) (g x) (flat_map g xs) (same x) (among-behind xs)
+  among-separated (x ∷ xs) = both (f x) (flat_map (λ us. mark m ∷ us) (map f xs)) (g x) (flat_map g xs) (same x) (among-after xs)
 
 among-sides : (e : Sides) → words_among (sides_words e) ≡ texts (prefix e.left ++ prefix e.right)
 among-sides e = both (words e.left) (mark Equals ∷ words e.right) (prefix e.left) (prefix e.right) (among-words e.left) (among-words e.right)

@@ -4,7 +4,7 @@ use Rattle.std.specs.List.{list_any, position_from}
 use Rattle.std.proofs.lemmas.List.{take-map}
 use Rattle.ic_rules.specs.Renaming.{are_paired}
 use Rattle.ic_rules.specs.Rule.{Rule, rule_names, numbered, is_lopsided, same_pair}
-use Rattle.ic_rules.specs.RuleSet.{first_uncounted, repeated_behind, first_repeated, first_lopsided}
+use Rattle.ic_rules.specs.RuleSet.{first_uncounted, repeated_after, first_repeated, first_lopsided}
 use Rattle.ic_text.specs.Name.{is_name}
 use Rattle.ic_text.specs.Words.{Written}
 use Rattle.ic_text.specs.WordFaults.{IsMiscount, uses}
@@ -38,15 +38,15 @@ pub lopsided_innocent : (rs : List Rule) (i : ℕ) → first_lopsided rs ≡ Som
 lopsided_innocent rs i e =
     ap (position_from is_lopsided 0) (sym (take-map numbered i rs)) ∙ position_cut is_lopsided (map numbered rs) 0 i (e ∙ some_same i (0 + i) (omega arith))
 
-repeated_cut : (earlier rs : List Rule) (j : ℕ) → repeated_behind earlier rs ≡ Some (length earlier + j) → repeated_behind earlier (take j rs) ≡ None
+repeated_cut : (earlier rs : List Rule) (j : ℕ) → repeated_after earlier rs ≡ Some (length earlier + j) → repeated_after earlier (take j rs) ≡ None
 repeated_cut earlier [] j e = cc
 repeated_cut earlier (r ∷ rs) zero e = refl
 repeated_cut earlier (r ∷ rs) (suc j) e =
     by_test (list_any (same_pair r) earlier) e (λ x. repeated_cut (earlier ++ r ∷ []) rs j (x ∙ some_same (length earlier + suc j) (length (earlier ++ r ∷ []) + j) (omega (arith, length-append earlier (r ∷ [])))))
   where
-    by_test : (b : Bool) → cond b (Some (length earlier)) (repeated_behind (earlier ++ r ∷ []) rs) ≡ Some (length earlier + suc j)
-        → (repeated_behind (earlier ++ r ∷ []) rs ≡ Some (length earlier + suc j) → repeated_behind (earlier ++ r ∷ []) (take j rs) ≡ None)
-        → cond b (Some (length earlier)) (repeated_behind (earlier ++ r ∷ []) (take j rs)) ≡ None
+    by_test : (b : Bool) → cond b (Some (length earlier)) (repeated_after (earlier ++ r ∷ []) rs) ≡ Some (length earlier + suc j)
+        → (repeated_after (earlier ++ r ∷ []) rs ≡ Some (length earlier + suc j) → repeated_after (earlier ++ r ∷ []) (take j rs) ≡ None)
+        → cond b (Some (length earlier)) (repeated_after (earlier ++ r ∷ []) (take j rs)) ≡ None
     by_test true e rest = let same : length earlier ≡ length earlier + suc j = cc in absurd (omega (arith, same))
     by_test false e rest = rest e
 

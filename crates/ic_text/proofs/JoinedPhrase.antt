@@ -10,7 +10,7 @@ use Rattle.ic_text.specs.SystemSource.{RulePhrase, SystemPhrase, IsRulePhrase, I
 use Rattle.ic_text.specs.Words.{prefix, phrase_prefix, rules_prefix}
 use Rattle.ic_text.proofs.PrefixWords.{length-prefix}
 
--- the sides of rules, one behind the other
+-- the sides of rules, one after the other
 abbrev pub sides_of_rules : List RulePhrase → List Source
 sides_of_rules [] = []
 sides_of_rules (r ∷ rs) = agent_source r.left ∷ agent_source r.right ∷ sides_of_rules rs

@@ -6,7 +6,7 @@ use Rattle.std.proofs.lemmas.Bool.Decides.{nat_tests}
 use Rattle.std.proofs.lemmas.List.Concat.{flat_map-append}
 use Rattle.ic_text.specs.declared.token.Mark.{Mark}
 use Rattle.ic_text.specs.declared.token.Mark.TheVariants.{LeftBrace, RightBrace, Less, Greater, Bar, Equals, Comma, Semicolon, Open, Close}
-use Rattle.ic_text.specs.Token.{Token, mark, is_blank, is_word_byte, mark_byte, mark_of, word_of, before, followed, tokens_at, tokens_behind, tokens, token_text}
+use Rattle.ic_text.specs.Token.{Token, mark, is_blank, is_word_byte, mark_byte, mark_of, word_of, before, followed, tokens_at, tokens_after, tokens, token_text}
 use Rattle.ic_text.specs.Text.{text_of}
 
 abbrev kept : List ℕ → List ℕ
@@ -51,9 +51,9 @@ kept-more b bs isnt = rw isnt refl
 some-before : (front us ts : List Token) → before front (Some us) ≡ Some ts → ts ≡ front ++ us
 some-before front us ts e = cc
 
-kept-behind : (bs run : List ℕ) (ts : List Token) → tokens_behind run bs ≡ Some ts → text_of ts ≡ run ++ kept bs
-kept-behind [] run ts e = let same : ts ≡ word_of run = cc in ap text_of same ∙ text_of-word_of run ∙ sym (append-nil run)
-kept-behind (b ∷ bs) run ts all = by_word (is_word_byte b) refl (kept-behind bs) all
+kept-after : (bs run : List ℕ) (ts : List Token) → tokens_after run bs ≡ Some ts → text_of ts ≡ run ++ kept bs
+kept-after [] run ts e = let same : ts ≡ word_of run = cc in ap text_of same ∙ text_of-word_of run ∙ sym (append-nil run)
+kept-after (b ∷ bs) run ts all = by_word (is_word_byte b) refl (kept-after bs) all
   where
     -- a byte that ends the run
     ended : (o : Option Mark) (rest : Option (List Token)) → mark_of b ≡ o → ((us : List Token) → rest ≡ Some us → text_of us ≡ kept bs)
@@ -75,10 +75,10 @@ kept-behind (b ∷ bs) run ts all = by_word (is_word_byte b) refl (kept-behind b
             ∙ (λ i. text_of-word_of run i ++ next us refl i) ∙ rw blank refl
         by_blank false blank r next e = cc
 
-    by_word : (t : Bool) → is_word_byte b ≡ t → ((r : List ℕ) (us : List Token) → tokens_behind r bs ≡ Some us → text_of us ≡ r ++ kept bs) → tokens_behind run (b ∷ bs) ≡ Some ts → text_of ts ≡ run ++ kept (b ∷ bs)
+    by_word : (t : Bool) → is_word_byte b ≡ t → ((r : List ℕ) (us : List Token) → tokens_after r bs ≡ Some us → text_of us ≡ r ++ kept bs) → tokens_after run (b ∷ bs) ≡ Some ts → text_of ts ≡ run ++ kept (b ∷ bs)
     by_word true is next e =
         next (run ++ b ∷ []) ts (rw is at e) ∙ append_assoc run (b ∷ []) (kept bs) ∙ ap (λ l. run ++ l) (sym (kept-more b bs (word_isnt_blank b is)))
-    by_word false isnt next e = ended (mark_of b) (tokens_behind [] bs) refl (next []) (rw isnt at e)
+    by_word false isnt next e = ended (mark_of b) (tokens_after [] bs) refl (next []) (rw isnt at e)
 
 pub text_of-tokens : (text : List ℕ) (ts : List Token) → tokens text ≡ Some ts → text_of ts ≡ filter (λ b. not (is_blank b)) text
-text_of-tokens text ts e = kept-behind text [] ts e
+text_of-tokens text ts e = kept-after text [] ts e

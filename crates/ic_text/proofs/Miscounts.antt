@@ -106,9 +106,9 @@ module _ (ws : List Symbol) where
         two (suc zero) most other some = absurd (other refl)
         two (suc (suc n)) most other some = omega (arith, most)
 
-    pairs_behind : (front back : List Symbol) → ws ≡ front ++ back → list_all (λ n. occurrences n (names_among ws) == 2) (names_among back) ≡ true
-    pairs_behind front [] e = refl
-    pairs_behind front (w ∷ back) e = by_name (is_name w.text) refl (pairs_behind (front ++ w ∷ []) back (e ∙ sym (append_assoc front (w ∷ []) back)))
+    pairs_after : (front back : List Symbol) → ws ≡ front ++ back → list_all (λ n. occurrences n (names_among ws) == 2) (names_among back) ≡ true
+    pairs_after front [] e = refl
+    pairs_after front (w ∷ back) e = by_name (is_name w.text) refl (pairs_after (front ++ w ∷ []) back (e ∙ sym (append_assoc front (w ∷ []) back)))
       where
         long : length front < length ws
         long = omega (arith, ap length e, length-append front (w ∷ back))
@@ -116,11 +116,11 @@ module _ (ws : List Symbol) where
         stands : Standing ws (length front) (get_or ws (length front) (record { text = []; arity = 0 }))
         stands = standing_in ws (length front) long
 
-        behind : drop (length front) ws ≡ w ∷ back
-        behind = ap (drop (length front)) e ∙ drop_at front (w ∷ back) (length front) refl
+        after : drop (length front) ws ≡ w ∷ back
+        after = ap (drop (length front)) e ∙ drop_at front (w ∷ back) (length front) refl
 
         same : get_or ws (length front) (record { text = []; arity = 0 }) ≡ w
-        same = let both = sym stands.rest ∙ behind in cc
+        same = let both = sym stands.rest ∙ after in cc
 
         here : is_name w.text ≡ true → uses w.text ws ≡ 2
         here named = exactly_twice (length front) w (subst (Standing ws (length front)) same stands) named
@@ -133,4 +133,4 @@ module _ (ws : List Symbol) where
             and_from _ _ ((unsigned_Decides (occurrences (name_number w.text) (names_among ws)) 2).1 count) rest
 
     pub all_paired : are_paired (names_among ws) ≡ true
-    all_paired = pairs_behind [] ws refl
+    all_paired = pairs_after [] ws refl

@@ -34,7 +34,7 @@ abbrev pub finish : List Symbol → Bool → List Word → Numbering
 finish table true items = Err Arity
 finish table false items = Ok (table, items)
 
--- numbering word by word, which goes on behind a clash to find a limit
+-- numbering word by word, which goes on after a clash to find a limit
 abbrev pub go : Limits → List Symbol → Bool → List Word → List Symbol → Numbering
 go limits table clash items [] = finish table clash items
 go limits table clash items (w ∷ ws) = go_on (word_found limits table w) (λ item. go limits (table_with table w) clash (items ++ item ∷ []) ws) (go limits table true items ws)
@@ -62,7 +62,7 @@ table_over-grows (w ∷ ws) table =
     let rest = table_over-grows ws (table_with table w) in
     (first.0 ++ rest.0, rest.1 ∙ ap (λ t. t ++ rest.0) first.1 ∙ append_assoc table first.0 rest.0)
 
--- what one word does, and the other words behind it
+-- what one word does, and the other words after it
 pub data Outcome (limits : Limits) (table : List Symbol) (w : Symbol) (ws : List Symbol) : Type 0 where
   kept : (item : Word) → word_found limits table w ≡ Ok item → is_word_in_limits w ≡ true → is_word_over (table_over (table_with table w) ws) w ≡ true
       → word_from (table_over (table_with table w) ws) w ≡ item → length (table_with table w) ≤ (most_symbols limits) → Outcome limits table w ws
@@ -171,7 +171,7 @@ outcome limits table w ws fits = by_name (is_name w.text) refl
     by_name true named = name_outcome limits table w ws fits named
     by_name false named = symbol_outcome limits table w ws fits named
 
--- the answer goes on behind a word
+-- the answer goes on after a word
 answer_kept : (a A1 B o C c : Bool) (t : List Symbol) (items : List Word) (i item : Word) (rest : List Word) → a ≡ true → o ≡ true → i ≡ item
     → unless_refused {A = List Symbol × List Word} (A1 && B) (c && C) (t, (items ++ item ∷ []) ++ rest) ≡ unless_refused ((a && A1) && B) (c && (o && C)) (t, items ++ i ∷ rest)
 answer_kept a A1 B o C c t items i item rest is over same = rw (is, over, same, append_assoc items (item ∷ []) rest) refl

@@ -50,10 +50,10 @@ mutual
   unprefixed-prefix : (t : Source) (ts : List Source) → IsSource t → unprefixed (prefix t) ts ≡ t ∷ ts
   unprefixed-prefix (leaf n) ts is = rw (is_name-name_text n) (ap (λ m. leaf m ∷ ts) (name_number-name_text n))
   unprefixed-prefix (node text us) ts is =
-      let behind = unprefixed-sources us ts is.1 in
+      let after = unprefixed-sources us ts is.1 in
       let size = length-sources_in us in
       rw (isnt_name-symbol text is.0)
-      (ap (λ l. node text (sources_from (take (count_of us) l)) ∷ drop (count_of us) l) behind
+      (ap (λ l. node text (sources_from (take (count_of us) l)) ∷ drop (count_of us) l) after
       ∙ ap (λ l. node text (sources_from l) ∷ drop (count_of us) (sources_in us ++ ts)) (take_at (sources_in us) ts (count_of us) size)
       ∙ ap (λ l. node text (sources_from (sources_in us)) ∷ l) (drop_at (sources_in us) ts (count_of us) size)
       ∙ ap (λ l. node text l ∷ ts) (sources_from-sources_in us))
@@ -68,7 +68,7 @@ unprefixed-interface [] ts are = refl
 unprefixed-interface (u ∷ us) ts are =
     unprefixed-append (prefix u) (flat_map prefix us) ts ∙ unprefixed-prefix u (unprefixed (flat_map prefix us) ts) are.0 ∙ ap (λ l. u ∷ l) (unprefixed-interface us ts are.1)
 
--- the sides of equations, one behind the other, and back
+-- the sides of equations, one after the other, and back
 abbrev sides_in : List Sides → List Source
 sides_in [] = []
 sides_in (e ∷ es) = e.left ∷ e.right ∷ sides_in es

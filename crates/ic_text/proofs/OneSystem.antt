@@ -9,8 +9,8 @@ use Rattle.ic_text.specs.Source.{Source, leaf, node, Sources, no_sources, more_s
 use Rattle.ic_text.specs.inner.Syntax.{accepts}
 use Rattle.ic_text.specs.SystemSource.{AgentPhrase, RulePhrase, SystemPhrase, IsRulePhrase, IsSystemPhrase, agent_source, rule_words, rules_words, system_words}
 use Rattle.ic_text.proofs.Accepted.{at}
-use Rattle.ic_text.proofs.Grammar.{behind_commas, AreSides}
-use Rattle.ic_text.proofs.GrammarSystem.{behind_semicolons, split_at_brace, split-rules_words}
+use Rattle.ic_text.proofs.Grammar.{after_commas, AreSides}
+use Rattle.ic_text.proofs.GrammarSystem.{after_semicolons, split_at_brace, split-rules_words}
 use Rattle.ic_text.proofs.FoundSystem.{SystemSpelledBy-accepts, accepts-SystemSpelledBy}
 use Rattle.ic_text.proofs.OneReading.{phrase_words-injective}
 use Rattle.ic_text.specs.lemmas.ReadOnce.{IsTold}
@@ -76,19 +76,19 @@ equations-rule_words rule r =
     ∙ ap (λ x. left ++ mark Equals ∷ x) (equations-words (agent_source rule.right) r)
     ∙ sym (append_assoc left (mark Equals ∷ right) (as_equations r))
 
-equations-behind : (rs : List RulePhrase)
-    → as_equations (behind_semicolons (map rule_words rs)) ≡ behind_commas (map sides_words (map rule_sides rs))
-equations-behind [] = refl
-equations-behind (rule ∷ rs) =
-    let first = equations-rule_words rule (behind_semicolons (map rule_words rs)) in
-    ap (λ x. mark Comma ∷ x) (first ∙ ap (λ x. sides_words (rule_sides rule) ++ x) (equations-behind rs))
+equations-after : (rs : List RulePhrase)
+    → as_equations (after_semicolons (map rule_words rs)) ≡ after_commas (map sides_words (map rule_sides rs))
+equations-after [] = refl
+equations-after (rule ∷ rs) =
+    let first = equations-rule_words rule (after_semicolons (map rule_words rs)) in
+    ap (λ x. mark Comma ∷ x) (first ∙ ap (λ x. sides_words (rule_sides rule) ++ x) (equations-after rs))
 
 equations-rules_words : (rs : List RulePhrase)
     → as_equations (rules_words rs) ≡ separated Comma (map sides_words (map rule_sides rs))
 equations-rules_words [] = refl
 equations-rules_words (rule ∷ rs) =
-    let first = equations-rule_words rule (behind_semicolons (map rule_words rs)) in
-    first ∙ ap (λ x. sides_words (rule_sides rule) ++ x) (equations-behind rs)
+    let first = equations-rule_words rule (after_semicolons (map rule_words rs)) in
+    first ∙ ap (λ x. sides_words (rule_sides rule) ++ x) (equations-after rs)
 
 -- a configuration of the rules' equations
 abbrev rules_phrase : List RulePhrase → Phrase
@@ -113,7 +113,7 @@ rules_words-injective rs qs are_r are_q same =
     ∙ ap (λ (p : Phrase). map rule_from p.equations) same_phrase
     ∙ rules_from-rule_sides qs
 
--- the tokens behind the `{`
+-- the tokens after the `{`
 abbrev tokens_inside : SystemPhrase → List Token
 tokens_inside s = rules_words s.rules ++ mark RightBrace ∷ phrase_words s.config
 

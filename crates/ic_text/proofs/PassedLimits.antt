@@ -30,7 +30,7 @@ use Rattle.ic_text.specs.lemmas.NameLemmas.{name_text-name_number}
 use Rattle.ic_text.proofs.Blaming.{Standing}
 use Rattle.ic_text.proofs.Counting.{count-both, count-rules, count-take}
 use Rattle.ic_text.proofs.Fitting.{rules_row}
-use Rattle.ic_text.proofs.Heads.{behind_term, heads, more_heads, one_too_many, within_term, words_before}
+use Rattle.ic_text.proofs.Heads.{after_term, heads, more_heads, one_too_many, within_term, words_before}
 use Rattle.ic_text.proofs.JoinedPhrase.{is-joined, joined_phrase, length-rules_prefix, length-sides_of_rules, names-joined, prefix-joined, sides_of_rules, sides_through, symbols-joined}
 use Rattle.ic_text.proofs.PrefixWords.{length-phrase_prefix, length-prefix, names_among-append, names_among-phrase, symbols_among-append, symbols_among-phrase}
 use Rattle.ic_text.proofs.Refusing.{written-system}
@@ -132,7 +132,7 @@ module _ (rs : List RulePhrase) where
         by_rules (r ∷ us) less = omega arith
 
     some : 1 ≤ heads_at k
-    some = omega (arith, next, more_heads (sides_of_rules rs) [] 1 (k + 1) (omega arith), behind_term (sides_of_rules rs) [] 0 first)
+    some = omega (arith, next, more_heads (sides_of_rules rs) [] 1 (k + 1) (omega arith), after_term (sides_of_rules rs) [] 0 first)
 
     pub node_too_many : (n : ℕ) × (k ≡ most + n + 1) × (nodes_within (take n (agents rs)) ≤ most) × (most < nodes_within (take (n + 1) (agents rs)))
     node_too_many =
@@ -152,8 +152,8 @@ module _ (limits : Limits) (s : SystemPhrase) (k : ℕ) where
   abbrev terms : ℕ
   terms = length s.config.interface
 
-  abbrev behind : ℕ → List Symbol
-  behind j = take (j - length row_of) (phrase_prefix s.config)
+  abbrev after : ℕ → List Symbol
+  after j = take (j - length row_of) (phrase_prefix s.config)
 
   same_count : (outer : Bool) (j : ℕ) → count_words outer 0 (take j row_of) ≡ count_words outer 0 (take j (rules_prefix s.rules))
   same_count outer j = ap (λ l. count_words outer 0 (take j l)) (rules_row s)
@@ -165,22 +165,22 @@ module _ (limits : Limits) (s : SystemPhrase) (k : ℕ) where
       rule_too_many s.rules (most_rules limits) k (omega (arith, within, same_count true k)) (omega (arith, over, same_count true (k + 1)))
 
   -- a word of the configuration
-  behind_rules : (j : ℕ) → length row_of < j → j ≡ length row_of + (j - length row_of)
-  behind_rules j less = omega (arith, less)
+  after_rules : (j : ℕ) → length row_of < j → j ≡ length row_of + (j - length row_of)
+  after_rules j less = omega (arith, less)
 
   pub interface_passed : IsLimitWordWithin limits Interface (written_system s) k → (most_interface limits < length s.config.interface) × (k ≡ length (rules_prefix s.rules) + length (flat_map prefix (take (most_interface limits) s.config.interface)))
   interface_passed is =
       let us = flat_map (λ (e : Sides). prefix e.left ++ prefix e.right) s.config.equations in
-      let over = or_parts (nat_le terms (most_interface limits)) (nat_le (count_words true 0 (behind (k + 1))) (most_interface limits)) is.passed in
+      let over = or_parts (nat_le terms (most_interface limits)) (nat_le (count_words true 0 (after (k + 1))) (most_interface limits)) is.passed in
       let many = leb-false terms (most_interface limits) over.0 in
-      let passed = leb-false (count_words true 0 (behind (k + 1))) (most_interface limits) over.1 in
-      let kept = leb-true (count_words true 0 (behind k)) (most_interface limits) (or_kept (nat_le terms (most_interface limits)) _ over.0 (is.innocent k (omega arith) Interface)) in
+      let passed = leb-false (count_words true 0 (after (k + 1))) (most_interface limits) over.1 in
+      let kept = leb-true (count_words true 0 (after k)) (most_interface limits) (or_kept (nat_le terms (most_interface limits)) _ over.0 (is.innocent k (omega arith) Interface)) in
       let there = past passed in
       let next : k + 1 - length row_of ≡ k - length row_of + 1 = omega (arith, there) in
       let at = one_too_many s.config.interface us (most_interface limits) (k - length row_of) many kept (omega (arith, passed, ap (λ j. count_words true 0 (take j (phrase_prefix s.config))) next)) in
       (many, omega (arith, at, there, ap length (rules_row s)))
     where
-      past : most_interface limits < count_words true 0 (behind (k + 1)) → length row_of ≤ k
+      past : most_interface limits < count_words true 0 (after (k + 1)) → length row_of ≤ k
       past passed = ⊎_elim none (λ le. le) (cases_lt k (length row_of))
         where
           none : k < length row_of → length row_of ≤ k
@@ -190,8 +190,8 @@ module _ (limits : Limits) (s : SystemPhrase) (k : ℕ) where
 
   pub nodes_passed : IsLimitWordWithin limits Nodes (written_system s) k → (most_nodes limits < phrase_nodes s.config) × (k ≡ length (rules_prefix s.rules) + most_nodes limits)
   nodes_passed is =
-      let over = leb-false (length (behind (k + 1))) (most_nodes limits) is.passed in
-      let within = leb-true (length (behind k)) (most_nodes limits) (is.innocent k (omega arith) Nodes) in
+      let over = leb-false (length (after (k + 1))) (most_nodes limits) is.passed in
+      let within = leb-true (length (after k)) (most_nodes limits) (is.innocent k (omega arith) Nodes) in
       let long : length (all_words (written_system s)) ≡ length row_of + length (phrase_prefix s.config) = length-append row_of (phrase_prefix s.config) in
       let inside = is.inside in (
         omega (arith, over, length-take (k + 1 - length row_of) (phrase_prefix s.config), length-phrase_prefix s.config),

@@ -94,7 +94,7 @@ parts (Some ts) (Some us) ws e = record { front = ts; tokens = refl; rest = us; 
 
 module _ {P : Type 0} (IsOne : P → Type 0) (words_of : P → List Token) (told : IsTold IsOne words_of) (part : Part)
     (tested : (ts : List Token) → told.test ts ≡ accepts (Some (at_beginning part)) ts) where
-  -- a text can go on where more behind a blank makes it spell a phrase
+  -- a text can go on where more after a blank makes it spell a phrase
   pub goes_on-text : (text : List ℕ) → GoesOn IsOne words_of text ↔ ((more : List ℕ) × (p : P) × IsSpelling IsOne words_of (text ++ 32 ∷ more) p)
   goes_on-text text = (λ goes. there (leads-goes_on IsOne words_of told part tested text goes), λ more. back more.0 more.1 more.2)
     where

@@ -9,19 +9,19 @@ use Rattle.ic_text.specs.declared.syntax.Part.{Part}
 use Rattle.ic_text.specs.declared.survey.Progress.{Progress}
 use Rattle.ic_text.specs.Token.{Token, is_word_byte, mark_of, word_of, before, tokens_at, followed, tokens}
 use Rattle.ic_text.specs.Places.{is_between, IsLastPlace}
-use Rattle.ic_text.specs.inner.Survey.{taken, taken_behind, taken_at, begun, Leads}
+use Rattle.ic_text.specs.inner.Survey.{taken, taken_after, taken_at, begun, Leads}
 use Rattle.ic_text.specs.lemmas.WordRuns.{tokens-parted, tokens-run}
 use Rattle.ic_text.proofs.TokenLemmas.{run_here}
-use Rattle.ic_text.proofs.Surveying.{behind-followed, behind-none}
+use Rattle.ic_text.proofs.Surveying.{after-followed, after-none}
 use Rattle.ic_text.proofs.Going.{none_isnt}
 
 before_nothing : (o : Option (List Token)) → before [] o ≡ o
 before_nothing None = refl
 before_nothing (Some ts) = refl
 
-nothing_behind : (o : Option (List Token)) → followed o (Some []) ≡ o
-nothing_behind None = refl
-nothing_behind (Some ts) = ap Some (append-nil ts)
+nothing_after : (o : Option (List Token)) → followed o (Some []) ≡ o
+nothing_after None = refl
+nothing_after (Some ts) = ap Some (append-nil ts)
 
 followed-followed : (a b c : Option (List Token)) → followed (followed a b) c ≡ followed a (followed b c)
 followed-followed None b c = refl
@@ -29,18 +29,18 @@ followed-followed (Some ts) None c = refl
 followed-followed (Some ts) (Some us) None = refl
 followed-followed (Some ts) (Some us) (Some vs) = ap Some (append_assoc ts us vs)
 
-apart_behind : (z x : Bool) → (z || not (x && false)) ≡ true
-apart_behind true x = refl
-apart_behind false true = refl
-apart_behind false false = refl
+apart_after : (z x : Bool) → (z || not (x && false)) ≡ true
+apart_after true x = refl
+apart_after false true = refl
+apart_after false false = refl
 
 apart_before : (z x : Bool) → (z || not (false && x)) ≡ true
 apart_before true x = refl
 apart_before false x = refl
 
--- a place behind a byte of no word, and one in front of such a byte, aren't within a word
-pub between_behind : (text : List ℕ) (place : ℕ) → is_word_byte (get_or text place 0) ≡ false → is_between text (place + 1) ≡ true
-between_behind text place apart =
+-- a place after a byte of no word, and one in front of such a byte, aren't within a word
+pub between_after : (text : List ℕ) (place : ℕ) → is_word_byte (get_or text place 0) ≡ false → is_between text (place + 1) ≡ true
+between_after text place apart =
     let back : place + 1 - 1 ≡ place = omega arith in
     let other = is_word_byte (get_or text (place + 1) 0) in
     ap (λ i. eqb (place + 1) 0 || not (is_word_byte (get_or text i 0) && other)) back
@@ -50,7 +50,7 @@ between_behind text place apart =
 between_here : (text : List ℕ) (place : ℕ) → is_word_byte (get_or text place 0) ≡ false → is_between text place ≡ true
 between_here text place apart =
     let other = is_word_byte (get_or text (place - 1) 0) in
-    ap (λ w. eqb place 0 || not (other && w)) apart ∙ apart_behind (eqb place 0) other
+    ap (λ w. eqb place 0 || not (other && w)) apart ∙ apart_after (eqb place 0) other
 
 pub between_end : (text : List ℕ) → is_between text (length text) ≡ true
 between_end text = between_here text (length text) (ap is_word_byte (get_or_past text (length text) 0 (omega arith)))
@@ -66,7 +66,7 @@ tokens_of_run : (run : List ℕ) → list_all is_word_byte run ≡ true → toke
 tokens_of_run [] all = refl
 tokens_of_run (b ∷ bs) all = tokens-run b bs all
 
--- the tokens behind a byte of no word
+-- the tokens after a byte of no word
 split_tokens : (text : List ℕ) (place later : ℕ) → place < later → later ≤ length text → is_word_byte (get_or text place 0) ≡ false
     → tokens (take later text)
     ≡ followed (tokens (take place text)) (followed (tokens_at (get_or text place 0) (mark_of (get_or text place 0))) (tokens (take (later - (place + 1)) (drop (place + 1) text))))
@@ -78,10 +78,10 @@ split_tokens text place later above within apart =
     ap (λ n. take n (drop place text)) count ∙ ap (take (suc (later - (place + 1)))) (drop_more text place 0 (omega arith)) in
     ap tokens (split_there text place later (omega arith) ∙ ap (λ l. take place text ++ l) front) ∙ tokens-parted (take place text) rest b apart
 
--- A pass that has come to a place, behind a run of word bytes that begins at `start`.
+-- A pass that has come to a place, after a run of word bytes that begins at `start`.
 pub record IsUnderway (part : Part) (text : List ℕ) (start place : ℕ) (p : Progress) : Type 0 where
   pub begins : start ≤ place
-  pub behind : taken_behind (Some (begun part)) (tokens (take start text)) ≡ Some p
+  pub after : taken_after (Some (begun part)) (tokens (take start text)) ≡ Some p
   pub parts : (rest : List ℕ) → tokens (take start text ++ rest) ≡ followed (tokens (take start text)) (tokens rest)
   pub between : is_between text start ≡ true
   pub bytes : (i : ℕ) → start ≤ i → i < place → is_word_byte (get_or text i 0) ≡ true
@@ -90,7 +90,7 @@ pub record IsUnderway (part : Part) (text : List ℕ) (start place : ℕ) (p : P
 pub sets_out : (part : Part) (text : List ℕ) → IsUnderway part text 0 0 (begun part)
 sets_out part text = record {
   begins = omega arith;
-  behind = refl;
+  after = refl;
   parts = λ rest. sym (before_nothing (tokens rest));
   between = refl;
   bytes = λ i above below. absurd (omega arith);
@@ -101,16 +101,16 @@ module _ (part : Part) (text : List ℕ) (start place : ℕ) (p : Progress) (way
   abbrev the_run : List ℕ
   the_run = take (place - start) (drop start text)
 
-  taken_here : taken_behind (Some (begun part)) (tokens (take place text)) ≡ taken (Some p) (word_of the_run)
+  taken_here : taken_after (Some (begun part)) (tokens (take place text)) ≡ taken (Some p) (word_of the_run)
   taken_here =
-      ap (λ l. taken_behind (Some (begun part)) (tokens l)) (split_there text start place way.begins)
-      ∙ ap (taken_behind (Some (begun part))) (way.parts the_run ∙ ap (followed (tokens (take start text))) (tokens_of_run the_run way.run))
-      ∙ behind-followed (Some (begun part)) (tokens (take start text)) (Some (word_of the_run))
-      ∙ ap (λ o. taken_behind o (Some (word_of the_run))) way.behind
+      ap (λ l. taken_after (Some (begun part)) (tokens l)) (split_there text start place way.begins)
+      ∙ ap (taken_after (Some (begun part))) (way.parts the_run ∙ ap (followed (tokens (take start text))) (tokens_of_run the_run way.run))
+      ∙ after-followed (Some (begun part)) (tokens (take start text)) (Some (word_of the_run))
+      ∙ ap (λ o. taken_after o (Some (word_of the_run))) way.after
 
-  -- a place behind the beginning of the run that isn't within a word is behind the run
-  behind_run : (later : ℕ) → start < later → is_between text later ≡ true → place ≤ later
-  behind_run later above between = ⊎_elim within (λ le. le) (cases_lt later place)
+  -- a place after the beginning of the run that isn't within a word is after the run
+  after_run : (later : ℕ) → start < later → is_between text later ≡ true → place ≤ later
+  after_run later above between = ⊎_elim within (λ le. le) (cases_lt later place)
     where
       within : later < place → place ≤ later
       within less =
@@ -121,30 +121,30 @@ module _ (part : Part) (text : List ℕ) (start place : ℕ) (p : Progress) (way
 
   -- the check is refused the run
   module _ (short : place ≤ length text) (apart : is_word_byte (get_or text place 0) ≡ false) (none : None ≡ taken (Some p) (word_of the_run)) where
-    nothing_later : (later : ℕ) → place ≤ later → later ≤ length text → taken_behind (Some (begun part)) (tokens (take later text)) ≡ None
+    nothing_later : (later : ℕ) → place ≤ later → later ≤ length text → taken_after (Some (begun part)) (tokens (take later text)) ≡ None
     nothing_later later above below = ⊎_elim by_more by_same (cases_lt place later)
       where
-        by_more : place < later → taken_behind (Some (begun part)) (tokens (take later text)) ≡ None
+        by_more : place < later → taken_after (Some (begun part)) (tokens (take later text)) ≡ None
         by_more more =
             let b = get_or text place 0 in
             let rest = followed (tokens_at b (mark_of b)) (tokens (take (later - (place + 1)) (drop (place + 1) text))) in
-            ap (taken_behind (Some (begun part))) (split_tokens text place later more below apart)
-            ∙ behind-followed (Some (begun part)) (tokens (take place text)) rest
-            ∙ ap (λ o. taken_behind o rest) (taken_here ∙ sym none)
-            ∙ behind-none rest
+            ap (taken_after (Some (begun part))) (split_tokens text place later more below apart)
+            ∙ after-followed (Some (begun part)) (tokens (take place text)) rest
+            ∙ ap (λ o. taken_after o rest) (taken_here ∙ sym none)
+            ∙ after-none rest
 
-        by_same : later ≤ place → taken_behind (Some (begun part)) (tokens (take later text)) ≡ None
+        by_same : later ≤ place → taken_after (Some (begun part)) (tokens (take later text)) ≡ None
         by_same less =
             let same : later ≡ place = omega arith in
-            ap (λ i. taken_behind (Some (begun part)) (tokens (take i text))) same ∙ taken_here ∙ sym none
+            ap (λ i. taken_after (Some (begun part)) (tokens (take i text))) same ∙ taken_here ∙ sym none
 
     pub stops_at_run : IsLastPlace (Leads part) text start
     stops_at_run = record {
       within = omega (arith, way.begins);
       between = way.between;
-      innocent = (p, way.behind);
+      innocent = (p, way.after);
       last = λ later above below between leads.
-          none_isnt leads.0 (sym (nothing_later later (behind_run later above between) below) ∙ leads.1);
+          none_isnt leads.0 (sym (nothing_later later (after_run later above between) below) ∙ leads.1);
     }
 
   -- the check takes the run
@@ -153,7 +153,7 @@ module _ (part : Part) (text : List ℕ) (start place : ℕ) (p : Progress) (way
     stops_at_end end = record {
       within = omega arith;
       between = between_end text;
-      innocent = (q, ap (λ i. taken_behind (Some (begun part)) (tokens (take i text))) (sym end) ∙ taken_here ∙ sym run_taken);
+      innocent = (q, ap (λ i. taken_after (Some (begun part)) (tokens (take i text))) (sym end) ∙ taken_here ∙ sym run_taken);
       last = λ later above below between leads. absurd (omega arith);
     }
 
@@ -163,15 +163,15 @@ module _ (part : Part) (text : List ℕ) (start place : ℕ) (p : Progress) (way
 
       -- what it takes of the byte and what follows
       taken_later : (later : ℕ) → place < later → later ≤ length text
-          → taken_behind (Some (begun part)) (tokens (take later text))
-          ≡ taken_behind (taken_at q the_byte) (tokens (take (later - (place + 1)) (drop (place + 1) text)))
+          → taken_after (Some (begun part)) (tokens (take later text))
+          ≡ taken_after (taken_at q the_byte) (tokens (take (later - (place + 1)) (drop (place + 1) text)))
       taken_later later above below =
           let here = tokens_at the_byte (mark_of the_byte) in
           let rest = tokens (take (later - (place + 1)) (drop (place + 1) text)) in
-          ap (taken_behind (Some (begun part))) (split_tokens text place later above below apart)
-          ∙ behind-followed (Some (begun part)) (tokens (take place text)) (followed here rest)
-          ∙ ap (λ o. taken_behind o (followed here rest)) (taken_here ∙ sym run_taken)
-          ∙ behind-followed (Some q) here rest
+          ap (taken_after (Some (begun part))) (split_tokens text place later above below apart)
+          ∙ after-followed (Some (begun part)) (tokens (take place text)) (followed here rest)
+          ∙ ap (λ o. taken_after o (followed here rest)) (taken_here ∙ sym run_taken)
+          ∙ after-followed (Some q) here rest
 
       pub stops_at_byte : None ≡ taken_at q the_byte → IsLastPlace (Leads part) text place
       stops_at_byte none = record {
@@ -180,18 +180,18 @@ module _ (part : Part) (text : List ℕ) (start place : ℕ) (p : Progress) (way
         innocent = (q, taken_here ∙ sym run_taken);
         last = λ later above below between leads.
             let rest = tokens (take (later - (place + 1)) (drop (place + 1) text)) in
-            none_isnt leads.0 (sym (taken_later later above below ∙ ap (λ o. taken_behind o rest) (sym none) ∙ behind-none rest) ∙ leads.1);
+            none_isnt leads.0 (sym (taken_later later above below ∙ ap (λ o. taken_after o rest) (sym none) ∙ after-none rest) ∙ leads.1);
       }
 
-      pub goes_behind : (r : Progress) → Some r ≡ taken_at q the_byte → IsUnderway part text (place + 1) (place + 1) r
-      goes_behind r byte_taken =
+      pub goes_after : (r : Progress) → Some r ≡ taken_at q the_byte → IsUnderway part text (place + 1) (place + 1) r
+      goes_after r byte_taken =
           let here = tokens_at the_byte (mark_of the_byte) in
           let none : place + 1 - (place + 1) ≡ 0 = omega arith in
           let empty : take (place + 1 - (place + 1)) (drop (place + 1) text) ≡ [] = ap (λ n. take n (drop (place + 1) text)) none in
           let front : take (place + 1) text ≡ take place text ++ the_byte ∷ [] = take_more text place 0 inside in
           record {
             begins = omega arith;
-            behind = taken_later (place + 1) (omega arith) (omega arith) ∙ ap (λ l. taken_behind (taken_at q the_byte) (tokens l)) empty ∙ sym byte_taken;
+            after = taken_later (place + 1) (omega arith) (omega arith) ∙ ap (λ l. taken_after (taken_at q the_byte) (tokens l)) empty ∙ sym byte_taken;
             parts = λ rest.
                 ap (λ l. tokens (l ++ rest)) front
                 ∙ ap tokens (append_assoc (take place text) (the_byte ∷ []) rest)
@@ -200,7 +200,7 @@ module _ (part : Part) (text : List ℕ) (start place : ℕ) (p : Progress) (way
                 ∙ ap (followed (tokens (take place text))) (sym (followed-followed here (Some []) (tokens rest)))
                 ∙ sym (followed-followed (tokens (take place text)) (followed here (Some [])) (tokens rest))
                 ∙ ap (λ o. followed o (tokens rest)) (sym (ap tokens front ∙ tokens-parted (take place text) [] the_byte apart));
-            between = between_behind text place apart;
+            between = between_after text place apart;
             bytes = λ i above below. absurd (omega arith);
             run = ap (list_all is_word_byte) empty;
           }
@@ -209,7 +209,7 @@ module _ (part : Part) (text : List ℕ) (start place : ℕ) (p : Progress) (way
   pub goes_along : place < length text → is_word_byte (get_or text place 0) ≡ true → IsUnderway part text start (place + 1) p
   goes_along inside is = record {
     begins = omega (arith, way.begins);
-    behind = way.behind;
+    after = way.after;
     parts = way.parts;
     between = way.between;
     bytes = λ i above below. ⊎_elim (way.bytes i above) (λ least. let same : i ≡ place = omega arith in ap (λ k. is_word_byte (get_or text k 0)) same ∙ is) (cases_lt i place);

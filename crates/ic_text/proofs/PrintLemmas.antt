@@ -1,4 +1,4 @@
--- Writing tokens one behind the other.
+-- Writing tokens one after the other.
 use Rattle.std.proofs.Common.{◌≡◌, ℕ, zero, suc, ◌+◌, ◌/◌, ◌%◌, ◌<◌, ◌≤◌, ◌^◌, true, Bool, List, [], ◌∷◌, ◌++◌, Option, None, Some, length, map, get_or, drop, drop-cons, add-one, IsTrue, refl, sym, ap, ◌∙◌, append_assoc, arith}
 use Rattle.std.specs.Prelude.{option_map}
 use Rattle.std.specs.List.{slice_get, list_all}
@@ -18,7 +18,7 @@ use Rattle.ic_text.specs.Token.{Token, token_text}
 use Rattle.ic_text.specs.Name.{name_text}
 use Rattle.ic_text.specs.Source.{Source, Sources, more_sources, words, argument_words, further_words, separated}
 use Rattle.ic_text.specs.Text.{text_or_none, source_of, sources_of, text_of}
-use Rattle.ic_text.proofs.Grammar.{behind_commas}
+use Rattle.ic_text.proofs.Grammar.{after_commas}
 
 -- a letter and digits are a name's text
 pub letter_and_digits : (n : ℕ) (old pushed new : List ℕ) → 26 ≤ n → n < 2 ^ 64 → pushed ≡ old ++ (97 + n % 26) ∷ [] → new ≡ pushed ++ decimal (n / 26) → new ≡ old ++ name_text n
@@ -45,7 +45,7 @@ sign_at (suc n) = 44
 -- what is left of lists with commas between them from a place on
 abbrev pub separated_from : ℕ → List (List Token) → List Token
 separated_from zero tss = separated Comma tss
-separated_from (suc n) tss = behind_commas tss
+separated_from (suc n) tss = after_commas tss
 
 -- an agent with its arguments as a list
 pub cell_tree-is : (cell : Cell) → cell_tree cell ≡ agent (out-Cell cell).sym (trees_of (map tree (out-Cell cell).args.items))
@@ -89,10 +89,10 @@ next_whole ss i ts t sign out pushed new whole below is signed letter term all =
     let this = text_of (words (source_of ss (tree t))) in
     let left = text_of (further_words rest) in
     let next : i + 1 ≡ suc i = omega arith in
-    let behind : arguments_from (i + 1) rest ≡ further_words rest = ap (λ n. arguments_from n rest) next in
+    let after : arguments_from (i + 1) rest ≡ further_words rest = ap (λ n. arguments_from n rest) next in
     let split : text_of (arguments_from i (arguments_in ss (drop i ts))) ≡ sign_at i ∷ (this ++ left) =
     ap (λ l. text_of (arguments_from i (arguments_in ss l))) (next_term i ts t below is) ∙ arguments_text i (source_of ss (tree t)) rest in
-    (λ k. term k ++ text_of (behind k))
+    (λ k. term k ++ text_of (after k))
     ∙ ap (λ l. (l ++ this) ++ left) (letter ∙ ap (λ n. out ++ n ∷ []) signed)
     ∙ append_assoc (out ++ sign_at i ∷ []) this left ∙ append_assoc out (sign_at i ∷ []) (this ++ left)
     ∙ ap (λ l. out ++ l) (sym split) ∙ all
@@ -129,22 +129,22 @@ pub begun_further : (n : ℕ) (out begun : List ℕ) → 0 < n → begun ≡ out
 begun_further zero out begun some is = absurd (omega (arith, some))
 begun_further (suc n) out begun some is = is
 
-further_text : (n : ℕ) (rest : List (List Token)) → text_of (separated_from (n + 1) rest) ≡ text_of (behind_commas rest)
+further_text : (n : ℕ) (rest : List (List Token)) → text_of (separated_from (n + 1) rest) ≡ text_of (after_commas rest)
 further_text n rest = let next : n + 1 ≡ suc n = omega arith in ap (λ m. text_of (separated_from m rest)) next
 
 next_list : (n : ℕ) (ts : List Token) (rest : List (List Token)) (out begun new whole : List ℕ) → Begun n out begun → new ≡ begun ++ text_of ts
     → out ++ text_of (separated_from n (ts ∷ rest)) ≡ whole → new ++ text_of (separated_from (n + 1) rest) ≡ whole
 next_list zero ts rest out begun new whole is put all =
     (λ k. put k ++ further_text 0 rest k)
-    ∙ ap (λ l. (l ++ text_of ts) ++ text_of (behind_commas rest)) is
-    ∙ append_assoc out (text_of ts) (text_of (behind_commas rest))
-    ∙ ap (λ l. out ++ l) (sym (text_of-append ts (behind_commas rest))) ∙ all
+    ∙ ap (λ l. (l ++ text_of ts) ++ text_of (after_commas rest)) is
+    ∙ append_assoc out (text_of ts) (text_of (after_commas rest))
+    ∙ ap (λ l. out ++ l) (sym (text_of-append ts (after_commas rest))) ∙ all
 next_list (suc n) ts rest out begun new whole is put all =
     (λ k. put k ++ further_text (suc n) rest k)
-    ∙ ap (λ l. (l ++ text_of ts) ++ text_of (behind_commas rest)) is
-    ∙ append_assoc (out ++ 44 ∷ []) (text_of ts) (text_of (behind_commas rest))
-    ∙ append_assoc out (44 ∷ []) (text_of ts ++ text_of (behind_commas rest))
-    ∙ ap (λ l. out ++ 44 ∷ l) (sym (text_of-append ts (behind_commas rest))) ∙ all
+    ∙ ap (λ l. (l ++ text_of ts) ++ text_of (after_commas rest)) is
+    ∙ append_assoc (out ++ 44 ∷ []) (text_of ts) (text_of (after_commas rest))
+    ∙ append_assoc out (44 ∷ []) (text_of ts ++ text_of (after_commas rest))
+    ∙ ap (λ l. out ++ 44 ∷ l) (sym (text_of-append ts (after_commas rest))) ∙ all
 
 pub next_listed : {A B C : Type 0} (f : A → B) (g : B → C) (h : C → List Token) (n : ℕ) (xs : List A) (x : A) (out begun new whole : List ℕ)
     → n < length xs → x ≡ get_or xs n x → Begun n out begun → new ≡ begun ++ text_of (h (g (f x)))

@@ -51,41 +51,41 @@ config_arity (Err TooMuch) e = cc
 config_arity (Err (Third n)) e = cc
 config_arity (Err NoRoom) e = cc
 
--- what is found behind the arities is neither of syntax nor of arities
-abbrev pub found_behind : (a b c d : Option ℕ) → SystemParts → Result SystemParts TextFault
-found_behind a b c d v = unless_found a NameCount (unless_found b Name (unless_found c Twice (unless_found d Lopsided (Ok v))))
+-- what is found after the arities is neither of syntax nor of arities
+abbrev pub found_after : (a b c d : Option ℕ) → SystemParts → Result SystemParts TextFault
+found_after a b c d v = unless_found a NameCount (unless_found b Name (unless_found c Twice (unless_found d Lopsided (Ok v))))
 
-neither_behind : (f : TextFault) → ((i : ℕ) → f ≢ NameCount i) → ((i : ℕ) → f ≢ Name i) → ((i : ℕ) → f ≢ Twice i) → ((i : ℕ) → f ≢ Lopsided i)
-    → (a b c d : Option ℕ) (v : SystemParts) → Err f ≡ found_behind a b c d v → ⊥
-neither_behind f x y z w (Some i) b c d v e = let same : f ≡ NameCount i = cc in x i same
-neither_behind f x y z w None (Some i) c d v e = let same : f ≡ Name i = cc in y i same
-neither_behind f x y z w None None (Some i) d v e = let same : f ≡ Twice i = cc in z i same
-neither_behind f x y z w None None None (Some i) v e = let same : f ≡ Lopsided i = cc in w i same
-neither_behind f x y z w None None None None v e = cc
+neither_after : (f : TextFault) → ((i : ℕ) → f ≢ NameCount i) → ((i : ℕ) → f ≢ Name i) → ((i : ℕ) → f ≢ Twice i) → ((i : ℕ) → f ≢ Lopsided i)
+    → (a b c d : Option ℕ) (v : SystemParts) → Err f ≡ found_after a b c d v → ⊥
+neither_after f x y z w (Some i) b c d v e = let same : f ≡ NameCount i = cc in x i same
+neither_after f x y z w None (Some i) c d v e = let same : f ≡ Name i = cc in y i same
+neither_after f x y z w None None (Some i) d v e = let same : f ≡ Twice i = cc in z i same
+neither_after f x y z w None None None (Some i) v e = let same : f ≡ Lopsided i = cc in w i same
+neither_after f x y z w None None None None v e = cc
 
 pub system_syntax : (limits : Limits) (s : SystemPhrase) → Err Syntax ≡ system_sense_within limits s → ⊥
 system_syntax limits s = by_cases (is_system_in_limits_within limits s) (list_all (has_its_arity (system_table s)) (system_symbols s))
   where
-    by_cases : (l o : Bool) → Err Syntax ≡ cond l (cond o (found_behind (first_uncounted (rules_over s)) (third_occurrence (phrase_names s.config)) (first_repeated (rules_over s)) (first_lopsided (rules_over s)) (system_parts s)) (Err Arity)) (Err Limit) → ⊥
+    by_cases : (l o : Bool) → Err Syntax ≡ cond l (cond o (found_after (first_uncounted (rules_over s)) (third_occurrence (phrase_names s.config)) (first_repeated (rules_over s)) (first_lopsided (rules_over s)) (system_parts s)) (Err Arity)) (Err Limit) → ⊥
     by_cases false o e = cc
     by_cases true false e = cc
-    by_cases true true e = neither_behind Syntax (λ i x. cc) (λ i x. cc) (λ i x. cc) (λ i x. cc) _ _ _ _ _ e
+    by_cases true true e = neither_after Syntax (λ i x. cc) (λ i x. cc) (λ i x. cc) (λ i x. cc) _ _ _ _ _ e
 
 pub system_arity : (limits : Limits) (s : SystemPhrase) → list_all (has_its_arity (system_table s)) (system_symbols s) ≡ true → Err Arity ≡ system_sense_within limits s → ⊥
 system_arity limits s agree = by_cases (is_system_in_limits_within limits s) (list_all (has_its_arity (system_table s)) (system_symbols s)) agree
   where
-    by_cases : (l o : Bool) → o ≡ true → Err Arity ≡ cond l (cond o (found_behind (first_uncounted (rules_over s)) (third_occurrence (phrase_names s.config)) (first_repeated (rules_over s)) (first_lopsided (rules_over s)) (system_parts s)) (Err Arity)) (Err Limit) → ⊥
+    by_cases : (l o : Bool) → o ≡ true → Err Arity ≡ cond l (cond o (found_after (first_uncounted (rules_over s)) (third_occurrence (phrase_names s.config)) (first_repeated (rules_over s)) (first_lopsided (rules_over s)) (system_parts s)) (Err Arity)) (Err Limit) → ⊥
     by_cases false o is e = cc
     by_cases true false is e = false≢true is
-    by_cases true true is e = neither_behind Arity (λ i x. cc) (λ i x. cc) (λ i x. cc) (λ i x. cc) _ _ _ _ _ e
+    by_cases true true is e = neither_after Arity (λ i x. cc) (λ i x. cc) (λ i x. cc) (λ i x. cc) _ _ _ _ _ e
 
 pub system_limit : (limits : Limits) (s : SystemPhrase) → is_system_in_limits_within limits s ≡ true → Err Limit ≡ system_sense_within limits s → ⊥
 system_limit limits s low = by_cases (is_system_in_limits_within limits s) (list_all (has_its_arity (system_table s)) (system_symbols s)) low
   where
-    by_cases : (l o : Bool) → l ≡ true → Err Limit ≡ cond l (cond o (found_behind (first_uncounted (rules_over s)) (third_occurrence (phrase_names s.config)) (first_repeated (rules_over s)) (first_lopsided (rules_over s)) (system_parts s)) (Err Arity)) (Err Limit) → ⊥
+    by_cases : (l o : Bool) → l ≡ true → Err Limit ≡ cond l (cond o (found_after (first_uncounted (rules_over s)) (third_occurrence (phrase_names s.config)) (first_repeated (rules_over s)) (first_lopsided (rules_over s)) (system_parts s)) (Err Arity)) (Err Limit) → ⊥
     by_cases false o is e = false≢true is
     by_cases true false is e = cc
-    by_cases true true is e = neither_behind Limit (λ i x. cc) (λ i x. cc) (λ i x. cc) (λ i x. cc) _ _ _ _ _ e
+    by_cases true true is e = neither_after Limit (λ i x. cc) (λ i x. cc) (λ i x. cc) (λ i x. cc) _ _ _ _ _ e
 
 -- where words are numbered, their arities agree
 numbered_agree : (limits : Limits) (ws : List Symbol) (v : List Symbol × List Word) → Ok v ≡ numbered_words limits ws → agree ws ≡ true

@@ -13,7 +13,7 @@ use Rattle.ic_text.specs.Source.{Source, leaf, node, Sources, no_sources, more_s
 use Rattle.ic_text.specs.SystemSource.{RulePhrase, agent_source, rule_nodes}
 use Rattle.ic_text.specs.SystemSense.{rules_are_small}
 use Rattle.ic_text.specs.Words.{prefix, prefix_of_sources, rule_prefix, rules_prefix}
-use Rattle.ic_text.specs.WordFaults.{IsFirstWord, count_words, due_behind, each_keeps, rule_nodes_keep}
+use Rattle.ic_text.specs.WordFaults.{IsFirstWord, count_words, due_after, each_keeps, rule_nodes_keep}
 use Rattle.ic_text.specs.inner.Counted.{due_over, nodes_over, side_over}
 use Rattle.ic_text.specs.inner.Prefix.{node_of, nodes_of}
 use Rattle.ic_text.proofs.Blaming.{Standing}
@@ -76,7 +76,7 @@ nodes-push [] w (suc due) second n = refl
 nodes-push (x ∷ ws) w zero second n = nodes-push ws w x.arity (not second) (cond second 0 n)
 nodes-push (x ∷ ws) w (suc due) second n = nodes-push ws w (due + x.arity) second (n + 1)
 
--- what the loop has counted behind so many words
+-- what the loop has counted after so many words
 pub record Counted (ws : List Symbol) (k due : ℕ) (second : Bool) (found : ℕ) : Type 0 where
   pub due_is : due ≡ due_over 0 (take k ws)
   pub side_is : second ≡ side_over 0 true (take k ws)
@@ -288,12 +288,12 @@ take_front xs ys zero low = refl
 take_front [] ys (suc k) low = absurd (omega (arith, low))
 take_front (x ∷ xs) ys (suc k) low = ap (λ l. x ∷ l) (take_front xs ys k (omega (arith, low)))
 
-take_behind : (xs ys : List Symbol) (k : ℕ) → length xs ≤ k → take k (xs ++ ys) ≡ xs ++ take (k - length xs) ys
-take_behind [] ys k high = let same : k ≡ k - 0 = omega arith in ap (λ n. take n ys) same
-take_behind (x ∷ xs) ys zero high = absurd (omega (arith, high))
-take_behind (x ∷ xs) ys (suc k) high =
+take_after : (xs ys : List Symbol) (k : ℕ) → length xs ≤ k → take k (xs ++ ys) ≡ xs ++ take (k - length xs) ys
+take_after [] ys k high = let same : k ≡ k - 0 = omega arith in ap (λ n. take n ys) same
+take_after (x ∷ xs) ys zero high = absurd (omega (arith, high))
+take_after (x ∷ xs) ys (suc k) high =
     let same : k - length xs ≡ suc k - length (x ∷ xs) = omega arith in
-    ap (λ l. x ∷ l) (take_behind xs ys k (omega (arith, high)) ∙ ap (λ n. xs ++ take n ys) same)
+    ap (λ l. x ∷ l) (take_after xs ys k (omega (arith, high)) ∙ ap (λ n. xs ++ take n ys) same)
 
 -- a rule at its place that has too many nodes, with the word after so many others within it
 abbrev pub IsLongRule : List RulePhrase → ℕ → ℕ → RulePhrase → Type 0
@@ -324,9 +324,9 @@ long_rule (r ∷ rs) n k kept passed = by (cases_lt k (length (rule_prefix r))) 
     by (inl low) later = (0, r, (refl, first low (nat_le (rule_nodes r) MAX_RULE_NODES) refl, omega arith, omega (arith, low)))
     by (inr high) later =
         let left = k - length (rule_prefix r) in
-        let here = ap (each_keeps 0 true n) (take_behind (rule_prefix r) (rules_prefix rs) k high) ∙ rule-within r (take left (rules_prefix rs)) n in
+        let here = ap (each_keeps 0 true n) (take_after (rule_prefix r) (rules_prefix rs) k high) ∙ rule-within r (take left (rules_prefix rs)) n in
         let more : k + 1 - length (rule_prefix r) ≡ left + 1 = omega (arith, high) in
-        let next = ap (each_keeps 0 true n) (take_behind (rule_prefix r) (rules_prefix rs) (k + 1) (omega (arith, high)) ∙ ap (λ m. rule_prefix r ++ take m (rules_prefix rs)) more)
+        let next = ap (each_keeps 0 true n) (take_after (rule_prefix r) (rules_prefix rs) (k + 1) (omega (arith, high)) ∙ ap (λ m. rule_prefix r ++ take m (rules_prefix rs)) more)
         ∙ rule-within r (take (left + 1) (rules_prefix rs)) n in
         let parts = and_parts (nat_le (rule_nodes r) MAX_RULE_NODES) (each_keeps 0 true (rule_nodes r) (take left (rules_prefix rs))) (sym here ∙ kept) in
         let rest = later parts.1 (sym (ap (λ b. b && each_keeps 0 true (rule_nodes r) (take (left + 1) (rules_prefix rs))) parts.0) ∙ sym next ∙ passed) in

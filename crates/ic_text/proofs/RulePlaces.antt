@@ -27,7 +27,7 @@ part_of nodes from size = sym (take-map node_of size (drop from nodes)) ∙ ap (
 pub front_of : (nodes : List Node) (size : ℕ) → nodes_of (take size nodes) ≡ take size (nodes_of nodes)
 front_of nodes size = sym (take-map node_of size nodes)
 
--- rules before a rule, the rule, and those behind it
+-- rules before a rule, the rule, and those after it
 rules_split : (rs : List RulePhrase) (i : ℕ) → rules_prefix rs ≡ rules_prefix (take i rs) ++ rules_prefix (drop i rs)
 rules_split rs i = ap rules_prefix (sym (take-append-drop i rs)) ∙ flat_map-append (λ (r : RulePhrase). prefix (agent_source r.left) ++ prefix (agent_source r.right)) (take i rs) (drop i rs)
 
@@ -55,8 +55,8 @@ rule_part ws rs rest i r begin end whole there begins ends =
     let back : List Symbol = rules_prefix (drop (suc i) rs) in
     let long : end - begin ≡ length (rule_prefix r) = omega (arith, begins, ends, rule_below rs i r there, next_rule i) in
     let split : ws ≡ front ++ ((rule_prefix r ++ back) ++ rest) = whole ∙ ap (λ l. l ++ rest) (rule_at rs i r there) ∙ append_assoc front (rule_prefix r ++ back) rest in
-    let behind : drop begin ws ≡ rule_prefix r ++ (back ++ rest) = ap (drop begin) split ∙ drop_at front ((rule_prefix r ++ back) ++ rest) begin (sym begins) ∙ append_assoc (rule_prefix r) back rest in
-    ap (take (end - begin)) behind ∙ take_at (rule_prefix r) (back ++ rest) (end - begin) (sym long)
+    let after : drop begin ws ≡ rule_prefix r ++ (back ++ rest) = ap (drop begin) split ∙ drop_at front ((rule_prefix r ++ back) ++ rest) begin (sym begins) ∙ append_assoc (rule_prefix r) back rest in
+    ap (take (end - begin)) after ∙ take_at (rule_prefix r) (back ++ rest) (end - begin) (sym long)
   where
     next_rule : (j : ℕ) → length (rules_prefix (take (j + 1) rs)) ≡ length (rules_prefix (take (suc j) rs))
     next_rule j = let same : j + 1 ≡ suc j = omega arith in ap (λ n. length (rules_prefix (take n rs))) same
@@ -68,15 +68,15 @@ rule_order rs i r begin end there begins ends = omega (arith, begins, ends, rule
     next_rule : length (rules_prefix (take (i + 1) rs)) ≡ length (rules_prefix (take (suc i) rs))
     next_rule = let same : i + 1 ≡ suc i = omega arith in ap (λ n. length (rules_prefix (take n rs))) same
 
--- the words behind the rules are those of the configuration
+-- the words after the rules are those of the configuration
 pub config_part : (s : SystemPhrase) (ws : List Symbol) (rules size : ℕ) → ws ≡ system_prefix s → rules ≡ length (rules_prefix s.rules) → size ≡ length ws - rules → take size (drop rules ws) ≡ phrase_prefix s.config
 config_part s ws rules size whole before is =
-    let behind : drop rules ws ≡ phrase_prefix s.config = ap (drop rules) whole ∙ drop_at (rules_prefix s.rules) (phrase_prefix s.config) rules (sym before) in
+    let after : drop rules ws ≡ phrase_prefix s.config = ap (drop rules) whole ∙ drop_at (rules_prefix s.rules) (phrase_prefix s.config) rules (sym before) in
     let long : length (phrase_prefix s.config) ≤ size = omega (arith, is, before, ap length whole, length-append (rules_prefix s.rules) (phrase_prefix s.config)) in
-    ap (take size) behind ∙ take_all size (phrase_prefix s.config) long
+    ap (take size) after ∙ take_all size (phrase_prefix s.config) long
 
-pub config_behind : (s : SystemPhrase) (nodes : List Node) (rules : ℕ) → nodes_of nodes ≡ system_prefix s → rules ≡ length (rules_prefix s.rules) → nodes_of (take (length nodes - rules) (drop rules nodes)) ≡ phrase_prefix s.config
-config_behind s nodes rules whole before =
+pub config_after : (s : SystemPhrase) (nodes : List Node) (rules : ℕ) → nodes_of nodes ≡ system_prefix s → rules ≡ length (rules_prefix s.rules) → nodes_of (take (length nodes - rules) (drop rules nodes)) ≡ phrase_prefix s.config
+config_after s nodes rules whole before =
     part_of nodes rules (length nodes - rules) ∙ config_part s (nodes_of nodes) rules (length nodes - rules) whole before (ap (λ n. n - rules) (sym (length-map nodes node_of)))
 
 -- the words before a rule, as they are written

@@ -10,7 +10,7 @@ use Rattle.ic_text.specs.Source.{Source, leaf, node, Sources, no_sources, more_s
 use Rattle.ic_text.specs.inner.Prefix.{Scanned, term_more, tail_of, one_more, scan, scan_step}
 use Rattle.ic_text.specs.Words.{prefix, prefix_of_sources, phrase_prefix}
 use Rattle.ic_text.proofs.Accepted.{IsClosed, further_is_closed}
-use Rattle.ic_text.proofs.Grammar.{behind_commas, behind_is_closed}
+use Rattle.ic_text.proofs.Grammar.{after_commas, after_is_closed}
 
 -- what is scanned, as one record
 abbrev pub made : List Symbol → List ℕ → ℕ → ℕ → Scanned
@@ -47,14 +47,14 @@ mutual
       ∙ ap (λ ns. made ns ((1 + count_of ts + 1) ∷ (scan r).counts) 0 (scan r).terms) (sym (append_assoc (prefix t) (prefix_of_sources ts) (scan r).nodes))
       ∙ ap (λ c. made ((prefix t ++ prefix_of_sources ts) ++ (scan r).nodes) (c ∷ (scan r).counts) 0 (scan r).terms) more
 
--- terms of the interface behind the first one
-interface_behind : (ts : List Source) (r : List Token) (ns : List Symbol) → scan (mark Bar ∷ r) ≡ made ns [] 0 0
-    → scan (behind_commas (map words ts) ++ mark Bar ∷ r) ≡ made (flat_map prefix ts ++ ns) [] 0 (length ts)
-interface_behind [] r ns rest = rest
-interface_behind (t ∷ ts) r ns rest =
+-- terms of the interface after the first one
+interface_after : (ts : List Source) (r : List Token) (ns : List Symbol) → scan (mark Bar ∷ r) ≡ made ns [] 0 0
+    → scan (after_commas (map words ts) ++ mark Bar ∷ r) ≡ made (flat_map prefix ts ++ ns) [] 0 (length ts)
+interface_after [] r ns rest = rest
+interface_after (t ∷ ts) r ns rest =
     let more : length ts + 1 ≡ length (t ∷ ts) = omega arith in
-    ap (λ x. scan_step (mark Comma) (scan x)) (append_assoc (words t) (behind_commas (map words ts)) (mark Bar ∷ r))
-    ∙ ap (scan_step (mark Comma)) (scan-words t (behind_commas (map words ts) ++ mark Bar ∷ r) (behind_is_closed (map words ts) (mark Bar ∷ r) tt) ∙ ap (with_term (prefix t)) (interface_behind ts r ns rest))
+    ap (λ x. scan_step (mark Comma) (scan x)) (append_assoc (words t) (after_commas (map words ts)) (mark Bar ∷ r))
+    ∙ ap (scan_step (mark Comma)) (scan-words t (after_commas (map words ts) ++ mark Bar ∷ r) (after_is_closed (map words ts) (mark Bar ∷ r) tt) ∙ ap (with_term (prefix t)) (interface_after ts r ns rest))
     ∙ ap (λ xs. made xs [] 0 (length ts + 1)) (sym (append_assoc (prefix t) (flat_map prefix ts) ns))
     ∙ ap (made (flat_map prefix (t ∷ ts) ++ ns) [] 0) more
 
@@ -63,8 +63,8 @@ interface_scan : (ts : List Source) (r : List Token) (ns : List Symbol) → scan
 interface_scan [] r ns rest = rest
 interface_scan (t ∷ ts) r ns rest =
     let more : length ts + 1 ≡ length (t ∷ ts) = omega arith in
-    ap scan (append_assoc (words t) (behind_commas (map words ts)) (mark Bar ∷ r))
-    ∙ scan-words t (behind_commas (map words ts) ++ mark Bar ∷ r) (behind_is_closed (map words ts) (mark Bar ∷ r) tt) ∙ ap (with_term (prefix t)) (interface_behind ts r ns rest)
+    ap scan (append_assoc (words t) (after_commas (map words ts)) (mark Bar ∷ r))
+    ∙ scan-words t (after_commas (map words ts) ++ mark Bar ∷ r) (after_is_closed (map words ts) (mark Bar ∷ r) tt) ∙ ap (with_term (prefix t)) (interface_after ts r ns rest)
     ∙ ap (λ xs. made xs [] 0 (length ts + 1)) (sym (append_assoc (prefix t) (flat_map prefix ts) ns))
     ∙ ap (made (flat_map prefix (t ∷ ts) ++ ns) [] 0) more
 
@@ -83,24 +83,24 @@ equation_scan e r ns k closed rest =
     ∙ ap (λ s. with_term (prefix e.left) (scan_step (mark Equals) s)) (scan-words e.right r closed ∙ ap (with_term (prefix e.right)) rest)
     ∙ ap (λ xs. made xs [] 0 (k + 1 + 1)) (sym (append_assoc (prefix e.left) (prefix e.right) ns))
 
-equations_behind : (es : List Sides) → (k : ℕ) × (scan (behind_commas (map sides_words es) ++ mark Greater ∷ []) ≡ made (equations_prefix es) [] 0 k)
-equations_behind [] = (0, refl)
-equations_behind (e ∷ es) =
-    let others = equations_behind es in
-    let r = behind_commas (map sides_words es) ++ mark Greater ∷ [] in (
+equations_after : (es : List Sides) → (k : ℕ) × (scan (after_commas (map sides_words es) ++ mark Greater ∷ []) ≡ made (equations_prefix es) [] 0 k)
+equations_after [] = (0, refl)
+equations_after (e ∷ es) =
+    let others = equations_after es in
+    let r = after_commas (map sides_words es) ++ mark Greater ∷ [] in (
       others.0 + 1 + 1,
-      ap (λ x. scan_step (mark Comma) (scan x)) (append_assoc (sides_words e) (behind_commas (map sides_words es)) (mark Greater ∷ []))
-          ∙ ap (scan_step (mark Comma)) (equation_scan e r (equations_prefix es) others.0 (behind_is_closed (map sides_words es) (mark Greater ∷ []) tt) others.1),
+      ap (λ x. scan_step (mark Comma) (scan x)) (append_assoc (sides_words e) (after_commas (map sides_words es)) (mark Greater ∷ []))
+          ∙ ap (scan_step (mark Comma)) (equation_scan e r (equations_prefix es) others.0 (after_is_closed (map sides_words es) (mark Greater ∷ []) tt) others.1),
     )
 
 equations_scan : (es : List Sides) → (k : ℕ) × (scan (separated Comma (map sides_words es) ++ mark Greater ∷ []) ≡ made (equations_prefix es) [] 0 k)
 equations_scan [] = (0, refl)
 equations_scan (e ∷ es) =
-    let others = equations_behind es in
-    let r = behind_commas (map sides_words es) ++ mark Greater ∷ [] in (
+    let others = equations_after es in
+    let r = after_commas (map sides_words es) ++ mark Greater ∷ [] in (
       others.0 + 1 + 1,
-      ap scan (append_assoc (sides_words e) (behind_commas (map sides_words es)) (mark Greater ∷ []))
-          ∙ equation_scan e r (equations_prefix es) others.0 (behind_is_closed (map sides_words es) (mark Greater ∷ []) tt) others.1,
+      ap scan (append_assoc (sides_words e) (after_commas (map sides_words es)) (mark Greater ∷ []))
+          ∙ equation_scan e r (equations_prefix es) others.0 (after_is_closed (map sides_words es) (mark Greater ∷ []) tt) others.1,
     )
 
 -- a configuration, from its end to its beginning

@@ -8,10 +8,10 @@ use Rattle.ic_text.specs.SystemSource.{RulePhrase, agent_source, rule_words, rul
 use Rattle.ic_text.specs.inner.Prefix.{scan, scan_step}
 use Rattle.ic_text.specs.Words.{prefix, rules_prefix}
 use Rattle.ic_text.proofs.Accepted.{IsClosed}
-use Rattle.ic_text.proofs.GrammarSystem.{behind_semicolons}
+use Rattle.ic_text.proofs.GrammarSystem.{after_semicolons}
 use Rattle.ic_text.proofs.Scanning.{made, with_term, scan-words}
 
-semicolons_are_closed : (tss : List (List Token)) → IsClosed (behind_semicolons tss)
+semicolons_are_closed : (tss : List (List Token)) → IsClosed (after_semicolons tss)
 semicolons_are_closed [] = tt
 semicolons_are_closed (ts ∷ tss) = tt
 
@@ -29,19 +29,19 @@ rule_scan r ts ns k closed rest =
 two_more : (rs : List RulePhrase) (r : RulePhrase) → 2 * length rs + 1 + 1 ≡ 2 * length (r ∷ rs)
 two_more rs r = omega arith
 
-rules_behind : (rs : List RulePhrase) → scan (behind_semicolons (map rule_words rs)) ≡ made (rules_prefix rs) [] 0 (2 * length rs)
-rules_behind [] = refl
-rules_behind (r ∷ rs) =
-    ap (scan_step (mark Semicolon)) (rule_scan r (behind_semicolons (map rule_words rs)) (rules_prefix rs) (2 * length rs) (semicolons_are_closed (map rule_words rs)) (rules_behind rs))
+rules_after : (rs : List RulePhrase) → scan (after_semicolons (map rule_words rs)) ≡ made (rules_prefix rs) [] 0 (2 * length rs)
+rules_after [] = refl
+rules_after (r ∷ rs) =
+    ap (scan_step (mark Semicolon)) (rule_scan r (after_semicolons (map rule_words rs)) (rules_prefix rs) (2 * length rs) (semicolons_are_closed (map rule_words rs)) (rules_after rs))
     ∙ ap (made (rules_prefix (r ∷ rs)) [] 0) (two_more rs r)
 
 -- rules, from their end to their beginning
 scan-rules_words : (rs : List RulePhrase) → scan (rules_words rs) ≡ made (rules_prefix rs) [] 0 (2 * length rs)
 scan-rules_words [] = refl
 scan-rules_words (r ∷ rs) =
-    rule_scan r (behind_semicolons (map rule_words rs)) (rules_prefix rs) (2 * length rs) (semicolons_are_closed (map rule_words rs)) (rules_behind rs)
+    rule_scan r (after_semicolons (map rule_words rs)) (rules_prefix rs) (2 * length rs) (semicolons_are_closed (map rule_words rs)) (rules_after rs)
     ∙ ap (made (rules_prefix (r ∷ rs)) [] 0) (two_more rs r)
 
--- and so behind a `{`
+-- and so after a `{`
 pub scan-rules_inside : (rs : List RulePhrase) → scan (mark LeftBrace ∷ rules_words rs) ≡ made (rules_prefix rs) [] 0 (2 * length rs)
 scan-rules_inside rs = ap (scan_step (mark LeftBrace)) (scan-rules_words rs)

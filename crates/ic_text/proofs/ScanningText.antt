@@ -4,7 +4,7 @@ use Rattle.std.specs.List.{AllByRecursion}
 use Rattle.std.proofs.Math.Seq.{drop-length}
 use Rattle.std.proofs.lemmas.List.{drop_more, length-take, take-append-drop}
 use Rattle.ic_text.specs.declared.token.Mark.{Mark}
-use Rattle.ic_text.specs.Token.{Token, is_blank, is_word_byte, mark_of, word_of, before, followed, tokens_at, tokens_behind, tokens}
+use Rattle.ic_text.specs.Token.{Token, is_blank, is_word_byte, mark_of, word_of, before, followed, tokens_at, tokens_after, tokens}
 use Rattle.ic_text.specs.inner.Prefix.{Scanned, scan, scan_run}
 use Rattle.ic_text.specs.lemmas.ReadOnce.{some-injective}
 use Rattle.ic_text.specs.lemmas.WordRuns.{tokens-parted}
@@ -17,7 +17,7 @@ pub record IsScanned (text : List ℕ) (place end : ℕ) (s : Scanned) : Type 0 
   pub is : s ≡ scan ts
   pub few : length ts + end ≤ length text
   pub ordered : place ≤ end
-  pub run : (front : List ℕ) → tokens_behind front (drop place text) ≡ Some (word_of (front ++ take (end - place) (drop place text)) ++ ts)
+  pub run : (front : List ℕ) → tokens_after front (drop place text) ≡ Some (word_of (front ++ take (end - place) (drop place text)) ++ ts)
 
 pub empty_run : (text : List ℕ) (place : ℕ) → take (place - place) (drop place text) ≡ []
 empty_run text place = let none : place - place ≡ 0 = omega arith in ap (λ n. take n (drop place text)) none
@@ -33,7 +33,7 @@ nothing_scanned text s is = record {
   few = omega arith;
   ordered = omega arith;
   run = λ front.
-      ap (tokens_behind front) (drop-length text) ∙ ap Some (sym (append-nil (word_of front)) ∙ ap (λ l. l ++ []) (no_more_run text front (length text)));
+      ap (tokens_after front) (drop-length text) ∙ ap Some (sym (append-nil (word_of front)) ∙ ap (λ l. l ++ []) (no_more_run text front (length text)));
 }
 
 -- a run in front of tokens is scanned as its word
@@ -45,7 +45,7 @@ pub length-word_of : (run : List ℕ) → length (word_of run) ≤ length run
 length-word_of [] = omega arith
 length-word_of (b ∷ bs) = omega arith
 
--- no count is above the number of bytes behind
+-- no count is above the number of bytes that follow
 module _ (text : List ℕ) (place end : ℕ) (s : Scanned) (so_far : IsScanned text place end s) (run : List ℕ) (is_run : run ≡ take (end - place) (drop place text)) where
   length-run : length run ≤ end - place
   length-run = omega (arith, ap length is_run, length-take (end - place) (drop place text))
@@ -53,16 +53,16 @@ module _ (text : List ℕ) (place end : ℕ) (s : Scanned) (so_far : IsScanned t
   pub terms_room : length text < 2 ^ 64 → s.terms + length run < 2 ^ 64
   terms_room fits = omega (arith, ap (λ (x : Scanned). x.terms) so_far.is, (scan_fits so_far.ts).1, so_far.few, length-run, so_far.ordered, fits)
 
-  pub behind_run : (r : Scanned) → r ≡ scan_run run s → r ≡ scan (word_of run ++ so_far.ts)
-  behind_run r is = is ∙ ap (scan_run run) so_far.is ∙ scan-run run so_far.ts
+  pub after_run : (r : Scanned) → r ≡ scan_run run s → r ≡ scan (word_of run ++ so_far.ts)
+  after_run r is = is ∙ ap (scan_run run) so_far.is ∙ scan-run run so_far.ts
 
-  length-behind : length (word_of run ++ so_far.ts) + place ≤ length text
-  length-behind = omega (arith, length-append (word_of run) so_far.ts, length-word_of run, length-run, so_far.few, so_far.ordered)
+  length-after : length (word_of run ++ so_far.ts) + place ≤ length text
+  length-after = omega (arith, length-append (word_of run) so_far.ts, length-word_of run, length-run, so_far.few, so_far.ordered)
 
-  pub counts_room_behind : (r : Scanned) → r ≡ scan_run run s → length text < 2 ^ 64 → 0 < place → AllByRecursion (λ c. c + 1 < 2 ^ 64) r.counts
-  counts_room_behind r is fits some =
+  pub counts_room_after : (r : Scanned) → r ≡ scan_run run s → length text < 2 ^ 64 → 0 < place → AllByRecursion (λ c. c + 1 < 2 ^ 64) r.counts
+  counts_room_after r is fits some =
       let ts = word_of run ++ so_far.ts in
-      rw (behind_run r is) (counts_room (length ts) (scan ts).counts (scan_fits ts).0 (omega (arith, length-behind, fits, some)))
+      rw (after_run r is) (counts_room (length ts) (scan ts).counts (scan_fits ts).0 (omega (arith, length-after, fits, some)))
 
 -- the byte before a place
 pub one_back : (text : List ℕ) (place end : ℕ) (s : Scanned) → 0 < place → IsScanned text place end s → IsScanned text (place - 1 + 1) end s
@@ -75,10 +75,10 @@ module _ (text : List ℕ) (place end : ℕ) (s : Scanned) (inside : place < len
   abbrev here : ℕ
   here = get_or text place 0
 
-  abbrev behind : List ℕ
-  behind = drop (place + 1) text
+  abbrev after : List ℕ
+  after = drop (place + 1) text
 
-  rest_here : drop place text ≡ here ∷ behind
+  rest_here : drop place text ≡ here ∷ after
   rest_here = drop_more text place 0 inside
 
   -- it is one of the run
@@ -89,30 +89,30 @@ module _ (text : List ℕ) (place end : ℕ) (s : Scanned) (inside : place < len
     few = so_far.few;
     ordered = omega (arith, so_far.ordered);
     run = λ front.
-        let run = take (end - (place + 1)) behind in
+        let run = take (end - (place + 1)) after in
         let more : end - place ≡ suc (end - (place + 1)) = omega (arith, so_far.ordered) in
-        let longer : take (end - place) (drop place text) ≡ here ∷ run = ap (take (end - place)) rest_here ∙ ap (λ n. take n (here ∷ behind)) more in
-        let step : tokens_behind front (here ∷ behind) ≡ tokens_behind (front ++ here ∷ []) behind = rw is_word refl in
-        ap (tokens_behind front) rest_here ∙ step ∙ so_far.run (front ++ here ∷ [])
+        let longer : take (end - place) (drop place text) ≡ here ∷ run = ap (take (end - place)) rest_here ∙ ap (λ n. take n (here ∷ after)) more in
+        let step : tokens_after front (here ∷ after) ≡ tokens_after (front ++ here ∷ []) after = rw is_word refl in
+        ap (tokens_after front) rest_here ∙ step ∙ so_far.run (front ++ here ∷ [])
         ∙ ap (λ l. Some (word_of l ++ so_far.ts)) (append_assoc front (here ∷ []) run ∙ ap (λ l. front ++ l) (sym longer));
   }
 
   -- it ends the run, and has these tokens
   module _ (apart : is_word_byte here ≡ false) (us : List Token) (at : tokens_at here (mark_of here) ≡ Some us) (one : length us ≤ 1) where
     abbrev word_run : List Token
-    word_run = word_of (take (end - (place + 1)) behind)
+    word_run = word_of (take (end - (place + 1)) after)
 
-    step : (front : List ℕ) → tokens_behind front (here ∷ behind) ≡ before (word_of front) (followed (tokens_at here (mark_of here)) (tokens_behind [] behind))
+    step : (front : List ℕ) → tokens_after front (here ∷ after) ≡ before (word_of front) (followed (tokens_at here (mark_of here)) (tokens_after [] after))
     step front = rw apart refl
 
     pub run_ended : (r : Scanned) → r ≡ scan (us ++ (word_run ++ so_far.ts)) → IsScanned text place place r
     run_ended r is = record {
       ts = us ++ (word_run ++ so_far.ts);
       is = is;
-      few = omega (arith, length-append us (word_run ++ so_far.ts), one, length-behind text (place + 1) end s so_far (take (end - (place + 1)) behind) refl);
+      few = omega (arith, length-append us (word_run ++ so_far.ts), one, length-after text (place + 1) end s so_far (take (end - (place + 1)) after) refl);
       ordered = omega arith;
       run = λ front.
-          ap (tokens_behind front) rest_here ∙ step front
+          ap (tokens_after front) rest_here ∙ step front
           ∙ (λ i. before (word_of front) (followed (at i) (so_far.run [] i)))
           ∙ ap (λ l. Some (l ++ (us ++ (word_run ++ so_far.ts)))) (no_more_run text front place);
     }
@@ -156,6 +156,6 @@ pub all_scanned : (text : List ℕ) (place end : ℕ) (s r : Scanned) (so_far : 
     → (ts : List Token) → tokens text ≡ Some ts → r ≡ scan ts
 all_scanned text place end s r so_far none is ts spelled =
     let run = whole_run text place end none in
-    let whole : tokens text ≡ tokens_behind [] (drop place text) = ap (λ n. tokens_behind [] (drop n text)) (sym none) in
+    let whole : tokens text ≡ tokens_after [] (drop place text) = ap (λ n. tokens_after [] (drop n text)) (sym none) in
     let same = some-injective _ _ (sym (so_far.run []) ∙ sym whole ∙ spelled) in
-    behind_run text place end s so_far (take end text) run r is ∙ ap (λ l. scan (word_of l ++ so_far.ts)) run ∙ ap scan same
+    after_run text place end s so_far (take end text) run r is ∙ ap (λ l. scan (word_of l ++ so_far.ts)) run ∙ ap scan same

@@ -68,27 +68,27 @@ module _ (s : SystemPhrase) (is : IsSystemPhrase s) where
   pub system_within : (limits : Limits) (v : List Symbol × List Word) → Ok v ≡ numbered_words limits words → in_limits limits ≡ true
   system_within limits v e = numbered_within (in_limits limits) agree (table, items) v (e ∙ numbered_words-system limits)
 
-  -- the words of the rules, and behind them those of the configuration
+  -- the words of the rules, and after them those of the configuration
   abbrev before : ℕ
   before = length (rules_prefix s.rules)
 
   abbrev items_before : List Word
   items_before = map (word_from table) (rules_prefix s.rules)
 
-  abbrev items_behind : List Word
-  items_behind = map (word_from table) (phrase_prefix s.config)
+  abbrev items_after : List Word
+  items_after = map (word_from table) (phrase_prefix s.config)
 
-  items-parted : items ≡ items_before ++ items_behind
+  items-parted : items ≡ items_before ++ items_after
   items-parted = ap (map (word_from table)) (prefix-joined s) ∙ map-append (word_from table) (rules_prefix s.rules) (phrase_prefix s.config)
 
   size : length items_before ≡ before
   size = length-map (rules_prefix s.rules) (word_from table)
 
   front-is : take before items ≡ items_before
-  front-is = ap (take before) items-parted ∙ take_at items_before items_behind before size
+  front-is = ap (take before) items-parted ∙ take_at items_before items_after before size
 
-  rest-is : drop before items ≡ items_behind
-  rest-is = ap (drop before) items-parted ∙ drop_at items_before items_behind before size
+  rest-is : drop before items ≡ items_after
+  rest-is = ap (drop before) items-parted ∙ drop_at items_before items_after before size
 
   rules-built : rules_in (forest (take before items)) ≡ rules_over s
   rules-built =
@@ -104,18 +104,18 @@ module _ (s : SystemPhrase) (is : IsSystemPhrase s) where
   paired-system limits v e =
       let same : v.1 ≡ items = ap (λ (x : List Symbol × List Word). x.1) (numbered_is (in_limits limits) agree (table, items) v (e ∙ numbered_words-system limits)) in
       rw same (
-        omega (arith, ap length items-parted, length-append items_before items_behind, size),
+        omega (arith, ap length items-parted, length-append items_before items_after, size),
         rw rest-is (paired-phrase table s.config is.config),
       )
 
   abbrev config : Configuration
   config = numbered_phrase table s.config
 
-  -- the rule set, or its first refusal behind limits and arities
+  -- the rule set, or its first refusal after limits and arities
   abbrev rules_or : Option ℕ → Option ℕ → Option ℕ → Result Rules RuleFault
   rules_or counted repeated uneven = unless counted Uncounted (unless repeated Repeated (unless uneven Uneven (Ok (record { symbols = table; rules = map numbered (rules_over s) }))))
 
-  -- the system, or its first refusal behind limits and arities
+  -- the system, or its first refusal after limits and arities
   abbrev system_or : Option ℕ → Option ℕ → Option ℕ → Option ℕ → Result SystemParts TextFault
   system_or counted third repeated uneven = unless_found counted NameCount (unless_found third Name (unless_found repeated Twice (unless_found uneven Lopsided (Ok (system_parts s)))))
 

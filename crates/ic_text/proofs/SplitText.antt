@@ -3,7 +3,7 @@ use Rattle.std.proofs.Common.{◌≡◌, ℕ, Bool, true, false, cond, eqb, List
 use Rattle.std.proofs.lemmas.Bool.{false≢true, eqb-true}
 use Rattle.ic_text.specs.declared.token.Mark.{Mark}
 use Rattle.ic_text.specs.declared.token.Mark.TheVariants.{LeftBrace, RightBrace, Less, Greater, Bar, Equals, Comma, Semicolon, Open, Close}
-use Rattle.ic_text.specs.Token.{Token, mark, is_blank, is_word_byte, mark_of, word_of, before, followed, tokens_at, tokens_behind, tokens}
+use Rattle.ic_text.specs.Token.{Token, mark, is_blank, is_word_byte, mark_of, word_of, before, followed, tokens_at, tokens_after, tokens}
 use Rattle.ic_text.specs.inner.Braces.{split_at_brace}
 use Rattle.ic_text.specs.lemmas.ReadOnce.{some-injective, none_is_some}
 use Rattle.ic_text.proofs.GrammarSystem.{in_front, split_at_brace as split_tokens}
@@ -14,9 +14,9 @@ use Rattle.ic_text.proofs.WordPlaces.{opened}
 abbrev pub bytes_in_front : List ℕ → List ℕ × List ℕ → List ℕ × List ℕ
 bytes_in_front front parts = (front ++ parts.0, parts.1)
 
--- the parts of a text behind a run have these tokens
+-- the parts of a text after a run have these tokens
 abbrev pub Splits : List ℕ → List ℕ × List ℕ → List Token × List Token → Type 0
-Splits run texts parts = (tokens_behind run texts.0 ≡ Some parts.0) × (tokens texts.1 ≡ Some parts.1)
+Splits run texts parts = (tokens_after run texts.0 ≡ Some parts.0) × (tokens texts.1 ≡ Some parts.1)
 
 split-word : (run : List ℕ) (ts : List Token) → split_tokens (word_of run ++ ts) ≡ in_front (word_of run) (split_tokens ts)
 split-word [] ts = refl
@@ -67,9 +67,9 @@ at_brace b bs run ts is us vs at rest all =
 abbrev with_byte : ℕ → List ℕ → Bool → List ℕ × List ℕ
 with_byte b bs brace = cond brace ([], bs) (b ∷ (split_at_brace bs).0, (split_at_brace bs).1)
 
-split-behind : (bs run : List ℕ) (ts : List Token) → tokens_behind run bs ≡ Some ts → Splits run (split_at_brace bs) (split_tokens ts)
-split-behind [] run ts e = subst (λ l. Splits run ([], []) (split_tokens l)) (some-injective (word_of run) ts e) (split_end run)
-split-behind (b ∷ bs) run ts e = by_byte (is_word_byte b) refl (split-behind bs) e
+split-after : (bs run : List ℕ) (ts : List Token) → tokens_after run bs ≡ Some ts → Splits run (split_at_brace bs) (split_tokens ts)
+split-after [] run ts e = subst (λ l. Splits run ([], []) (split_tokens l)) (some-injective (word_of run) ts e) (split_end run)
+split-after (b ∷ bs) run ts e = by_byte (is_word_byte b) refl (split-after bs) e
   where
     by_brace : (t : Bool) → eqb b 125 ≡ t → is_word_byte b ≡ false → (us vs : List Token) → tokens_at b (mark_of b) ≡ Some us → tokens bs ≡ Some vs → ts ≡ word_of run ++ (us ++ vs)
         → Splits [] (split_at_brace bs) (split_tokens vs) → Splits run (with_byte b bs t) (split_tokens ts)
@@ -77,21 +77,21 @@ split-behind (b ∷ bs) run ts e = by_byte (is_word_byte b) refl (split-behind b
     by_brace false other apart us vs at rest all next =
         let parts = ap split_tokens all ∙ split-word run (us ++ vs) ∙ ap (in_front (word_of run)) (split-here b other (mark_of b) refl us vs at) in
         let front = (split_at_brace bs).0 in
-        let step : tokens_behind run (b ∷ front) ≡ before (word_of run) (followed (tokens_at b (mark_of b)) (tokens_behind [] front)) = rw apart refl in
+        let step : tokens_after run (b ∷ front) ≡ before (word_of run) (followed (tokens_at b (mark_of b)) (tokens_after [] front)) = rw apart refl in
         subst (Splits run (b ∷ front, (split_at_brace bs).1)) (sym parts) (step ∙ (λ i. before (word_of run) (followed (at i) (next.0 i))), next.1)
 
-    by_byte : (t : Bool) → is_word_byte b ≡ t → ((r : List ℕ) (vs : List Token) → tokens_behind r bs ≡ Some vs → Splits r (split_at_brace bs) (split_tokens vs))
-        → cond t (tokens_behind (run ++ b ∷ []) bs) (before (word_of run) (followed (tokens_at b (mark_of b)) (tokens_behind [] bs))) ≡ Some ts
+    by_byte : (t : Bool) → is_word_byte b ≡ t → ((r : List ℕ) (vs : List Token) → tokens_after r bs ≡ Some vs → Splits r (split_at_brace bs) (split_tokens vs))
+        → cond t (tokens_after (run ++ b ∷ []) bs) (before (word_of run) (followed (tokens_at b (mark_of b)) (tokens_after [] bs))) ≡ Some ts
         → Splits run (split_at_brace (b ∷ bs)) (split_tokens ts)
     by_byte true is next e =
         let rest = next (run ++ b ∷ []) ts e in
         let front = (split_at_brace bs).0 in
-        let step : tokens_behind run (b ∷ front) ≡ tokens_behind (run ++ b ∷ []) front = rw is refl in
+        let step : tokens_after run (b ∷ front) ≡ tokens_after (run ++ b ∷ []) front = rw is refl in
         subst (λ t. Splits run (with_byte b bs t) (split_tokens ts)) (sym (word_isnt_brace b is)) (step ∙ rest.0, rest.1)
     by_byte false is next e =
-        let o = opened (word_of run) (tokens_at b (mark_of b)) (tokens_behind [] bs) ts e in
+        let o = opened (word_of run) (tokens_at b (mark_of b)) (tokens_after [] bs) ts e in
         by_brace (eqb b 125) refl is o.here o.later o.is_here o.is_later o.all (next [] o.later o.is_later)
 
--- the bytes before the first `}` and those behind it have the tokens before and behind
+-- the bytes before the first `}` and those after it have the tokens before and after
 pub split-text : (text : List ℕ) (ts : List Token) → tokens text ≡ Some ts → Splits [] (split_at_brace text) (split_tokens ts)
-split-text text ts e = split-behind text [] ts e
+split-text text ts e = split-after text [] ts e

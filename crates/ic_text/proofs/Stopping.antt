@@ -84,10 +84,10 @@ module _ (nodes : List Node) (k : ℕ) (d : Node) (found : Result Word SymbolFau
       by_stop (inl memory) = subst (λ (y : Refusal). Refuses y.fault (counted_words limits (Some x) (nodes_of nodes))) (sym memory) tt
       by_stop (inr limit) = subst (λ (y : Refusal). Refuses y.fault (counted_words limits (Some x) (nodes_of nodes))) (sym limit.1) refl
 
--- behind all words it isn't
-pub none_behind : (o : Option Excess) (size k : ℕ) → size ≤ k → IfSome o (λ e. e.word < size) → IfSome o (λ e. k ≤ e.word) → o ≡ None
-none_behind None size k end inside before = refl
-none_behind (Some x) size k end inside before = absurd (omega (arith, end, inside, before))
+-- after all words it isn't
+pub none_after : (o : Option Excess) (size k : ℕ) → size ≤ k → IfSome o (λ e. e.word < size) → IfSome o (λ e. k ≤ e.word) → o ≡ None
+none_after None size k end inside before = refl
+none_after (Some x) size k end inside before = absurd (omega (arith, end, inside, before))
 
 and_false : (x : Bool) → (x && false) ≡ false
 and_false true = refl

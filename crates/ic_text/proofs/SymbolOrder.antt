@@ -79,7 +79,7 @@ grows (s ∷ ss) seen =
 pub known_is : (before : List Symbol) (s : Symbol) (b : Bool) → has_text s.text before ≡ b → is_some (number_of_text (symbols_after [] before) s.text) ≡ b
 known_is before s b e = found (symbols_after [] before) s.text ∙ texts_after s.text before [] ∙ e
 
--- a symbol whose text none before has stands behind the table of those before
+-- a symbol whose text none before has stands after the table of those before
 pub added : (before after : List Symbol) (s : Symbol) → has_text s.text before ≡ false
     → (more : List Symbol) × (symbols_after [] (before ++ s ∷ after) ≡ symbols_after [] before ++ s ∷ more)
 added before after s new =

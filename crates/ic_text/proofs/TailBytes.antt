@@ -4,7 +4,7 @@ use Rattle.std.proofs.lemmas.Bool.{cond_both, eqb-true}
 use Rattle.std.proofs.lemmas.List.{drop_more}
 use Rattle.ic_text.specs.declared.token.Mark.{Mark}
 use Rattle.ic_text.specs.declared.token.Mark.TheVariants.{LeftBrace, RightBrace, Less, Greater, Bar, Equals, Comma, Semicolon, Open, Close}
-use Rattle.ic_text.specs.Token.{Token, mark, mark_byte, is_blank, is_word_byte, mark_of, word_of, tokens_at, tokens_behind}
+use Rattle.ic_text.specs.Token.{Token, mark, mark_byte, is_blank, is_word_byte, mark_of, word_of, tokens_at, tokens_after}
 use Rattle.ic_text.specs.inner.Tail.{Passed, pass_byte, pass_close, pass_end, pass_next, pass_word, passed_over}
 use Rattle.ic_text.specs.lemmas.ReadOnce.{some-injective, none_is_some}
 use Rattle.ic_text.proofs.KeptBytes.{byte_of_mark}
@@ -69,19 +69,19 @@ run-alone : (run : List ℕ) (t : Passed) → pass_end (is_run run) t ≡ pass_a
 run-alone [] t = refl
 run-alone (b ∷ bs) t = refl
 
-pub over-tokens : (bs run : List ℕ) (t : Passed) (ts : List Token) → tokens_behind run bs ≡ Some ts → passed_over t (is_run run) bs ≡ pass_all t ts
+pub over-tokens : (bs run : List ℕ) (t : Passed) (ts : List Token) → tokens_after run bs ≡ Some ts → passed_over t (is_run run) bs ≡ pass_all t ts
 over-tokens [] run t ts e = run-alone run t ∙ ap (pass_all t) (some-injective (word_of run) ts e)
 over-tokens (b ∷ bs) run t ts e = by_byte (is_word_byte b) refl (over-tokens bs) e
   where
     by_byte : (w : Bool) → is_word_byte b ≡ w
-        → ((r : List ℕ) (u : Passed) (us : List Token) → tokens_behind r bs ≡ Some us → passed_over u (is_run r) bs ≡ pass_all u us)
-        → tokens_behind run (b ∷ bs) ≡ Some ts → passed_over t (is_run run) (b ∷ bs) ≡ pass_all t ts
+        → ((r : List ℕ) (u : Passed) (us : List Token) → tokens_after r bs ≡ Some us → passed_over u (is_run r) bs ≡ pass_all u us)
+        → tokens_after run (b ∷ bs) ≡ Some ts → passed_over t (is_run run) (b ∷ bs) ≡ pass_all t ts
     by_byte true is next e =
-        let more : tokens_behind run (b ∷ bs) ≡ tokens_behind (run ++ b ∷ []) bs = rw is refl in
+        let more : tokens_after run (b ∷ bs) ≡ tokens_after (run ++ b ∷ []) bs = rw is refl in
         let step : passed_over t (is_run run) (b ∷ bs) ≡ passed_over t true bs = rw is refl in
         step ∙ ap (λ w. passed_over t w bs) (run-more run b) ∙ next (run ++ b ∷ []) t ts (sym more ∙ e)
     by_byte false apart next e =
-        let o = opened (word_of run) (tokens_at b (mark_of b)) (tokens_behind [] bs) ts (rw apart at e) in
+        let o = opened (word_of run) (tokens_at b (mark_of b)) (tokens_after [] bs) ts (rw apart at e) in
         let u = pass_end (is_run run) t in
         let step : passed_over t (is_run run) (b ∷ bs) ≡ passed_over (pass_byte b u) false bs = rw apart refl in
         step ∙ next [] (pass_byte b u) o.later o.is_later

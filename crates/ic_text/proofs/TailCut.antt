@@ -1,4 +1,4 @@
--- A scan may begin behind a mark, with what was found of the end of the text.
+-- A scan may begin after a mark, with what was found of the end of the text.
 use Rattle.std.proofs.Common.{◌≡◌, ℕ, ◌+◌, ◌-◌, ◌<◌, ◌≤◌, ◌^◌, Bool, true, false, cond, List, [], ◌∷◌, ◌++◌, Option, None, Some, length, take, drop, get_or, inl, inr, refl, sym, ap, ◌∙◌, subst, arith, length-append, length-drop}
 use Rattle.std.specs.Prelude.{IsSome}
 use Rattle.std.specs.List.{AllByRecursion}
@@ -7,10 +7,10 @@ use Rattle.std.proofs.lemmas.List.{drop_more, take-append-drop}
 use Rattle.ic_term.specs.Symbol.{Symbol}
 use Rattle.ic_text.specs.declared.token.Mark.{Mark}
 use Rattle.ic_text.specs.declared.token.Mark.TheVariants.{LeftBrace, RightBrace, Less, Greater, Bar, Equals, Comma, Semicolon, Open, Close}
-use Rattle.ic_text.specs.Token.{Token, mark, is_blank, is_word_byte, mark_of, word_of, before, followed, tokens_at, tokens_behind, tokens}
+use Rattle.ic_text.specs.Token.{Token, mark, is_blank, is_word_byte, mark_of, word_of, before, followed, tokens_at, tokens_after, tokens}
 use Rattle.ic_text.specs.inner.Prefix.{Cut, IsBegunAt, cut_at, cut_from, scan}
 use Rattle.ic_text.specs.inner.Tail.{IsTailOf, Passed, nothing_passed}
-use Rattle.ic_text.specs.inner.TailScan.{cut_behind_mark}
+use Rattle.ic_text.specs.inner.TailScan.{cut_after_mark}
 use Rattle.ic_text.specs.lemmas.ReadOnce.{some-injective, none_is_some}
 use Rattle.ic_text.specs.lemmas.WordRuns.{tokens-parted}
 use Rattle.ic_text.proofs.Cutting.{IsCut, cut-mark}
@@ -29,17 +29,17 @@ at-most-one b None us e = by_blank (is_blank b) e
     by_blank true e = omega (arith, ap length (some-injective [] us e))
     by_blank false e = absurd (none_is_some us e)
 
-few-tokens : (bs run : List ℕ) (ts : List Token) → tokens_behind run bs ≡ Some ts → length ts ≤ length run + length bs
+few-tokens : (bs run : List ℕ) (ts : List Token) → tokens_after run bs ≡ Some ts → length ts ≤ length run + length bs
 few-tokens [] run ts e = omega (arith, ap length (some-injective (word_of run) ts e), length-word_of run)
 few-tokens (b ∷ bs) run ts e = by_byte (is_word_byte b) refl (few-tokens bs) e
   where
-    by_byte : (w : Bool) → is_word_byte b ≡ w → ((r : List ℕ) (us : List Token) → tokens_behind r bs ≡ Some us → length us ≤ length r + length bs)
-        → tokens_behind run (b ∷ bs) ≡ Some ts → length ts ≤ length run + length (b ∷ bs)
+    by_byte : (w : Bool) → is_word_byte b ≡ w → ((r : List ℕ) (us : List Token) → tokens_after r bs ≡ Some us → length us ≤ length r + length bs)
+        → tokens_after run (b ∷ bs) ≡ Some ts → length ts ≤ length run + length (b ∷ bs)
     by_byte true is next e =
-        let more : tokens_behind run (b ∷ bs) ≡ tokens_behind (run ++ b ∷ []) bs = rw is refl in
+        let more : tokens_after run (b ∷ bs) ≡ tokens_after (run ++ b ∷ []) bs = rw is refl in
         omega (arith, next (run ++ b ∷ []) ts (sym more ∙ e), length-append run (b ∷ []))
     by_byte false apart next e =
-        let o = opened (word_of run) (tokens_at b (mark_of b)) (tokens_behind [] bs) ts (rw apart at e) in
+        let o = opened (word_of run) (tokens_at b (mark_of b)) (tokens_after [] bs) ts (rw apart at e) in
         omega (
           arith,
           ap length o.all,
@@ -50,7 +50,7 @@ few-tokens (b ∷ bs) run ts e = by_byte (is_word_byte b) refl (few-tokens bs) e
           next [] o.later o.is_later,
         )
 
--- where a text has tokens, so has what stands behind a byte of no word
+-- where a text has tokens, so has what stands after a byte of no word
 last-some : (a b c : Option (List Token)) (all : List Token) → followed a (followed b c) ≡ Some all → (us : List Token) × (vs : List Token) × (b ≡ Some us) × (c ≡ Some vs)
 last-some None b c all e = cc
 last-some (Some ts) None c all e = cc
@@ -61,24 +61,24 @@ module _ (text : List ℕ) (place : ℕ) (inside : place < length text) (apart :
   abbrev here : ℕ
   here = get_or text place 0
 
-  abbrev behind : List ℕ
-  behind = drop (place + 1) text
+  abbrev after : List ℕ
+  after = drop (place + 1) text
 
-  rest_here : drop place text ≡ here ∷ behind
+  rest_here : drop place text ≡ here ∷ after
   rest_here = drop_more text place 0 inside
 
-  pub both-have-tokens : (all : List Token) → tokens text ≡ Some all → (us : List Token) × (vs : List Token) × (tokens_at here (mark_of here) ≡ Some us) × (tokens behind ≡ Some vs)
+  pub both-have-tokens : (all : List Token) → tokens text ≡ Some all → (us : List Token) × (vs : List Token) × (tokens_at here (mark_of here) ≡ Some us) × (tokens after ≡ Some vs)
   both-have-tokens all is =
-      let parts : text ≡ take place text ++ here ∷ behind = sym (take-append-drop place text) ∙ ap (λ l. take place text ++ l) rest_here in
-      last-some (tokens (take place text)) (tokens_at here (mark_of here)) (tokens behind) all
-      (sym (tokens-parted (take place text) behind here apart) ∙ ap tokens (sym parts) ∙ is)
+      let parts : text ≡ take place text ++ here ∷ after = sym (take-append-drop place text) ∙ ap (λ l. take place text ++ l) rest_here in
+      last-some (tokens (take place text)) (tokens_at here (mark_of here)) (tokens after) all
+      (sym (tokens-parted (take place text) after here apart) ∙ ap tokens (sym parts) ∙ is)
 
-  joined : (front us vs : List Token) → tokens_at here (mark_of here) ≡ Some us → tokens behind ≡ Some vs
-      → before front (followed (tokens_at here (mark_of here)) (tokens behind)) ≡ Some (front ++ (us ++ vs))
+  joined : (front us vs : List Token) → tokens_at here (mark_of here) ≡ Some us → tokens after ≡ Some vs
+      → before front (followed (tokens_at here (mark_of here)) (tokens after)) ≡ Some (front ++ (us ++ vs))
   joined front us vs at rest = (λ i. before front (followed (at i) (rest i)))
 
-  step : (run : List ℕ) → tokens_behind run (drop place text) ≡ before (word_of run) (followed (tokens_at here (mark_of here)) (tokens behind))
-  step run = ap (tokens_behind run) rest_here ∙ rw apart refl
+  step : (run : List ℕ) → tokens_after run (drop place text) ≡ before (word_of run) (followed (tokens_at here (mark_of here)) (tokens after))
+  step run = ap (tokens_after run) rest_here ∙ rw apart refl
 
   -- so what was scanned from there on goes on to the beginning
   pub goes-on : (skip : ℕ) (c : Cut) (all : List Token) → tokens text ≡ Some all
@@ -134,18 +134,18 @@ module _ (text : List ℕ) (skip place : ℕ) (t : Passed) (tail : IsTailOf text
   is_passed : IsPassed (scan vs) t
   is_passed = subst (IsPassed (scan vs)) (sym over) (all-passed vs (ap (λ (x : Passed). x.deep) (sym over) ∙ tail.closes))
 
-  pub room-behind : length text < 2 ^ 64 → AllByRecursion (λ c. c + 1 < 2 ^ 64) t.closed
-  room-behind fits =
+  pub room-after : length text < 2 ^ 64 → AllByRecursion (λ c. c + 1 < 2 ^ 64) t.closed
+  room-after fits =
       let few : length vs + 1 < 2 ^ 64 = omega (arith, few-tokens (drop (place + 1) text) [] vs some.3, length-drop (place + 1) text, tail.inside, fits) in
       subst (AllByRecursion (λ c. c + 1 < 2 ^ 64)) is_passed.counts (counts_room (length vs) (scan vs).counts (scan_fits vs).0 few)
 
   same-cut : record { seen = record { nodes = take (length (scan vs).nodes - skip) (scan vs).nodes; counts = (scan vs).counts; arity = 0; terms = (scan vs).terms }; skip = skip - length (scan vs).nodes }
-      ≡ cut_behind_mark t skip
+      ≡ cut_after_mark t skip
   same-cut =
       let none : length (scan vs).nodes - skip ≡ 0 = omega (arith, is_passed.words, tail.few) in
       λ i. record { seen = record { nodes = take (none i) (scan vs).nodes; counts = is_passed.counts i; arity = 0; terms = is_passed.terms i }; skip = skip - is_passed.words i }
 
-  by-mark : (o : Option Mark) → mark_of byte ≡ o → IsSome o → (ts : List Token) → tokens (drop place text) ≡ Some ts → cut_at o (cut_behind_mark t skip) ≡ cut_from skip (scan ts)
+  by-mark : (o : Option Mark) → mark_of byte ≡ o → IsSome o → (ts : List Token) → tokens (drop place text) ≡ Some ts → cut_at o (cut_after_mark t skip) ≡ cut_from skip (scan ts)
   by-mark None is none ts e = absurd (false≢true none)
   by-mark (Some m) is some-mark ts e =
       let at : tokens_at byte (mark_of byte) ≡ Some (mark m ∷ []) = ap (tokens_at byte) is in
@@ -156,5 +156,5 @@ module _ (text : List ℕ) (skip place : ℕ) (t : Passed) (tail : IsTailOf text
       ∙ cut-mark m skip (scan vs)
       ∙ ap (λ l. cut_from skip (scan l)) one
 
-  pub begun-behind : (q : Cut) → q ≡ cut_at (mark_of byte) (cut_behind_mark t skip) → IsBegunAt text skip place q
-  begun-behind q is = inr (tail.inside, tail.apart, λ ts e. is ∙ by-mark (mark_of byte) refl tail.mark ts e)
+  pub begun-after : (q : Cut) → q ≡ cut_at (mark_of byte) (cut_after_mark t skip) → IsBegunAt text skip place q
+  begun-after q is = inr (tail.inside, tail.apart, λ ts e. is ∙ by-mark (mark_of byte) refl tail.mark ts e)

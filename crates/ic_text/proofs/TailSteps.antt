@@ -28,7 +28,7 @@ abbrev raised : ℕ → List ℕ → List ℕ
 raised k [] = []
 raised k (n ∷ ns) = (n + k) ∷ ns
 
--- the terms so far, if no list is closed behind them
+-- the terms so far, if no list is closed after them
 abbrev unless_closed : List ℕ → ℕ → ℕ
 unless_closed [] k = k
 unless_closed (n ∷ ns) k = 0
@@ -37,7 +37,7 @@ abbrev unless_barred : Bool → ℕ → ℕ
 unless_barred true k = 0
 unless_barred false k = k
 
--- what was gone over, with what was scanned behind it
+-- what was gone over, with what was scanned after it
 abbrev counts_of : Passed → Scanned → List ℕ
 counts_of t s = t.closed ++ raised t.commas (drop t.deep s.counts)
 

@@ -206,7 +206,7 @@ row_at [] i ws e = cc
 row_at (x ∷ xs) zero ws e = let same : x ≡ ws = cc in ap (λ l. l ++ in_a_row xs) same
 row_at (x ∷ xs) (suc i) ws e = ap (λ l. x ++ l) (row_at xs i ws e) ∙ sym (append_assoc x (in_a_row (take i xs)) (ws ++ in_a_row (drop (suc i) xs)))
 
--- a word of a rule, behind so many others of it, is this word of what is written
+-- a word of a rule, after so many others of it, is this word of what is written
 in_rule : (w : Written) (i before k : ℕ) (ws : List Symbol) → slice_get w.rules i ≡ Some ws → before < length ws → k ≡ words_before w i + before → slice_get (all_words w) k ≡ slice_get ws before
 in_rule w i before k ws rule inside place =
     let front = in_a_row (take i w.rules) in

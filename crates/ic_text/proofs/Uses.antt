@@ -30,7 +30,7 @@ uses-append text vs ws = sum_by-append (one_if text) vs ws
 uses-one : (text : List ℕ) (w : Symbol) → uses text (w ∷ []) ≡ one_if text w
 uses-one text w = omega (arith, sum_by-cons (one_if text) w [])
 
--- the words before and behind a place
+-- the words before and after a place
 uses_split : (text : List ℕ) (ws : List Symbol) (k : ℕ) → uses text ws ≡ uses text (take k ws) + uses text (drop k ws)
 uses_split text ws k = ap (uses text) (sym (take-append-drop k ws)) ∙ uses-append text (take k ws) (drop k ws)
 
@@ -45,7 +45,7 @@ pub uses_more : (text : List ℕ) (ws : List Symbol) (k : ℕ) (w : Symbol) → 
 uses_more text ws k w stands b is =
     ap (uses text) stands.front ∙ uses-append text (take k ws) (w ∷ []) ∙ ap (λ n. uses text (take k ws) + n) (uses-one text w ∙ ap (λ x. cond x 1 0) is)
 
--- the word behind so many others
+-- the word after so many others
 pub standing_in : (ws : List Symbol) (k : ℕ) → k < length ws → Standing ws k (get_or ws k (record { text = []; arity = 0 }))
 standing_in ws k inside = record {
   inside = inside;

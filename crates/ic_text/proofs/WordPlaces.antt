@@ -3,13 +3,13 @@ use Rattle.std.proofs.Common.{◌≡◌, ℕ, zero, suc, ◌+◌, ◌<◌, ◌�
 use Rattle.std.proofs.lemmas.Bool.{false≢true, and_parts}
 use Rattle.std.proofs.lemmas.List.{take_more, take_all, take-append-drop}
 use Rattle.ic_text.specs.declared.token.Mark.{Mark}
-use Rattle.ic_text.specs.Token.{Token, mark, is_blank, is_word_byte, mark_of, word_of, before, tokens_at, followed, tokens_behind, tokens, words_among}
+use Rattle.ic_text.specs.Token.{Token, mark, is_blank, is_word_byte, mark_of, word_of, before, tokens_at, followed, tokens_after, tokens, words_among}
 use Rattle.ic_text.specs.Places.{is_between, IsWordPlace}
 use Rattle.ic_text.specs.lemmas.ReadOnce.{some-injective, none_is_some}
 use Rattle.ic_text.proofs.InTextOrder.{words_among-append}
-use Rattle.ic_text.proofs.Placing.{between_behind}
+use Rattle.ic_text.proofs.Placing.{between_after}
 
--- how many words begin in bytes that stand behind a word byte, or behind none
+-- how many words begin in bytes that stand after a word byte, or after none
 abbrev pub begun_words : Bool → List ℕ → ℕ
 begun_words within [] = 0
 begun_words within (b ∷ bs) = cond (is_word_byte b) (cond within (begun_words true bs) (1 + begun_words true bs)) (begun_words false bs)
@@ -73,7 +73,7 @@ run_word [] = refl
 run_word (x ∷ xs) = refl
 
 -- a text has as many words as begin in it
-pub run_words : (bs run : List ℕ) (ts : List Token) → tokens_behind run bs ≡ Some ts → length (words_among ts) ≡ begun_words (is_some_run run) bs + cond (is_some_run run) 1 0
+pub run_words : (bs run : List ℕ) (ts : List Token) → tokens_after run bs ≡ Some ts → length (words_among ts) ≡ begun_words (is_some_run run) bs + cond (is_some_run run) 1 0
 run_words [] run ts e =
     let all : length (words_among ts) ≡ length (words_among (word_of run)) = ap (λ l. length (words_among l)) (sym (some-injective (word_of run) ts e)) in
     omega (arith, all, run_word run)
@@ -83,13 +83,13 @@ run_words (b ∷ bs) run ts e = by_byte (run_words bs) (is_word_byte b) refl e
     within true = refl
     within false = omega arith
 
-    by_byte : ((other : List ℕ) (us : List Token) → tokens_behind other bs ≡ Some us → length (words_among us) ≡ begun_words (is_some_run other) bs + cond (is_some_run other) 1 0)
-        → (i : Bool) → is_word_byte b ≡ i → cond i (tokens_behind (run ++ b ∷ []) bs) (before (word_of run) (followed (tokens_at b (mark_of b)) (tokens_behind [] bs))) ≡ Some ts
+    by_byte : ((other : List ℕ) (us : List Token) → tokens_after other bs ≡ Some us → length (words_among us) ≡ begun_words (is_some_run other) bs + cond (is_some_run other) 1 0)
+        → (i : Bool) → is_word_byte b ≡ i → cond i (tokens_after (run ++ b ∷ []) bs) (before (word_of run) (followed (tokens_at b (mark_of b)) (tokens_after [] bs))) ≡ Some ts
         → length (words_among ts) ≡ cond i (cond (is_some_run run) (begun_words true bs) (1 + begun_words true bs)) (begun_words false bs) + cond (is_some_run run) 1 0
     by_byte next true is e =
         next (run ++ b ∷ []) ts e ∙ ap (λ r. begun_words r bs + cond r 1 0) (some_run run b) ∙ within (is_some_run run)
     by_byte next false is e =
-        let o = opened (word_of run) (tokens_at b (mark_of b)) (tokens_behind [] bs) ts e in
+        let o = opened (word_of run) (tokens_at b (mark_of b)) (tokens_after [] bs) ts e in
         let rest : length (words_among o.later) ≡ begun_words false bs + 0 = next [] o.later o.is_later in
         let here : length (words_among o.here) ≡ 0 = ap length (no_word_at b (mark_of b) o.here o.is_here) in
         let parts : words_among ts ≡ words_among (word_of run) ++ (words_among o.here ++ words_among o.later) =
@@ -99,27 +99,27 @@ run_words (b ∷ bs) run ts e = by_byte (run_words bs) (is_word_byte b) refl e
         omega (arith, sum, here, rest, run_word run)
 
 -- the front of a text that has tokens has some
-pub fronts : (xs ys run : List ℕ) (ts : List Token) → tokens_behind run (xs ++ ys) ≡ Some ts → (front : List Token) × (tokens_behind run xs ≡ Some front)
+pub fronts : (xs ys run : List ℕ) (ts : List Token) → tokens_after run (xs ++ ys) ≡ Some ts → (front : List Token) × (tokens_after run xs ≡ Some front)
 fronts [] ys run ts e = (word_of run, refl)
 fronts (x ∷ xs) ys run ts e = by_byte (fronts xs ys) (is_word_byte x) e
   where
-    by_byte : ((other : List ℕ) (us : List Token) → tokens_behind other (xs ++ ys) ≡ Some us → (front : List Token) × (tokens_behind other xs ≡ Some front))
-        → (i : Bool) → cond i (tokens_behind (run ++ x ∷ []) (xs ++ ys)) (before (word_of run) (followed (tokens_at x (mark_of x)) (tokens_behind [] (xs ++ ys)))) ≡ Some ts
-        → (front : List Token) × (cond i (tokens_behind (run ++ x ∷ []) xs) (before (word_of run) (followed (tokens_at x (mark_of x)) (tokens_behind [] xs))) ≡ Some front)
+    by_byte : ((other : List ℕ) (us : List Token) → tokens_after other (xs ++ ys) ≡ Some us → (front : List Token) × (tokens_after other xs ≡ Some front))
+        → (i : Bool) → cond i (tokens_after (run ++ x ∷ []) (xs ++ ys)) (before (word_of run) (followed (tokens_at x (mark_of x)) (tokens_after [] (xs ++ ys)))) ≡ Some ts
+        → (front : List Token) × (cond i (tokens_after (run ++ x ∷ []) xs) (before (word_of run) (followed (tokens_at x (mark_of x)) (tokens_after [] xs))) ≡ Some front)
     by_byte next true e = next (run ++ x ∷ []) ts e
     by_byte next false e =
-        let o = opened (word_of run) (tokens_at x (mark_of x)) (tokens_behind [] (xs ++ ys)) ts e in
+        let o = opened (word_of run) (tokens_at x (mark_of x)) (tokens_after [] (xs ++ ys)) ts e in
         let f = next [] o.later o.is_later in
         (word_of run ++ (o.here ++ f.0), λ i. before (word_of run) (followed (o.is_here i) (f.1 i)))
 
--- a place behind no word byte isn't within a word
+-- a place after no word byte isn't within a word
 between_word : (text : List ℕ) (place : ℕ) → place ≤ length text → ends_within false (take place text) ≡ false → is_between text place ≡ true
 between_word text zero le apart = refl
 between_word text (suc n) le apart =
     let one : n + 1 ≡ suc n = omega arith in
     let front : take (suc n) text ≡ take n text ++ get_or text n 0 ∷ [] = ap (λ i. take i text) (sym one) ∙ take_more text n 0 (omega arith) in
     let last : is_word_byte (get_or text n 0) ≡ false = sym (ends-push (take n text) (get_or text n 0) false) ∙ ap (ends_within false) (sym front) ∙ apart in
-    ap (is_between text) (sym one) ∙ between_behind text n last
+    ap (is_between text) (sym one) ∙ between_after text n last
 
 module _ (text : List ℕ) (place words : ℕ) (within : Bool) (counted : words ≡ begun_words false (take place text)) (ends : within ≡ ends_within false (take place text)) where
   pub found_word : (k : ℕ) (ts : List Token) → place < length text → tokens text ≡ Some ts → (is_word_byte (get_or text place 0) && not within) ≡ true → words ≡ k → IsWordPlace text k place

@@ -21,8 +21,8 @@ use Rattle.ic_text.specs.Token.{Token, token_text, mark}
 use Rattle.ic_text.specs.Source.{words, further_words, sides_words, separated}
 use Rattle.ic_text.specs.Text.{text_or_none, source_of, sources_of, sides_of, text_of, printed}
 use Rattle.ic_text.specs.inner.Printing.{term_text, terms_text, equation_text, equations_text}
-use Rattle.ic_text.specs.inner.WordTexts.{word_text, closing, coming, lacking, needed, behind_word, Begins, comma_before, first_text}
-use Rattle.ic_text.proofs.Grammar.{behind_commas}
+use Rattle.ic_text.specs.inner.WordTexts.{word_text, closing, coming, lacking, needed, after_word, Begins, comma_before, first_text}
+use Rattle.ic_text.proofs.Grammar.{after_commas}
 
 text_of-append : (ts us : List Token) → text_of (ts ++ us) ≡ text_of ts ++ text_of us
 text_of-append ts us = flat_map-append token_text ts us
@@ -40,9 +40,9 @@ pub popped-none : (old new : List ℕ) (o : Option ℕ) → old ≡ new ++ optio
 popped-none old [] o e none few = (e ∙ ap option_to_list none, refl)
 popped-none old (x ∷ new) o e none few = absurd (omega arith)
 
--- ---- what is written behind a term
+-- ---- what is written after a term
 
--- Of what was to be written behind a term, so much is still to be written.
+-- Of what was to be written after a term, so much is still to be written.
 pub record IsClosing (start : List ℕ) (out_start : List ℕ) (due out : List ℕ) : Type 0 where
   text : (texts : List (List ℕ)) → lacking start ≤ length texts → out ++ closing due texts ≡ out_start ++ closing start texts
   many : lacking due ≡ lacking start
@@ -87,21 +87,21 @@ closed_all start out_start old new out is none all = record {
   ended = λ e. all;
 }
 
--- ---- what is written behind a word
+-- ---- what is written after a word
 
 pub opened : (n : ℕ) (due new out out' : List ℕ) → 0 < n → new ≡ (n - 1) ∷ due → out' ≡ out ++ 40 ∷ []
-    → Begins (behind_word n due) (n + lacking due) out out' true new
+    → Begins (after_word n due) (n + lacking due) out out' true new
 opened n due new out out' some pushed put =
     let on : suc (n - 1) ≡ n = omega arith in record {
       text = λ texts few.
           ap (λ l. l ++ coming true new texts) put ∙ append_assoc out (40 ∷ []) (coming true new texts)
-          ∙ ap (λ l. out ++ 40 ∷ coming true l texts) pushed ∙ ap (λ m. out ++ behind_word m due texts) on;
+          ∙ ap (λ l. out ++ 40 ∷ coming true l texts) pushed ∙ ap (λ m. out ++ after_word m due texts) on;
       many = ap (needed true) pushed ∙ omega arith;
       ended = λ e. absurd cc;
     }
 
 pub closed : (n : ℕ) (due new out out' : List ℕ) (more : Bool) → n ≤ 0 → Begins (closing due) (lacking due) out out' more new
-    → Begins (behind_word n due) (n + lacking due) out out' more new
+    → Begins (after_word n due) (n + lacking due) out out' more new
 closed zero due new out out' more none begins = record { text = λ texts few. begins.text texts (omega (arith, few)); many = omega (arith, begins.many); ended = begins.ended }
 closed (suc n) due new out out' more none begins = absurd (omega arith)
 
@@ -113,7 +113,7 @@ headed head rest count out begun new due more put begins = record {
   ended = begins.ended;
 }
 
--- ---- a word, and the terms behind it
+-- ---- a word, and the terms after it
 
 further-text : (ss : List Symbol) (ts : List Tree) → text_of (further_words (sources_of ss (trees_of ts))) ≡ flat_map (λ t. 44 ∷ t) (map (term_text ss) ts) ++ 41 ∷ []
 further-text ss [] = refl
@@ -122,9 +122,9 @@ further-text ss (t ∷ ts) =
     ∙ ap (λ l. 44 ∷ (term_text ss t ++ l)) (further-text ss ts)
     ∙ ap (λ l. 44 ∷ l) (sym (append_assoc (term_text ss t) (flat_map (λ u. 44 ∷ u) (map (term_text ss) ts)) (41 ∷ [])))
 
--- a term's first word and what is written behind it are its text and what is written behind that
+-- a term's first word and what is written after it are its text and what is written after that
 pub word-coming : (ss : List Symbol) (w : Word) (due : List ℕ) (ts : List Tree) → arguments w ≤ length ts
-    → word_text ss w ++ behind_word (arguments w) due (map (term_text ss) ts) ≡ coming true due (map (term_text ss) (with_word w ts))
+    → word_text ss w ++ after_word (arguments w) due (map (term_text ss) ts) ≡ coming true due (map (term_text ss) (with_word w ts))
 word-coming ss (Name n) due ts there = ap (λ l. l ++ closing due (map (term_text ss) ts)) (sym (append-nil (word_text ss (Name n))))
 word-coming ss (Agent s zero) due ts there = ap (λ l. l ++ closing due (map (term_text ss) ts)) (sym (append-nil (text_or_none (slice_get ss s))))
 word-coming ss (Agent s (suc a)) due [] there = absurd (omega arith)
@@ -133,14 +133,14 @@ word-coming ss (Agent s (suc a)) due (t ∷ ts) there =
     let first = term_text ss t in
     let texts = map (term_text ss) ts in
     let front = flat_map (λ u. 44 ∷ u) (map (term_text ss) (take a ts)) in
-    let behind = closing due (map (term_text ss) (drop a ts)) in
+    let after = closing due (map (term_text ss) (drop a ts)) in
     let whole : term_text ss (agent s (trees_of (t ∷ take a ts))) ≡ text ++ 40 ∷ (first ++ (front ++ 41 ∷ [])) =
     ap (λ l. text ++ 40 ∷ l) (text_of-append (words (source_of ss t)) (further_words (sources_of ss (trees_of (take a ts)))) ∙ ap (λ l. first ++ l) (further-text ss (take a ts))) in
     (λ i. text ++ 40 ∷ (first ++ (flat_map (λ u. 44 ∷ u) (take-map (term_text ss) a ts i) ++ 41 ∷ closing due (drop-map (term_text ss) a ts i))))
-    ∙ ap (λ l. text ++ 40 ∷ (first ++ l)) (sym (append_assoc front (41 ∷ []) behind))
-    ∙ ap (λ l. text ++ 40 ∷ l) (sym (append_assoc first (front ++ 41 ∷ []) behind))
-    ∙ sym (append_assoc text (40 ∷ (first ++ (front ++ 41 ∷ []))) behind)
-    ∙ ap (λ l. l ++ behind) (sym whole)
+    ∙ ap (λ l. text ++ 40 ∷ (first ++ l)) (sym (append_assoc front (41 ∷ []) after))
+    ∙ ap (λ l. text ++ 40 ∷ l) (sym (append_assoc first (front ++ 41 ∷ []) after))
+    ∙ sym (append_assoc text (40 ∷ (first ++ (front ++ 41 ∷ []))) after)
+    ∙ ap (λ l. l ++ after) (sym whole)
 
 -- ---- a term, word by word
 
@@ -155,13 +155,13 @@ first-coming : {X : Type 0} (f : X → List ℕ) (xs : List X) → coming true [
 first-coming f [] = refl
 first-coming f (x ∷ xs) = append-nil (f x)
 
--- words behind a place write a term
+-- words after a place write a term
 pub some-there : (ws : List Word) (place : ℕ) → IsWhole ws → place < length ws → 1 ≤ length (forest (drop place ws))
 some-there ws place whole there =
     let w = get_or ws place (Name 0) in
-    let behind = drop_more ws place (Name 0) there in
-    let one = (subst (λ l. IsWhole l) behind (whole-drop place ws whole)).0 in
-    omega (arith, length-forest w (drop (place + 1) ws) one, ap (λ l. length (forest l)) behind)
+    let after = drop_more ws place (Name 0) there in
+    let one = (subst (λ l. IsWhole l) after (whole-drop place ws whole)).0 in
+    omega (arith, length-forest w (drop (place + 1) ws) one, ap (λ l. length (forest l)) after)
 
 -- there are words where there are terms
 pub word-there : (ws : List Word) (place n : ℕ) → n ≤ length (forest (drop place ws)) → 0 < n → place < length ws
@@ -190,16 +190,16 @@ drop-with_word (Agent s arity) ts due = drop-drop due arity ts
 
 pub IsPrinting-next : {ss : List Symbol} {ws : List Word} {place end : ℕ} {more : Bool} {due start out : List ℕ} (d : Word) (more' : Bool) (due' out' : List ℕ)
     → IsWhole ws → IsPrinting ss ws place end more due start out → more ≡ true
-    → Begins (λ texts. word_text ss (get_or ws end d) ++ behind_word (arguments (get_or ws end d)) due texts) (arguments (get_or ws end d) + lacking due) out out' more' due'
+    → Begins (λ texts. word_text ss (get_or ws end d) ++ after_word (arguments (get_or ws end d)) due texts) (arguments (get_or ws end d) + lacking due) out out' more' due'
     → IsPrinting ss ws place (end + 1) more' due' start out'
 IsPrinting-next {ss} {ws} {place} {end} {more} {due} {start} {out} d more' due' out' whole is goes begins =
     let there = IsPrinting-within is goes in
     let w = get_or ws end d in
     let ts = forest (drop (end + 1) ws) in
     let f = term_text ss in
-    let behind = drop_more ws end d there in
-    let terms : forest (drop end ws) ≡ with_word w ts = ap forest behind in
-    let one = (subst (λ l. IsWhole l) behind (whole-drop end ws whole)).0 in
+    let after = drop_more ws end d there in
+    let terms : forest (drop end ws) ≡ with_word w ts = ap forest after in
+    let one = (subst (λ l. IsWhole l) after (whole-drop end ws whole)).0 in
     let count = length-forest w (drop (end + 1) ws) one in
     let lacked = subst (λ b. needed b due ≤ length (forest (drop end ws))) goes is.enough in
     let few : arguments w + lacking due ≤ length ts = omega (arith, lacked, ap length terms, count) in
@@ -254,13 +254,13 @@ module _ {X S : Type 0} (view : X → S) (spell : S → List Token) where
   abbrev text : X → List ℕ
   text x = text_of (spell (view x))
 
-  behind-more : (i : ℕ) (xs : List X) → i < length xs
-      → text_of (behind_commas (map spell (map view (take (suc i) xs)))) ≡ text_of (behind_commas (map spell (map view (take i xs)))) ++ 44 ∷ first_text text (drop i xs)
-  behind-more i [] there = absurd (omega arith)
-  behind-more zero (x ∷ xs) there = ap (λ l. 44 ∷ l) (ap text_of (append-nil (spell (view x))))
-  behind-more (suc i) (x ∷ xs) there =
-      let rest : ℕ → List Token = λ n. behind_commas (map spell (map view (take n xs))) in
-      ap (λ l. 44 ∷ l) (text_of-append (spell (view x)) (rest (suc i)) ∙ ap (λ l. text x ++ l) (behind-more i xs (omega arith))
+  after-more : (i : ℕ) (xs : List X) → i < length xs
+      → text_of (after_commas (map spell (map view (take (suc i) xs)))) ≡ text_of (after_commas (map spell (map view (take i xs)))) ++ 44 ∷ first_text text (drop i xs)
+  after-more i [] there = absurd (omega arith)
+  after-more zero (x ∷ xs) there = ap (λ l. 44 ∷ l) (ap text_of (append-nil (spell (view x))))
+  after-more (suc i) (x ∷ xs) there =
+      let rest : ℕ → List Token = λ n. after_commas (map spell (map view (take n xs))) in
+      ap (λ l. 44 ∷ l) (text_of-append (spell (view x)) (rest (suc i)) ∙ ap (λ l. text x ++ l) (after-more i xs (omega arith))
       ∙ sym (append_assoc (text x) (text_of (rest i)) (44 ∷ first_text text (drop i xs))) ∙ ap (λ l. l ++ 44 ∷ first_text text (drop i xs)) (sym (text_of-append (spell (view x)) (rest i))))
 
   list-more : (i : ℕ) (xs : List X) → i < length xs
@@ -268,8 +268,8 @@ module _ {X S : Type 0} (view : X → S) (spell : S → List Token) where
   list-more i [] there = absurd (omega arith)
   list-more zero (x ∷ xs) there = ap text_of (append-nil (spell (view x)))
   list-more (suc i) (x ∷ xs) there =
-      let rest : ℕ → List Token = λ n. behind_commas (map spell (map view (take n xs))) in
-      text_of-append (spell (view x)) (rest (suc i)) ∙ ap (λ l. text x ++ l) (behind-more i xs (omega arith))
+      let rest : ℕ → List Token = λ n. after_commas (map spell (map view (take n xs))) in
+      text_of-append (spell (view x)) (rest (suc i)) ∙ ap (λ l. text x ++ l) (after-more i xs (omega arith))
       ∙ sym (append_assoc (text x) (text_of (rest i)) (44 ∷ first_text text (drop i xs))) ∙ ap (λ l. l ++ 44 ∷ first_text text (drop i xs)) (sym (text_of-append (spell (view x)) (rest i)))
 
   -- one more of a list is written
@@ -293,10 +293,10 @@ equation-text ss t u = text_of-append (words (source_of ss t)) (mark Equals ∷ 
 pub equation-written : (ss : List Symbol) (ts us : List Tree) (old first begun new : List ℕ) → 2 ≤ length ts → us ≡ drop 1 ts
     → first ≡ old ++ first_text (term_text ss) ts → begun ≡ first ++ 61 ∷ [] → new ≡ begun ++ first_text (term_text ss) us
     → new ≡ old ++ first_text (equation_text ss) (pairs_of ts)
-equation-written ss [] us old first begun new two behind left sign right = absurd (omega arith)
-equation-written ss (t ∷ []) us old first begun new two behind left sign right = absurd (omega arith)
-equation-written ss (t ∷ u ∷ ts) us old first begun new two behind left sign right =
-    right ∙ (λ i. (sign ∙ ap (λ l. l ++ 61 ∷ []) left) i ++ first_text (term_text ss) (behind i))
+equation-written ss [] us old first begun new two after left sign right = absurd (omega arith)
+equation-written ss (t ∷ []) us old first begun new two after left sign right = absurd (omega arith)
+equation-written ss (t ∷ u ∷ ts) us old first begun new two after left sign right =
+    right ∙ (λ i. (sign ∙ ap (λ l. l ++ 61 ∷ []) left) i ++ first_text (term_text ss) (after i))
     ∙ append_assoc (old ++ term_text ss t) (61 ∷ []) (term_text ss u) ∙ append_assoc old (term_text ss t) (61 ∷ term_text ss u)
     ∙ ap (λ l. old ++ l) (sym (equation-text ss t u))
 
@@ -317,8 +317,8 @@ pub interface-front : (c : Configuration) (ws : List Word) (terms : ℕ) → ws 
 interface-front c ws terms is count =
     (λ i. take (count i) (forest (is i))) ∙ ap (take (length c.interface)) (forest-configuration_words c) ∙ take_at c.interface (sides c.equations) (length c.interface) refl
 
-pub sides-behind : (c : Configuration) (ws : List Word) (terms : ℕ) → ws ≡ configuration_words c → terms ≡ length c.interface → drop terms (forest ws) ≡ sides c.equations
-sides-behind c ws terms is count =
+pub sides-after : (c : Configuration) (ws : List Word) (terms : ℕ) → ws ≡ configuration_words c → terms ≡ length c.interface → drop terms (forest ws) ≡ sides c.equations
+sides-after c ws terms is count =
     (λ i. drop (count i) (forest (is i))) ∙ ap (drop (length c.interface)) (forest-configuration_words c) ∙ drop_at c.interface (sides c.equations) (length c.interface) refl
 
 printed-parts : (ss : List Symbol) (c : Configuration) → printed ss c ≡ 60 ∷ (terms_text ss c.interface ++ 124 ∷ (equations_text ss c.equations ++ 62 ∷ []))

@@ -9,21 +9,21 @@ use Rattle.std.proofs.lemmas.Bool.Decides.{nat_tests}
 use Rattle.ic_term.specs.Symbol.{is_symbol_text}
 use Rattle.ic_text.specs.declared.token.Mark.{Mark}
 use Rattle.ic_text.specs.declared.token.Mark.TheVariants.{LeftBrace, RightBrace, Less, Greater, Bar, Equals, Comma, Semicolon, Open, Close}
-use Rattle.ic_text.specs.Token.{Token, word, mark, is_word_byte, mark_byte, word_of, before, tokens_behind, tokens}
+use Rattle.ic_text.specs.Token.{Token, word, mark, is_word_byte, mark_byte, word_of, before, tokens_after, tokens}
 use Rattle.ic_text.specs.Name.{name_text}
 use Rattle.ic_text.specs.Source.{Source, leaf, node, Sources, no_sources, more_sources, Sides, Phrase, IsSource, AreSources, IsPhrase, words, argument_words, further_words, sides_words, separated, phrase_words}
 use Rattle.ic_text.specs.Text.{text_of}
-use Rattle.ic_text.proofs.Grammar.{behind_commas}
+use Rattle.ic_text.proofs.Grammar.{after_commas}
 
 -- word bytes join the run before them
-run_on : (w r run : List ℕ) → list_all is_word_byte w ≡ true → tokens_behind run (w ++ r) ≡ tokens_behind (run ++ w) r
-run_on [] r run all = ap (λ l. tokens_behind l r) (sym (append-nil run))
+run_on : (w r run : List ℕ) → list_all is_word_byte w ≡ true → tokens_after run (w ++ r) ≡ tokens_after (run ++ w) r
+run_on [] r run all = ap (λ l. tokens_after l r) (sym (append-nil run))
 run_on (b ∷ w) r run all =
     let parts = and_parts (is_word_byte b) (list_all is_word_byte w) all in
-    rw parts.0 (run_on w r (run ++ b ∷ []) parts.1) ∙ ap (λ l. tokens_behind l r) (append_assoc run (b ∷ []) w)
+    rw parts.0 (run_on w r (run ++ b ∷ []) parts.1) ∙ ap (λ l. tokens_after l r) (append_assoc run (b ∷ []) w)
 
 -- a mark ends the run
-mark_ends : (m : Mark) (r run : List ℕ) → tokens_behind run (mark_byte m ∷ r) ≡ before (word_of run) (before (mark m ∷ []) (tokens_behind [] r))
+mark_ends : (m : Mark) (r run : List ℕ) → tokens_after run (mark_byte m ∷ r) ≡ before (word_of run) (before (mark m ∷ []) (tokens_after [] r))
 mark_ends LeftBrace r run = refl
 mark_ends RightBrace r run = refl
 mark_ends Less r run = refl
@@ -52,7 +52,7 @@ AreApart [] = Unit {0}
 AreApart (word w ∷ ts) = IsWordText w × IsMarked ts × AreApart ts
 AreApart (mark m ∷ ts) = AreApart ts
 
-pub tokens-text_of : (ts : List Token) → AreApart ts → tokens_behind [] (text_of ts) ≡ Some ts
+pub tokens-text_of : (ts : List Token) → AreApart ts → tokens_after [] (text_of ts) ≡ Some ts
 tokens-text_of [] apart = refl
 tokens-text_of (mark m ∷ ts) apart = mark_ends m (text_of ts) [] ∙ ap (λ o. before [] (before (mark m ∷ []) o)) (tokens-text_of ts apart)
 tokens-text_of (word w ∷ []) apart = run_on w [] [] apart.0.bytes ∙ ap Some apart.0.one
@@ -116,19 +116,19 @@ mutual
 
 -- lists of tokens that stand apart, with commas between them
 module _ {A : Type 0} (P : A → Type 0) (f : A → List Token) (each : (x : A) (r : List Token) → P x → IsMarked r → AreApart r → AreApart (f x ++ r)) where
-  behind_marked : (xs : List A) (r : List Token) → IsMarked r → IsMarked (behind_commas (map f xs) ++ r)
-  behind_marked [] r marked = marked
-  behind_marked (x ∷ xs) r marked = tt
+  after_marked : (xs : List A) (r : List Token) → IsMarked r → IsMarked (after_commas (map f xs) ++ r)
+  after_marked [] r marked = marked
+  after_marked (x ∷ xs) r marked = tt
 
-  apart-behind : (xs : List A) (r : List Token) → AllByRecursion P xs → IsMarked r → AreApart r → AreApart (behind_commas (map f xs) ++ r)
-  apart-behind [] r are marked apart = apart
-  apart-behind (x ∷ xs) r are marked apart =
-      subst AreApart (sym (append_assoc (f x) (behind_commas (map f xs)) r)) (each x (behind_commas (map f xs) ++ r) are.0 (behind_marked xs r marked) (apart-behind xs r are.1 marked apart))
+  apart-after : (xs : List A) (r : List Token) → AllByRecursion P xs → IsMarked r → AreApart r → AreApart (after_commas (map f xs) ++ r)
+  apart-after [] r are marked apart = apart
+  apart-after (x ∷ xs) r are marked apart =
+      subst AreApart (sym (append_assoc (f x) (after_commas (map f xs)) r)) (each x (after_commas (map f xs) ++ r) are.0 (after_marked xs r marked) (apart-after xs r are.1 marked apart))
 
   apart-separated : (xs : List A) (r : List Token) → AllByRecursion P xs → IsMarked r → AreApart r → AreApart (separated Comma (map f xs) ++ r)
   apart-separated [] r are marked apart = apart
   apart-separated (x ∷ xs) r are marked apart =
-      subst AreApart (sym (append_assoc (f x) (behind_commas (map f xs)) r)) (each x (behind_commas (map f xs) ++ r) are.0 (behind_marked xs r marked) (apart-behind xs r are.1 marked apart))
+      subst AreApart (sym (append_assoc (f x) (after_commas (map f xs)) r)) (each x (after_commas (map f xs) ++ r) are.0 (after_marked xs r marked) (apart-after xs r are.1 marked apart))
 
 apart-sides : (e : Sides) (r : List Token) → IsSource e.left × IsSource e.right → IsMarked r → AreApart r → AreApart (sides_words e ++ r)
 apart-sides e r are marked apart =

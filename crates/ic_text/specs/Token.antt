@@ -67,16 +67,16 @@ followed (Some ts) rest = before ts rest
 
 -- The tokens of a text that follows a run of word bytes. A word is a longest run (this project's
 -- choice).
-abbrev pub tokens_behind : List ℕ → List ℕ → Option (List Token)
-tokens_behind run [] = Some (word_of run)
-tokens_behind run (b ∷ bs) =
-    if is_word_byte b then tokens_behind (run ++ b ∷ []) bs
-    else before (word_of run) (followed (tokens_at b (mark_of b)) (tokens_behind [] bs))
+abbrev pub tokens_after : List ℕ → List ℕ → Option (List Token)
+tokens_after run [] = Some (word_of run)
+tokens_after run (b ∷ bs) =
+    if is_word_byte b then tokens_after (run ++ b ∷ []) bs
+    else before (word_of run) (followed (tokens_at b (mark_of b)) (tokens_after [] bs))
 
 -- the tokens of a text without its blanks, or none where there is another byte (this project's
 -- choice)
 abbrev pub tokens : List ℕ → Option (List Token)
-tokens bytes = tokens_behind [] bytes
+tokens bytes = tokens_after [] bytes
 
 -- the words among tokens, in order
 abbrev pub words_among : List Token → List (List ℕ)

@@ -33,9 +33,9 @@ keeps limits bound ws = true
 
 -- How many terms are due after a word in prefix notation, if so many were due before it: none in front
 -- of a term that no other one holds.
-abbrev pub due_behind : ℕ → ℕ → ℕ
-due_behind zero arity = arity
-due_behind (suc due) arity = due + arity
+abbrev pub due_after : ℕ → ℕ → ℕ
+due_after zero arity = arity
+due_after (suc due) arity = due + arity
 
 -- a word is the first of a term that no other holds, as where none is due, or one of those within
 abbrev pub is_counted : Bool → ℕ → Bool
@@ -49,7 +49,7 @@ is_counted false (suc due) = true
 abbrev pub count_words : Bool → ℕ → List Symbol → ℕ
 count_words outer due [] = 0
 count_words outer due (w ∷ ws) =
-    (if is_counted outer due then 1 else 0) + count_words outer (due_behind due w.arity) ws
+    (if is_counted outer due then 1 else 0) + count_words outer (due_after due w.arity) ws
 
 -- In words of rules no rule has too many nodes. So many terms are due in front of them, the agent before them is the second
 -- one of a rule or its first, and the rule has so many nodes so far.

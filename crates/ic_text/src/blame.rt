@@ -86,7 +86,7 @@ fn first_miscounted(nodes: &[Node]) -> usize
 }
 
 /// How many terms of a rule are due after a word, if so many were due before it: none were in front of a rule.
-fn due_behind(due: usize, arity: usize) -> usize
+fn due_after(due: usize, arity: usize) -> usize
     requires begins { due ≡ 0 → 1 + arity < 2 ^ 64 }
     requires within { 0 < due → due + arity ≤ 2 ^ 64 }
     ensures begins { due ≡ 0 → result ≡ 1 + arity }
@@ -112,7 +112,7 @@ fn rule_begin(nodes: &[Node], rule: usize) -> usize
             }
             rules += 1;
         }
-        due = due_behind(due, node.arity);
+        due = due_after(due, node.arity);
     }
     words
 }

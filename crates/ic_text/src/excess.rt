@@ -3,7 +3,7 @@
 ghost use Rattle.std.specs.Prelude.{◌≡◌, ℕ, ◌+◌, ◌*◌, ◌<◌, ◌≤◌, ◌^◌, length, nat_le, sum_by, take, true};
 ghost use Rattle.ic_text.specs.SystemSource.{SystemPhrase};
 ghost use Rattle.ic_text.specs.Words.{all_words, written_system};
-ghost use Rattle.ic_text.specs.WordFaults.{config_keeps, count_words, counts_keep, due_behind, is_counted, rules_keep};
+ghost use Rattle.ic_text.specs.WordFaults.{config_keeps, count_words, counts_keep, due_after, is_counted, rules_keep};
 ghost use Rattle.ic_text.specs.inner.Counted.{IsCounted, IsFirstExcess, IsExcessTest, earlier, limit_at};
 ghost use Rattle.ic_text.specs.inner.Prefix.{nodes_of};
 
@@ -47,9 +47,9 @@ fn earlier(one: Option<Excess>, other: Option<Excess>) -> Option<Excess>
 }
 
 /// How many terms are due after a word, if so many were due before it: none in front of a term that no other one holds.
-fn due_behind(due: usize, arity: usize) -> usize
+fn due_after(due: usize, arity: usize) -> usize
     requires { due + arity < 2 ^ 64 }
-    ensures { result ≡ due_behind due arity }
+    ensures { result ≡ due_after due arity }
 {
     if due == 0 { arity } else { due - 1 + arity }
 }
@@ -76,7 +76,7 @@ fn first_excess(nodes: &[Node], outer: bool, most: usize, limit: Limit) -> Optio
             }
             found += 1;
         }
-        due = due_behind(due, node.arity);
+        due = due_after(due, node.arity);
     }
     None
 }
@@ -132,7 +132,7 @@ fn too_long_rule(nodes: &[Node]) -> Option<Excess>
             }
             second = !second;
         }
-        due = due_behind(due, node.arity);
+        due = due_after(due, node.arity);
     }
     None
 }

@@ -7,7 +7,7 @@ ghost use Rattle.ic_flat.specs.Words.{arguments, forest, IsWhole, is_word_over};
 ghost use Rattle.ic_flat.specs.Flat.{configuration_of, pairs_of};
 ghost use Rattle.ic_text.specs.Text.{printed};
 ghost use Rattle.ic_text.specs.inner.Printing.{term_text, terms_text, equation_text, equations_text};
-ghost use Rattle.ic_text.specs.inner.WordTexts.{word_text, closing, lacking, behind_word, Begins, comma_before, first_text};
+ghost use Rattle.ic_text.specs.inner.WordTexts.{word_text, closing, lacking, after_word, Begins, comma_before, first_text};
 
 use crate::print::put_name;
 use ic_flat::{Flat, Word};
@@ -45,7 +45,7 @@ fn close(due: &mut Vec<usize>, out: &mut Vec<u8>) -> Result<bool, AllocError>
 
 /// Appends what follows a word of so many arguments, up to the next one. Tells whether a further term comes.
 fn put_mark(arguments: usize, due: &mut Vec<usize>, out: &mut Vec<u8>) -> Result<bool, AllocError>
-    ensures { IfOk result (λ more. Begins (behind_word arguments (reverse due.old.items))
+    ensures { IfOk result (λ more. Begins (after_word arguments (reverse due.old.items))
         (arguments + lacking (reverse due.old.items)) out.old.items out.new.items more
         (reverse due.new.items)) }
 {
@@ -66,7 +66,7 @@ fn put_word(
 ) -> Result<bool, AllocError>
     requires { IsTrue (is_word_over symbols.now word) }
     ensures { IfOk result (λ more. Begins (λ texts. word_text symbols.now word
-        ++ behind_word (arguments word) (reverse due.old.items) texts)
+        ++ after_word (arguments word) (reverse due.old.items) texts)
         (arguments word + lacking (reverse due.old.items)) out.old.items out.new.items more
         (reverse due.new.items)) }
 {

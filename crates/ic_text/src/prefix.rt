@@ -8,11 +8,11 @@ ghost use Rattle.ic_text.specs.Source.{Phrase, phrase_words};
 ghost use Rattle.ic_text.specs.SystemSource.{RulePhrase, rules_words};
 ghost use Rattle.ic_text.specs.inner.Prefix.{IsBegunAt, IsEnough, cut_at, cut_from, cut_of, cut_run, nodes_of, scan, scanned};
 ghost use Rattle.ic_text.specs.inner.Tail.{passed};
-ghost use Rattle.ic_text.specs.inner.TailScan.{cut_behind_mark};
+ghost use Rattle.ic_text.specs.inner.TailScan.{cut_after_mark};
 ghost use Rattle.ic_text.specs.Words.{phrase_prefix, rules_prefix};
 
 use crate::limits::Limits;
-use crate::tail::{Tail, tail_behind};
+use crate::tail::{Tail, tail_after};
 use crate::token::{Mark, is_word_byte, mark_of};
 use std::alloc::{AllocError, Global};
 
@@ -125,10 +125,10 @@ impl<'a> Scan<'a> {
 }
 
 /// The scan after a mark, with what was found there.
-fn scan_behind<'a>(nodes: Vec<Node<'a>>, skip: usize, tail: Tail) -> Scan<'a>
+fn scan_after<'a>(nodes: Vec<Node<'a>>, skip: usize, tail: Tail) -> Scan<'a>
     requires none { nodes.items ≡ [] }
     requires few { tail.counts.words ≤ skip }
-    ensures { cut_of result ≡ cut_behind_mark (passed tail) skip }
+    ensures { cut_of result ≡ cut_after_mark (passed tail) skip }
 {
     let words = tail.words();
     let terms = tail.terms();
@@ -149,11 +149,11 @@ fn begun(alloc: Global, text: &[u8], words: usize, skip: usize) -> Result<(Scan,
     requires { (ts : List Token) × (tokens text.now ≡ Some ts) }
     ensures { IfOk result (λ v. IsBegunAt text.now skip v.1 (cut_of v.0)) }
 {
-    let tail = tail_behind(alloc, text, words, skip)?;
+    let tail = tail_after(alloc, text, words, skip)?;
     let nodes = Vec::with_capacity(alloc, words)?;
     match tail {
         Some((tail, place)) => {
-            let mut scan = scan_behind(nodes, skip, tail);
+            let mut scan = scan_after(nodes, skip, tail);
             scan.take_byte(text[place])?;
             Ok((scan, place))
         }

@@ -161,7 +161,7 @@ fn tail_of(alloc: Global, text: &[u8]) -> Result<Tail, AllocError>
 }
 
 /// The first mark after so many words, if there is one.
-fn mark_behind(text: &[u8], words: usize) -> Option<usize>
+fn mark_after(text: &[u8], words: usize) -> Option<usize>
     ensures inside { IfSome result (λ place. place < length text.now) }
     ensures apart { IfSome result (λ place. is_word_byte (get_or text.now place 0) ≡ false) }
     ensures mark { IfSome result (λ place. IsSome (mark_of (get_or text.now place 0))) }
@@ -186,7 +186,7 @@ fn mark_behind(text: &[u8], words: usize) -> Option<usize>
 
 /// A mark after so many words, and what follows it, if each list that opens there is closed and no more words stand
 /// there than are left out.
-pub(crate) fn tail_behind(
+pub(crate) fn tail_after(
     alloc: Global,
     text: &[u8],
     words: usize,
@@ -197,7 +197,7 @@ pub(crate) fn tail_behind(
     if skip == 0 {
         return Ok(None);
     }
-    let Some(place) = mark_behind(text, words) else {
+    let Some(place) = mark_after(text, words) else {
         return Ok(None);
     };
     let tail = tail_of(alloc, &text[place + 1..])?;

@@ -591,7 +591,7 @@ fn show<W: Write>(output: &mut W, text: &str) -> Result<(), StreamFault> {
     output.flush().map_err(|_| StreamFault::Write)
 }
 
-/// Writes the line of a failure to standard error, or that there is no memory for it, and behind it
+/// Writes the line of a failure to standard error, or that there is no memory for it, and after it
 /// what is to be told of the disk's file of this path, and what is told of a text. Nothing is written where nobody reads the
 /// answers any more. The exit status says which failure it was.
 fn refuse(rt: &HostRuntime, failure: &Failure, path: &str, notes: &Notes, told: &[u8]) -> ExitCode {
@@ -615,7 +615,7 @@ fn tell_failure(
 ) -> Result<(), AllocError> {
     let line = failure.line(rt.alloc())?;
     tell(rt, &line);
-    if let Ok(lines) = failure.lines_behind(rt.alloc(), path.as_bytes(), notes.last()) {
+    if let Ok(lines) = failure.lines_after(rt.alloc(), path.as_bytes(), notes.last()) {
         tell(rt, &lines);
     }
     Ok(())

@@ -13,7 +13,7 @@ const LIMIT: u64 = 16_777_216;
 const TOO_LONG: &[u8] = b": it has more than 16777216 bytes\n";
 
 /// The bytes of a file, or none where it has more than the limit: of such a file no more are read
-/// than one behind the limit.
+/// than one after the limit.
 pub(crate) fn read_limited<R: Read + Drop>(alloc: Global, file: R) -> io::Result<Option<Vec<u8>>> {
     let mut text = Vec::new(alloc);
     file.take(LIMIT + 1).read_to_end(&mut text)?;

@@ -20,15 +20,15 @@ module _ {D : Type 0} {ghosts : Ghosts D} where
   calls_join (move ∷ later) earlier first mid last front back = (back.0, calls_join later earlier first mid back.0 front back.1, back.2)
 
   -- what calls leave as it was: on a made disk, what a crash might have left before the first
-  pub record AreBehind (first last : Book D ghosts) : Type 0 where
+  pub record AreAfter (first last : Book D ghosts) : Type 0 where
     pub made : IsOnMadeDisk last
     pub later : ghosts.clock (disk_of first) ≤ ghosts.clock (disk_of last)
     pub before : (t : ℕ) (file : List ℕ) → t < ghosts.clock (disk_of first) → ghosts.left (disk_of last) t file → ghosts.left (disk_of first) t file
 
-  pub calls_behind : (moves : List Move) (first last : Book D ghosts) → Calls moves first last → IsOnMadeDisk first → AreBehind first last
-  calls_behind [] first last calls is = subst (λ (b : Book D ghosts). AreBehind first b) (sym calls) (record { made = is; later = omega arith; before = λ t file past left. left })
-  calls_behind (move ∷ moves) first last calls is =
-      let so_far = calls_behind moves first calls.0 calls.1 is in
+  pub calls_after : (moves : List Move) (first last : Book D ghosts) → Calls moves first last → IsOnMadeDisk first → AreAfter first last
+  calls_after [] first last calls is = subst (λ (b : Book D ghosts). AreAfter first b) (sym calls) (record { made = is; later = omega arith; before = λ t file past left. left })
+  calls_after (move ∷ moves) first last calls is =
+      let so_far = calls_after moves first calls.0 calls.1 is in
       let crash = calls.2.crash in
       let run = crash.any_moment so_far.made.0 so_far.made.1 in
       record {
@@ -68,8 +68,8 @@ module _ {D : Type 0} {ghosts : Ghosts D} where
     moves = second.moves ++ first.moves;
     calls = calls_join second.moves first.moves old mid new first.calls second.calls;
     stopped = λ is found at.
-        let front = calls_behind first.moves old mid first.calls is in
-        let back = calls_behind second.moves mid new second.calls front.made in
+        let front = calls_after first.moves old mid first.calls is in
+        let back = calls_after second.moves mid new second.calls front.made in
         ⊎_elim
         (λ past. stopped_earlier second.moves first.moves old found
         (first.stopped is found (record { keeps = at.keeps; moment = at.moment; since = at.since; left = λ file image. back.before at.moment file past (at.left file image) })))

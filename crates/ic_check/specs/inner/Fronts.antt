@@ -24,16 +24,16 @@ abbrev pub if_stands : Bool → Due → Option Due
 if_stands stands next = if stands then Some next else None
 
 -- what is due after a word where this was due
-abbrev pub behind : Due → List ℕ → Option Due
-behind Command w = opened w
-behind SubmitName w = if_stands (is_job_word w) Budget
-behind Budget w = if_stands (is_number w) System
-behind System w = None
-behind OldName w = if_stands (is_job_word w) NewName
-behind NewName w = if_stands (is_job_word w) Nothing
-behind VerbName w = if_stands (is_job_word w) Nothing
-behind Number w = if_stands (is_number w) Nothing
-behind Nothing w = None
+abbrev pub due_after : Due → List ℕ → Option Due
+due_after Command w = opened w
+due_after SubmitName w = if_stands (is_job_word w) Budget
+due_after Budget w = if_stands (is_number w) System
+due_after System w = None
+due_after OldName w = if_stands (is_job_word w) NewName
+due_after NewName w = if_stands (is_job_word w) Nothing
+due_after VerbName w = if_stands (is_job_word w) Nothing
+due_after Number w = if_stands (is_number w) Nothing
+due_after Nothing w = None
 
 -- the limit that a word passes where this was due
 abbrev pub passed_at : Due → List ℕ → Option LineLimit
@@ -53,7 +53,7 @@ passed_in None k ts = None
 passed_in (Some due) k [] = None
 passed_in (Some due) k (mark m ∷ ts) = None
 passed_in (Some due) k (word w ∷ ts) =
-    first_at k (passed_at due w) (passed_in (behind due w) (k + 1) ts)
+    first_at k (passed_at due w) (passed_in (due_after due w) (k + 1) ts)
 
 -- the first limit, or else the other
 abbrev pub first_of : Option (ℕ × LineLimit) → Option (ℕ × LineLimit) → Option (ℕ × LineLimit)
@@ -73,13 +73,13 @@ IsPassed line (Some (k, limit)) (Some (at, other)) = IsWordPlace line k at × (o
 IsPassed line found passed = ⊥
 
 -- a text after the blanks with which it begins, and after the word
-abbrev pub behind_blanks : List ℕ → List ℕ
-behind_blanks [] = []
-behind_blanks (b ∷ bs) = if is_blank b then behind_blanks bs else b ∷ bs
+abbrev pub after_blanks : List ℕ → List ℕ
+after_blanks [] = []
+after_blanks (b ∷ bs) = if is_blank b then after_blanks bs else b ∷ bs
 
-abbrev pub behind_word : List ℕ → List ℕ
-behind_word [] = []
-behind_word (b ∷ bs) = if is_word_byte b then behind_word bs else b ∷ bs
+abbrev pub after_word : List ℕ → List ℕ
+after_word [] = []
+after_word (b ∷ bs) = if is_word_byte b then after_word bs else b ∷ bs
 
 -- a text is empty, or its first byte is no blank
 abbrev pub IsFilled : List ℕ → Type 0

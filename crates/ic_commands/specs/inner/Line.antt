@@ -71,5 +71,5 @@ IsSubmitLine o =
     × IsTrue (is_job_name name && fits_budget most)
 
 -- what the text after the first word makes of a line
-abbrev pub ReadsBehind : Opening → List ℕ → Result Line TextFault → Type 0
-ReadsBehind o rest answer = IsLineOf (before (word_of (opening_text o)) (tokens rest)) answer
+abbrev pub ReadsAfter : Opening → List ℕ → Result Line TextFault → Type 0
+ReadsAfter o rest answer = IsLineOf (before (word_of (opening_text o)) (tokens rest)) answer

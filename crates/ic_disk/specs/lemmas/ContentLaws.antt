@@ -48,9 +48,9 @@ laid-inside at bytes file i from until =
     get_or_append_left (front ++ bytes) back 0 i (omega (arith, length-append front bytes, length-front at file))
     ∙ get_or-append_right front bytes at i 0 (length-front at file) from
 
-pub laid-behind : (at : ℕ) (bytes file : List ℕ) (i : ℕ) → at + length bytes ≤ i → get_or (laid at bytes file) i 0 ≡ get_or file i 0
+pub laid-after : (at : ℕ) (bytes file : List ℕ) (i : ℕ) → at + length bytes ≤ i → get_or (laid at bytes file) i 0 ≡ get_or file i 0
 unfolding laid
-laid-behind at bytes file i past =
+laid-after at bytes file i past =
     let front = take at (filled_to at file) in
     let back = drop (at + length bytes) file in
     let here : length (front ++ bytes) ≡ at + length bytes = omega (arith, length-append front bytes, length-front at file) in

@@ -2,17 +2,17 @@
 use Rattle.std.proofs.Common.{◌≡◌, ⊎_elim, ℕ, ◌<◌, List, [], ◌∷◌, ◌++◌, length, get_or, refl, ◌∙◌, arith}
 use Rattle.ic_disk.specs.Content.{laid}
 use Rattle.ic_disk.specs.Images.{Range, IsOutside, IsImage, Torn, TornFrom, Within, Only}
-use Rattle.ic_disk.specs.lemmas.ContentLaws.{length-laid, laid-before, laid-behind}
+use Rattle.ic_disk.specs.lemmas.ContentLaws.{length-laid, laid-before, laid-after}
 
 pub torn_same : (at n : ℕ) (file : List ℕ) → Torn at n file file
-torn_same at n file = record { no_shorter = omega arith; before = λ i lt below. refl; behind = λ i lt above. refl }
+torn_same at n file = record { no_shorter = omega arith; before = λ i lt below. refl; after = λ i lt above. refl }
 
 -- what was written is torn from what was there
 pub torn_laid : (at : ℕ) (bytes file : List ℕ) → Torn at (length bytes) file (laid at bytes file)
 torn_laid at bytes file = record {
   no_shorter = omega (arith, length-laid at bytes file);
   before = λ i lt below. laid-before at bytes file i below;
-  behind = λ i lt above. laid-behind at bytes file i above;
+  after = λ i lt above. laid-after at bytes file i above;
 }
 
 -- an image is torn from itself
@@ -33,7 +33,7 @@ IsOutside-right (p ∷ ps) qs i outside = IsOutside-right ps qs i outside.1
 
 -- a torn place is the old one's outside the range
 pub torn_outside : (r : Range) (old new : List ℕ) → Torn r.at r.size old new → (i : ℕ) → i < length old → IsOutside (r ∷ []) i → get_or new i 0 ≡ get_or old i 0
-torn_outside r old new torn i inside outside = ⊎_elim (λ below. torn.before i inside below) (λ above. torn.behind i inside above) outside.0
+torn_outside r old new torn i inside outside = ⊎_elim (λ below. torn.before i inside below) (λ above. torn.after i inside above) outside.0
 
 -- A torn image is one of those with the range pending as well.
 pub torn_image : (synced : List ℕ) (ps : List Range) (r : Range) → Within (TornFrom r.at r.size (IsImage synced ps)) (IsImage synced (ps ++ r ∷ []))

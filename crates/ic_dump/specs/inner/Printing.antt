@@ -27,12 +27,12 @@ abbrev pub semicolon : Token
 semicolon = first_or_none (unwrap_or (tokens_at 59 (mark_of 59)) [])
 
 -- lists of tokens, each after a `;`, and with one between them
-abbrev pub behind_semicolons : List (List Token) → List Token
-behind_semicolons tss = flat_map (λ us. semicolon ∷ us) tss
+abbrev pub after_semicolons : List (List Token) → List Token
+after_semicolons tss = flat_map (λ us. semicolon ∷ us) tss
 
 abbrev pub joined : List (List Token) → List Token
 joined [] = []
-joined (ts ∷ tss) = ts ++ behind_semicolons tss
+joined (ts ∷ tss) = ts ++ after_semicolons tss
 
 -- the text of rules with semicolons between them
 abbrev pub rules_list_text : List Symbol → List Rule → List ℕ

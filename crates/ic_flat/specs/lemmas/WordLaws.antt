@@ -47,7 +47,7 @@ mutual
   pub whole-tree_words : (t : Tree) (ws : List Word) → IsWhole ws → IsWhole (tree_words t ++ ws)
   whole-tree_words (name n) ws whole = (omega arith, whole)
   whole-tree_words (agent s ts) ws whole =
-      let behind = ap length (forest-trees_words ts ws) ∙ length-append (list_of ts) (forest ws) in
+      let after = ap length (forest-trees_words ts ws) ∙ length-append (list_of ts) (forest ws) in
       let there : length (list_of ts) ≤ length (forest (trees_words ts ++ ws)) = omega arith in
       (there, whole-trees_words ts ws whole)
 
@@ -88,7 +88,7 @@ pub forest-append : (vs ws : List Word) → IsWhole vs → forest (vs ++ ws) ≡
 forest-append vs ws whole = ap (λ l. forest (l ++ ws)) (sym (words-forest vs whole)) ∙ forest-flat_map (forest vs) ws
 
 pub whole-append : (vs ws : List Word) → IsWhole vs → IsWhole ws → IsWhole (vs ++ ws)
-whole-append vs ws whole behind = subst (λ l. IsWhole (l ++ ws)) (words-forest vs whole) (whole-flat_map (forest vs) ws behind)
+whole-append vs ws whole after = subst (λ l. IsWhole (l ++ ws)) (words-forest vs whole) (whole-flat_map (forest vs) ws after)
 
 -- what follows any place of whole words is whole
 pub whole-drop : (n : ℕ) (ws : List Word) → IsWhole ws → IsWhole (drop n ws)

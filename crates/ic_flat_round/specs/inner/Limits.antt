@@ -21,5 +21,5 @@ module _ {Z : Type 0} where
     pub room : MAX_NODES ≤ vec_capacity out
 
   -- a list with these equations put after its words, and names below this number, is within the limits
-  abbrev pub fits_behind : Vec Word Z → List Pair → ℕ → Bool
-  fits_behind out ps next = is_within (vec_len out + length (pairs_words ps)) next
+  abbrev pub fits_after : Vec Word Z → List Pair → ℕ → Bool
+  fits_after out ps next = is_within (vec_len out + length (pairs_words ps)) next

@@ -6,7 +6,7 @@ use Rattle.ic_frames.specs.declared.frame.TheConstants.{HEAD}
 use Rattle.ic_frames.specs.Places.{place, other}
 use Rattle.ic_frames.specs.Fields.{gate, number, size, body, is_open, is_whole, IsMade}
 use Rattle.ic_frames.specs.Staged.{IsStaged}
-use Rattle.ic_frames.specs.Layout.{behind_gate}
+use Rattle.ic_frames.specs.Layout.{after_gate}
 
 -- The newest slot is open and whole, with this number and body. The other is closed, or older.
 pub record Stands (newest : Slot) (n : ℕ) (closed : Bool) (kept file : List ℕ) : Type 0 where
@@ -35,4 +35,4 @@ pub record IsFrame (n : ℕ) (held frame : List ℕ) : Type 0 where
   pub size_is : size 0 frame ≡ length held
   pub long : length frame ≡ 13 + length held
   pub body_is : drop 13 frame ≡ held
-  pub bytes_are : frame ≡ 0 ∷ behind_gate n held
+  pub bytes_are : frame ≡ 0 ∷ after_gate n held

@@ -46,7 +46,7 @@ module _ {D : Type 0} (keeps_model : D → Bool) (image : D → List ℕ → Typ
       (λ earlier. left_in_course k m first state model keeps before kept coming a b earlier)
       (λ later. ⊎_elim
       (λ here. left_in (Ok tt) m n state next keep was.0 was.1 kept coming a b here)
-      (λ behind. left_between next n (keep.crash.kept state was.0 was.1) kept coming a b behind)
+      (λ from_there. left_between next n (keep.crash.kept state was.0 was.1) kept coming a b from_there)
       later)
       there
 
@@ -90,7 +90,7 @@ module _ {D : Type 0} (keeps_model : D → Bool) (image : D → List ℕ → Typ
       (λ earlier. course_leads k m first state before kept coming a b earlier)
       (λ later. ⊎_elim
       (λ here. here_in first state next (Ok tt) m n leads after kept coming a b here)
-      (λ behind. here_between first next n (goes_on first state next leads after) kept coming a b behind)
+      (λ from_there. here_between first next n (goes_on first state next leads after) kept coming a b from_there)
       later)
       there
 

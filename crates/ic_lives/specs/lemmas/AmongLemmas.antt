@@ -18,13 +18,13 @@ pub among_self : (es : List Entry) → StandAmong es es
 among_self [] = tt
 among_self (e ∷ es) = inl (refl, among_self es)
 
-pub among_behind : (others es : List Entry) → StandAmong es (others ++ es)
-among_behind [] es = among_self es
-among_behind (o ∷ others) [] = tt
-among_behind (o ∷ others) (e ∷ es) = inr (among_behind others (e ∷ es))
+pub among_after : (others es : List Entry) → StandAmong es (others ++ es)
+among_after [] es = among_self es
+among_after (o ∷ others) [] = tt
+among_after (o ∷ others) (e ∷ es) = inr (among_after others (e ∷ es))
 
 among_both : (es others more : List Entry) → StandAmong es others → StandAmong (es ++ more) (others ++ more)
-among_both [] others more is = among_behind others more
+among_both [] others more is = among_after others more
 among_both (e ∷ es) [] more is = absurd is
 among_both (e ∷ es) (o ∷ others) more (inl here) = inl (here.0, among_both es others more here.1)
 among_both (e ∷ es) (o ∷ others) more (inr later) = inr (among_both (e ∷ es) others more later)

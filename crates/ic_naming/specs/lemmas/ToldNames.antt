@@ -2,7 +2,7 @@
 use Rattle.std.proofs.Common.{◌≡◌, ℕ, suc, ◌+◌, ◌*◌, ◌<◌, ◌≤◌, ◌==◌, ◌||◌, Bool, true, false, cond, List, [], ◌∷◌, ◌++◌, length, map, get_or, refl, sym, ap, ◌∙◌, arith, length-append, one-add}
 use Rattle.std.specs.List.{list_any, AllByRecursion}
 use Rattle.std.proofs.lemmas.Bool.{false≢true}
-use Rattle.ic_rules.specs.Renaming.{first_behind, first_occurrences, number_among}
+use Rattle.ic_rules.specs.Renaming.{first_after, first_occurrences, number_among}
 use Rattle.ic_rules.specs.lemmas.NumberingLaws.{Undone, Among, each_among, each_undone, name_at}
 use Rattle.ic_text.specs.declared.limits.TheConstants.{MAX_NAME}
 use Rattle.ic_naming.specs.Naming.{IsOneToOne, is_kept, spare_numbers, told_name}
@@ -20,12 +20,12 @@ pub numbers_below : (firsts ns : List ℕ) → Among firsts ns → AllByRecursio
 numbers_below firsts [] all = tt
 numbers_below firsts (n ∷ ns) all = (place_below n firsts all.0, numbers_below firsts ns all.1)
 
-few_firsts : (ns seen : List ℕ) → length (first_behind seen ns) ≤ length seen + length ns
+few_firsts : (ns seen : List ℕ) → length (first_after seen ns) ≤ length seen + length ns
 few_firsts [] seen = omega arith
 few_firsts (n ∷ ns) seen = by_test (list_any (λ m. n == m) seen) (few_firsts ns seen) (few_firsts ns (seen ++ n ∷ []))
   where
-    by_test : (b : Bool) → length (first_behind seen ns) ≤ length seen + length ns → length (first_behind (seen ++ n ∷ []) ns) ≤ length (seen ++ n ∷ []) + length ns
-        → length (cond b (first_behind seen ns) (first_behind (seen ++ n ∷ []) ns)) ≤ length seen + suc (length ns)
+    by_test : (b : Bool) → length (first_after seen ns) ≤ length seen + length ns → length (first_after (seen ++ n ∷ []) ns) ≤ length (seen ++ n ∷ []) + length ns
+        → length (cond b (first_after seen ns) (first_after (seen ++ n ∷ []) ns)) ≤ length seen + suc (length ns)
     by_test true known new = omega (arith, known)
     by_test false known new = omega (arith, new, length-append seen (n ∷ []))
 

@@ -83,8 +83,8 @@ fn without_empty_parentheses(alloc: Global, text: &[u8]) -> Result<Vec<u8>, Allo
 fn without_leading_zeros(alloc: Global, text: &[u8]) -> Result<Vec<u8>, AllocError> {
     let mut kept: Vec<u8> = Vec::new(alloc);
     for byte in text {
-        let is_behind_letter = kept.last().is_some_and(|last| last.is_ascii_lowercase());
-        if *byte != b'0' || !is_behind_letter {
+        let is_after_letter = kept.last().is_some_and(|last| last.is_ascii_lowercase());
+        if *byte != b'0' || !is_after_letter {
             kept.push(*byte)?;
         }
     }

@@ -13,7 +13,7 @@ use Rattle.ic_rules.specs.RuleSet.{first_unfit, rule_for, stands_turned}
 use Rattle.ic_rules.specs.lemmas.FitLaws.{rule_over_at}
 use Rattle.ic_rules.specs.lemmas.FindLaws.{rule_for-found}
 use Rattle.ic_round.specs.Instance.{inst}
-use Rattle.ic_round.specs.Firing.{Active, oriented, rule_of_sides, active_pair, arguments, against, products, products_by, count_of, names_taken, fired_pair, fired_from, next_behind}
+use Rattle.ic_round.specs.Firing.{Active, oriented, rule_of_sides, active_pair, arguments, against, products, products_by, count_of, names_taken, fired_pair, fired_from, next_after}
 use Rattle.ic_round.specs.Works.{is_agent_of}
 use Rattle.ic_round.specs.lemmas.Sizes.{fired_nodes}
 use Rattle.std.proofs.lemmas.Bool.{and_parts}
@@ -200,7 +200,7 @@ nodes-fired_from rs base (p ∷ ps) =
     let whole = sum_by-cons (fired_nodes rs) p ps in
     omega arith
 
-pub next-sum : (rs : List Rule) (base : ℕ) (ps : List Pair) → next_behind rs base ps ≡ base + sum_by (names_taken rs) ps
+pub next-sum : (rs : List Rule) (base : ℕ) (ps : List Pair) → next_after rs base ps ≡ base + sum_by (names_taken rs) ps
 next-sum rs base [] = omega arith
 next-sum rs base (p ∷ ps) =
     let rest = next-sum rs (base + names_taken rs p) ps in

@@ -10,7 +10,7 @@ use Rattle.ic_term.specs.Configuration.{Configuration, IsConfiguration, names_in
 use Rattle.ic_rules.specs.Rule.{Rule, IsRule, rule_names}
 use Rattle.ic_rules.specs.lemmas.RenamingLaws.{flat_names-renamed}
 use Rattle.ic_round.specs.Instance.{inst}
-use Rattle.ic_round.specs.Firing.{Active, oriented, rule_of_sides, active_pair, arguments, against, products, products_by, count_of, names_taken, fired_pair, fired_from, next_behind, fired}
+use Rattle.ic_round.specs.Firing.{Active, oriented, rule_of_sides, active_pair, arguments, against, products, products_by, count_of, names_taken, fired_pair, fired_from, next_after, fired}
 use Rattle.ic_round.specs.lemmas.SoundRules.{HasSoundRule}
 use Rattle.ic_settle.specs.lemmas.SubstitutionLaws.{occurrences-append, All-append, All-front, All-back}
 use Rattle.ic_round.specs.lemmas.FreshNames.{absent_below, absent_above, from_base, below_top, rule_below, rule_twice, copy_twice}
@@ -160,7 +160,7 @@ fires rs base p sound = fires_found rs base p (active_pair rs p) refl sound
 
 -- ---- all equations
 
-pub next_grows : (rs : List Rule) (base : ℕ) (ps : List Pair) → base ≤ next_behind rs base ps
+pub next_grows : (rs : List Rule) (base : ℕ) (ps : List Pair) → base ≤ next_after rs base ps
 next_grows rs base [] = omega arith
 next_grows rs base (p ∷ ps) = let more = next_grows rs (base + names_taken rs p) ps in omega arith
 
@@ -188,11 +188,11 @@ few_fresh rs n base (p ∷ ps) sound =
     ]
 
 all_below_next : (rs : List Rule) (base : ℕ) (ps : List Pair) → AllByRecursion (HasSoundRule rs) ps → AllByRecursion (λ n. n < base) (flat_map pair_names ps)
-    → AllByRecursion (λ n. n < next_behind rs base ps) (flat_map pair_names (fired_from rs base ps))
+    → AllByRecursion (λ n. n < next_after rs base ps) (flat_map pair_names (fired_from rs base ps))
 all_below_next rs base [] sound all = tt
 all_below_next rs base (p ∷ ps) sound all =
     let later = base + names_taken rs p in
-    let top = next_behind rs later ps in
+    let top = next_after rs later ps in
     let grown = next_grows rs later ps in
     let here = (fires rs base p sound.0).below (All-front _ (pair_names p) (flat_map pair_names ps) all) in
     let rest = all_below_next rs later ps sound.1 (All-mono _ _ (λ n h. omega arith) (flat_map pair_names ps) (All-back _ (pair_names p) (flat_map pair_names ps) all)) in

@@ -8,7 +8,7 @@ use Rattle.ic_term.specs.Configuration.{Configuration}
 use Rattle.ic_rules.specs.Rule.{Rule}
 use Rattle.ic_settle.specs.Settling.{Choice, applied, first_choice, settled}
 use Rattle.ic_settle.specs.lemmas.ChoiceLaws.{settled-stop}
-use Rattle.ic_round.specs.Firing.{active_pair, count_of, fired, fired_from, fired_pair, names_taken, next_behind, products_by}
+use Rattle.ic_round.specs.Firing.{active_pair, count_of, fired, fired_from, fired_pair, names_taken, next_after, products_by}
 use Rattle.ic_round.specs.Quiet.{is_inert, is_settled}
 use Rattle.ic_round.specs.Rounds.{IsQuiet, round}
 use Rattle.ic_round.specs.lemmas.QuietLemmas.{is_quiet_where, none_of}
@@ -22,7 +22,7 @@ idle_equations rs base (p ∷ ps) e =
     let rest = idle_equations rs (base + names_taken rs p) ps both.1 in
     λ i. here i ++ rest i
 
-idle_next : (rs : List Rule) (base : ℕ) (ps : List Pair) → list_all (λ p. is_none (active_pair rs p)) ps ≡ true → next_behind rs base ps ≡ base
+idle_next : (rs : List Rule) (base : ℕ) (ps : List Pair) → list_all (λ p. is_none (active_pair rs p)) ps ≡ true → next_after rs base ps ≡ base
 idle_next rs base [] e = refl
 idle_next rs base (p ∷ ps) e =
     let both = and_parts (is_none (active_pair rs p)) (list_all (λ q. is_none (active_pair rs q)) ps) e in

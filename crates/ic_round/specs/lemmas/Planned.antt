@@ -7,7 +7,7 @@ use Rattle.std.specs.Option.{option_map_or}
 use Rattle.ic_term.specs.Tree.{Pair}
 use Rattle.ic_term.specs.declared.limits.TheConstants.{MAX_NEXT}
 use Rattle.ic_rules.specs.Rule.{Rule}
-use Rattle.ic_round.specs.Firing.{Active, active_pair, count_of, names_taken, next_behind, active_from, bases_from}
+use Rattle.ic_round.specs.Firing.{Active, active_pair, count_of, names_taken, next_after, active_from, bases_from}
 use Rattle.ic_round.specs.Works.{PlainWork, work_at, works_from, suits, suits_rule, is_agent_of}
 use Rattle.ic_round.specs.lemmas.SoundRules.{HasSoundRule}
 use Rattle.ic_settle.specs.lemmas.SubstitutionLaws.{and_both}
@@ -65,13 +65,13 @@ one_suits rs i base p a sound is small = at (slice_get rs a.rule) refl
         let count = ap (λ o. option_map_or (λ (q : Rule). q.names) o 0) e in
         suits_with (work_at i base a) (slice_get rs a.rule) r e fit.left fit.right (omega arith)
 
-pub works_suit : (rs : List Rule) (i base : ℕ) (ps : List Pair) → AllByRecursion (HasSoundRule rs) ps → next_behind rs base ps ≤ MAX_NEXT
+pub works_suit : (rs : List Rule) (i base : ℕ) (ps : List Pair) → AllByRecursion (HasSoundRule rs) ps → next_after rs base ps ≤ MAX_NEXT
     → AllByRecursion (λ w. IsTrue (suits rs w)) (works_from rs i base ps)
 works_suit rs i base [] sound small = tt
 works_suit rs i base (p ∷ ps) sound small =
     at (active_pair rs p) refl (next_grows rs (base + names_taken rs p) ps) (works_suit rs (i + 1) (base + names_taken rs p) ps sound.1 small)
   where
-    at : (found : Option Active) → active_pair rs p ≡ found → base + names_taken rs p ≤ next_behind rs (base + names_taken rs p) ps
+    at : (found : Option Active) → active_pair rs p ≡ found → base + names_taken rs p ≤ next_after rs (base + names_taken rs p) ps
         → AllByRecursion (λ w. IsTrue (suits rs w)) (works_from rs (i + 1) (base + names_taken rs p) ps)
         → AllByRecursion (λ w. IsTrue (suits rs w)) (option_map_or (λ a. work_at i base a ∷ works_from rs (i + 1) (base + names_taken rs p) ps) found (works_from rs (i + 1) (base + names_taken rs p) ps))
     at None e grows rest = rest

@@ -3,7 +3,7 @@ use Rattle.std.proofs.Common.{◌≡◌, ℕ, ◌+◌, ◌≤◌, ◌<◌, List,
 use Rattle.std.specs.Option.{option_map_or}
 use Rattle.ic_term.specs.Tree.{Tree, Pair}
 use Rattle.ic_rules.specs.Rule.{Rule}
-use Rattle.ic_round.specs.Firing.{Active, oriented, rule_of_sides, active_pair, count_of, names_taken, next_behind}
+use Rattle.ic_round.specs.Firing.{Active, oriented, rule_of_sides, active_pair, count_of, names_taken, next_after}
 use Rattle.ic_round.specs.Works.{PlainWork, work_at, works_from}
 use Rattle.ic_round.specs.Gathering.{gap_at}
 use Rattle.ic_round.specs.lemmas.FiredNames.{next_grows}
@@ -27,7 +27,7 @@ active_within rs p a e =
 pub record Separates (rs : List Rule) (next : ℕ) (all : List Pair) (works : List PlainWork) (kept : List (Option Pair)) (base : ℕ) (left : List Pair) : Type 0 where
   pub same_works : works ++ works_from rs (length kept) base left ≡ works_from rs 0 next all
   pub same_kept : kept ++ map (gap_at rs) left ≡ map (gap_at rs) all
-  pub same_next : next_behind rs base left ≡ next_behind rs next all
+  pub same_next : next_after rs base left ≡ next_after rs next all
 
 pub separates-active : (rs : List Rule) (next : ℕ) (all : List Pair) (works more : List PlainWork) (kept grown : List (Option Pair)) (base later : ℕ) (p : Pair) (left : List Pair) (a : Active)
     → Separates rs next all works kept base (p ∷ left) → active_pair rs p ≡ Some a → more ≡ works ++ work_at (length kept) base a ∷ [] → grown ≡ kept ++ None ∷ []
@@ -48,12 +48,12 @@ separates-active rs next all works more kept grown base later p left a s is push
       same_kept =
           ap (λ k. k ++ map (gap_at rs) left) gap ∙ append_assoc kept (None ∷ []) (map (gap_at rs) left)
           ∙ ap (λ h. kept ++ h ∷ map (gap_at rs) left) (sym hole) ∙ s.same_kept;
-      same_next = ap (λ b. next_behind rs b left) beyond ∙ s.same_next;
+      same_next = ap (λ b. next_after rs b left) beyond ∙ s.same_next;
     }
 
 -- the names of an active equation end within those of the whole list
 pub separates-room : (rs : List Rule) (next : ℕ) (all : List Pair) (works : List PlainWork) (kept : List (Option Pair)) (base : ℕ) (p : Pair) (left : List Pair) (a : Active)
-    → Separates rs next all works kept base (p ∷ left) → active_pair rs p ≡ Some a → base + count_of rs a.rule ≤ next_behind rs next all
+    → Separates rs next all works kept base (p ∷ left) → active_pair rs p ≡ Some a → base + count_of rs a.rule ≤ next_after rs next all
 separates-room rs next all works kept base p left a s is =
     let taken : names_taken rs p ≡ count_of rs a.rule = ap (λ o. option_map_or (λ b. count_of rs b.rule) o 0) is in
     let grows = next_grows rs (base + names_taken rs p) left in

@@ -5,7 +5,7 @@ use Rattle.ic_term.specs.Tree.{Tree, Pair}
 use Rattle.ic_term.specs.Configuration.{Configuration}
 use Rattle.ic_rules.specs.Rule.{Rule}
 use Rattle.ic_settle.specs.Settling.{Choice, first_choice, applied, settled_in, settled}
-use Rattle.ic_round.specs.Firing.{Active, active_pair, products_by, count_of, names_taken, fired_pair, fired_from, next_behind, fired}
+use Rattle.ic_round.specs.Firing.{Active, active_pair, products_by, count_of, names_taken, fired_pair, fired_from, next_after, fired}
 use Rattle.ic_round.specs.Steps.{Step, interaction, Steps, no_steps, then_step}
 use Rattle.ic_round.specs.Rounds.{round, iterate}
 use Rattle.ic_round.specs.lemmas.NameStepLemmas.{name_step}
@@ -43,11 +43,11 @@ one_fired rs c ts done p ps base (Some a) is steps =
     regrouped rs c ts done (products_by rs base a) ps (base + count_of rs a.rule) (then_step c _ _ steps (fire_next rs ts done p ps base a is))
 
 all_fired : (rs : List Rule) (c : Configuration) (ts : List Tree) (done ps : List Pair) (base : ℕ) → Steps rs c (way ts done ps base)
-    → Steps rs c (way ts (done ++ fired_from rs base ps) [] (next_behind rs base ps))
+    → Steps rs c (way ts (done ++ fired_from rs base ps) [] (next_after rs base ps))
 all_fired rs c ts done [] base steps = regrouped rs c ts done [] [] base steps
 all_fired rs c ts done (p ∷ ps) base steps =
     let more = all_fired rs c ts (done ++ fired_pair rs base p) ps (base + names_taken rs p) (one_fired rs c ts done p ps base (active_pair rs p) refl steps) in
-    let P : List Pair → Type 0 = λ es. Steps rs c (way ts es [] (next_behind rs (base + names_taken rs p) ps)) in
+    let P : List Pair → Type 0 = λ es. Steps rs c (way ts es [] (next_after rs (base + names_taken rs p) ps)) in
     subst P (append_assoc done (fired_pair rs base p) (fired_from rs (base + names_taken rs p) ps)) more
 
 pub fired_reached : (rs : List Rule) (c : Configuration) → Steps rs c (fired rs c)

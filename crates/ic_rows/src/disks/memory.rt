@@ -124,7 +124,7 @@ impl Bench {
         }
     }
 
-    /// Makes a body the first, keeps it, or writes it behind the closed gate.
+    /// Makes a body the first, keeps it, or writes it after the closed gate.
     fn keep(&mut self, told: &mut Told, verb: &str, text: &str) -> Result<(), AllocError> {
         let mut frame = frame_of(self.alloc, text)?;
         match (&mut self.disk, &mut self.frames) {
@@ -155,7 +155,7 @@ fn frame_of(alloc: Global, text: &str) -> Result<Vec<u8>, AllocError>
     Ok(frame)
 }
 
-/// Closes the gate and writes the body of this frame behind it.
+/// Closes the gate and writes the body of this frame after it.
 fn staged(frames: &mut Frames<FuseDisk>, frame: &mut [u8]) -> Result<(), KeepFault>
     requires head { 13 ≤ length frame.old }
     requires short { length frame.old ≤ 13 + MAX_BODY }

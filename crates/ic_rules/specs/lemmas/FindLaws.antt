@@ -3,7 +3,7 @@
 use Rattle.std.proofs.Common.{◌≡◌, ℕ, zero, suc, ◌+◌, ◌<◌, Bool, true, false, List, [], ◌∷◌, ◌++◌, ◌||◌, Option, None, Some, length, cond, is_some, refl, sym, ap, ◌∙◌, arith, IfSome, slice_get, append_assoc, append-nil, subst}
 use Rattle.std.specs.List.{position_from, list_any}
 use Rattle.ic_rules.specs.Rule.{Rule, stands_for, same_pair}
-use Rattle.ic_rules.specs.RuleSet.{repeated_behind, first_repeated, IsRuleFor, rule_for, found_or, has_pair}
+use Rattle.ic_rules.specs.RuleSet.{repeated_after, first_repeated, IsRuleFor, rule_for, found_or, has_pair}
 
 -- one of two tests passes somewhere where one of them is found
 pub any_of_two : {X : Type 0} (p q : X → Bool) (j : ℕ) (xs : List X) → list_any (λ x. p x || q x) xs ≡ (is_some (position_from p j xs) || is_some (position_from q j xs))
@@ -86,15 +86,15 @@ rule_for-none rs a b none =
     neither None (Some k) e = cc
     neither (Some k) n e = cc
 
-single_behind : (seen before after : List Rule) (r : Rule) → repeated_behind seen (before ++ r ∷ after) ≡ None → list_any (same_pair r) (seen ++ before) ≡ false
-single_behind seen [] after r none = ap (list_any (same_pair r)) (append-nil seen) ∙ at (list_any (same_pair r) seen) _ none
+single_after : (seen before after : List Rule) (r : Rule) → repeated_after seen (before ++ r ∷ after) ≡ None → list_any (same_pair r) (seen ++ before) ≡ false
+single_after seen [] after r none = ap (list_any (same_pair r)) (append-nil seen) ∙ at (list_any (same_pair r) seen) _ none
   where
     at : (b : Bool) (o : Option ℕ) → cond b (Some (length seen)) o ≡ None → b ≡ false
     at true o e = cc
     at false o e = refl
-single_behind seen (s ∷ before) after r none =
+single_after seen (s ∷ before) after r none =
     ap (list_any (same_pair r)) (sym (append_assoc seen (s ∷ []) before))
-    ∙ single_behind (seen ++ s ∷ []) before after r (later (list_any (same_pair s) seen) _ none)
+    ∙ single_after (seen ++ s ∷ []) before after r (later (list_any (same_pair s) seen) _ none)
   where
     later : (b : Bool) (o : Option ℕ) → cond b (Some (length seen)) o ≡ None → o ≡ None
     later true o e = cc
@@ -102,4 +102,4 @@ single_behind seen (s ∷ before) after r none =
 
 -- in a rule set no earlier rule has the pair of a rule
 pub single_pair : (before after : List Rule) (r : Rule) → first_repeated (before ++ r ∷ after) ≡ None → list_any (has_pair r.left r.right) before ≡ false
-single_pair before after r none = single_behind [] before after r none
+single_pair before after r none = single_after [] before after r none

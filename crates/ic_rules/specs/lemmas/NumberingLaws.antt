@@ -10,7 +10,7 @@ use Rattle.std.specs.Cmp.{unsigned_Decides, nat_eq_equiv}
 use Rattle.std.specs.List.{list_any, list_all, AllByRecursion, IsDistinct, range_with_len, flat_map}
 use Rattle.ic_term.specs.Configuration.{occurrences}
 use Rattle.ic_term.specs.Tree.{Tree, name, agent, Trees, no_trees, more_trees, names, names_of}
-use Rattle.ic_rules.specs.Renaming.{renamed, renamed_trees, first_behind, first_occurrences, number_among, are_paired}
+use Rattle.ic_rules.specs.Renaming.{renamed, renamed_trees, first_after, first_occurrences, number_among, are_paired}
 use Rattle.ic_rules.specs.lemmas.RenamingLaws.{flat_names-renamed}
 use Rattle.ic_rules.specs.Rule.{Rule, rule_names, numbered, IsNumbered}
 
@@ -42,15 +42,15 @@ list_any-renamed f back a [] ua us = refl
 list_any-renamed f back a (s ∷ seen) ua us = rw (renamed_apart f back a s ua us.0, list_any-renamed f back a seen ua us.1) refl
 
 -- renaming and taking first occurrences commute
-pub first_behind-map : (f back : ℕ → ℕ) (seen ns : List ℕ) → Undone f back seen → Undone f back ns → first_behind (map f seen) (map f ns) ≡ map f (first_behind seen ns)
-first_behind-map f back seen [] us un = refl
-first_behind-map f back seen (n ∷ ns) us un =
-    let stays = first_behind-map f back seen ns us un.1 in
-    let moved = ap (λ ms. first_behind ms (map f ns)) (sym (map-append f seen (n ∷ [])))
-    ∙ first_behind-map f back (seen ++ n ∷ []) ns (undone-append f back seen (n ∷ []) us (un.0, tt)) un.1 in
+pub first_after-map : (f back : ℕ → ℕ) (seen ns : List ℕ) → Undone f back seen → Undone f back ns → first_after (map f seen) (map f ns) ≡ map f (first_after seen ns)
+first_after-map f back seen [] us un = refl
+first_after-map f back seen (n ∷ ns) us un =
+    let stays = first_after-map f back seen ns us un.1 in
+    let moved = ap (λ ms. first_after ms (map f ns)) (sym (map-append f seen (n ∷ [])))
+    ∙ first_after-map f back (seen ++ n ∷ []) ns (undone-append f back seen (n ∷ []) us (un.0, tt)) un.1 in
     rw (list_any-renamed f back n seen un.0 us)
-    (elim (list_any (λ m. n == m) seen) as (λ b. cond b (first_behind (map f seen) (map f ns)) (first_behind (map f seen ++ f n ∷ []) (map f ns))
-    ≡ map f (cond b (first_behind seen ns) (first_behind (seen ++ n ∷ []) ns))) [ true ↦ stays | false ↦ moved ])
+    (elim (list_any (λ m. n == m) seen) as (λ b. cond b (first_after (map f seen) (map f ns)) (first_after (map f seen ++ f n ∷ []) (map f ns))
+    ≡ map f (cond b (first_after seen ns) (first_after (seen ++ n ∷ []) ns))) [ true ↦ stays | false ↦ moved ])
 
 -- a name has the number that its new name has among the new names
 pub number_among-map : (f back : ℕ → ℕ) (firsts : List ℕ) (n : ℕ) → Undone f back firsts → back (f n) ≡ n → number_among (map f firsts) (f n) ≡ number_among firsts n
@@ -67,9 +67,9 @@ undone_at (m ∷ ms) n there = at (n == m) refl (undone_at ms n)
     at false is below = let later : list_any (λ k. n == k) ms ≡ true = rw is at there in rw (is, one-add) (below later)
 
 -- what was seen is among the first occurrences
-seen_stays : (n : ℕ) (seen ns : List ℕ) → list_any (λ m. n == m) seen ≡ true → list_any (λ m. n == m) (first_behind seen ns) ≡ true
+seen_stays : (n : ℕ) (seen ns : List ℕ) → list_any (λ m. n == m) seen ≡ true → list_any (λ m. n == m) (first_after seen ns) ≡ true
 seen_stays n seen [] there = there
-seen_stays n seen (k ∷ ns) there = elim (list_any (λ m. k == m) seen) as (λ b. list_any (λ m. n == m) (cond b (first_behind seen ns) (first_behind (seen ++ k ∷ []) ns)) ≡ true) [
+seen_stays n seen (k ∷ ns) there = elim (list_any (λ m. k == m) seen) as (λ b. list_any (λ m. n == m) (cond b (first_after seen ns) (first_after (seen ++ k ∷ []) ns)) ≡ true) [
   | true ↦ seen_stays n seen ns there
   | false ↦ seen_stays n (seen ++ k ∷ []) ns (rw (list_any-append (λ m. n == m) seen (k ∷ []), there) refl)
 ]
@@ -82,29 +82,29 @@ abbrev pub Among : List ℕ → List ℕ → Type 0
 Among firsts ns = AllByRecursion (λ n. list_any (λ m. n == m) firsts ≡ true) ns
 
 among_next : (seen : List ℕ) (n : ℕ) (ns : List ℕ) (b : Bool) → list_any (λ m. n == m) seen ≡ b
-    → Among (first_behind seen ns) ns → Among (first_behind (seen ++ n ∷ []) ns) ns → Among (first_behind seen (n ∷ ns)) (n ∷ ns)
+    → Among (first_after seen ns) ns → Among (first_after (seen ++ n ∷ []) ns) ns → Among (first_after seen (n ∷ ns)) (n ∷ ns)
 among_next seen n ns true is old new =
-    let same : first_behind seen ns ≡ first_behind seen (n ∷ ns) = rw is refl in
+    let same : first_after seen ns ≡ first_after seen (n ∷ ns) = rw is refl in
     subst (λ firsts. Among firsts (n ∷ ns)) same (seen_stays n seen ns is, old)
 among_next seen n ns false is old new =
-    let same : first_behind (seen ++ n ∷ []) ns ≡ first_behind seen (n ∷ ns) = rw is refl in
+    let same : first_after (seen ++ n ∷ []) ns ≡ first_after seen (n ∷ ns) = rw is refl in
     let here : list_any (λ m. n == m) (seen ++ n ∷ []) ≡ true = rw (list_any-append (λ m. n == m) seen (n ∷ []), is, self_eq n) refl in
     subst (λ firsts. Among firsts (n ∷ ns)) same (seen_stays n (seen ++ n ∷ []) ns here, new)
 
-pub each_among : (seen ns : List ℕ) → Among (first_behind seen ns) ns
+pub each_among : (seen ns : List ℕ) → Among (first_after seen ns) ns
 each_among seen [] = tt
 each_among seen (n ∷ ns) = among_next seen n ns (list_any (λ m. n == m) seen) refl (each_among seen ns) (each_among (seen ++ n ∷ []) ns)
 
 distinct_next : (seen : List ℕ) (n : ℕ) (ns : List ℕ) (b : Bool) → list_any (λ m. n == m) seen ≡ b → IsDistinct nat_eq seen
-    → IsDistinct nat_eq (first_behind seen ns) → (IsDistinct nat_eq (seen ++ n ∷ []) → IsDistinct nat_eq (first_behind (seen ++ n ∷ []) ns))
-    → IsDistinct nat_eq (first_behind seen (n ∷ ns))
+    → IsDistinct nat_eq (first_after seen ns) → (IsDistinct nat_eq (seen ++ n ∷ []) → IsDistinct nat_eq (first_after (seen ++ n ∷ []) ns))
+    → IsDistinct nat_eq (first_after seen (n ∷ ns))
 distinct_next seen n ns true is d old new = rw is old
 distinct_next seen n ns false is d old new = rw is (new (IsDistinct-push nat_eq_equiv seen n d is))
 
 -- the first occurrences are distinct
-pub first_behind-distinct : (seen ns : List ℕ) → IsDistinct nat_eq seen → IsDistinct nat_eq (first_behind seen ns)
-first_behind-distinct seen [] d = d
-first_behind-distinct seen (n ∷ ns) d = distinct_next seen n ns (list_any (λ m. n == m) seen) refl d (first_behind-distinct seen ns d) (first_behind-distinct (seen ++ n ∷ []) ns)
+pub first_after-distinct : (seen ns : List ℕ) → IsDistinct nat_eq seen → IsDistinct nat_eq (first_after seen ns)
+first_after-distinct seen [] d = d
+first_after-distinct seen (n ∷ ns) d = distinct_next seen n ns (list_any (λ m. n == m) seen) refl d (first_after-distinct seen ns d) (first_after-distinct (seen ++ n ∷ []) ns)
 
 -- after another name the numbers are one more
 shift : (n : ℕ) (firsts ms : List ℕ) → AllByRecursion (λ m. nat_eq n m ≡ false) ms
@@ -144,8 +144,8 @@ each_undone ns = undone_each (first_occurrences ns) ns (each_among [] ns)
 -- numbered names have the numbers as their first occurrences
 pub first_occurrences-numbered : (ns : List ℕ) → first_occurrences (map (number_among (first_occurrences ns)) ns) ≡ range_with_len 0 (length (first_occurrences ns))
 first_occurrences-numbered ns =
-    first_behind-map (number_among (first_occurrences ns)) (name_at (first_occurrences ns)) [] ns tt (each_undone ns)
-    ∙ numbers-distinct (first_occurrences ns) (first_behind-distinct [] ns none_distinct)
+    first_after-map (number_among (first_occurrences ns)) (name_at (first_occurrences ns)) [] ns tt (each_undone ns)
+    ∙ numbers-distinct (first_occurrences ns) (first_after-distinct [] ns none_distinct)
 
 occurrences-cons : (q n : ℕ) (ns : List ℕ) → occurrences q (n ∷ ns) ≡ cond (n == q) 1 0 + occurrences q ns
 occurrences-cons q n ns = sum_by-append (λ m. cond (m == q) 1 0) (n ∷ []) ns ∙ ap (λ k. k + occurrences q ns) (omega arith)
@@ -223,7 +223,7 @@ pub numbered-same : (r : Rule) → IsNumbered r → numbered r ≡ r
 numbered-same r in_order =
     let firsts = first_occurrences (rule_names r) in
     let count : length firsts ≡ r.names = ap length in_order ∙ length-range 0 r.names in
-    let numbers = numbers-distinct firsts (first_behind-distinct [] (rule_names r) none_distinct) in
+    let numbers = numbers-distinct firsts (first_after-distinct [] (rule_names r) none_distinct) in
     let same : map (number_among firsts) firsts ≡ firsts = numbers ∙ ap (range_with_len 0) count ∙ sym in_order in
     let all = fixed_members (number_among firsts) firsts (rule_names r) same (each_among [] (rule_names r)) in
     let fixed = fixes-append (number_among firsts) (flat_map names r.left_args) (flat_map names r.right_args) all in

@@ -185,8 +185,8 @@ module _ (links : List ℕ) (linked : IsLinked links) (place target : ℕ) (insi
   pub set-unlinked : AreUnlinkedFrom (place + 1) (set links place target)
   set-unlinked j above within =
       let short : j < length links = omega (arith, length-set links place target) in
-      let behind : place ≤ j = omega arith in
-      set_other j (λ h. omega arith) ∙ free j behind short
+      let after : place ≤ j = omega arith in
+      set_other j (λ h. omega arith) ∙ free j after short
 
   hit : (r : ℕ → ℕ) (j : ℕ) → r j ≡ place → redirected place target r j ≡ target
   hit r j e = cond-true (r j == place) target (r j) (eq-eqb (r j) place e)

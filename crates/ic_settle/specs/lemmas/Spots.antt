@@ -209,10 +209,10 @@ placed-within y es ts found few noted_is =
     by (a ∷ b ∷ c ∷ ds) short o is here none = absurd (omega arith)
 
 -- the interface is noted after the equations
-pub noted_behind : (y place : ℕ) (es : List Pair) (ts : List Tree) (found : Option (ℕ × ℕ))
+pub noted_after : (y place : ℕ) (es : List Pair) (ts : List Tree) (found : Option (ℕ × ℕ))
     → noted_in y (place + length es) (flat_map names ts) (noted_equations y place es found) ≡ noted_from y place es ts found
-noted_behind y place [] ts found = (let same : place + 0 ≡ place = omega arith in ap (λ k. noted_in y k (flat_map names ts) found) same)
-noted_behind y place (e ∷ es) ts found =
+noted_after y place [] ts found = (let same : place + 0 ≡ place = omega arith in ap (λ k. noted_in y k (flat_map names ts) found) same)
+noted_after y place (e ∷ es) ts found =
     let same : place + suc (length es) ≡ suc place + length es = omega arith in
     ap (λ k. noted_in y k (flat_map names ts) (noted_equations y (suc place) es (noted_in y place (pair_names e) found))) same
-    ∙ noted_behind y (suc place) es ts (noted_in y place (pair_names e) found)
+    ∙ noted_after y (suc place) es ts (noted_in y place (pair_names e) found)

@@ -45,9 +45,9 @@ rules_in (t ∷ []) = []
 rules_in (t ∷ u ∷ ts) = rule_in t u ++ rules_in ts
 
 -- a refusal, but that of the configuration comes before it
-abbrev pub behind_config : Result Configuration TextFault → TextFault → Result SystemParts TextFault
-behind_config (Ok c) fault = Err fault
-behind_config (Err e) fault = Err e
+abbrev pub after_config : Result Configuration TextFault → TextFault → Result SystemParts TextFault
+after_config (Ok c) fault = Err fault
+after_config (Err e) fault = Err e
 
 -- the system of rules and a configuration, or the first refusal of both
 abbrev pub joined : Result Rules RuleFault → Result Configuration TextFault
@@ -55,8 +55,8 @@ abbrev pub joined : Result Rules RuleFault → Result Configuration TextFault
 joined (Err TooMany) c = Err Limit
 joined (Err (OtherArity n)) c = Err Arity
 joined (Err (Uncounted i)) c = Err (NameCount i)
-joined (Err (Repeated i)) c = behind_config c (Twice i)
-joined (Err (Uneven i)) c = behind_config c (Lopsided i)
+joined (Err (Repeated i)) c = after_config c (Twice i)
+joined (Err (Uneven i)) c = after_config c (Lopsided i)
 joined (Err NoRoom) c = Err Memory
 joined (Ok rs) (Err e) = Err e
 joined (Ok rs) (Ok c) =

@@ -5,7 +5,7 @@ use Rattle.ic_text.specs.declared.misread.Limit.{Limit}
 use Rattle.ic_text.specs.declared.excess.Excess.{Excess}
 use Rattle.ic_text.specs.SystemSource.{SystemPhrase}
 use Rattle.ic_text.specs.Words.{rules_prefix, system_prefix}
-use Rattle.ic_text.specs.WordFaults.{IsFirstWord, due_behind, rank}
+use Rattle.ic_text.specs.WordFaults.{IsFirstWord, due_after, rank}
 
 -- which of two words comes first, if there is one
 abbrev pub earlier : Option Excess → Option Excess → Option Excess
@@ -22,7 +22,7 @@ limit_at (Some excess) k = if excess.word == k then Some excess.limit else None
 -- how many terms are due after words
 abbrev pub due_over : ℕ → List Symbol → ℕ
 due_over due [] = due
-due_over due (w ∷ ws) = due_over (due_behind due w.arity) ws
+due_over due (w ∷ ws) = due_over (due_after due w.arity) ws
 
 -- whether the last agent of words is a rule's second one, where the one before them is this
 abbrev pub side_over : ℕ → Bool → List Symbol → Bool

@@ -34,13 +34,13 @@ taken o [] = o
 taken o (t ∷ ts) = taken (option_and_then (λ p. take_one p t) o) ts
 
 -- the check after the tokens of more bytes, if they have any
-abbrev pub taken_behind : Option Progress → Option (List Token) → Option Progress
-taken_behind o None = None
-taken_behind o (Some ts) = taken o ts
+abbrev pub taken_after : Option Progress → Option (List Token) → Option Progress
+taken_after o None = None
+taken_after o (Some ts) = taken o ts
 
 -- the check after a byte that is no word byte
 abbrev pub taken_at : Progress → ℕ → Option Progress
-taken_at p b = taken_behind (Some p) (tokens_at b (mark_of b))
+taken_at p b = taken_after (Some p) (tokens_at b (mark_of b))
 
 -- what a check has counted, if it has come to the end
 abbrev pub counted : Option Progress → Option Counts
@@ -53,11 +53,11 @@ begun part = record { state = at_beginning part; counts = record { words = 0 } }
 
 -- what a check of a part counts in tokens
 abbrev pub surveyed : Part → Option (List Token) → Option Counts
-surveyed part o = counted (taken_behind (Some (begun part)) o)
+surveyed part o = counted (taken_after (Some (begun part)) o)
 
 -- a check of a part takes all tokens of a text
 abbrev pub Leads : Part → List ℕ → Type 0
-Leads part text = (p : Progress) × (taken_behind (Some (begun part)) (tokens text) ≡ Some p)
+Leads part text = (p : Progress) × (taken_after (Some (begun part)) (tokens text) ≡ Some p)
 
 -- what was counted, without where a check was refused
 abbrev pub counts_in : Result Counts ℕ → Option Counts

@@ -37,9 +37,9 @@ needed false due = 0
 needed true due = 1 + lacking due
 
 -- what is to be written after a word that takes so many arguments
-abbrev pub behind_word : ℕ → List ℕ → List (List ℕ) → List ℕ
-behind_word zero due texts = closing due texts
-behind_word (suc n) due texts = 40 ∷ coming true (n ∷ due) texts
+abbrev pub after_word : ℕ → List ℕ → List (List ℕ) → List ℕ
+after_word zero due texts = closing due texts
+after_word (suc n) due texts = 40 ∷ coming true (n ∷ due) texts
 
 -- What was to be written is begun, and goes on with what comes, whatever the texts of so many terms are.
 pub record Begins (whole : List (List ℕ) → List ℕ) (count : ℕ) (old new : List ℕ) (more : Bool)

@@ -2,7 +2,7 @@
 use Rattle.std.proofs.Common.{◌≡◌, ℕ, Bool, true, false, cond, List, [], ◌∷◌, ◌++◌, Option, None, Some, refl, sym, ap, ◌∙◌, append_assoc, append-nil}
 use Rattle.std.specs.List.{list_all}
 use Rattle.std.proofs.lemmas.Bool.{and_parts}
-use Rattle.ic_text.specs.Token.{Token, word, is_word_byte, mark_of, word_of, before, tokens_at, followed, tokens_behind, tokens}
+use Rattle.ic_text.specs.Token.{Token, word, is_word_byte, mark_of, word_of, before, tokens_at, followed, tokens_after, tokens}
 
 -- tokens one after another, however they are taken together
 pub followed-assoc : (front : List Token) (here a b : Option (List Token)) → before front (followed here (followed a b)) ≡ followed (before front (followed here a)) b
@@ -11,31 +11,31 @@ followed-assoc front (Some ts) None b = refl
 followed-assoc front (Some ts) (Some us) None = refl
 followed-assoc front (Some ts) (Some us) (Some vs) = ap Some (ap (λ l. front ++ l) (sym (append_assoc ts us vs)) ∙ sym (append_assoc front (ts ++ us) vs))
 
-parted_behind : (a b run : List ℕ) (c : ℕ) → is_word_byte c ≡ false
-    → tokens_behind run (a ++ c ∷ b) ≡ followed (tokens_behind run a) (followed (tokens_at c (mark_of c)) (tokens b))
-parted_behind [] b run c apart = rw apart refl
-parted_behind (x ∷ xs) b run c apart = by_byte (is_word_byte x) (parted_behind xs b (run ++ x ∷ []) c apart) (parted_behind xs b [] c apart)
+parted_after : (a b run : List ℕ) (c : ℕ) → is_word_byte c ≡ false
+    → tokens_after run (a ++ c ∷ b) ≡ followed (tokens_after run a) (followed (tokens_at c (mark_of c)) (tokens b))
+parted_after [] b run c apart = rw apart refl
+parted_after (x ∷ xs) b run c apart = by_byte (is_word_byte x) (parted_after xs b (run ++ x ∷ []) c apart) (parted_after xs b [] c apart)
   where
     by_byte : (is : Bool)
-        → tokens_behind (run ++ x ∷ []) (xs ++ c ∷ b) ≡ followed (tokens_behind (run ++ x ∷ []) xs) (followed (tokens_at c (mark_of c)) (tokens b))
-        → tokens_behind [] (xs ++ c ∷ b) ≡ followed (tokens_behind [] xs) (followed (tokens_at c (mark_of c)) (tokens b))
-        → cond is (tokens_behind (run ++ x ∷ []) (xs ++ c ∷ b)) (before (word_of run) (followed (tokens_at x (mark_of x)) (tokens_behind [] (xs ++ c ∷ b))))
-        ≡ followed (cond is (tokens_behind (run ++ x ∷ []) xs) (before (word_of run) (followed (tokens_at x (mark_of x)) (tokens_behind [] xs)))) (followed (tokens_at c (mark_of c)) (tokens b))
+        → tokens_after (run ++ x ∷ []) (xs ++ c ∷ b) ≡ followed (tokens_after (run ++ x ∷ []) xs) (followed (tokens_at c (mark_of c)) (tokens b))
+        → tokens_after [] (xs ++ c ∷ b) ≡ followed (tokens_after [] xs) (followed (tokens_at c (mark_of c)) (tokens b))
+        → cond is (tokens_after (run ++ x ∷ []) (xs ++ c ∷ b)) (before (word_of run) (followed (tokens_at x (mark_of x)) (tokens_after [] (xs ++ c ∷ b))))
+        ≡ followed (cond is (tokens_after (run ++ x ∷ []) xs) (before (word_of run) (followed (tokens_at x (mark_of x)) (tokens_after [] xs)))) (followed (tokens_at c (mark_of c)) (tokens b))
     by_byte true on off = on
     by_byte false on off =
         ap (λ ts. before (word_of run) (followed (tokens_at x (mark_of x)) ts)) off
-        ∙ followed-assoc (word_of run) (tokens_at x (mark_of x)) (tokens_behind [] xs) (followed (tokens_at c (mark_of c)) (tokens b))
+        ∙ followed-assoc (word_of run) (tokens_at x (mark_of x)) (tokens_after [] xs) (followed (tokens_at c (mark_of c)) (tokens b))
 
 -- a byte that no word holds parts a text
 pub tokens-parted : (a b : List ℕ) (c : ℕ) → is_word_byte c ≡ false → tokens (a ++ c ∷ b) ≡ followed (tokens a) (followed (tokens_at c (mark_of c)) (tokens b))
-tokens-parted a b c apart = parted_behind a b [] c apart
+tokens-parted a b c apart = parted_after a b [] c apart
 
-run_behind : (bs run : List ℕ) → list_all is_word_byte bs ≡ true → tokens_behind run bs ≡ Some (word_of (run ++ bs))
-run_behind [] run all = ap (λ l. Some (word_of l)) (sym (append-nil run))
-run_behind (b ∷ bs) run all =
+run_after : (bs run : List ℕ) → list_all is_word_byte bs ≡ true → tokens_after run bs ≡ Some (word_of (run ++ bs))
+run_after [] run all = ap (λ l. Some (word_of l)) (sym (append-nil run))
+run_after (b ∷ bs) run all =
     let parts = and_parts (is_word_byte b) (list_all is_word_byte bs) all in
-    rw parts.0 (run_behind bs (run ++ b ∷ []) parts.1 ∙ ap (λ l. Some (word_of l)) (append_assoc run (b ∷ []) bs))
+    rw parts.0 (run_after bs (run ++ b ∷ []) parts.1 ∙ ap (λ l. Some (word_of l)) (append_assoc run (b ∷ []) bs))
 
 -- a run of word bytes is one word
 pub tokens-run : (b : ℕ) (bs : List ℕ) → list_all is_word_byte (b ∷ bs) ≡ true → tokens (b ∷ bs) ≡ Some (word (b ∷ bs) ∷ [])
-tokens-run b bs all = run_behind (b ∷ bs) [] all
+tokens-run b bs all = run_after (b ∷ bs) [] all

@@ -17,7 +17,7 @@ no_plus (x ∷ xs) numeral = go (x == 43) refl
         absurd (omega (arith, small))
     go false is = refl
 
--- what a text is, where its number stands behind the plus
+-- what a text is, where its number stands after the plus
 of_text : (text v : List ℕ) (n m : ℕ) → without_leading_plus text ≡ v → IsNumeral 10 v → digits_value 10 v ≡ n → IsDecimal text m → m ≡ n
 of_text text v n m same numeral value is = is.1 ∙ ap (digits_value 10) same ∙ value
 

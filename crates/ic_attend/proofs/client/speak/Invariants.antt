@@ -4,7 +4,7 @@ use Rattle.ic_jobs.specs.declared.command.Command.{Command}
 use Rattle.ic_jobs.specs.declared.reply.Reply.{Reply}
 use Rattle.ic_attend.proofs.client.speak.Given as goal
 
--- the commands that were answered, and behind them those that are left
+-- the commands that were answered, and after them those that are left
 abbrev pub invariant-loop-command : goal.invariant-loop-command
 invariant-loop-command g l =
     (into_iter_len l.command-iterator ≡ length (into_iter_items l.command-iterator))

@@ -10,7 +10,7 @@ returns-in-loop-new-clause-taken c =
     record {
       before = take i jobs;
       new = new;
-      behind = drop (i + 1) jobs;
+      after = drop (i + 1) jobs;
       among = parted_here jobs i new c.loop-new-test.true c.new-item.is;
       first = c.loop-new.invariant;
       named = refl;

@@ -1,7 +1,7 @@
 use Rattle.std.proofs.Common.{◌≡◌, ◌∙◌, true, false, refl, sym, ap, subst, inr, arith}
 use Rattle.ic_term.specs.Configuration.{Configuration, configuration_nodes}
 use Rattle.ic_round.specs.Rounds.{IsQuiet, fits}
-use Rattle.ic_by_rounds.proofs.Rounds.{all_made, answered_fits, answered_next, goes_on, one_more_made, quiet_told, refusal_behind}
+use Rattle.ic_by_rounds.proofs.Rounds.{all_made, answered_fits, answered_next, goes_on, one_more_made, quiet_told, refusal_after}
 use Rattle.ic_by_rounds.proofs.reducing.make_rounds.Goals as goal
 
 pub returns-clause-ended : goal.returns-clause-ended
@@ -21,7 +21,7 @@ returns-in-Err-clause-ended g c =
     let rs = c.args.rules.now.rules in
     let before = c.loop-rounds.invariant in
     let going = goes_on c.rules.result.now c.args.rules.now c.loop-rounds.config c.quiet.result c.rules.ensures.rules c.quiet.ensures.no_step c.if-quiet.false in
-    refusal_behind rs c.args.config.now c.loop-rounds.config c.args.most c.loop-rounds.rounds c.nodes.result c.in-Err.fault c.in_ok-refused.refused c.in_ok-refused.ensures.told
+    refusal_after rs c.args.config.now c.loop-rounds.config c.args.most c.loop-rounds.rounds c.nodes.result c.in-Err.fault c.in_ok-refused.refused c.in_ok-refused.ensures.told
     c.loop-rounds-test.true before.2 before.0 going c.in-Err.ensures.round c.in_ok-refused.ensures.other
     (c.nodes.ensures.nodes ∙ ap configuration_nodes c.in-Err.ensures.same)
 

@@ -4,7 +4,7 @@ use Rattle.ic_round.specs.Rounds.{iterate}
 use Rattle.ic_by_rounds.specs.Reducing.{AreMade}
 use Rattle.ic_by_rounds.proofs.reducing.make_rounds.Given as goal
 
--- the configuration is the one behind the rounds so far
+-- the configuration is the one after the rounds so far
 abbrev pub invariant-loop-rounds : goal.invariant-loop-rounds
 invariant-loop-rounds g l =
     (l.config ≡ iterate l.rules.rules l.rounds l.fn.config) × IsTrue (is_over l.rules.symbols l.config) × AreMade l.rules.rules l.fn.config l.rounds

@@ -3,7 +3,7 @@ use Rattle.ic_term.specs.Configuration.{Configuration, configuration_nodes}
 use Rattle.ic_round.specs.Rounds.{IsQuiet, fits, iterate, round}
 use Rattle.ic_by_rounds.specs.Tracing.{row_between, rows_of}
 use Rattle.ic_by_rounds.proofs.Active.{active_told}
-use Rattle.ic_by_rounds.proofs.Rounds.{answered_fits, answered_next, goes_on, one_more_made, quiet_told, refusal_behind}
+use Rattle.ic_by_rounds.proofs.Rounds.{answered_fits, answered_next, goes_on, one_more_made, quiet_told, refusal_after}
 use Rattle.ic_by_rounds.proofs.tracing.add_rows.Goals as goal
 
 pub returns-then-quiet : goal.returns-then-quiet
@@ -25,7 +25,7 @@ returns-in-Err c =
     let going = goes_on c.rules.result.now c.args.rules.now c.loop-rounds.config c.quiet.result c.rules.ensures.rules c.quiet.ensures.no_step c.if-quiet.false in
     record {
       rounds = c.loop-rounds.rounds;
-      ends = refusal_behind rs c.args.config.now c.loop-rounds.config c.args.most c.loop-rounds.rounds c.nodes.result c.in-Err.fault c.in_ok-refused.refused c.in_ok-refused.ensures.told
+      ends = refusal_after rs c.args.config.now c.loop-rounds.config c.args.most c.loop-rounds.rounds c.nodes.result c.in-Err.fault c.in_ok-refused.refused c.in_ok-refused.ensures.told
           c.loop-rounds-test.true before.2 before.0 going c.in-Err.ensures.round c.in_ok-refused.ensures.other (c.nodes.ensures.nodes ∙ ap configuration_nodes c.in-Err.ensures.same);
       each = before.3;
     }

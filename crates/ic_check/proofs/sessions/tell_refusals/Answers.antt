@@ -8,17 +8,17 @@ pub loop-rest-preserved : goal.loop-rest-preserved
 loop-rest-preserved c =
     let text = c.args.text.now in
     let rest = c.loop-rest.rest.now in
-    let behind = c.split_line.result.1.now in
+    let after = c.split_line.result.1.now in
     let so = c.loop-rest.invariant.so_far in
     let told = c.in_ok-tell_line.ensures in
-    let one : length (lines rest) ≡ length (lines behind) + 1 = ap length c.split_line.ensures.lines ∙ omega arith in
+    let one : length (lines rest) ≡ length (lines after) + 1 = ap length c.split_line.ensures.lines ∙ omega arith in
     record {
       few = omega (arith, c.loop-rest.invariant.few, c.split_line.ensures.shorter);
       counted = omega (arith, c.loop-rest.invariant.counted, one);
       so_far = (
         so.0 ++ told.0,
         told.2 ∙ ap (λ (l : List ℕ). l ++ told.0) so.1 ∙ append_assoc c.args.out.now.items so.0 told.0,
-        refusal_more text rest c.split_line.result.0.now behind so.0 told.0 c.args.number c.loop-rest.next c.split_line.ensures.lines told.1 so.2,
+        refusal_more text rest c.split_line.result.0.now after so.0 told.0 c.args.number c.loop-rest.next c.split_line.ensures.lines told.1 so.2,
       );
     }
 

@@ -11,8 +11,8 @@ use Rattle.ic_codec.proofs.FlatReading.{configuration-by_words}
 use Rattle.ic_codec.proofs.flats.put_flat.Goals as goal
 use Rattle.ic_codec.proofs.flats.put_flat.Goals.{After-put_byte}
 
-abbrev behind_byte : Configuration → List ℕ
-behind_byte n = two_bytes (length n.equations) ++ flat_map word_bytes (configuration_words n)
+abbrev after_byte : Configuration → List ℕ
+after_byte n = two_bytes (length n.equations) ++ flat_map word_bytes (configuration_words n)
 
 pub overflow_cast-equations_len : goal.overflow_cast-equations_len
 overflow_cast-equations_len c =
@@ -21,24 +21,24 @@ overflow_cast-equations_len c =
 pub put_byte-requires : goal.put_byte-requires
 put_byte-requires c =
     let n = c.args.flat.now in
-    first_fits (length n.interface ∷ []) (behind_byte n) _ (ap (λ b. b ∷ []) c.interface_len.ensures.terms) (subst (λ (bs : List ℕ). Fits c.args.out.now bs) (configuration-by_words n) c.requires)
+    first_fits (length n.interface ∷ []) (after_byte n) _ (ap (λ b. b ∷ []) c.interface_len.ensures.terms) (subst (λ (bs : List ℕ). Fits c.args.out.now bs) (configuration-by_words n) c.requires)
 
 -- what fits once the number of terms is there
-fits_behind_byte : (c : After-put_byte) → Fits c.put_byte.new.out (behind_byte c.args.flat.now)
-fits_behind_byte c =
+fits_after_byte : (c : After-put_byte) → Fits c.put_byte.new.out (after_byte c.args.flat.now)
+fits_after_byte c =
     let n = c.args.flat.now in
-    rest_fits (length n.interface ∷ []) (behind_byte n) _ (ap (λ b. b ∷ []) c.interface_len.ensures.terms) (subst (λ (bs : List ℕ). Fits c.args.out.now bs) (configuration-by_words n) c.requires) c.put_byte.ensures
+    rest_fits (length n.interface ∷ []) (after_byte n) _ (ap (λ b. b ∷ []) c.interface_len.ensures.terms) (subst (λ (bs : List ℕ). Fits c.args.out.now bs) (configuration-by_words n) c.requires) c.put_byte.ensures
 
 pub put_two_bytes-requires : goal.put_two_bytes-requires
 put_two_bytes-requires c =
     let n = c.args.flat.now in
-    first_fits (two_bytes (length n.equations)) (flat_map word_bytes (configuration_words n)) _ (ap two_bytes c.equations_len.ensures.equations) (fits_behind_byte (goal.at.put_two_bytes-requires c).After-put_byte)
+    first_fits (two_bytes (length n.equations)) (flat_map word_bytes (configuration_words n)) _ (ap two_bytes c.equations_len.ensures.equations) (fits_after_byte (goal.at.put_two_bytes-requires c).After-put_byte)
 
 pub put_words-requires : goal.put_words-requires
 put_words-requires c =
     let n = c.args.flat.now in
-    let behind = fits_behind_byte (goal.at.put_words-requires c).After-put_byte in
-    let left = rest_fits (two_bytes (length n.equations)) (flat_map word_bytes (configuration_words n)) _ (ap two_bytes c.equations_len.ensures.equations) behind c.put_two_bytes.ensures in
+    let after = fits_after_byte (goal.at.put_words-requires c).After-put_byte in
+    let left = rest_fits (two_bytes (length n.equations)) (flat_map word_bytes (configuration_words n)) _ (ap two_bytes c.equations_len.ensures.equations) after c.put_two_bytes.ensures in
     subst (λ (ws : List ℕ). Fits c.put_two_bytes.new.out ws) (sym (ap (flat_map word_bytes) c.words.ensures.words)) left
 
 pub returns : goal.returns

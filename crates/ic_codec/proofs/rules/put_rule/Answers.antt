@@ -10,7 +10,7 @@ pub put_terms-requires-2 : goal.put_terms-requires-2
 put_terms-requires-2 c =
     let r = c.args.rule.now in
     let terms = flat_map tree_bytes r.left_args ++ flat_map tree_bytes r.right_args in
-    let behind = rest_fits (r.left ∷ []) (r.right ∷ terms) _ (ap (λ b. b ∷ []) c.left.ensures.left) c.requires c.put_byte.ensures in
-    let left = rest_fits (r.right ∷ []) terms _ (ap (λ b. b ∷ []) c.right.ensures.right) behind c.put_byte-2.ensures in
+    let after = rest_fits (r.left ∷ []) (r.right ∷ terms) _ (ap (λ b. b ∷ []) c.left.ensures.left) c.requires c.put_byte.ensures in
+    let left = rest_fits (r.right ∷ []) terms _ (ap (λ b. b ∷ []) c.right.ensures.right) after c.put_byte-2.ensures in
     let last = rest_fits (flat_map tree_bytes r.left_args) (flat_map tree_bytes r.right_args) _ (ap (flat_map tree_bytes) c.left_args.ensures.args) left c.put_terms.ensures in
     subst (λ (ts : List Tree). Fits c.put_terms.new.out (flat_map tree_bytes ts)) (sym c.right_args.ensures.args) last

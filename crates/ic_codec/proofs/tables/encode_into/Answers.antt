@@ -16,8 +16,8 @@ put_jobs-requires c =
     let is = c.jobs-jobs.ensures.sound in
     let jobs = flat_map (job_bytes Ict2) t in
     let whole : Fits c.args.out.now ((form_head Ict2) ++ (length t ∷ jobs)) = record { room = omega (arith, c.requires, table_length Ict2 t is); each = table_are_bytes Ict2 t is } in
-    let behind = rest_fits (form_head Ict2) (length t ∷ jobs) _ refl whole c.put_head.ensures in
-    let left = rest_fits (length t ∷ []) jobs _ (ap (λ (l : List JobParts). length l ∷ []) c.jobs-jobs.ensures.jobs) behind c.put_byte.ensures in
+    let after = rest_fits (form_head Ict2) (length t ∷ jobs) _ refl whole c.put_head.ensures in
+    let left = rest_fits (length t ∷ []) jobs _ (ap (λ (l : List JobParts). length l ∷ []) c.jobs-jobs.ensures.jobs) after c.put_byte.ensures in
     subst (λ (l : List JobParts). Fits c.put_byte.new.out (flat_map (job_bytes Ict2) l)) (sym c.jobs-jobs.ensures.jobs) left
 
 pub returns-clause-short : goal.returns-clause-short

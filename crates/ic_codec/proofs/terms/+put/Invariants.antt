@@ -11,7 +11,7 @@ decreases-put_term l = 2 * nodes (tree l.term.now) + 1
 abbrev pub decreases-put_cell : goal.decreases-put_cell
 decreases-put_cell l = 2 * nodes (cell_tree l.cell.now)
 
--- the arguments behind these are left
+-- the arguments after these are left
 abbrev pub invariant-put_cell-loop-term : goal.invariant-put_cell-loop-term
 invariant-put_cell-loop-term l =
     GoesOn l.fn.out (tree_bytes (cell_tree l.cell)) l.out (trees_bytes (trees_of (map tree (drop l.term-index l.term-items))))

@@ -4,6 +4,6 @@ use Rattle.ic_codec.specs.inner.Room.{GoesOn}
 use Rattle.ic_codec.specs.inner.WordFronts.{word_bytes}
 use Rattle.ic_codec.proofs.words.put_words.Given as goal
 
--- those behind these are left
+-- those after these are left
 abbrev pub invariant-loop-word : goal.invariant-loop-word
 invariant-loop-word l = GoesOn l.fn.out (flat_map word_bytes l.words) l.out (flat_map word_bytes (drop l.word-index l.words))

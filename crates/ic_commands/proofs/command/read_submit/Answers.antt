@@ -7,7 +7,7 @@ use Rattle.ic_text.specs.declared.fault.TextFault.TheVariants.{Memory}
 use Rattle.ic_commands.specs.declared.line.Line.TheVariants.{Command as Asks}
 use Rattle.ic_commands.specs.declared.line.Opening.TheVariants as opening
 use Rattle.ic_jobs.specs.declared.command.Command.TheVariants as command
-use Rattle.ic_commands.specs.inner.Line.{is_number_or_none, ReadsBehind}
+use Rattle.ic_commands.specs.inner.Line.{is_number_or_none, ReadsAfter}
 use Rattle.ic_commands.proofs.LineParts.{are_within, submit_past_system, submit_spelled, submit_read, unnamed, unnumbered, unsystematic}
 use Rattle.ic_commands.proofs.command.read_submit.Goals.{then-not-is_job_word-via-then-not-is_job_word, then-not-is_job_word-via-else-not-is_job_word+then-not-is_number_or_none}
 use Rattle.ic_commands.proofs.command.read_submit.Goals as goal
@@ -65,7 +65,7 @@ returns-clause-line c =
     let short : length c.split_word-2.result.1.now ≤ MAX_TEXT = omega (arith, c.split_word.ensures.shorter, c.split_word-2.ensures.shorter) in
     let is : are_within c.split_word.result.0.now c.split_word-2.result.0.now ≡ true = c.in-Some.ensures.fits.0 refl in
     let name = sym c.in-Some.ensures.name in let budget = sym c.in-Some.ensures.budget in
-    λ _. subst (ReadsBehind opening.Submit c.args.rest.now) (λ i. Ok (Asks (command.Submit (name i) c.in_ok-system.system (budget i))))
+    λ _. subst (ReadsAfter opening.Submit c.args.rest.now) (λ i. Ok (Asks (command.Submit (name i) c.in_ok-system.system (budget i))))
     (submit_read c.args.rest.now c.split_word.result.0.now c.split_word.result.1.now c.split_word-2.result.0.now c.split_word-2.result.1.now
     c.split_word.ensures.tokens c.split_word.ensures.front c.split_word-2.ensures.tokens c.split_word-2.ensures.front named numbered
     (Ok c.in_ok-system.system) short is c.in_ok-system.ensures.read)

@@ -1,10 +1,10 @@
-use Rattle.ic_diagnostics.proofs.ShownLaws.{before-printable, behind-printable, before-length, behind-length}
+use Rattle.ic_diagnostics.proofs.ShownLaws.{before-printable, after-printable, before-length, after-length}
 use Rattle.ic_diagnostics.proofs.laws.what_is_shown_is_printable.Goals as goal
 
 pub returns : goal.returns
 returns c = record {
   before = before-printable;
-  behind = behind-printable;
+  after = after-printable;
   before_length = before-length;
-  behind_length = behind-length;
+  after_length = after-length;
 }

@@ -42,7 +42,7 @@ returns-in_err-write_at-clause-any_moment g c keeps =
     (started disk.clock disk.left old _ (λ file left. within_torn c.args.at n (disk.image old) file (g.met.D.Disk.left_is_image old file left)))
     (c.write_at.ensures.writes keeps).time (λ file is. is)
 
--- and the sync behind it
+-- and the sync after it
 pub returns-clause-any_moment : goal.returns-clause-any_moment
 returns-clause-any_moment g c keeps =
     let disk = g.D.Disk in

@@ -7,7 +7,7 @@ use Rattle.ic_text.specs.Text.{source_of, sources_of, text_of}
 use Rattle.ic_dump.proofs.PrintLemmas.{arguments_from, sign_at}
 use Rattle.ic_dump.proofs.printing.+put.Given as goal
 
--- what is written, and what is left behind the next sign, are the whole
+-- what is written, and what is left after the next sign, are the whole
 abbrev pub invariant-put_cell-loop-term : goal.invariant-put_cell-loop-term
 invariant-put_cell-loop-term l = record {
   over : are_trees_over l.symbols (trees_of (map tree (drop l.term-index l.term-items))) ≡ true;

@@ -4,6 +4,6 @@ use Rattle.ic_expand.proofs.names.names_of.Goals as goal
 
 pub loop-rest-preserved-in_ok-add_name : goal.loop-rest-preserved-in_ok-add_name
 loop-rest-preserved-in_ok-add_name c =
-    let behind = c.split_piece.result.1.now in
-    let found = called (map (λ (w : Vec ℕ Global). w.items) c.loop-rest.names.keys) c.args.spelling c.loop-rest.spot c.split_piece.result.0.now behind c.loop-rest.rest.now c.split_piece.ensures.pieces (sym c.is_named.ensures ∙ c.if-is_named.true) in
+    let more = c.split_piece.result.1.now in
+    let found = called (map (λ (w : Vec ℕ Global). w.items) c.loop-rest.names.keys) c.args.spelling c.loop-rest.spot c.split_piece.result.0.now more c.loop-rest.rest.now c.split_piece.ensures.pieces (sym c.is_named.ensures ∙ c.if-is_named.true) in
     rw (c.in_ok-add_name.ensures, c.after-next.ensures) (sym found ∙ c.loop-rest.invariant)

@@ -6,7 +6,7 @@ use Rattle.ic_term.specs.declared.limits.TheConstants.{MAX_NODES, MAX_NEXT}
 use Rattle.ic_flat.specs.Words.{tree_words}
 use Rattle.ic_flat.specs.Flat.{configuration_words, configuration_of, IsFlat}
 use Rattle.ic_flat.specs.lemmas.FlatLaws.{nodes-words}
-use Rattle.ic_round.specs.Firing.{fired, fired_from, next_behind}
+use Rattle.ic_round.specs.Firing.{fired, fired_from, next_after}
 use Rattle.ic_round.specs.Works.{works_from, result_of}
 use Rattle.ic_round.specs.lemmas.RoundLemmas.{fired_is_configuration, fired_is_over}
 use Rattle.ic_flat_round.specs.declared.fired.Reached.{Reached}
@@ -27,9 +27,9 @@ fires : (c : After-next) → fired_from c.args.rules.now.rules c.next.result (pa
     ≡ (fired c.args.rules.now.rules c.args.flat.now).equations
 fires c = let same = equations c in λ i. fired_from c.args.rules.now.rules (c.next.ensures.next i) (same i)
 
-ends : (c : After-next) → next_behind c.args.rules.now.rules c.next.result (pairs_at c.words-words.result.now c.equations_place-place.result)
+ends : (c : After-next) → next_after c.args.rules.now.rules c.next.result (pairs_at c.words-words.result.now c.equations_place-place.result)
     ≡ (fired c.args.rules.now.rules c.args.flat.now).next
-ends c = let same = equations c in λ i. next_behind c.args.rules.now.rules (c.next.ensures.next i) (same i)
+ends c = let same = equations c in λ i. next_after c.args.rules.now.rules (c.next.ensures.next i) (same i)
 
 limits : (c : After-next) → (configuration_nodes (fired c.args.rules.now.rules c.args.flat.now) ≤ MAX_NODES) × ((fired c.args.rules.now.rules c.args.flat.now).next ≤ MAX_NEXT)
 limits c = let d = fired c.args.rules.now.rules c.args.flat.now in within_parts (configuration_nodes d) d.next c.requires.fitting
@@ -81,7 +81,7 @@ parts c same =
     let start = c.equations_place-place.ensures in
     let d = fired rs.rules flat in
     let made : fired_from rs.rules c.next.result (pairs_at ws place) ≡ d.equations = λ i. fired_from rs.rules (c.next.ensures.next i) (same i) in
-    let last : next_behind rs.rules c.next.result (pairs_at ws place) ≡ d.next = λ i. next_behind rs.rules (c.next.ensures.next i) (same i) in
+    let last : next_after rs.rules c.next.result (pairs_at ws place) ≡ d.next = λ i. next_after rs.rules (c.next.ensures.next i) (same i) in
     let sound = fired_is_configuration rs flat c.put_filled.ensures.sound c.interface_len.ensures.sound c.requires.over c.requires.fitting in
     let front : c.extend_from_slice.new.self.items ≡ flat_map tree_words flat.interface =
     c.in_ok-extend_from_slice.ensures.items ∙ ap (λ l. l ++ take place ws) c.in_ok-out.ensures.items ∙ interface_words flat ws place c.words-words.ensures.words start.within start.equations in

@@ -3,7 +3,7 @@ use Rattle.std.proofs.lemmas.List.{length-map}
 use Rattle.std.specs.Vec.Iter.{into_iter_items}
 use Rattle.ic_term.specs.Term.{pair}
 use Rattle.ic_flat.specs.declared.word.Word.{Word}
-use Rattle.ic_round.specs.Firing.{fired_from, next_behind, count_of}
+use Rattle.ic_round.specs.Firing.{fired_from, next_after, count_of}
 use Rattle.ic_round.specs.WorkViews.{fired_of}
 use Rattle.ic_round.specs.lemmas.ActiveRules.{rule_within, active_by}
 use Rattle.ic_flat_round.specs.inner.Standing.{pair_at, pairs_at}
@@ -59,7 +59,7 @@ loop-place-preserved-in_ok-extend_from_slice-in-None c =
       twos = sides.twos;
       results_left = i.results_left;
       fills =
-          fills-inert rs (fired_from rs c.args.next (pairs_at ws c.args.place)) (next_behind rs c.args.next (pairs_at ws c.args.place)) c.args.out.now.items out
+          fills-inert rs (fired_from rs c.args.next (pairs_at ws c.args.place)) (next_after rs c.args.next (pairs_at ws c.args.place)) c.args.out.now.items out
           c.extend_from_slice.new.self.items (map fired_of (into_iter_items c.loop-place.results)) c.loop-place.next c.loop-place.equations (pairs_at ws c.loop-place.place) (pairs_at ws s.end) p
           i.fills sides.equations (sym c.rule_of.ensures.rule ∙ c.in-None.is) added;
     }
@@ -79,7 +79,7 @@ loop-place-preserved c =
     let grown : c.loop-place.next + c.names.result ≡ c.loop-place.next + count_of rs a.0.rule =
     ap (λ n. c.loop-place.next + n) (known_names at.After-names (there at.In-Some) ∙ ap (count_of rs) (sym a.1.1)) in
     let all = fired_from rs c.args.next (pairs_at ws c.args.place) in
-    let last = next_behind rs c.args.next (pairs_at ws c.args.place) in
+    let last = next_after rs c.args.next (pairs_at ws c.args.place) in
     let out = c.put_made.new.out.items in
     let others = map fired_of (into_iter_items c.next.new.self) in
     let count : length (map pair fired.products.items) ≡ c.len-equations.result = omega (arith, c.len-equations.ensures, length-map fired.products.items pair, fired.products.ok.0) in

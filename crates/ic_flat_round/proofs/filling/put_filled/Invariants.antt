@@ -1,6 +1,6 @@
 use Rattle.std.proofs.Common.{◌≡◌, ◌-◌, ◌≤◌, length, map}
 use Rattle.std.specs.Vec.Iter.{into_iter_items, into_iter_len}
-use Rattle.ic_round.specs.Firing.{fired_from, next_behind}
+use Rattle.ic_round.specs.Firing.{fired_from, next_after}
 use Rattle.ic_round.specs.WorkViews.{fired_of}
 use Rattle.ic_flat_round.specs.inner.Standing.{pairs_at, AreInTwos}
 use Rattle.ic_flat_round.proofs.FillingWords.{Fills}
@@ -13,7 +13,7 @@ invariant-loop-place l = record {
   twos : AreInTwos l.words l.place;
   results_left : into_iter_len l.results ≡ length (into_iter_items l.results);
   fills :
-      Fills l.rules.rules (fired_from l.rules.rules l.fn.next (pairs_at l.words l.fn.place)) (next_behind l.rules.rules l.fn.next (pairs_at l.words l.fn.place))
+      Fills l.rules.rules (fired_from l.rules.rules l.fn.next (pairs_at l.words l.fn.place)) (next_after l.rules.rules l.fn.next (pairs_at l.words l.fn.place))
       l.fn.out.items (map fired_of (into_iter_items l.results)) l.next l.equations l.out.items (pairs_at l.words l.place);
 }
 

@@ -10,7 +10,7 @@ use Rattle.ic_term.specs.Symbol.{is_tree_over, is_pair_over}
 use Rattle.ic_flat.specs.declared.word.Word.{Word}
 use Rattle.ic_flat.specs.Words.{tree_words}
 use Rattle.ic_flat.specs.lemmas.FlatLaws.{nodes-words}
-use Rattle.ic_round.specs.Firing.{fired, fired_from, next_behind}
+use Rattle.ic_round.specs.Firing.{fired, fired_from, next_after}
 use Rattle.ic_flat_round.specs.inner.Limits.{is_within, reached}
 use Rattle.ic_flat_round.specs.inner.Room.{Appended}
 use Rattle.ic_flat_round.specs.inner.RuleWords.{pairs_words}
@@ -91,14 +91,14 @@ returns-clause-fits c =
       length-append front back,
       nodes-words d,
     ) in
-    c.put_equations.ensures.fits ∙ (λ i. is_within (count i) (next_behind rs (c.next.ensures.next i) (same i)))
+    c.put_equations.ensures.fits ∙ (λ i. is_within (count i) (next_after rs (c.next.ensures.next i) (same i)))
 
 pub returns-clause-reached : goal.returns-clause-reached
 returns-clause-reached c =
     let rs = c.args.rules.now.rules in
     let same = equations (goal.at.returns-clause-reached c).After-next in
     IfSome_then c.put_equations.result c.put_equations.ensures.reached
-    (λ r is. is ∙ (λ i. reached (fired_from rs (c.next.ensures.next i) (same i)) (next_behind rs (c.next.ensures.next i) (same i))))
+    (λ r is. is ∙ (λ i. reached (fired_from rs (c.next.ensures.next i) (same i)) (next_after rs (c.next.ensures.next i) (same i))))
 
 pub returns-clause-put : goal.returns-clause-put
 returns-clause-put c =

@@ -5,7 +5,7 @@ use Rattle.std.proofs.lemmas.Bool.{and_parts}
 use Rattle.ic_term.specs.Symbol.{is_pair_over}
 use Rattle.ic_term.specs.declared.limits.TheConstants.{MAX_NODES, MAX_NEXT}
 use Rattle.ic_flat.specs.declared.word.Word.{Word}
-use Rattle.ic_round.specs.Firing.{fired_pair, fired_from, names_taken, next_behind}
+use Rattle.ic_round.specs.Firing.{fired_pair, fired_from, names_taken, next_after}
 use Rattle.ic_round.specs.lemmas.FiredNames.{next_grows}
 use Rattle.ic_flat_round.specs.declared.fired.Reached.{Reached}
 use Rattle.ic_flat_round.specs.inner.Room.{GoesOnTo}
@@ -33,10 +33,10 @@ returns-in_err-fired-clause-fits c =
     let split = fired-first rs next (pairs_at ws c.loop-place.place) ps p equations in
     let grown : vec_len c.loop-place.out + length here ≤ vec_len c.args.out.now + length all =
     omega (arith, i.left.len, ap length split, length-append here rest) in
-    let behind : later ≤ next_behind rs c.args.next (pairs_at ws c.args.place) =
-    omega (arith, i.names, ap (next_behind rs next) equations, next_grows rs later ps) in
+    let after : later ≤ next_after rs c.args.next (pairs_at ws c.args.place) =
+    omega (arith, i.names, ap (next_after rs next) equations, next_grows rs later ps) in
     ap is_some c.from_residual.ensures
-    ∙ sym (beyond_more (vec_len c.loop-place.out + length here) later (vec_len c.args.out.now + length all) (next_behind rs c.args.next (pairs_at ws c.args.place)) grown behind
+    ∙ sym (beyond_more (vec_len c.loop-place.out + length here) later (vec_len c.args.out.now + length all) (next_after rs c.args.next (pairs_at ws c.args.place)) grown after
     (sym c.in_err-fired.ensures.fits))
 
 -- what is known where an equation has been put
@@ -95,7 +95,7 @@ loop-place-preserved c =
       roomy = record { few = h.few; room = omega (arith, i.roomy.room, put.capacity) };
       low = h.low;
       few = h.counted;
-      names = ap (λ n. next_behind rs n ps) h.next ∙ sym (ap (next_behind rs next) equations) ∙ i.names;
+      names = ap (λ n. next_after rs n ps) h.next ∙ sym (ap (next_after rs next) equations) ∙ i.names;
       counted = omega (
         arith,
         i.counted,

@@ -3,7 +3,7 @@ use Rattle.std.specs.Prelude.{vec_len}
 use Rattle.std.specs.List.{list_all}
 use Rattle.ic_term.specs.Symbol.{is_pair_over}
 use Rattle.ic_term.specs.declared.limits.TheConstants.{MAX_NEXT}
-use Rattle.ic_round.specs.Firing.{fired_from, next_behind}
+use Rattle.ic_round.specs.Firing.{fired_from, next_after}
 use Rattle.ic_flat_round.specs.inner.Limits.{IsRoomy}
 use Rattle.ic_flat_round.specs.inner.Room.{GoesOnTo}
 use Rattle.ic_flat_round.specs.inner.RuleWords.{pairs_words}
@@ -19,7 +19,7 @@ invariant-loop-place l = record {
   roomy : IsRoomy l.out;
   low : l.next ≤ MAX_NEXT;
   few : l.equations ≤ vec_len l.out;
-  names : next_behind l.rules.rules l.next (pairs_at l.words l.place) ≡ next_behind l.rules.rules l.fn.next (pairs_at l.words l.fn.place);
+  names : next_after l.rules.rules l.next (pairs_at l.words l.place) ≡ next_after l.rules.rules l.fn.next (pairs_at l.words l.fn.place);
   counted : l.equations + length (fired_from l.rules.rules l.next (pairs_at l.words l.place)) ≡ length (fired_from l.rules.rules l.fn.next (pairs_at l.words l.fn.place));
   left :
       GoesOnTo l.fn.out (pairs_words (fired_from l.rules.rules l.fn.next (pairs_at l.words l.fn.place)))

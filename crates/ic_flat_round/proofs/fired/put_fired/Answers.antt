@@ -4,14 +4,14 @@ use Rattle.ic_term.specs.declared.limits.TheConstants.{MAX_NODES}
 use Rattle.ic_round.specs.Firing.{arguments, fired_pair, names_taken}
 use Rattle.ic_flat.specs.declared.word.Word.{Word}
 use Rattle.ic_flat.specs.Words.{forest, IsWhole}
-use Rattle.ic_flat_round.specs.inner.Limits.{fits_behind}
+use Rattle.ic_flat_round.specs.inner.Limits.{fits_after}
 use Rattle.ic_flat_round.specs.inner.Room.{Appended}
 use Rattle.ic_flat_round.specs.inner.RuleWords.{rule_words, interaction_words, pairs_words}
 use Rattle.ic_flat_round.specs.inner.Standing.{pair_at, tree_at}
 use Rattle.ic_flat_round.proofs.WordPlaces.{pair_nodes_at, pair_slice}
 use Rattle.ic_flat_round.proofs.RaisedWords.{whole-rule_words}
 use Rattle.ic_flat_round.proofs.Interacting.{some_at, Ruled, ruled, Inert, inert_by, fires_at}
-use Rattle.ic_flat_round.proofs.FiringLimits.{within_parts, tested_behind}
+use Rattle.ic_flat_round.proofs.FiringLimits.{within_parts, tested_after}
 use Rattle.ic_flat_round.proofs.fired.put_fired.Goals as goal
 use Rattle.ic_flat_round.proofs.fired.put_fired.Goals.{In-None, After-is_within, In-Some, After-is_within-in-Some, After-in_order-left}
 
@@ -24,14 +24,14 @@ inert c =
 
 -- and what is tested is whether it fits
 stays : (c : After-is_within) → Inert c.args.rules.now.rules c.args.next (pair_at c.args.words.now c.args.sides) → c.is_within.result
-    ≡ fits_behind c.args.out.now (fired_pair c.args.rules.now.rules c.args.next (pair_at c.args.words.now c.args.sides)) (c.args.next + names_taken c.args.rules.now.rules (pair_at c.args.words.now c.args.sides))
+    ≡ fits_after c.args.out.now (fired_pair c.args.rules.now.rules c.args.next (pair_at c.args.words.now c.args.sides)) (c.args.next + names_taken c.args.rules.now.rules (pair_at c.args.words.now c.args.sides))
 stays c i =
     let ws = c.args.words.now in
     let p = pair_at ws c.args.sides in
     let ps = fired_pair c.args.rules.now.rules c.args.next p in
     let equation = take (c.args.sides.end - c.args.sides.left) (drop c.args.sides.left ws) in
     let same = ap length (pair_slice ws c.args.sides c.requires.whole c.requires.sides ∙ ap pairs_words (sym i.stays)) in
-    tested_behind c.args.out.now ps c.len.result (length equation) c.args.next 0 (names_taken c.args.rules.now.rules p) c.is_within.result c.len.ensures same (sym i.names) c.is_within.ensures
+    tested_after c.args.out.now ps c.len.result (length equation) c.args.next 0 (names_taken c.args.rules.now.rules p) c.is_within.result c.len.ensures same (sym i.names) c.is_within.ensures
 
 pub returns-then-not-is_within-clause-fits : goal.returns-then-not-is_within-clause-fits
 returns-then-not-is_within-clause-fits c =
@@ -74,7 +74,7 @@ names-names-requires c = (known (goal.at.names-names-requires c).In-Some).within
 
 -- what is tested is whether the equation fits when it is fired
 tested : (c : After-is_within-in-Some) → Ruled c.args.rules.now c.args.next (pair_at c.args.words.now c.args.sides) c.in-Some.place c.in-Some.turned → c.is_within-in-Some.result
-    ≡ fits_behind c.args.out.now (fired_pair c.args.rules.now.rules c.args.next (pair_at c.args.words.now c.args.sides)) (c.args.next + names_taken c.args.rules.now.rules (pair_at c.args.words.now c.args.sides))
+    ≡ fits_after c.args.out.now (fired_pair c.args.rules.now.rules c.args.next (pair_at c.args.words.now c.args.sides)) (c.args.next + names_taken c.args.rules.now.rules (pair_at c.args.words.now c.args.sides))
 tested c k =
     let p = pair_at c.args.words.now c.args.sides in
     let ps = fired_pair c.args.rules.now.rules c.args.next p in
@@ -86,7 +86,7 @@ tested c k =
     let template = some_at (λ r. c.words-template.result.now ≡ rule_words r) found k.rule k.there c.words-template.ensures in
     let same : count ≡ length (pairs_words ps) = omega (arith, first, second, k.nodes, pair_nodes_at c.args.words.now c.args.sides sides, ap length template) in
     let names = some_at (λ r. c.names-names.result ≡ r.names) found k.rule k.there c.names-names.ensures ∙ sym k.names in
-    tested_behind c.args.out.now ps c.len-in-Some.result count c.args.next c.names-names.result (names_taken c.args.rules.now.rules p) c.is_within-in-Some.result
+    tested_after c.args.out.now ps c.len-in-Some.result count c.args.next c.names-names.result (names_taken c.args.rules.now.rules p) c.is_within-in-Some.result
     c.len-in-Some.ensures same names c.is_within-in-Some.ensures
 
 pub returns-then-not-is_within-2-clause-fits : goal.returns-then-not-is_within-2-clause-fits
@@ -113,7 +113,7 @@ record Made (c : After-in_order-left) : Type 0 where
 
 made : (c : After-in_order-left) → Ruled c.args.rules.now c.args.next (pair_at c.args.words.now c.args.sides) c.in-Some.place c.in-Some.turned
     → c.is_within-in-Some.result
-    ≡ fits_behind c.args.out.now (fired_pair c.args.rules.now.rules c.args.next (pair_at c.args.words.now c.args.sides)) (c.args.next + names_taken c.args.rules.now.rules (pair_at c.args.words.now c.args.sides))
+    ≡ fits_after c.args.out.now (fired_pair c.args.rules.now.rules c.args.next (pair_at c.args.words.now c.args.sides)) (c.args.next + names_taken c.args.rules.now.rules (pair_at c.args.words.now c.args.sides))
     → Made c
 made c k test =
     let ws = c.args.words.now in

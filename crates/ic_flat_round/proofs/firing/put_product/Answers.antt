@@ -16,7 +16,7 @@ put_copied-requires c =
     let t = tree_at ws c.args.place in
     let u = tree_at c.args.template.now c.args.from in
     let end = c.end_of_term-end.ensures in
-    let slice = slice_at ws c.args.place c.end_of_term-end.result c.requires.whole (term_at ws c.args.place c.end_of_term-end.result c.requires.there end.behind end.within end.rest) in
+    let slice = slice_at ws c.args.place c.end_of_term-end.result c.requires.whole (term_at ws c.args.place c.end_of_term-end.result c.requires.there end.after end.within end.rest) in
     let room = c.requires.room in
     omega (arith, room, ap length slice, length-append (tree_words t) (tree_words (renamed (above c.args.base) u)))
 
@@ -28,8 +28,8 @@ put_raised-requires c =
     let u = tree_at vs c.args.from in
     let end = c.end_of_term-end.ensures in
     let until = c.end_of_term-until.ensures in
-    let first = slice_at ws c.args.place c.end_of_term-end.result c.requires.whole (term_at ws c.args.place c.end_of_term-end.result c.requires.there end.behind end.within end.rest) in
-    let second = slice_at vs c.args.from c.end_of_term-until.result c.requires.whole_template (term_at vs c.args.from c.end_of_term-until.result c.requires.term_there until.behind until.within until.rest) in
+    let first = slice_at ws c.args.place c.end_of_term-end.result c.requires.whole (term_at ws c.args.place c.end_of_term-end.result c.requires.there end.after end.within end.rest) in
+    let second = slice_at vs c.args.from c.end_of_term-until.result c.requires.whole_template (term_at vs c.args.from c.end_of_term-until.result c.requires.term_there until.after until.within until.rest) in
     let room = c.requires.room in
     let len = c.put_copied.ensures.len in
     let capacity = c.put_copied.ensures.capacity in
@@ -47,7 +47,7 @@ put_raised-requires c =
 pub returns-clause-argument : goal.returns-clause-argument
 returns-clause-argument c =
     let end = c.end_of_term-end.ensures in
-    term_at c.args.words.now c.args.place c.end_of_term-end.result c.requires.there end.behind end.within end.rest
+    term_at c.args.words.now c.args.place c.end_of_term-end.result c.requires.there end.after end.within end.rest
 
 pub returns-clause-put : goal.returns-clause-put
 returns-clause-put c =
@@ -57,8 +57,8 @@ returns-clause-put c =
     let u = tree_at vs c.args.from in
     let end = c.end_of_term-end.ensures in
     let until = c.end_of_term-until.ensures in
-    let first = slice_at ws c.args.place c.end_of_term-end.result c.requires.whole (term_at ws c.args.place c.end_of_term-end.result c.requires.there end.behind end.within end.rest) in
-    let second = slice_at vs c.args.from c.end_of_term-until.result c.requires.whole_template (term_at vs c.args.from c.end_of_term-until.result c.requires.term_there until.behind until.within until.rest) in
+    let first = slice_at ws c.args.place c.end_of_term-end.result c.requires.whole (term_at ws c.args.place c.end_of_term-end.result c.requires.there end.after end.within end.rest) in
+    let second = slice_at vs c.args.from c.end_of_term-until.result c.requires.whole_template (term_at vs c.args.from c.end_of_term-until.result c.requires.term_there until.after until.within until.rest) in
     let half = c.put_copied.new.out in
     let a = subst (λ (l : List Word). Appended c.args.out.now half l) first c.put_copied.ensures in
     let b = subst (λ (l : List Word). Appended half c.put_raised.new.out l) (ap (map (raised_word c.args.base)) second ∙ raised-words c.args.base u) c.put_raised.ensures in

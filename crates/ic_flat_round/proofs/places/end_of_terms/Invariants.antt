@@ -2,7 +2,7 @@ use Rattle.std.proofs.Common.{◌≡◌, ◌≤◌, length, drop}
 use Rattle.ic_flat.specs.Words.{forest}
 use Rattle.ic_flat_round.proofs.places.end_of_terms.Given as goal
 
--- so many terms lie behind
+-- so many terms were passed
 abbrev pub invariant-loop : goal.invariant-loop
 invariant-loop l = record {
   within : l.end ≤ length l.words;

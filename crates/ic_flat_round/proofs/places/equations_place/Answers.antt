@@ -1,4 +1,4 @@
-use Rattle.ic_flat_round.proofs.WordPlaces.{whole_words, interface_there, equations_behind, interface_nodes}
+use Rattle.ic_flat_round.proofs.WordPlaces.{whole_words, interface_there, equations_after, interface_nodes}
 use Rattle.ic_flat_round.proofs.places.equations_place.Goals as goal
 
 pub end_of_terms-requires-clause-whole : goal.end_of_terms-requires-clause-whole
@@ -9,9 +9,9 @@ end_of_terms-requires-clause-there c = interface_there c.args.flat.now c.words.r
 
 pub returns : goal.returns
 returns c =
-    let behind = equations_behind c.args.flat.now c.words.result.now c.interface_len.result c.end_of_terms.result c.words.ensures.words c.interface_len.ensures.terms c.end_of_terms.ensures.rest in
+    let after = equations_after c.args.flat.now c.words.result.now c.interface_len.result c.end_of_terms.result c.words.ensures.words c.interface_len.ensures.terms c.end_of_terms.ensures.rest in
     record {
       within = rw (← c.words.ensures.words) c.end_of_terms.ensures.within;
-      equations = behind;
-      nodes = interface_nodes c.args.flat.now c.end_of_terms.result (rw (← c.words.ensures.words) c.end_of_terms.ensures.within) behind;
+      equations = after;
+      nodes = interface_nodes c.args.flat.now c.end_of_terms.result (rw (← c.words.ensures.words) c.end_of_terms.ensures.within) after;
     }

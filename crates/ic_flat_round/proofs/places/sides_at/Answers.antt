@@ -9,16 +9,16 @@ pub returns-clause-sides : goal.returns-clause-sides
 returns-clause-sides c =
     let first = c.end_of_term-right.ensures in
     let last = c.end_of_term-end.ensures in
-    sides_found c.args.words.now _ c.requires.there c.requires.twos first.behind first.within first.rest last.behind last.within last.rest
+    sides_found c.args.words.now _ c.requires.there c.requires.twos first.after first.within first.rest last.after last.within last.rest
 
 pub returns-clause-equations : goal.returns-clause-equations
 returns-clause-equations c =
     let first = c.end_of_term-right.ensures in
     let last = c.end_of_term-end.ensures in
-    pairs_next c.args.words.now _ (sides_found c.args.words.now _ c.requires.there c.requires.twos first.behind first.within first.rest last.behind last.within last.rest)
+    pairs_next c.args.words.now _ (sides_found c.args.words.now _ c.requires.there c.requires.twos first.after first.within first.rest last.after last.within last.rest)
 
 pub returns-clause-twos : goal.returns-clause-twos
 returns-clause-twos c =
     let first = c.end_of_term-right.ensures in
     let last = c.end_of_term-end.ensures in
-    twos_next c.args.words.now _ (sides_found c.args.words.now (record { left = c.args.place; right = c.end_of_term-right.result; end = c.end_of_term-end.result }) c.requires.there c.requires.twos first.behind first.within first.rest last.behind last.within last.rest) c.requires.twos
+    twos_next c.args.words.now _ (sides_found c.args.words.now (record { left = c.args.place; right = c.end_of_term-right.result; end = c.end_of_term-end.result }) c.requires.there c.requires.twos first.after first.within first.rest last.after last.within last.rest) c.requires.twos

@@ -77,13 +77,13 @@ loop-place-preserved c =
     let i = c.loop-place.invariant in
     let sides = c.sides_at-sides.ensures in
     let before = sides.sides.left.before in
-    let behind = sides.sides.right.before in
+    let after = sides.sides.right.before in
     let all = works_from rs 0 c.args.flat.now.next c.args.flat.now.equations in
     let works = map work_of c.loop-place.works.items in
     record {
       within = sides.sides.right.within;
       twos = sides.twos;
-      few = omega (arith, i.few, sides.begins, before, behind);
+      few = omega (arith, i.few, sides.begins, before, after);
       takes = elim c.match-rule_of.branch [
         | in-Some+in_ok-equation+in_ok-push w ↦
             let found = sym c.rule_of.ensures.rule ∙ w.in-Some.is in

@@ -3,7 +3,7 @@ use Rattle.std.specs.Prelude.{replicate}
 use Rattle.ic_disk.specs.Content.{laid}
 use Rattle.ic_disk.specs.Images.{Within}
 use Rattle.ic_frames.specs.declared.slot.Slot.TheVariants.{First, Second}
-use Rattle.ic_frames.specs.Layout.{behind_gate, slot_bytes}
+use Rattle.ic_frames.specs.Layout.{after_gate, slot_bytes}
 use Rattle.ic_frames.proofs.LaidLemmas.{laid_again}
 use Rattle.ic_frames.specs.Held.{Holds, IsClosedIn, the_body, body_held}
 use Rattle.ic_frames.specs.Staged.{IsStaged}
@@ -75,5 +75,5 @@ returns-clause-written g c keeps =
     (c.in_ok-write_frame.ensures.written keeps_once
     ∙ ap (λ (f : List ℕ). laid 0 c.fill_head.new.frame f) (c.in_ok-write_synced.ensures.written keeps)
     ∙ ap (λ (l : List ℕ). laid 0 l zeros) c.fill_head.ensures.bytes_are)
-    ∙ laid_again 0 1 0 (behind_gate 1 body) zeros)
+    ∙ laid_again 0 1 0 (after_gate 1 body) zeros)
     (c.write_gate.ensures.written (c.write_frame.ensures.keeps ∙ keeps_once))

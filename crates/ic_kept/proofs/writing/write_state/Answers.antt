@@ -1,6 +1,6 @@
 use Rattle.std.proofs.Common.{◌∙◌, ◌^◌, ◌<◌, length, refl, arith}
-use Rattle.ic_kept.specs.Sheet.{IsBehindGate, IsShut}
-use Rattle.ic_kept.proofs.SheetLemmas.{laid_behind}
+use Rattle.ic_kept.specs.Sheet.{IsAfterGate, IsShut}
+use Rattle.ic_kept.proofs.SheetLemmas.{laid_after}
 use Rattle.ic_kept.proofs.WriteLemmas.{shut_run, images_after, run_then, of_only}
 use Rattle.ic_kept.proofs.writing.write_state.Goals as goal
 
@@ -58,8 +58,8 @@ returns-clause-shut g c keeps all =
     images_after disk.content disk.image disk.clock disk.left old three IsShut (returns-clause-any_moment g c keeps all)
     (λ file later there. g.met.D.Disk.image_is_left three (disk.clock old) file later there)
 
-pub returns-clause-behind : goal.returns-clause-behind
-returns-clause-behind g c keeps all =
+pub returns-clause-after : goal.returns-clause-after
+returns-clause-after g c keeps all =
     let disk = g.D.Disk in
     let old = c.args.disk.now in
     let file = disk.content old in
@@ -67,6 +67,6 @@ returns-clause-behind g c keeps all =
     let twice = c.write_synced-2.ensures.keeps ∙ once in
     let short : length c.args.state.now < 2 ^ 64 = omega arith in
     let fits : c.args.number < 2 ^ 64 = omega arith in
-    of_only (IsBehindGate c.args.number c.args.state.now) _ (disk.image c.write_synced-3.new.disk) (c.in_ok-write_synced-3.ensures.durable twice)
-    (laid_behind c.args.number c.args.state.now _ _ file (disk.content c.write_synced.new.disk) (disk.content c.write_synced-2.new.disk) _ fits short (all file (g.met.D.Disk.content_is_image old)).made
+    of_only (IsAfterGate c.args.number c.args.state.now) _ (disk.image c.write_synced-3.new.disk) (c.in_ok-write_synced-3.ensures.durable twice)
+    (laid_after c.args.number c.args.state.now _ _ file (disk.content c.write_synced.new.disk) (disk.content c.write_synced-2.new.disk) _ fits short (all file (g.met.D.Disk.content_is_image old)).made
     (c.in_ok-write_synced.ensures.written keeps) c.to_be_bytes.ensures (c.in_ok-write_synced-2.ensures.written once) c.to_be_bytes-2.ensures refl)

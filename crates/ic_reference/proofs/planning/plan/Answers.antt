@@ -4,7 +4,7 @@ use Rattle.std.specs.List.{All, AllByRecursion, Contains, list_all}
 use Rattle.ic_term.specs.Configuration.{configuration_nodes}
 use Rattle.ic_term.specs.Symbol.{is_tree_over, is_pair_over}
 use Rattle.ic_term.specs.declared.limits.TheConstants.{MAX_NODES, MAX_NEXT}
-use Rattle.ic_round.specs.Firing.{fired, next_behind}
+use Rattle.ic_round.specs.Firing.{fired, next_after}
 use Rattle.ic_round.specs.Gathering.{Gapped, gathered, gapped, gap_at}
 use Rattle.ic_round.specs.Works.{PlainWork, suits, result_of, works_from}
 use Rattle.ic_round.specs.WorkViews.{work_of}
@@ -28,7 +28,7 @@ rest_is c =
     let parts = c.into_parts-interface.ensures in
     let rs = c.args.rules.now.rules in
     let equations = c.in_ok-separated.ensures.equations ∙ ap (map (gap_at rs)) parts.equations in
-    let next = c.in_ok-separated.ensures.next ∙ (λ i. next_behind rs (parts.next i) (parts.equations i)) in
+    let next = c.in_ok-separated.ensures.next ∙ (λ i. next_after rs (parts.next i) (parts.equations i)) in
     c.new.ensures ∙ (λ i. record { interface = parts.interface i; equations = equations i; next = next i })
 
 pub returns-clause-places : goal.returns-clause-places

@@ -55,7 +55,7 @@ loop-place-preserved c =
     let binds = rw (c.deref.ensures.value, c.deref-in-loop-place.ensures.value, c.deref-in-loop-place-2.ensures.value, take_rest) at c.in-None.ensures in
     found-none c.args.config _ _ _ _ _ (omega arith) c.index.ensures binds c.loop-place.invariant
 
--- at the end no equation is left behind the place
+-- at the end no equation is left after the place
 ended : (c : After-from_parts) → (c.from_parts.result ≡ settled c.args.config) × ((next : Configuration) → ¬ NameStep c.from_parts.result next)
 ended c =
     let items = c.loop-place.equations.items in

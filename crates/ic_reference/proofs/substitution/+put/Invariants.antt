@@ -1,12 +1,12 @@
 use Rattle.std.proofs.Common.{◌≡◌, drop, map, take}
 use Rattle.ic_term.specs.Term.{tree}
 use Rattle.ic_reference.specs.inner.Placing.{placed_terms, held_tree}
-use Rattle.ic_reference.proofs.Placed.{behind}
+use Rattle.ic_reference.proofs.Placed.{put_after}
 use Rattle.ic_reference.proofs.substitution.+put.Given as goal
 
 -- what is done, and what is left with what is now held, are the whole
 abbrev pub invariant-put_in_cell-loop-term : goal.invariant-put_in_cell-loop-term
 invariant-put_in_cell-loop-term l =
     goal.unvisited-put_in_cell-loop-term l
-    × (behind (map tree (take l.term-index l.term-items)) (placed_terms l.name (held_tree l.held) (map tree (drop l.term-index l.term-items)))
+    × (put_after (map tree (take l.term-index l.term-items)) (placed_terms l.name (held_tree l.held) (map tree (drop l.term-index l.term-items)))
     ≡ placed_terms l.name (held_tree l.fn.held) (map tree l.fn.cell.args.items))

@@ -23,18 +23,18 @@ none_told (Ok done) is first = refl
 none_told (Err fault) is first = let bad : None ≡ Some fault = ap (λ (l : List ScriptsFault). slice_get l 0) (sym is) ∙ first in cc
 
 pub returns-clause-client : goal.returns-clause-client
-returns-clause-client c = λ before behind run ends fault kept told none stopped first.
+returns-clause-client c = λ before after run ends fault kept told none stopped first.
     let found : client_fault run ≡ Some (Book fault) = ap (option_map Book) stopped in
-    let here : filter_map client_fault (run ∷ behind) ≡ Book fault ∷ filter_map client_fault behind = rw found refl in
+    let here : filter_map client_fault (run ∷ after) ≡ Book fault ∷ filter_map client_fault after = rw found refl in
     first_told _ _ (Book fault) told
-    (ap (λ (l : List ScriptsFault). l ++ filter_map runner_fault ends ++ keep_faults kept) (none_before client_fault before (run ∷ behind) (finished before none) ∙ here)) first
+    (ap (λ (l : List ScriptsFault). l ++ filter_map runner_fault ends ++ keep_faults kept) (none_before client_fault before (run ∷ after) (finished before none) ∙ here)) first
 
 pub returns-clause-runner : goal.returns-clause-runner
-returns-clause-runner c = λ runs before behind end fault kept told none idle stopped first.
-    let here : filter_map runner_fault (end ∷ behind) ≡ fault ∷ filter_map runner_fault behind = rw stopped refl in
+returns-clause-runner c = λ runs before after end fault kept told none idle stopped first.
+    let here : filter_map runner_fault (end ∷ after) ≡ fault ∷ filter_map runner_fault after = rw stopped refl in
     first_told _ _ fault told
     (ap₂ (λ (a b : List ScriptsFault). a ++ b ++ keep_faults kept) (none_all client_fault runs (finished runs none))
-    (none_before runner_fault before (end ∷ behind) idle ∙ here)) first
+    (none_before runner_fault before (end ∷ after) idle ∙ here)) first
 
 pub returns-clause-keep : goal.returns-clause-keep
 returns-clause-keep c = λ runs ends fault kept told none idle failed first.

@@ -9,7 +9,7 @@ use Rattle.ic_serving.specs.Booked.{last_kept}
 use Rattle.ic_serving.proofs.RunLemmas.{kept_same, on_err}
 use Rattle.ic_book.specs.lemmas.Chains.{answer_moves, by_answer, by_failure, by_refusal}
 use Rattle.ic_serving.specs.lemmas.Reaching.{kept_all}
-use Rattle.ic_serving.proofs.LineLemmas.{device_or_not, begun_none, begun_one, begun_kept, after_event, kept_behind}
+use Rattle.ic_serving.proofs.LineLemmas.{device_or_not, begun_none, begun_one, begun_kept, after_event, kept_after}
 use Rattle.ic_serving.proofs.PageLemmas.{command_goes, one_room, same_then, within_all, within_none}
 use Rattle.ic_serving.specs.Parts.{IsKeptWithin}
 use Rattle.ic_serving.specs.Moments.{IsKeptOrNow}
@@ -37,7 +37,7 @@ returns-in_err-reply-clause-begun g c =
       | inl is ↦ (let failed = c.in_err-reply.ensures.step.failed (ap (λ e. Err e) is) in
           let added = failed.1.page.0.adds in
           let moved = after_event (table_of c.make_room.new.book) (table_of c.command.new.self) (by_command c.args.command) failed.0 added.event in
-          let same : last_kept c.command.new.self ≡ last_kept c.make_room.new.book = kept_behind (start_of c.make_room.new.book) (start_of c.command.new.self)
+          let same : last_kept c.command.new.self ≡ last_kept c.make_room.new.book = kept_after (start_of c.make_room.new.book) (start_of c.command.new.self)
           (log_of c.make_room.new.book) (log_of c.command.new.self) (command_entry 0 c.args.command failed.0) (kept_of c.make_room.new.book) (kept_of c.command.new.self)
           c.command.ensures.start added.entry failed.1.page.1 c.facts.ensures.history.within in
           let b = begun_one (table_of c.args.book.now) (last_kept c.args.book.now) (by_command c.args.command) (table_of c.command.new.self) (last_kept c.command.new.self)

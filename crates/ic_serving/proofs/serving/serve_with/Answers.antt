@@ -15,8 +15,8 @@ use Rattle.ic_book.specs.lemmas.Chains.{by_nothing}
 use Rattle.ic_serving.specs.lemmas.Reaching.{kept_all, kept_or_same}
 use Rattle.ic_serving.proofs.TurnLemmas.{turns_more}
 use Rattle.ic_serving.proofs.ReadingLemmas.{fault_unbegun, keeps_then, leaves_in_line, line_answered, says_unbegun}
-use Rattle.ic_serving.proofs.ServeLemmas.{under_first, under_more, ahead, is_ahead, first_more, taken, ended_at, cut_behind, kept_part, left_within, says_book, not_taken, none_behind, not_write, counts_behind, ready_behind}
-use Rattle.ic_serving.proofs.StopLemmas.{stops_first, stops_more, stops_longer, serving_over, serving_err, serving_untaken, fault_behind, fault_untaken, fault_unwritten, still_all, still_last}
+use Rattle.ic_serving.proofs.ServeLemmas.{under_first, under_more, ahead, is_ahead, first_more, taken, ended_at, cut_after, kept_part, left_within, says_book, not_taken, none_after, not_write, counts_after, ready_after}
+use Rattle.ic_serving.proofs.StopLemmas.{stops_first, stops_more, stops_longer, serving_over, serving_err, serving_untaken, fault_after, fault_untaken, fault_unwritten, still_all, still_last}
 use Rattle.ic_serving.proofs.serving.serve_with.Goals as goal
 
 pub loop-init : goal.loop-init
@@ -105,7 +105,7 @@ returns-in_err-answer-clause-serving g c =
     stops c.loop.invariant.turns c.answer_read.ensures.crash.done
 
 pub returns-in_err-answer-clause-fault : goal.returns-in_err-answer-clause-fault
-returns-in_err-answer-clause-fault g c = fault_behind c.from_residual-in_err-answer.result c.in_err-answer.field-0.0 c.from_residual-in_err-answer.ensures.1
+returns-in_err-answer-clause-fault g c = fault_after c.from_residual-in_err-answer.result c.in_err-answer.field-0.0 c.from_residual-in_err-answer.ensures.1
     c.args.book.now c.loop.book c.answer_read.new.book c.loop.invariant.counted c.loop.invariant.ready c.in_err-answer.ensures.fault
 
 pub returns-in_err-write_answer-clause-serving : goal.returns-in_err-write_answer-clause-serving
@@ -130,7 +130,7 @@ returns-in_err-write_answer-clause-serving g c =
     (g.W.Write.contents c.args.writer.now) (g.W.Write.contents c.write_answer.new.writer)
     (first_more (g.R.Read.remaining c.args.reader.now) rest next c.loop.invariant.way.front c.take_line.new.self.line c.loop.invariant.way.first takes) (is_ahead next)
     (λ other. absurd (other c.in_err-write_answer.ensures.fault))
-    (λ write. cut_behind c.loop.invariant.way.front c.loop.counter (table_of c.args.book.now) (table_of c.loop.book) (table_of c.answer_read.new.book)
+    (λ write. cut_after c.loop.invariant.way.front c.loop.counter (table_of c.args.book.now) (table_of c.loop.book) (table_of c.answer_read.new.book)
     (g.W.Write.contents c.args.writer.now) (g.W.Write.contents c.loop.writer) (g.W.Write.contents c.begin_line.new.writer) (g.W.Write.contents c.write_answer.new.writer)
     c.take_line.new.self.line c.in_ok-answer.answer.items c.in_ok-reading.reading
     c.loop.invariant.way.answered c.loop.invariant.way.counted (c.in_ok-take_line.ensures.short done) c.loop-test.true reads is.answer is.table flushed
@@ -202,18 +202,18 @@ returns-clause-serving g c =
     let rest = to_come c.loop.lines (g.R.Read.remaining c.loop.reader) in
     let last = kept_all (start_of c.loop.book) (table_of c.loop.book) (log_of c.loop.book) (kept_of c.loop.book) c.facts-2.ensures.history.replayed in
     let full : c.loop.counter ≡ MAX_LINES = omega arith in
-    let none = none_behind c.in-Err.fault c.behind_the_last.result rest c.loop.invariant.way.front c.behind_the_last.ensures.long c.behind_the_last.ensures.others
+    let none = none_after c.in-Err.fault c.after_the_last.result rest c.loop.invariant.way.front c.after_the_last.ensures.long c.after_the_last.ensures.others
     (c.loop.invariant.way.counted ∙ full) (λ is. c.take_line-2.ensures.long (c.in-Err.is ∙ ap (λ e. Err e) is)) in
-    serving_untaken {T = Unit {0}} (Err c.behind_the_last.result) c.behind_the_last.result refl c.one_line_reading.ensures.total (g.R.Read.remaining c.args.reader.now) rest c.loop.counter
+    serving_untaken {T = Unit {0}} (Err c.after_the_last.result) c.after_the_last.result refl c.one_line_reading.ensures.total (g.R.Read.remaining c.args.reader.now) rest c.loop.counter
     c.args.book.now c.loop.book (g.W.Write.contents c.args.writer.now) (g.W.Write.contents c.loop.writer) (g.W.Write.contents c.take_line-2.new.writer) none.more
     c.loop.invariant c.take_line-2.ensures.kept none.coming none.says last (by_nothing c.loop.book c.facts-2.ensures.step)
 
 pub returns-clause-fault : goal.returns-clause-fault
 returns-clause-fault g c = record {
-  causes = c.behind_the_last.ensures.causes;
-  counted = counts_behind c.in-Err.fault c.behind_the_last.result (g.D.Disk.failures (disk_of c.args.book.now)) (g.D.Disk.failures (disk_of c.loop.book))
-      c.behind_the_last.ensures.long c.behind_the_last.ensures.others c.loop.invariant.counted;
+  causes = c.after_the_last.ensures.causes;
+  counted = counts_after c.in-Err.fault c.after_the_last.result (g.D.Disk.failures (disk_of c.args.book.now)) (g.D.Disk.failures (disk_of c.loop.book))
+      c.after_the_last.ensures.long c.after_the_last.ensures.others c.loop.invariant.counted;
   ready = λ is. tt;
-  breaks = λ is. ready_behind c.in-Err.fault c.behind_the_last.result (is_broken c.loop.book) (number_of c.loop.book)
-      c.behind_the_last.ensures.long c.behind_the_last.ensures.others (c.loop.invariant.ready is);
+  breaks = λ is. ready_after c.in-Err.fault c.after_the_last.result (is_broken c.loop.book) (number_of c.loop.book)
+      c.after_the_last.ensures.long c.after_the_last.ensures.others (c.loop.invariant.ready is);
 }

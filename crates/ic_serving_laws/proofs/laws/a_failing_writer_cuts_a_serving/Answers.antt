@@ -4,7 +4,7 @@ use Rattle.ic_lines.specs.Serving.{IsServed}
 use Rattle.ic_serving_laws.proofs.laws.a_failing_writer_cuts_a_serving.Goals as goal
 
 pub returns-clause-sent : goal.returns-clause-sent
-returns-clause-sent c = λ before behind text more is.
+returns-clause-sent c = λ before after text more is.
     let sum = ap length is.parted ∙ length-append is.sent is.unsent in
     let front = ap (take (length is.sent)) is.parted ∙ take-append_seam is.sent is.unsent in
     (length is.sent, omega (arith, sum), is.written ∙ ap (λ sent. text ++ (before ++ sent)) (sym front))

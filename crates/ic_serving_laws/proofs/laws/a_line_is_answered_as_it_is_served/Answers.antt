@@ -17,35 +17,35 @@ returns-clause-served g c = λ line bytes is. record {
 }
 
 pub returns-clause-kept : goal.returns-clause-kept
-returns-clause-kept g c = λ line bytes is. kept_or_same is.reading c.args.before.now c.args.behind.now is.kept
+returns-clause-kept g c = λ line bytes is. kept_or_same is.reading c.args.before.now c.args.after.now is.kept
 
 pub returns-clause-begun : goal.returns-clause-begun
 returns-clause-begun g c = λ line is.
-    line_from (table_of c.args.before.now) (table_of c.args.behind.now) line is.reading is.read is.begun.table
+    line_from (table_of c.args.before.now) (table_of c.args.after.now) line is.reading is.read is.begun.table
 
 pub returns-clause-kept_within : goal.returns-clause-kept_within
 returns-clause-kept_within g c = λ line is.
-    kept_from (table_of c.args.before.now) (last_kept c.args.before.now) (last_kept c.args.behind.now) line is.reading is.read is.begun.kept
+    kept_from (table_of c.args.before.now) (last_kept c.args.before.now) (last_kept c.args.after.now) line is.reading is.read is.begun.kept
 
 pub returns-clause-within : goal.returns-clause-within
 returns-clause-within g c = λ t kept u line. (λ h. h, λ h. h)
 
 pub returns-clause-command : goal.returns-clause-command
 returns-clause-command g c = λ line bytes m reads is.
-    subst (λ r. IsKeptFor r c.args.before.now c.args.behind.now)
+    subst (λ r. IsKeptFor r c.args.before.now c.args.after.now)
     (c.one_line_reading.ensures.answer line is.reading (Ok (Asks m)) is.read reads) is.kept
 
 pub returns-clause-run : goal.returns-clause-run
 returns-clause-run g c = λ line bytes k reads is.
-    subst (λ r. IsKeptFor r c.args.before.now c.args.behind.now)
+    subst (λ r. IsKeptFor r c.args.before.now c.args.after.now)
     (c.one_line_reading.ensures.answer line is.reading (Ok (Run k)) is.read reads) is.kept
 
 pub returns-clause-blank : goal.returns-clause-blank
 returns-clause-blank g c = λ line bytes reads is.
-    subst (λ r. IsKeptFor r c.args.before.now c.args.behind.now)
+    subst (λ r. IsKeptFor r c.args.before.now c.args.after.now)
     (c.one_line_reading.ensures.answer line is.reading (Ok Blank) is.read reads) is.kept
 
 pub returns-clause-refused : goal.returns-clause-refused
 returns-clause-refused g c = λ line bytes fault reads is.
-    subst (λ r. IsKeptFor r c.args.before.now c.args.behind.now)
+    subst (λ r. IsKeptFor r c.args.before.now c.args.after.now)
     (c.one_line_reading.ensures.answer line is.reading (Err fault) is.read reads) is.kept

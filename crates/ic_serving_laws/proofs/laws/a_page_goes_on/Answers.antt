@@ -20,14 +20,14 @@ returns-clause-events g c = λ es goes.
 
 pub returns-clause-senders : goal.returns-clause-senders
 returns-clause-senders g c = λ es goes.
-    let behind = ap (drop (length (log_of c.args.before.now))) goes.log ∙ drop-append_seam (log_of c.args.before.now) goes.entries in
-    subst (λ (h : List Entry). AllByRecursion (λ (e : Entry). e.who ≡ 0) h) (sym behind) goes.senders
+    let after = ap (drop (length (log_of c.args.before.now))) goes.log ∙ drop-append_seam (log_of c.args.before.now) goes.entries in
+    subst (λ (h : List Entry). AllByRecursion (λ (e : Entry). e.who ≡ 0) h) (sym after) goes.senders
 
 pub returns-clause-within : goal.returns-clause-within
 returns-clause-within g c = λ es w.
     let sum = ap length w.parted ∙ length-append w.front w.rest in
     let front : take (length w.front) es ≡ w.front = ap (take (length w.front)) w.parted ∙ take-append_seam w.front w.rest in
-    (length w.front, omega (arith, sum), subst (λ (f : List Event). GoesOn f c.args.before.now c.args.behind.now) (sym front) w.goes)
+    (length w.front, omega (arith, sum), subst (λ (f : List Event). GoesOn f c.args.before.now c.args.after.now) (sym front) w.goes)
 
 pub returns-clause-room : goal.returns-clause-room
 returns-clause-room g c = λ es. (λ h. h, λ h. h)

@@ -17,7 +17,7 @@ returns-clause-stopped g c moves done = stopped_so c.histories_split_and_join.en
 pub returns-clause-broken : goal.returns-clause-broken
 returns-clause-broken g c done later earlier who command reply same =
     let is = failed_by who command reply done.moves later earlier c.args.old.now c.args.new.now done.calls same in
-    (is.broken, is.front, is.behind, is.log, is.unkept)
+    (is.broken, is.front, is.after, is.log, is.unkept)
 
 pub returns-clause-once : goal.returns-clause-once
 returns-clause-once g c done later between earlier who other command second reply answer =

@@ -1,5 +1,5 @@
 use Rattle.std.proofs.Common.{refl}
-use Rattle.ic_slots.proofs.BegunLemmas.{begun-byte, begun-zero, behind-zero}
+use Rattle.ic_slots.proofs.BegunLemmas.{after-zero, begun-byte, begun-zero}
 use Rattle.ic_slots.proofs.laws.what_is_begun_is_nearly_empty.Goals as goal
 
 pub returns-clause-short : goal.returns-clause-short
@@ -10,7 +10,7 @@ returns-clause-closed c file begun = begun-zero file begun 0 refl refl
 
 pub returns-clause-zeros : goal.returns-clause-zeros
 returns-clause-zeros c file i begun past =
-    let zeros = behind-zero i past in
+    let zeros = after-zero i past in
     begun-zero file begun i zeros.0 zeros.1
 
 pub returns-clause-bytes : goal.returns-clause-bytes

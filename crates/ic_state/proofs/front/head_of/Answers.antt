@@ -8,11 +8,11 @@ use Rattle.ic_state.proofs.front.head_of.Goals as goal
 pub returns-then-index-ne-FORMAT-clause-refused : goal.returns-then-index-ne-FORMAT-clause-refused
 returns-then-index-ne-FORMAT-clause-refused c = λ same kept rest sound long is.
     let head = c.in_ok-head.head.items in
-    let behind = c.in_ok-head.field-0-1.now in
+    let left_over = c.in_ok-head.field-0-1.now in
     let read = c.in_ok-head.ensures in
-    let whole = ap (λ (l : List ℕ). l ++ rest) read.read ∙ append_assoc (flat_map eight_bytes head) behind rest in
-    let format = format_is head (c.args.bytes.now ++ rest) (behind ++ rest) read.count read.small whole kept sound is in
-    let ended = ended_is head (c.args.bytes.now ++ rest) (behind ++ rest) read.count read.small whole kept sound is in
+    let whole = ap (λ (l : List ℕ). l ++ rest) read.read ∙ append_assoc (flat_map eight_bytes head) left_over rest in
+    let format = format_is head (c.args.bytes.now ++ rest) (left_over ++ rest) read.count read.small whole kept sound is in
+    let ended = ended_is head (c.args.bytes.now ++ rest) (left_over ++ rest) read.count read.small whole kept sound is in
     elim c.then-index-ne-FORMAT.branch [
       | then-index-ne-FORMAT-via-then-index-ne-FORMAT w ↦ w.if-index-ne-FORMAT.true (read_at head 0 c.index.result.now c.index.ensures (omega (arith, read.count)) ∙ format)
       | then-index-ne-FORMAT-via-else-index-ne-FORMAT+then-index-gt1 w ↦
@@ -22,15 +22,15 @@ returns-then-index-ne-FORMAT-clause-refused c = λ same kept rest sound long is.
 pub returns-clause-told : goal.returns-clause-told
 returns-clause-told c = λ kept rest sound is.
     let head = c.in_ok-head.head.items in
-    let behind = c.in_ok-head.field-0-1.now in
+    let left_over = c.in_ok-head.field-0-1.now in
     let read = c.in_ok-head.ensures in
-    let whole = ap (λ (l : List ℕ). l ++ rest) read.read ∙ append_assoc (flat_map eight_bytes head) behind rest in
+    let whole = ap (λ (l : List ℕ). l ++ rest) read.read ∙ append_assoc (flat_map eight_bytes head) left_over rest in
     let bytes = c.args.bytes.now ++ rest in
     record {
-      interactions = read_at head 2 c.index-2.result.now c.index-2.ensures (omega (arith, read.count)) ∙ interactions_are head bytes (behind ++ rest) read.count read.small whole kept sound is;
+      interactions = read_at head 2 c.index-2.result.now c.index-2.ensures (omega (arith, read.count)) ∙ interactions_are head bytes (left_over ++ rest) read.count read.small whole kept sound is;
       ended = ended_told kept.ended c.index-3.result.now
-          (read_at head 3 c.index-3.result.now c.index-3.ensures (omega (arith, read.count)) ∙ ended_at head bytes (behind ++ rest) read.count read.small whole kept sound is);
-      rules = read_at head 4 c.index-4.result.now c.index-4.ensures (omega (arith, read.count)) ∙ rules_are head bytes (behind ++ rest) read.count read.small whole kept sound is;
-      words = read_at head 5 c.index-5.result.now c.index-5.ensures (omega (arith, read.count)) ∙ words_are head bytes (behind ++ rest) read.count read.small whole kept sound is;
-      millis = read_at head 6 c.index-6.result.now c.index-6.ensures (omega (arith, read.count)) ∙ millis_are head bytes (behind ++ rest) read.count read.small whole kept sound is;
+          (read_at head 3 c.index-3.result.now c.index-3.ensures (omega (arith, read.count)) ∙ ended_at head bytes (left_over ++ rest) read.count read.small whole kept sound is);
+      rules = read_at head 4 c.index-4.result.now c.index-4.ensures (omega (arith, read.count)) ∙ rules_are head bytes (left_over ++ rest) read.count read.small whole kept sound is;
+      words = read_at head 5 c.index-5.result.now c.index-5.ensures (omega (arith, read.count)) ∙ words_are head bytes (left_over ++ rest) read.count read.small whole kept sound is;
+      millis = read_at head 6 c.index-6.result.now c.index-6.ensures (omega (arith, read.count)) ∙ millis_are head bytes (left_over ++ rest) read.count read.small whole kept sound is;
     }

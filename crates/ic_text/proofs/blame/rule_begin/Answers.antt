@@ -12,8 +12,8 @@ returns-then-rules-rule-clause-place c = λ rs begins le.
     (omega (arith, length-map c.args.nodes.now node_of, c.loop-word-test.true)) (c.loop-word.invariant.walking rs begins.0 begins.1 le) c.if-due-eq0.true
     ∙ ap (λ n. length (rules_prefix (take n rs))) c.if-rules-rule.true
 
-pub due_behind-due-requires-clause-begins : goal.due_behind-due-requires-clause-begins
-due_behind-due-requires-clause-begins c = λ none.
+pub due_after-due-requires-clause-begins : goal.due_after-due-requires-clause-begins
+due_after-due-requires-clause-begins c = λ none.
     let v = c.loop-word.invariant in
     let r = c.requires in
     let less : c.loop-word.rules < length r.0 = elim c.if-due-eq0.branch [
@@ -22,8 +22,8 @@ due_behind-due-requires-clause-begins c = λ none.
     ] in
     due_begins c.args.nodes.now c.loop-word.word _ c.loop-word-test.true r.0 r.1.0 c.loop-word.due c.loop-word.rules v.fits (v.walking r.0 r.1.0 r.1.1 r.2) none less
 
-pub due_behind-due-requires-clause-within : goal.due_behind-due-requires-clause-within
-due_behind-due-requires-clause-within c = λ some.
+pub due_after-due-requires-clause-within : goal.due_after-due-requires-clause-within
+due_after-due-requires-clause-within c = λ some.
     let v = c.loop-word.invariant in
     let r = c.requires in
     due_within c.args.nodes.now c.loop-word.word _ c.loop-word-test.true r.0 r.1.0 c.loop-word.due c.loop-word.rules v.fits (v.walking r.0 r.1.0 r.1.1 r.2) some
@@ -34,13 +34,13 @@ loop-word-preserved c =
     elim c.if-due-eq0.branch [
       | then-due-eq0+else-rules-rule w ↦ rw w.rules-is (record {
         walking = λ rs rest e le. goes_begins c.args.nodes.now c.loop-word.word _ c.loop-word-test.true rs rest c.loop-word.due c.loop-word.rules v.fits (v.walking rs rest e le)
-            c.due_behind-due.result (c.due_behind-due.ensures.begins w.if-due-eq0.true) w.if-due-eq0.true (omega (arith, v.few, w.if-rules-rule.false, le));
+            c.due_after-due.result (c.due_after-due.ensures.begins w.if-due-eq0.true) w.if-due-eq0.true (omega (arith, v.few, w.if-rules-rule.false, le));
         few = omega (arith, v.few, w.if-rules-rule.false);
         fits = v.fits;
       })
       | else-due-eq0 w ↦ rw w.rules-is (record {
         walking = λ rs rest e le. goes_within c.args.nodes.now c.loop-word.word _ c.loop-word-test.true rs rest c.loop-word.due c.loop-word.rules v.fits (v.walking rs rest e le)
-            c.due_behind-due.result (c.due_behind-due.ensures.within (omega (arith, w.if-due-eq0.false))) (omega (arith, w.if-due-eq0.false));
+            c.due_after-due.result (c.due_after-due.ensures.within (omega (arith, w.if-due-eq0.false))) (omega (arith, w.if-due-eq0.false));
         few = v.few;
         fits = v.fits;
       })

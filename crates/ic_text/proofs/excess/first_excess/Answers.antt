@@ -18,8 +18,8 @@ returns-then-found-most c =
 pub overflow_add-found : goal.overflow_add-found
 overflow_add-found c = omega (arith, c.loop-word.invariant.few, c.if-found-most.false, c.ranges.most.fits)
 
-pub due_behind-due-requires : goal.due_behind-due-requires
-due_behind-due-requires c = due-fits c.args.nodes.now c.loop-word.word _ c.loop-word-test.true c.loop-word.due c.loop-word.invariant.due c.requires
+pub due_after-due-requires : goal.due_after-due-requires
+due_after-due-requires c = due-fits c.args.nodes.now c.loop-word.word _ c.loop-word-test.true c.loop-word.due c.loop-word.invariant.due c.requires
 
 pub loop-word-preserved : goal.loop-word-preserved
 loop-word-preserved c =
@@ -29,12 +29,12 @@ loop-word-preserved c =
     elim c.if-is_counted.branch [
       | then-is_counted+else-found-most w ↦ rw w.found-is (record {
         counted = omega (arith, v.counted, more true (ap (is_counted c.args.outer) (sym v.due) ∙ sym c.is_counted.ensures ∙ w.if-is_counted.true));
-        due = due-next c.args.nodes.now c.loop-word.word _ c.loop-word-test.true c.loop-word.due v.due _ c.due_behind-due.ensures;
+        due = due-next c.args.nodes.now c.loop-word.word _ c.loop-word-test.true c.loop-word.due v.due _ c.due_after-due.ensures;
         few = omega (arith, v.few, w.if-found-most.false);
       })
       | else-is_counted w ↦ rw w.found-is (record {
         counted = omega (arith, v.counted, more false (ap (is_counted c.args.outer) (sym v.due) ∙ sym c.is_counted.ensures ∙ w.if-is_counted.false));
-        due = due-next c.args.nodes.now c.loop-word.word _ c.loop-word-test.true c.loop-word.due v.due _ c.due_behind-due.ensures;
+        due = due-next c.args.nodes.now c.loop-word.word _ c.loop-word-test.true c.loop-word.due v.due _ c.due_after-due.ensures;
         few = v.few;
       })
     ]

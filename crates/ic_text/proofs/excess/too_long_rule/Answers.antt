@@ -20,8 +20,8 @@ returns-then-found-eq-MAX_RULE_NODES c =
       refl,
     )
 
-pub due_behind-due-requires : goal.due_behind-due-requires
-due_behind-due-requires c = due-fits c.args.nodes.now c.loop-word.word _ c.loop-word-test.true c.loop-word.due c.loop-word.invariant.due_is c.requires
+pub due_after-due-requires : goal.due_after-due-requires
+due_after-due-requires c = due-fits c.args.nodes.now c.loop-word.word _ c.loop-word-test.true c.loop-word.due c.loop-word.invariant.due_is c.requires
 
 pub loop-word-preserved : goal.loop-word-preserved
 loop-word-preserved c =
@@ -29,16 +29,16 @@ loop-word-preserved c =
     let ws = nodes_of c.args.nodes.now in
     let inside : l.word < length ws = omega (arith, length-map c.args.nodes.now node_of, c.loop-word-test.true) in
     let stands = standing_in ws l.word inside in
-    let next = due-next c.args.nodes.now l.word _ c.loop-word-test.true l.due l.invariant.due_is _ c.due_behind-due.ensures in
+    let next = due-next c.args.nodes.now l.word _ c.loop-word-test.true l.due l.invariant.due_is _ c.due_after-due.ensures in
     elim c.if-due-gt0.branch [
       | then-due-gt0+else-found-eq-MAX_RULE_NODES w ↦ rw (w.second-is, w.found-is)
-          (one_within ws l.word _ stands l.due l.found l.second l.invariant c.due_behind-due.result next (omega (arith, w.if-due-gt0.true))
+          (one_within ws l.word _ stands l.due l.found l.second l.invariant c.due_after-due.result next (omega (arith, w.if-due-gt0.true))
           (omega (arith, w.if-found-eq-MAX_RULE_NODES.false, l.invariant.few)))
       | else-due-gt0 w ↦
-          let outer = one_outer ws l.word _ stands l.due l.found l.second l.invariant c.due_behind-due.result next (omega (arith, w.if-due-gt0.false)) in
+          let outer = one_outer ws l.word _ stands l.due l.found l.second l.invariant c.due_after-due.result next (omega (arith, w.if-due-gt0.false)) in
           rw (w.second-is, w.found-is) (elim w.if-second.branch [
-            | then-second v ↦ rw v.found-is (subst (λ n. Counted ws (l.word + 1) c.due_behind-due.result (not l.second) n) (ap (λ b. cond b 0 l.found) v.if-second.true) outer)
-            | else-second v ↦ rw v.found-is (subst (λ n. Counted ws (l.word + 1) c.due_behind-due.result (not l.second) n) (ap (λ b. cond b 0 l.found) v.if-second.false) outer)
+            | then-second v ↦ rw v.found-is (subst (λ n. Counted ws (l.word + 1) c.due_after-due.result (not l.second) n) (ap (λ b. cond b 0 l.found) v.if-second.true) outer)
+            | else-second v ↦ rw v.found-is (subst (λ n. Counted ws (l.word + 1) c.due_after-due.result (not l.second) n) (ap (λ b. cond b 0 l.found) v.if-second.false) outer)
           ])
     ]
 

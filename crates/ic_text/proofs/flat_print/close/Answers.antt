@@ -8,17 +8,17 @@ loop-left-init c = IsClosing-start (reverse c.args.due.now.items) c.args.out.now
 pub returns-then-left-gt0 : goal.returns-then-left-gt0
 returns-then-left-gt0 c =
     let left = c.in-Some.left in
-    let behind = c.pop.new.self.items in
-    closed_by_comma (reverse c.args.due.now.items) c.args.out.now.items (reverse c.loop-left.due.items) (reverse behind) (reverse c.push.new.self.items) c.loop-left.out.items c.push-then-left-gt0.new.self.items
-    left c.loop-left.invariant (popped c.loop-left.due.items behind c.pop.result left c.pop.ensures.items c.in-Some.is) c.if-left-gt0.true
-    (ap reverse c.in_ok-push.ensures.items ∙ reverse-push behind (left - 1)) c.in_ok-push-2.ensures.items
+    let after = c.pop.new.self.items in
+    closed_by_comma (reverse c.args.due.now.items) c.args.out.now.items (reverse c.loop-left.due.items) (reverse after) (reverse c.push.new.self.items) c.loop-left.out.items c.push-then-left-gt0.new.self.items
+    left c.loop-left.invariant (popped c.loop-left.due.items after c.pop.result left c.pop.ensures.items c.in-Some.is) c.if-left-gt0.true
+    (ap reverse c.in_ok-push.ensures.items ∙ reverse-push after (left - 1)) c.in_ok-push-2.ensures.items
 
 pub loop-left-preserved : goal.loop-left-preserved
 loop-left-preserved c =
     let left = c.in-Some.left in
-    let behind = c.pop.new.self.items in
+    let after = c.pop.new.self.items in
     let none : left ≡ 0 = omega (arith, c.if-left-gt0.false) in
-    let top = popped c.loop-left.due.items behind c.pop.result left c.pop.ensures.items c.in-Some.is ∙ ap (λ n. n ∷ reverse behind) none in
+    let top = popped c.loop-left.due.items after c.pop.result left c.pop.ensures.items c.in-Some.is ∙ ap (λ n. n ∷ reverse after) none in
     IsClosing-next c.loop-left.invariant top c.in_ok-push-3.ensures.items
 
 pub returns : goal.returns

@@ -6,7 +6,7 @@ use Rattle.ic_flat.specs.Flat.{pairs_of}
 use Rattle.ic_flat.specs.lemmas.WordLaws.{whole-words}
 use Rattle.ic_flat.specs.lemmas.FlatLaws.{all_terms, pairs_of-sides, counted-configuration_words, over-words}
 use Rattle.ic_text.specs.Text.{printed}
-use Rattle.ic_text.proofs.WordTextLemmas.{interface-front, sides-behind}
+use Rattle.ic_text.proofs.WordTextLemmas.{interface-front, sides-after}
 use Rattle.ic_text.proofs.flat_print.put_flat.Goals as goal
 
 pub put_words-requires-clause-whole : goal.put_words-requires-clause-whole
@@ -26,5 +26,5 @@ returns c =
     let n = c.args.flat.now in
     let ws = c.words.result.now in
     let terms = interface-front n ws c.interface_len-terms.result c.words.ensures.words c.interface_len-terms.ensures.terms in
-    let pairs = ap pairs_of (sides-behind n ws c.interface_len-terms.result c.words.ensures.words c.interface_len-terms.ensures.terms) ∙ pairs_of-sides n.equations in
+    let pairs = ap pairs_of (sides-after n ws c.interface_len-terms.result c.words.ensures.words c.interface_len-terms.ensures.terms) ∙ pairs_of-sides n.equations in
     subst (λ t. OnOk c.put_words.result (c.put_words.new.out.items ≡ c.args.out.now.items ++ t)) (λ i. printed ss (record { interface = terms i; equations = pairs i; next = 0 })) c.put_words.ensures

@@ -6,7 +6,7 @@ use Rattle.ic_text.specs.Name.{number_in}
 use Rattle.ic_text.specs.declared.limits.TheConstants.{MAX_NAME}
 use Rattle.ic_text.proofs.name.number_in.Given as goal
 
--- the number so far, with the digits that are left behind it, is the whole number
+-- the number so far, with the digits that are left after it, is the whole number
 abbrev pub invariant-loop-digit : goal.invariant-loop-digit
 invariant-loop-digit l = record {
   fits : l.number ≤ MAX_NAME;

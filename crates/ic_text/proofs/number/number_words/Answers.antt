@@ -5,7 +5,7 @@ use Rattle.ic_text.specs.declared.excess.Excess.{Excess}
 use Rattle.ic_text.specs.inner.Prefix.{nodes_of}
 use Rattle.ic_text.specs.inner.Refused.{IsBefore}
 use Rattle.ic_text.proofs.Blaming.{room_so_far, node_is_word, node_goes_on, node_word, node_numbers, begins, all_numbered, ends_clash, ends_second, ends_numbers}
-use Rattle.ic_text.proofs.Stopping.{before_there, none_behind, none_there, refused_counted, stops_counted, stops_there}
+use Rattle.ic_text.proofs.Stopping.{before_there, none_after, none_there, refused_counted, stops_counted, stops_there}
 use Rattle.ic_text.proofs.number.number_words.Goals as goal
 use Rattle.ic_text.proofs.number.number_words.Goals.{After-loop-word}
 
@@ -61,7 +61,7 @@ returns-in_err-take-clause-word c =
 
 -- so at the end no limit of how many they are is passed
 none_here : (c : After-loop-word) → c.args.excess ≡ None
-none_here c = none_behind c.args.excess (length c.args.nodes.now) c.loop-word.word c.loop-word-test.false c.requires.inside c.loop-word.invariant.before
+none_here c = none_after c.args.excess (length c.args.nodes.now) c.loop-word.word c.loop-word-test.false c.requires.inside c.loop-word.invariant.before
 
 pub returns-in-Some-clash-clause-numbers : goal.returns-in-Some-clash-clause-numbers
 returns-in-Some-clash-clause-numbers c =

@@ -2,7 +2,7 @@ use Rattle.std.proofs.Common.{◌≡◌, ◌≤◌, false, take}
 use Rattle.ic_text.proofs.WordPlaces.{begun_words, ends_within}
 use Rattle.ic_text.proofs.place.word_place.Given as goal
 
--- so many words begin before the place, and it is behind a byte of a word or behind none
+-- so many words begin before the place, and it is after a byte of a word or after none
 abbrev pub invariant-loop-place : goal.invariant-loop-place
 invariant-loop-place l = record {
   counted : l.words ≡ begun_words false (take l.place l.text);

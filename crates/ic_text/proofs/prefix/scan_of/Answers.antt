@@ -1,6 +1,6 @@
 use Rattle.std.proofs.Common.{◌+◌, ◌-◌, ◌<◌, length, sym, ◌∙◌, refl, arith}
 use Rattle.ic_text.specs.inner.Prefix.{cut_of}
-use Rattle.ic_text.proofs.Cutting.{all_cut, counts_here, cut_along, cut_back, cut_behind, terms_here}
+use Rattle.ic_text.proofs.Cutting.{all_cut, counts_here, cut_after, cut_along, cut_back, terms_here}
 use Rattle.ic_text.proofs.ScanningText.{whole_run}
 use Rattle.ic_text.proofs.TailCut.{begun-is-cut}
 use Rattle.ic_text.proofs.prefix.scan_of.Goals as goal
@@ -28,7 +28,7 @@ loop-place-preserved-in-Continue-branch-3 c =
     let apart = sym c.is_word_byte.ensures ∙ c.if-not-is_word_byte.true in
     record {
       fits = l.invariant.fits;
-      so_far = cut_behind c.args.text.now (l.place - 1) l.end c.args.skip (cut_of l.scan) inside (cut_back _ _ _ _ _ (omega (arith, c.loop-place-test.true)) l.invariant.so_far)
+      so_far = cut_after c.args.text.now (l.place - 1) l.end c.args.skip (cut_of l.scan) inside (cut_back _ _ _ _ _ (omega (arith, c.loop-place-test.true)) l.invariant.so_far)
           c.requires.0 c.requires.1 apart _ _ c.in_ok-take_run.ensures c.in_ok-take_byte.ensures;
     }
 

@@ -145,7 +145,7 @@ wide_of-requires c =
     subst (λ n. IsPaired c.in_ok-symbols.words.items n) (sym (terms_here here p c.requires.1.tokens))
     (paired_words p c.requires.1.phrase c.args.limits _ (counted-numbered c.args.limits (phrase_prefix p) c.config_excess-excess.result _ number))
 
--- what is refused behind the numbering is so by the sense
+-- what is refused after the numbering is so by the sense
 refused_here : (limits : Limits) (p : Phrase) (terms : ℕ) (r : Result (List Symbol × List Word) TextFault) (symbols : List Symbol) (items : List Word) (f : TextFault)
     → sense_within limits p ≡ finished terms r → Ok (symbols, items) ≡ r
     → Refuses f (as_text_answer (wide_restored (configuration_from terms (forest items)))) → Refuses f (sense_within limits p)

@@ -1,10 +1,10 @@
 use Rattle.std.proofs.Common.{◌≡◌, ◌-◌, ◌≤◌, false, Some, sym, ap, ◌∙◌, refl, arith, get_or, take, drop, length}
 use Rattle.std.proofs.lemmas.List.{length-take, get_or_past}
 use Rattle.ic_text.specs.Token.{is_word_byte, word_of}
-use Rattle.ic_text.specs.inner.Survey.{taken, taken_behind, counted}
+use Rattle.ic_text.specs.inner.Survey.{taken, taken_after, counted}
 use Rattle.ic_text.proofs.TokenLemmas.{joined_run}
 use Rattle.ic_text.proofs.Surveying.{refused_run, refused_byte, goes_on}
-use Rattle.ic_text.proofs.Placing.{stops_at_run, stops_at_byte, stops_at_end, goes_behind, goes_along}
+use Rattle.ic_text.proofs.Placing.{stops_at_run, stops_at_byte, stops_at_end, goes_after, goes_along}
 use Rattle.ic_text.proofs.survey.survey.Goals as goal
 use Rattle.ic_text.proofs.survey.survey.Goals.{then-not-is_word_byte+else-not-take_run+else-not-take_byte, else-not-is_word_byte}
 
@@ -74,7 +74,7 @@ loop-place-preserved c =
               depth = omega (arith, short, run.depth, byte.depth, within.depth);
             };
             same = goes_on text start place b (omega arith) begins refl c.loop-place.progress _ c.loop-place.invariant.same w.take_run.new.self w.take_byte.new.self apart w.if-not-take_run.ensures.taken w.if-not-take_byte.ensures.taken;
-            way = goes_behind c.args.part text start place c.loop-place.progress c.loop-place.invariant.way w.take_run.new.self w.if-not-take_run.ensures.taken (omega arith) apart w.take_byte.new.self w.if-not-take_byte.ensures.taken;
+            way = goes_after c.args.part text start place c.loop-place.progress c.loop-place.invariant.way w.take_run.new.self w.if-not-take_run.ensures.taken (omega arith) apart w.take_byte.new.self w.if-not-take_byte.ensures.taken;
           })
       | else-not-is_word_byte w ↦
           let is = sym c.is_word_byte.ensures ∙ w.if-not-is_word_byte.false in
@@ -82,7 +82,7 @@ loop-place-preserved c =
           rw (w.start-is, w.progress-is) (record {
             begins = omega arith;
             within = within;
-            same = ap (λ o. counted (taken_behind (Some c.loop-place.progress) o)) joined ∙ c.loop-place.invariant.same;
+            same = ap (λ o. counted (taken_after (Some c.loop-place.progress) o)) joined ∙ c.loop-place.invariant.same;
             way = goes_along c.args.part text start place c.loop-place.progress c.loop-place.invariant.way (omega arith) is;
           })
     ]

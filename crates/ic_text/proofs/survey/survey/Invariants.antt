@@ -1,6 +1,6 @@
 use Rattle.std.proofs.Common.{◌≡◌, ◌-◌, ◌≤◌, Some, drop, take}
-use Rattle.ic_text.specs.Token.{tokens, tokens_behind}
-use Rattle.ic_text.specs.inner.Survey.{IsWithin, taken_behind, counted, surveyed}
+use Rattle.ic_text.specs.Token.{tokens, tokens_after}
+use Rattle.ic_text.specs.inner.Survey.{IsWithin, taken_after, counted, surveyed}
 use Rattle.ic_text.proofs.Placing.{IsUnderway}
 use Rattle.ic_text.proofs.survey.survey.Given as goal
 
@@ -9,6 +9,6 @@ abbrev pub invariant-loop-place : goal.invariant-loop-place
 invariant-loop-place l = record {
   begins : l.start ≤ l.place;
   within : IsWithin l.start l.progress;
-  same : counted (taken_behind (Some l.progress) (tokens_behind (take (l.place - l.start) (drop l.start l.text)) (drop l.place l.text))) ≡ surveyed l.fn.part (tokens l.text);
+  same : counted (taken_after (Some l.progress) (tokens_after (take (l.place - l.start) (drop l.start l.text)) (drop l.place l.text))) ≡ surveyed l.fn.part (tokens l.text);
   way : IsUnderway l.fn.part l.text l.start l.place l.progress;
 }

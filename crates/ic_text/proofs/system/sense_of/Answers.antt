@@ -148,7 +148,7 @@ system_of-requires-clause-paired c =
     let known = known_here (goal.at.system_of-requires-clause-paired c).After-words-before s c.requires.1.tokens in
     (paired_here (goal.at.system_of-requires-clause-paired c).After-deref-2 s c.requires.1.phrase known _ c.in_ok-symbols.ensures.numbers).1
 
--- what is refused behind the numbering is so by the sense
+-- what is refused after the numbering is so by the sense
 refused_here : (limits : Limits) (s : SystemPhrase) (before terms : ℕ) (r : Result (List Symbol × List Word) TextFault) (v : List Symbol × List Word) (f : TextFault)
     → system_sense_within limits s ≡ finished_system before terms r → Ok v ≡ r
     → Refuses f (finished_system before terms (Ok v)) → Refuses f (system_sense_within limits s)

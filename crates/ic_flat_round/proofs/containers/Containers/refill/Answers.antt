@@ -4,7 +4,7 @@ use Rattle.std.specs.List.{flat_map}
 use Rattle.std.specs.Map.{lookup}
 use Rattle.ic_term.specs.Tree.{names}
 use Rattle.ic_settle.specs.lemmas.Containers.{noted_in, noted_equations}
-use Rattle.ic_settle.specs.lemmas.Spots.{noted_behind}
+use Rattle.ic_settle.specs.lemmas.Spots.{noted_after}
 use Rattle.ic_flat_round.proofs.WordPlaces.{whole_words, equations_few, pairs_start, twos_start, within_start}
 use Rattle.ic_flat_round.proofs.PassingWords.{names-interface}
 use Rattle.ic_flat_round.proofs.containers.Containers.refill.Goals as goal
@@ -37,4 +37,4 @@ returns-clause-places c = λ y.
     ∙ ap (noted_in y n (flat_map names flat.interface))
     (c.in_ok-note_equations.ensures y ∙ ap (λ l. noted_equations y 0 l (lookup (nat_eq y) c.reserve.new.self.entries)) pairs
     ∙ ap (λ l. noted_equations y 0 flat.equations (lookup (nat_eq y) l)) (c.in_ok-reserve.ensures.entries ∙ c.clear.ensures.empty))
-    ∙ ap (λ k. noted_in y k (flat_map names flat.interface) (noted_equations y 0 flat.equations None)) count ∙ noted_behind y 0 flat.equations flat.interface None
+    ∙ ap (λ k. noted_in y k (flat_map names flat.interface) (noted_equations y 0 flat.equations None)) count ∙ noted_after y 0 flat.equations flat.interface None

@@ -1,5 +1,5 @@
 use Rattle.std.proofs.Common.{◌≡◌, ◌++◌, [], Err, ap, refl, rules}
-use Rattle.ic_lines.proofs.TakingLemmas.{has_long, advanced_line, advanced_last, advanced_fault, moved_all, moved_behind, stays, same_front, kept_behind, kept_parts}
+use Rattle.ic_lines.proofs.TakingLemmas.{has_long, advanced_line, advanced_last, advanced_fault, moved_all, moved_after, stays, same_front, kept_after, kept_parts}
 use Rattle.ic_lines.proofs.buffer.LineBuffer.advance.Goals as goal
 
 pub returns-in_err-move_line-clause-line : goal.returns-in_err-move_line-clause-line
@@ -25,7 +25,7 @@ returns-in_err-map_err-clause-line g c =
     let ahead = c.loop.self-inside.ahead in
     let line = c.move_line.new.line.items in
     let moved = moved_all c.in_ok-move_line.field-0 front ahead line c.move_line.new.self c.if-branch.false c.in_ok-move_line.ensures.moved in
-    let kept = stays _ _ (front ++ ahead) (line ++ c.move_line.new.self) c.loop.invariant.begun (moved_behind front ahead line c.move_line.new.self moved.1 moved.2) in
+    let kept = stays _ _ (front ++ ahead) (line ++ c.move_line.new.self) c.loop.invariant.begun (moved_after front ahead line c.move_line.new.self moved.1 moved.2) in
     advanced_fault c.from_residual-in_err-map_err.result _ _ _ _ c.from_residual-in_err-map_err.ensures.1 kept c.loop.invariant.empty
     (λ is. search rules)
 
@@ -36,8 +36,8 @@ returns-in_err-fill-clause-line g c =
     let line = c.move_line.new.line.items in
     let moved = moved_all c.in_ok-move_line.field-0 front ahead line c.move_line.new.self c.if-branch.false c.in_ok-move_line.ensures.moved in
     let none : c.fill.new.self ≡ [] = c.in_err-fill.ensures.none (λ e. cc) in
-    let begun = kept_behind _ _ (g.R.Read.remaining c.fill.new.reader) (front ++ ahead) c.loop.invariant.begun c.in_err-fill.ensures.fault in
-    let kept = stays _ _ (front ++ ahead) (line ++ c.fill.new.self) begun (moved_behind front ahead line c.fill.new.self none moved.2) in
+    let begun = kept_after _ _ (g.R.Read.remaining c.fill.new.reader) (front ++ ahead) c.loop.invariant.begun c.in_err-fill.ensures.fault in
+    let kept = stays _ _ (front ++ ahead) (line ++ c.fill.new.self) begun (moved_after front ahead line c.fill.new.self none moved.2) in
     advanced_fault c.from_residual-in_err-fill.result _ _ _ _ c.from_residual-in_err-fill.ensures.1 kept c.loop.invariant.empty
     (λ is. absurd (c.in_err-fill.ensures.short (ap (λ e. Err e) is)))
 

@@ -1,7 +1,7 @@
 use Rattle.std.proofs.Common.{inr, sym, ◌∙◌}
 use Rattle.ic_attend.proofs.PartLemmas.{front_rounds}
-use Rattle.ic_attend.proofs.Exact.{last_behind}
-use Rattle.ic_attend.proofs.comparing.may_stand_behind.Goals as goal
+use Rattle.ic_attend.proofs.Exact.{last_after}
+use Rattle.ic_attend.proofs.comparing.may_stand_after.Goals as goal
 
 pub returns-else-is_round : goal.returns-else-is_round
 returns-else-is_round c =
@@ -22,7 +22,7 @@ returns-else-is_round c =
             failed = found.2;
             refused = found.3;
           }),
-      λ behind. c.has_failed.ensures.1 (
-          last_behind runs entries front last cut.0 (sym c.is_round.ensures ∙ c.if-is_round.false) behind
+      λ after. c.has_failed.ensures.1 (
+          last_after runs entries front last cut.0 (sym c.is_round.ensures ∙ c.if-is_round.false) after
           ),
     )

@@ -1,11 +1,11 @@
-//! What is told behind the line of a failure: why a disk's file doesn't serve, or standard input can't
+//! What is told after the line of a failure: why a disk's file doesn't serve, or standard input can't
 //! be read, which round is refused, or how far a net has come that was reduced in place.
 
 ghost use Rattle.std.specs.Prelude.{◌≡◌, IfOk};
-ghost use Rattle.ic_exits.specs.Behind.{book_lines, create_lines, ends_without_reader, is_of_writing, is_silent, lines_behind, open_lines, scripts_lines};
-ghost use Rattle.ic_exits.specs.Behind.{batch_lines, input_lines, inspect_lines, limit_text, overgrown_lines, reached_lines, reached_text, round_lines};
-ghost use Rattle.ic_exits.specs.Behind.{disk_lines, finds_no_second, found_lines, keep_lines, kept_lines};
-ghost use Rattle.ic_exits.specs.Behind.{serve_lines, shown_of, stream_lines, taken_words};
+ghost use Rattle.ic_exits.specs.After.{book_lines, create_lines, ends_without_reader, is_of_writing, is_silent, lines_after, open_lines, scripts_lines};
+ghost use Rattle.ic_exits.specs.After.{batch_lines, input_lines, inspect_lines, limit_text, overgrown_lines, reached_lines, reached_text, round_lines};
+ghost use Rattle.ic_exits.specs.After.{disk_lines, finds_no_second, found_lines, keep_lines, kept_lines};
+ghost use Rattle.ic_exits.specs.After.{serve_lines, shown_of, stream_lines, taken_words};
 
 use crate::{Failure, Reached};
 use ic_batch::{BatchFault, Difference};
@@ -76,16 +76,16 @@ impl Failure {
         }
     }
 
-    /// What standard error is told behind the line of the failure, where the disk is in the file of
+    /// What standard error is told after the line of the failure, where the disk is in the file of
     /// this path and the cause is that of the last call to it, or to standard input, that has failed:
     /// a line, or nothing.
-    pub fn lines_behind(
+    pub fn lines_after(
         &self,
         alloc: Global,
         path: &[u8],
         cause: Option<Cause>,
     ) -> Result<Vec<u8>, AllocError>
-        ensures { IfOk result (λ lines. lines.items ≡ lines_behind self.now path.now cause) }
+        ensures { IfOk result (λ lines. lines.items ≡ lines_after self.now path.now cause) }
     {
         match self {
             Failure::Disk(_) => disk_lines(alloc, path, cause),

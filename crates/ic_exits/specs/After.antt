@@ -1,4 +1,4 @@
--- What is told behind the line of a failure, by cases over all of them (this project's choice).
+-- What is told after the line of a failure, by cases over all of them (this project's choice).
 use Rattle.std.specs.Prelude.{ℕ, List, [], ◌∷◌, ◌++◌, codes, Option, None, Some, Bool, true, false, ◌&&◌, if◌then◌else◌}
 use Rattle.std.specs.Fmt.{decimal}
 use Rattle.ic_causes.specs.declared.cause.Cause.{Cause}
@@ -253,26 +253,26 @@ abbrev pub round_lines : Refusal → List ℕ
 round_lines refusal = codes "round " ++ decimal refusal.round ++ codes ", nodes "
     ++ decimal refusal.nodes ++ limit_text refusal.fault ++ 10 ∷ []
 
--- what standard error is told behind the line of a failure, where the disk is in the file of this
+-- what standard error is told after the line of a failure, where the disk is in the file of this
 -- path and the cause is that of the last call to it, or to standard input, that has failed
-abbrev pub lines_behind : Failure → List ℕ → Option Cause → List ℕ
-lines_behind (Disk fault) path cause = disk_lines path cause
-lines_behind Locked path cause = cause_line path cause
-lines_behind (Create fault) path cause = create_lines fault path cause
-lines_behind NotEmpty path cause = shown_of path not_empty
-lines_behind (Open fault) path cause = open_lines fault path cause
-lines_behind (Serve fault) path cause = serve_lines fault path cause
-lines_behind (Attend fault) path cause = scripts_lines fault path cause
-lines_behind (Dump fault) path cause = []
-lines_behind (Jobs fault) path cause = []
-lines_behind (Batch fault) path cause = batch_lines fault path cause
-lines_behind (Inspect fault) path cause = inspect_lines fault path cause
-lines_behind (Words fault) path cause = []
-lines_behind (Stream fault) path cause = stream_lines fault path cause
-lines_behind Faults path cause = []
-lines_behind NotDone path cause = []
-lines_behind (Round refusal) path cause = round_lines refusal
-lines_behind (Overgrown reached nodes) path cause = overgrown_lines reached nodes
-lines_behind (TableFull reached) path cause = reached_lines reached
-lines_behind (OutOfMemory reached) path cause = reached_lines reached
-lines_behind (Kept fault) path cause = kept_lines fault path cause
+abbrev pub lines_after : Failure → List ℕ → Option Cause → List ℕ
+lines_after (Disk fault) path cause = disk_lines path cause
+lines_after Locked path cause = cause_line path cause
+lines_after (Create fault) path cause = create_lines fault path cause
+lines_after NotEmpty path cause = shown_of path not_empty
+lines_after (Open fault) path cause = open_lines fault path cause
+lines_after (Serve fault) path cause = serve_lines fault path cause
+lines_after (Attend fault) path cause = scripts_lines fault path cause
+lines_after (Dump fault) path cause = []
+lines_after (Jobs fault) path cause = []
+lines_after (Batch fault) path cause = batch_lines fault path cause
+lines_after (Inspect fault) path cause = inspect_lines fault path cause
+lines_after (Words fault) path cause = []
+lines_after (Stream fault) path cause = stream_lines fault path cause
+lines_after Faults path cause = []
+lines_after NotDone path cause = []
+lines_after (Round refusal) path cause = round_lines refusal
+lines_after (Overgrown reached nodes) path cause = overgrown_lines reached nodes
+lines_after (TableFull reached) path cause = reached_lines reached
+lines_after (OutOfMemory reached) path cause = reached_lines reached
+lines_after (Kept fault) path cause = kept_lines fault path cause
