@@ -10,7 +10,7 @@ use ic_kept::{Front, HEAD, front_of};
 use ic_output::write_flushed;
 use ic_state::{StateFault, StateHead, head_of};
 use std::alloc::AllocError;
-use std::io::{self, Read};
+use std::io::{self, ErrorKind, Read};
 
 /// How many first bytes of a file are looked at: its head, and the first numbers of its state.
 const FRONT: u64 = HEAD + 56;
@@ -100,6 +100,7 @@ fn read_front(
     let mut bytes = Vec::new(rt.alloc());
     match file.at(0).take(FRONT).read_to_end(&mut bytes) {
         Ok(_) => Ok(bytes),
+        Err(error) if error.kind() == ErrorKind::OutOfMemory => Err(memory()),
         Err(_) => Err(Failure::Inspect(InspectFault::Read)),
     }
 }
