@@ -1,9 +1,10 @@
 -- What two files hold with which a reduction begins, and why they are refused.
-use Rattle.std.proofs.Common.{◌≡◌, ◌⊎◌, inl, inr, ℕ, List, refl}
+use Rattle.std.proofs.Common.{◌≡◌, ◌⊎◌, inl, inr, ⊎_elim, ℕ, List, ap}
 use Rattle.ic_frames.specs.declared.faults.OpenCause.{OpenCause}
 use Rattle.ic_frames.specs.declared.faults.OpenCause.TheVariants as opening
 use Rattle.ic_kept.specs.Held.{Answers, Hold}
 use Rattle.ic_kept.specs.Sheet.{IsNewest, IsShut}
+use Rattle.ic_kept.specs.lemmas.Refused.{refused_hold_none}
 use Rattle.ic_keeping.specs.declared.fault.KeepingFault.{KeepingFault}
 use Rattle.ic_keeping.specs.declared.fault.KeepingFault.TheVariants.{Open, Memory}
 
@@ -17,8 +18,7 @@ IsOfCalls fault = (fault ≡ Open opening.Device) ⊎ (fault ≡ Open opening.Me
 
 -- files that hold a state aren't refused for what they hold
 pub of_calls : (cause : OpenCause) (first second state : List ℕ) → Answers cause first second → Hold state first second → IsOfCalls (Open cause)
-of_calls opening.Device first second state answers held = inl refl
-of_calls opening.Memory first second state answers held = inr (inl refl)
-of_calls opening.NoSlot first second state answers held = absurd (answers state held)
-of_calls opening.TwoAlike first second state answers held = absurd (answers state held)
-of_calls opening.Damaged first second state answers held = absurd (answers state held)
+of_calls cause first second state answers held = ⊎_elim
+    (λ device. inl (ap Open device))
+    (λ memory. inr (inl (ap Open memory)))
+    (refused_hold_none cause first second state answers held)

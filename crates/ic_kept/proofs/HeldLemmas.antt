@@ -10,7 +10,7 @@ use Rattle.ic_kept.specs.declared.finding.Found.{Found}
 use Rattle.ic_kept.specs.Sheet.{gate, number, IsAfterGate, IsNewest, IsOlder, IsBeside, IsBelow}
 use Rattle.ic_kept.specs.inner.Finding.{Leads, IsChosen, Finds, IsFound, Spoils, pick}
 use Rattle.ic_kept.proofs.SheetLemmas.{beside_older}
-use Rattle.ic_kept.specs.Held.{HoldsIn, Hold, HoldEither, Answers}
+use Rattle.ic_kept.specs.Held.{HoldsIn, Hold, HoldEither, AreDamaged, Answers}
 
 -- what stands after a gate is one state
 pub one_after : (n m : ℕ) (state other file : List ℕ) → IsAfterGate n state file → IsAfterGate m other file → state ≡ other
@@ -36,15 +36,10 @@ pub either_held : (n : ℕ) (state next newest other held : List ℕ) → HoldEi
 either_held n state next newest other held (inl old) is = inl (one_held held state newest other is (n, inl old))
 either_held n state next newest other held (inr new) is = inr (one_held held next newest other is (n + 1, inr new))
 
--- neither gate is open
-pub none_held : (first second : List ℕ) → (gate first ≡ 1 → ⊥) → (gate second ≡ 1 → ⊥) → (state : List ℕ) → Hold state first second → ⊥
-none_held first second shut too state (n, inl is) = shut is.newest.opened
-none_held first second shut too state (n, inr is) = too is.newest.opened
-
--- both are, with one number
-pub alike_held : (first second : List ℕ) → gate first ≡ 1 → gate second ≡ 1 → number first ≡ number second → (state : List ℕ) → Hold state first second → ⊥
-alike_held first second opened too same state (n, inl is) = omega (arith, same, is.newest.after.number_is, is.older.older too)
-alike_held first second opened too same state (n, inr is) = omega (arith, same, is.newest.after.number_is, is.older.older opened)
+-- both files have heads, or one is cut off from it
+cut_made : (first second : List ℕ) → (length first < 17) ⊎ (length second < 17) → 17 ≤ length first → 17 ≤ length second → ⊥
+cut_made first second (inl cut) made too = omega (arith, cut, made)
+cut_made first second (inr cut) made too = omega (arith, cut, too)
 
 -- a file is cut off from its head
 pub cut_held : (first second : List ℕ) → (length first < 17) ⊎ (length second < 17) → (state : List ℕ) → Hold state first second → ⊥
@@ -52,6 +47,9 @@ cut_held first second (inl cut) state (n, inl is) = omega (arith, cut, is.newest
 cut_held first second (inr cut) state (n, inl is) = omega (arith, cut, is.older.made)
 cut_held first second (inl cut) state (n, inr is) = omega (arith, cut, is.older.made)
 cut_held first second (inr cut) state (n, inr is) = omega (arith, cut, is.newest.after.within)
+
+pub cut_damaged : (first second : List ℕ) → (length first < 17) ⊎ (length second < 17) → AreDamaged first second
+cut_damaged first second cut = record { none = cut_held first second cut; not_shut = λ both. cut_made first second cut both.0.made both.1.made; not_alike = λ alike. cut_made first second cut alike.made.0 alike.made.1 }
 
 -- The file that leads is the one that holds, if one does; so that one isn't cut off in its state.
 leads_held : (chosen : Chosen) (newest other : List ℕ) → Leads chosen newest other → length newest < 17 + chosen.head.size → (state : List ℕ) → (n : ℕ) → HoldsIn n state newest other → ⊥
@@ -77,9 +75,23 @@ spoiled_as false head closed first second is cut state (n, inr holds) = leads_ot
 spoiled_as true head closed first second is cut state (n, inl holds) = leads_other (record { in_second = true; head = head; closed = closed }) second first is state n holds
 spoiled_as true head closed first second is cut state (n, inr holds) = leads_held (record { in_second = true; head = head; closed = closed }) second first is cut state n holds
 
-pub spoiled_held : (chosen : Chosen) (first second : List ℕ) → IsChosen chosen first second → length (pick chosen.in_second first second) < 17 + chosen.head.size
-    → (state : List ℕ) → Hold state first second → ⊥
-spoiled_held chosen first second is cut = spoiled_as chosen.in_second chosen.head chosen.closed first second is cut
+-- the one that leads is open, and the other isn't like it
+damaged_as : (in_second : Bool) (head : Head) (closed : Bool) (first second : List ℕ) → IsChosen (record { in_second = in_second; head = head; closed = closed }) first second
+    → length (pick in_second first second) < 17 + head.size → AreDamaged first second
+damaged_as false head closed first second is cut = record {
+  none = spoiled_as false head closed first second is cut;
+  not_shut = λ both. both.0.shut is.head.opened;
+  not_alike = λ alike. omega (arith, beside_shut closed head.number second is.beside alike.opened.1, is.head.number_is, alike.same);
+}
+damaged_as true head closed first second is cut = record {
+  none = spoiled_as true head closed first second is cut;
+  not_shut = λ both. both.1.shut is.head.opened;
+  not_alike = λ alike. omega (arith, beside_shut closed head.number first is.beside alike.opened.0, is.head.number_is, alike.same);
+}
+
+pub spoiled_damaged : (chosen : Chosen) (first second : List ℕ) → IsChosen chosen first second → length (pick chosen.in_second first second) < 17 + chosen.head.size
+    → AreDamaged first second
+spoiled_damaged chosen first second is cut = damaged_as chosen.in_second chosen.head chosen.closed first second is cut
 
 -- the state that was read is the one that is held
 pub leads_finds : (chosen : Chosen) (n : ℕ) (closed : Bool) (state newest other : List ℕ) → Leads chosen newest other → n ≡ chosen.head.number → closed ≡ chosen.closed
@@ -116,12 +128,12 @@ pub newest_below : (n : ℕ) (state a : List ℕ) → IsNewest n state a → IsB
 newest_below n state a newest = record { made = omega (arith, newest.after.within); below = omega (arith, newest.after.number_is) }
 
 -- a refusal of one file, as one of both
-pub spoils_answers : (cause : OpenCause) (lacks : Type 0) (a b : List ℕ) → Spoils cause lacks → (lacks → (state : List ℕ) → Hold state a b → ⊥) → Answers cause a b
-spoils_answers Device lacks a b spoils none = tt
-spoils_answers Memory lacks a b spoils none = tt
-spoils_answers Damaged lacks a b spoils none = none spoils
-spoils_answers NoSlot lacks a b spoils none = absurd spoils
-spoils_answers TwoAlike lacks a b spoils none = absurd spoils
+pub spoils_answers : (cause : OpenCause) (lacks : Type 0) (a b : List ℕ) → Spoils cause lacks → (lacks → AreDamaged a b) → Answers cause a b
+spoils_answers Device lacks a b spoils damaged = tt
+spoils_answers Memory lacks a b spoils damaged = tt
+spoils_answers Damaged lacks a b spoils damaged = damaged spoils
+spoils_answers NoSlot lacks a b spoils damaged = absurd spoils
+spoils_answers TwoAlike lacks a b spoils damaged = absurd spoils
 
 pub found_from : (s : Bool) (chosen : Chosen) (found : Found) (a b : List ℕ) → chosen.in_second ≡ s → IsChosen chosen a b → found.in_second ≡ chosen.in_second
     → found.number ≡ chosen.head.number → found.closed ≡ chosen.closed → length found.state.items ≡ chosen.head.size → 17 + chosen.head.size ≤ length (pick s a b)
@@ -131,8 +143,8 @@ found_from s chosen found a b which is same number_is closed_is long within read
     let both = leads_finds chosen found.number found.closed found.state.items (pick s a b) (pick s b a) leads number_is closed_is long within read in
     subst (λ (t : Bool). Finds found (pick t a b) (pick t b a)) (sym (same ∙ which)) (record { newest = both.0; beside = both.1 })
 
-pub spoiled_from : (s : Bool) (chosen : Chosen) (a b : List ℕ) → chosen.in_second ≡ s → IsChosen chosen a b → length (pick s a b) < 17 + chosen.head.size → (state : List ℕ) → Hold state a b → ⊥
-spoiled_from s chosen a b which is cut = spoiled_held chosen a b is (subst (λ (t : Bool). length (pick t a b) < 17 + chosen.head.size) (sym which) cut)
+pub spoiled_from : (s : Bool) (chosen : Chosen) (a b : List ℕ) → chosen.in_second ≡ s → IsChosen chosen a b → length (pick s a b) < 17 + chosen.head.size → AreDamaged a b
+spoiled_from s chosen a b which is cut = spoiled_damaged chosen a b is (subst (λ (t : Bool). length (pick t a b) < 17 + chosen.head.size) (sym which) cut)
 
 pub only_within : (file : List ℕ) (images others : List ℕ → Type 0) → Only file images → Within others images → Only file others
 only_within file images others only within = record { no_other = λ other is. only.no_other other (within other is) }

@@ -4,3 +4,4 @@ pub mod HeldLemmas
 pub mod ReadLemmas
 pub mod WriteLemmas
 pub mod MomentLemmas
+pub mod WorkedLemmas

@@ -5,5 +5,6 @@ pub mod Keeping
 pub mod Course
 pub mod Opening
 pub mod Lives
+pub mod Worked
 pub mod lemmas
 pub mod inner

@@ -1,20 +1,57 @@
 //! Laws of the definitions that the contracts of this crate cite.
 
-ghost use Rattle.std.specs.Prelude.{◌≡◌, ◌⊎◌, ◌≤◌, ℕ, Bool, List, Result, Ok, Err, IsTrue};
+ghost use Rattle.std.specs.Prelude.{◌≡◌, ◌⊎◌, ◌≤◌, ◌-◌, ◌^◌, ℕ, Bool, true, false, List, [], ◌∷◌, Result, Ok, Err, IsTrue, length};
 ghost use Rattle.ic_frames.specs.declared.faults.KeepFault.{KeepFault};
+ghost use Rattle.ic_frames.specs.declared.faults.KeepFault.TheVariants as keep;
+ghost use Rattle.ic_frames.specs.declared.faults.OpenCause.{OpenCause};
+ghost use Rattle.ic_frames.specs.declared.faults.OpenCause.TheVariants as opening;
 ghost use Rattle.ic_kept.specs.Course.{Course, HoldOneOf, IsKeep, Leads, LeftInCourse, LeftOnWay, Way, last_refused, one_more};
-ghost use Rattle.ic_kept.specs.Held.{Hold, HoldEither};
-ghost use Rattle.ic_kept.specs.Keeper.{Keeps, KeepsModel, newest_of, other_of};
+ghost use Rattle.ic_kept.specs.Held.{Answers, Hold, HoldEither};
+ghost use Rattle.ic_kept.specs.Keeper.{Keeps, KeepsModel, is_broken, newest_of, number_of, other_of};
+ghost use Rattle.ic_kept.specs.Keeping.{FaultLeaves};
 ghost use Rattle.ic_kept.specs.Lives.{Lives};
+ghost use Rattle.ic_kept.specs.Sheet.{IsNewest};
+ghost use Rattle.ic_kept.specs.Worked.{file_by_hand};
+ghost use Rattle.ic_kept.specs.declared.head.TheConstants.{HEAD};
 
 use crate::Keeper;
 use ic_disk::Disk;
+
+/// The fields of a file, by one that is written by hand.
+pub fn a_file_by_hand()
+    ensures newest { IsNewest 258 (5 ∷ 6 ∷ 7 ∷ []) file_by_hand }
+    ensures lengths { (length file_by_hand ≡ 21) × (HEAD ≡ 17) }
+{}
 
 /// Two files hold one state at most.
 pub fn one_state_is_held()
     ensures { (state other first second : List ℕ) → Hold state first second
         → Hold other first second → state ≡ other }
 {}
+
+/// Files that are refused for what stands in them hold no state, and only one refusal is that of two files.
+pub fn what_is_refused_holds_no_state()
+    ensures none { (cause : OpenCause) (state first second : List ℕ) → Answers cause first second
+        → Hold state first second → (cause ≡ opening.Device) ⊎ (cause ≡ opening.Memory) }
+    ensures shut { (first second : List ℕ) → Answers opening.NoSlot first second
+        → ¬ Answers opening.TwoAlike first second × ¬ Answers opening.Damaged first second }
+    ensures alike { (first second : List ℕ) → Answers opening.TwoAlike first second
+        → ¬ Answers opening.Damaged first second }
+{}
+
+/// Which refusal of a keep comes when. Where none comes, no disk has failed.
+pub fn keeps_are_refused_so<D: Disk>(keeper: &Keeper<D>)
+    ensures broken { (new : Keeper D) → FaultLeaves {T = Unit {0}} (Err keep.Broken) keeper.now new
+        → (is_broken keeper.now ≡ true) × (new ≡ keeper.now) }
+    ensures worn { (new : Keeper D) → FaultLeaves {T = Unit {0}} (Err keep.Worn) keeper.now new
+        → (is_broken keeper.now ≡ false) × (number_of keeper.now ≡ 2 ^ 64 - 1) × (new ≡ keeper.now) }
+    ensures device { (new : Keeper D) → FaultLeaves {T = Unit {0}} (Err keep.Device) keeper.now new
+        → (is_broken keeper.now ≡ false) × (is_broken new ≡ true) }
+    ensures kept { (new : Keeper D) → FaultLeaves (Ok tt) keeper.now new
+        → (is_broken keeper.now ≡ false) × (is_broken new ≡ false) }
+{
+    let _ = keeper;
+}
 
 /// Files that hold the one state or the next hold one of them and nothing else, whichever file is called the first.
 pub fn one_of_two_is_held()

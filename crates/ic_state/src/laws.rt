@@ -1,7 +1,8 @@
 //! Laws of the definitions that the contracts of this crate cite.
 
-ghost use Rattle.std.specs.Prelude.{◌≡◌, ℕ, List, length};
-ghost use Rattle.ic_state.specs.State.{Kept, IsKept, state_bytes};
+ghost use Rattle.std.specs.Prelude.{◌≡◌, ℕ, List, true, length};
+ghost use Rattle.ic_state.specs.State.{Kept, IsHeadOf, IsKept, state_bytes};
+ghost use Rattle.ic_state.specs.declared.state.StateHead.{StateHead};
 ghost use Rattle.ic_state.specs.Worked.{begun_by_hand, ended_by_hand, joins_begun, joins_ended};
 
 /// Two states with the same bytes are the same state.
@@ -15,5 +16,8 @@ pub fn each_state_has_its_own_bytes()
 pub fn a_state_by_hand()
     ensures begun { state_bytes joins_begun ≡ begun_by_hand }
     ensures ended { state_bytes joins_ended ≡ ended_by_hand }
+    ensures kept { IsKept joins_begun × IsKept joins_ended }
+    ensures head { (head : StateHead) → IsHeadOf head joins_ended → (head.interactions ≡ 1)
+        × (head.ended ≡ true) × (head.rules ≡ 1) × (head.words ≡ 1) × (head.millis ≡ 1027) }
     ensures lengths { (length begun_by_hand ≡ 130) × (length ended_by_hand ≡ 98) }
 {}
