@@ -1,5 +1,5 @@
 -- The worked example, by computing.
-use Rattle.std.proofs.Common.{◌≡◌, refl, arith}
+use Rattle.std.proofs.Common.{◌≡◌, refl}
 use Rattle.ic_kept.specs.Sheet.{number, size}
 use Rattle.ic_kept.specs.Worked.{file_by_hand}
 

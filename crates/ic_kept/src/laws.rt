@@ -47,7 +47,7 @@ pub fn keeps_are_refused_so<D: Disk>(keeper: &Keeper<D>)
         → (is_broken keeper.now ≡ false) × (number_of keeper.now ≡ 2 ^ 64 - 1) × (new ≡ keeper.now) }
     ensures device { (new : Keeper D) → FaultLeaves {T = Unit {0}} (Err keep.Device) keeper.now new
         → (is_broken keeper.now ≡ false) × (is_broken new ≡ true) }
-    ensures kept { (new : Keeper D) → FaultLeaves (Ok tt) keeper.now new
+    ensures kept { (new : Keeper D) → FaultLeaves {T = Unit {0}} (Ok tt) keeper.now new
         → (is_broken keeper.now ≡ false) × (is_broken new ≡ false) }
 {
     let _ = keeper;

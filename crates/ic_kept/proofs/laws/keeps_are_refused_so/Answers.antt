@@ -4,8 +4,8 @@ use Rattle.ic_frames.specs.declared.faults.KeepFault.TheVariants.{Broken, Worn, 
 use Rattle.ic_kept.proofs.laws.keeps_are_refused_so.Goals as goal
 
 not_true : (b : Bool) → (b ≡ true → ⊥) → b ≡ false
-not_true true no = absurd (no refl)
-not_true false no = refl
+not_true true other = absurd (other refl)
+not_true false other = refl
 
 device_is_not_broken : ◌≢◌ {A = Result (Unit {0}) KeepFault} (Err Device) (Err Broken)
 device_is_not_broken = λ same. cc

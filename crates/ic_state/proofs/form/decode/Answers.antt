@@ -1,6 +1,5 @@
-use Rattle.std.proofs.Common.{◌≡◌, ◌∙◌, ◌*◌, ◌<◌, ℕ, List, length, get_or, sym, ap, subst, arith}
+use Rattle.std.proofs.Common.{◌∙◌, ◌*◌, ◌<◌, ℕ, length, subst, arith}
 use Rattle.std.proofs.lemmas.Result.{err_from_is_err_and}
-use Rattle.ic_state.specs.declared.form.TheConstants.{FORMAT}
 use Rattle.ic_state.proofs.StateLemmas.{too_short, format_is, ended_is, rules_fit, words_fit, read_at}
 use Rattle.ic_state.proofs.form.decode.Goals.{then-index-ne-FORMAT-via-then-index-ne-FORMAT, then-index-ne-FORMAT-via-else-index-ne-FORMAT+then-index-gt1}
 use Rattle.ic_state.proofs.form.decode.Goals as goal
