@@ -5,7 +5,7 @@ ghost use Rattle.std.specs.Str.{bytes_eq};
 ghost use Rattle.ic_batch.specs.Jobs.{names};
 
 use crate::scripts::read_file;
-use crate::{NotedDisk, open_disk};
+use crate::{Making, NotedDisk, open_disk};
 use ic_batch::{BatchFault, JobsFault, NewJob, read_jobs};
 use ic_book::{Book, OpenCause, OpenFault};
 use ic_causes::{NotedOutput, Notes};
@@ -17,25 +17,31 @@ use std::io;
 use std::sync::Wait;
 use std::thread::Threads;
 
+/// The paths of a disk and of a file of lines.
+#[derive(Clone, Copy, Debug)]
+pub(crate) struct Files<'a> {
+    pub(crate) disk: &'a str,
+    pub(crate) lines: &'a str,
+}
+
 /// Brings the jobs of the lines in a file to their ends, over the disk in another one, which is made
-/// where it is missing. The numbers are the most rounds of a job, the most workers of a round, and
-/// after how many rounds they are kept. Where the lines can't be read, why is appended to `told`.
+/// where it is missing, each by so many rounds at most. Where the lines can't be read, why is appended to `told`.
 pub(crate) fn batch<T: Threads + Wait + Copy + Send + 'static>(
     rt: &HostRuntime,
     threads: &T,
-    disk: &str,
-    lines: &str,
-    numbers: [u64; 3],
+    files: Files<'_>,
+    most: u64,
+    making: Making,
     notes: &Notes,
     told: &mut Vec<u8>,
 ) -> Result<(), Failure> {
-    let text = lines_of(rt, lines, told).map_err(Failure::Jobs)?;
+    let text = lines_of(rt, files.lines, told).map_err(Failure::Jobs)?;
     let jobs = match read_jobs(rt.alloc(), &text) {
         Ok(jobs) => jobs,
         Err(fault) => return Err(Failure::Jobs(fault)),
     };
-    let book = made_book(rt, disk, notes)?;
-    bring(rt, threads, book, &jobs, numbers, notes).map_err(Failure::Batch)
+    let book = made_book(rt, files.disk, notes)?;
+    bring(rt, threads, book, &jobs, most, making, notes).map_err(Failure::Batch)
 }
 
 /// The bytes of the file of lines.
@@ -82,12 +88,12 @@ fn bring<T: Threads + Wait + Copy + Send + 'static>(
     threads: &T,
     mut book: Book<NotedDisk<'_>>,
     jobs: &[NewJob],
-    numbers: [u64; 3],
+    most: u64,
+    making: Making,
     notes: &Notes,
 ) -> Result<(), BatchFault>
     requires { IsDistinct bytes_eq (names jobs.now) }
 {
-    let [most, workers, every] = numbers;
     let progress = Progress::new(rt);
     let mut output = WipedFirst::new(&progress, NotedOutput::new(io::writer(rt), notes));
     let brought = ic_batch::batch(
@@ -96,8 +102,8 @@ fn bring<T: Threads + Wait + Copy + Send + 'static>(
         &mut book,
         jobs,
         most,
-        workers.max(1) as usize,
-        every.max(1),
+        making.workers.max(1) as usize,
+        u64::from(making.every.max(1)),
         &progress,
         &mut output,
     );

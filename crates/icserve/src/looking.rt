@@ -14,28 +14,15 @@ use std::thread::Threads;
 /// configuration, the one before a refused round only with `partial`. A stuck pair is told on standard error.
 pub(crate) fn reduce<T: Threads + Wait, R: Read>(
     rt: &HostRuntime,
-    threads: &T,
-    numbers: [u64; 2],
+    maker: &Workers<'_, T>,
+    rounds: u64,
     partial: bool,
     input: &mut R,
     notes: &Notes,
     told: &mut Vec<u8>,
 ) -> Result<(), Failure> {
-    let [rounds, workers] = numbers;
     let mut output = NotedOutput::new(io::writer(rt), notes);
-    let maker = Workers {
-        rt: threads,
-        count: workers as usize,
-    };
-    let reduced = reduce_stream(
-        rt.alloc(),
-        &maker,
-        rounds,
-        partial,
-        input,
-        &mut output,
-        told,
-    );
+    let reduced = reduce_stream(rt.alloc(), maker, rounds, partial, input, &mut output, told);
     match reduced.map_err(Failure::Stream)? {
         Reduction::NotDone => Err(Failure::NotDone),
         Reduction::Refused(refusal) => Err(Failure::Round(refusal)),

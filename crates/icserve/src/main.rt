@@ -28,6 +28,7 @@ use crate::standing::stand_ins;
 use crate::standstill::tell_of_jobs;
 use ic_args::{Task, TextLimits, TextWord, WordsFault, read_words};
 use ic_book::{Book, BookFault, OpenCause, OpenFault};
+use ic_by_rounds::Workers;
 use ic_causes::{NotedFile, NotedFiles, NotedInput, NotedOutput, Notes, Target};
 use ic_diagnostics::{once_telling, settle_telling};
 use ic_disk::{DiskFault, FileDisk};
@@ -195,8 +196,11 @@ fn run<T: Threads + Wait + Copy + Send + Sync + 'static, R: Read>(
             explain,
         } => {
             let book = open(rt, disk.as_str(), notes)?;
-            let numbers = [*workers, *every];
-            serve(rt, threads, book, input, numbers, *explain, notes).map_err(Failure::Serve)
+            let making = Making {
+                workers: *workers,
+                every: *every,
+            };
+            serve(rt, threads, book, input, making, *explain, notes).map_err(Failure::Serve)
         }
         Task::Create { .. } | Task::Dump { .. } | Task::Inspect { .. } => on_disk(
             rt, threads, task, notes, told,
@@ -245,8 +249,11 @@ fn on_text<T: Threads + Wait, R: Read>(
             partial,
             ..
         } => {
-            let numbers = [*rounds, u64::from(*workers)];
-            looking::reduce(rt, threads, numbers, *partial, input, notes, told)
+            let maker = Workers {
+                rt: threads,
+                count: *workers as usize,
+            };
+            looking::reduce(rt, &maker, *rounds, *partial, input, notes, told)
         }
         Task::Trace { rounds, format, .. } => {
             looking::trace(rt, *rounds, *format, input, notes, told)
@@ -364,8 +371,12 @@ fn on_disk<T: Threads + Wait + Copy + Send + Sync + 'static>(
             workers,
             scripts,
         } => {
-            let numbers = [*runners, *turns, *workers];
-            attend(rt, threads, disk.as_str(), scripts, numbers, notes, told)
+            let clients = Clients {
+                runners: *runners,
+                turns: *turns,
+                workers: *workers,
+            };
+            attend(rt, threads, disk.as_str(), scripts, clients, notes, told)
         }
         Task::Batch {
             disk,
@@ -374,12 +385,26 @@ fn on_disk<T: Threads + Wait + Copy + Send + Sync + 'static>(
             workers,
             lines,
         } => {
-            let numbers = [*rounds, u64::from(*workers), u64::from(*every)];
-            let (disk, lines) = (disk.as_str(), lines.as_str());
-            batching::batch(rt, threads, disk, lines, numbers, notes, told)
+            let making = Making {
+                workers: *workers,
+                every: *every,
+            };
+            let files = batching::Files {
+                disk: disk.as_str(),
+                lines: lines.as_str(),
+            };
+            batching::batch(rt, threads, files, *rounds, making, notes, told)
         }
         _ => Ok(()),
     }
+}
+
+/// How many runners make rounds beside the clients, how many turns each has, and how many workers a round.
+#[derive(Clone, Copy, Debug)]
+struct Clients {
+    runners: u32,
+    turns: u32,
+    workers: u32,
 }
 
 /// Gives the scripts in these files to the disk in the file of this path.
@@ -388,13 +413,13 @@ fn attend<T: Threads + Wait + Sync>(
     threads: &T,
     path: &str,
     scripts: &[String],
-    numbers: [u32; 3],
+    clients: Clients,
     notes: &Notes,
     told: &mut Vec<u8>,
 ) -> Result<(), Failure> {
     let scripts = scripts::read_scripts(rt, scripts, told).map_err(Failure::Attend)?;
     let disk = open_disk(rt, path, false, notes)?;
-    let given = give(rt, threads, disk, scripts, numbers, notes);
+    let given = give(rt, threads, disk, scripts, clients, notes);
     if matches!(given, Err(ScriptsFault::Book(BookFault::LogFull))) {
         let _ = told.extend_from_slice(scripts::FULL);
     }
@@ -501,6 +526,13 @@ fn open<'a>(
     }
 }
 
+/// By how many workers a round is made, and after how many rounds they are kept.
+#[derive(Clone, Copy, Debug)]
+pub(crate) struct Making {
+    pub(crate) workers: u32,
+    pub(crate) every: u32,
+}
+
 /// Serves the lines of an input over the book, and closes it. Answers to lines that were read together are
 /// written together; every answer is flushed before the input is waited for, and also where the serving ended at a fault.
 /// Standard error is told at the first line with a fault how to learn more, unless faults are explained there. If they
@@ -510,13 +542,12 @@ fn serve<T: Threads + Wait + Copy + Send + 'static, R: Read>(
     threads: &T,
     mut book: Book<NotedDisk<'_>>,
     input: &mut R,
-    numbers: [u32; 2],
+    making: Making,
     explains: bool,
     notes: &Notes,
 ) -> Result<(), ServeFault> {
-    let [workers, every] = numbers;
-    let workers = workers.max(1) as usize;
-    let every = u64::from(every.max(1));
+    let workers = making.workers.max(1) as usize;
+    let every = u64::from(making.every.max(1));
     let progress = Progress::new(rt);
     let output = WipedFirst::new(&progress, NotedOutput::new(io::writer(rt), notes));
     let output = Answers::new(rt, output, explains);
@@ -553,11 +584,10 @@ fn give<T: Threads + Wait + Sync>(
     threads: &T,
     disk: NotedDisk<'_>,
     scripts: Vec<Vec<Command>>,
-    numbers: [u32; 3],
+    clients: Clients,
     notes: &Notes,
 ) -> Result<(), ScriptsFault> {
-    let [runners, turns, workers] = numbers;
-    crate::scripts::tell_of_room(rt, &scripts, runners, turns);
+    crate::scripts::tell_of_room(rt, &scripts, clients.runners, clients.turns);
     let progress = Progress::new(rt);
     let output = WipedFirst::new(&progress, NotedOutput::new(io::writer(rt), notes));
     let Ok(mut output) = BufWriter::with_capacity(rt.alloc(), ANSWERS, output) else {
@@ -568,9 +598,9 @@ fn give<T: Threads + Wait + Sync>(
         rt.alloc(),
         disk,
         scripts,
-        runners as usize,
-        turns as usize,
-        workers as usize,
+        clients.runners as usize,
+        clients.turns as usize,
+        clients.workers as usize,
         &progress,
         &mut output,
     );
