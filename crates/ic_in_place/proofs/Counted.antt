@@ -2,7 +2,7 @@
 use Rattle.std.proofs.Common.{◌≡◌, ℕ, zero, suc, ◌+◌, ◌<◌, ◌≤◌, ◌==◌, List, [], ◌∷◌, Bool, true, false, cond, ne_eqb, eq-eqb, length, map, count_by, slice_index_or, refl, sym, ap, ◌∙◌, add-zero, zero-add, arith}
 use Rattle.std.specs.List.{AllByRecursion}
 use Rattle.std.proofs.lemmas.List.Sums.{sum_by-cons}
-use Rattle.ic_in_place.specs.inner.Summing.{sum_from}
+use Rattle.ic_in_place.specs.Summing.{sum_from}
 
 -- the same by a function in place of a list
 abbrev over : ℕ → List ℕ → (ℕ → ℕ) → ℕ → ℕ

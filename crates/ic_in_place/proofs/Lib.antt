@@ -20,3 +20,4 @@ pub mod AtPlaces
 pub mod Bijections
 pub mod Renumbering
 pub mod LowNames
+pub mod Alike

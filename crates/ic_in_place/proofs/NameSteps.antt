@@ -1,5 +1,5 @@
 -- Lemmas: how many steps put a term for a name, by the equations that there are.
-use Rattle.std.proofs.Common.{◌≡◌, ◌≢◌, ℕ, zero, suc, ◌+◌, ◌*◌, ◌^◌, ◌<◌, ◌≤◌, ◌==◌, ◌&&◌, List, [], ◌∷◌, ◌++◌, Bool, true, false, cond, Option, None, Some, IsTrue, drop, length, map, sum_by, count_by, slice_get, slice_index_or, refl, sym, ap, ◌∙◌, arith, zero-add, subst as transport}
+use Rattle.std.proofs.Common.{◌≡◌, ◌≢◌, ℕ, zero, suc, ◌+◌, ◌*◌, ◌^◌, ◌<◌, ◌≤◌, ◌==◌, List, [], ◌∷◌, ◌++◌, Bool, true, cond, Option, None, Some, IsTrue, drop, length, map, sum_by, count_by, slice_get, slice_index_or, refl, sym, ap, ◌∙◌, arith, zero-add, subst as transport}
 use Rattle.std.specs.Prelude.{IsPermutation, SomeIff}
 use Rattle.std.specs.List.{AllByRecursion, list_all}
 use Rattle.std.specs.Option.{option_map_or}
@@ -30,7 +30,7 @@ use Rattle.ic_reaching.specs.Reaching.{Reaches, rules_fired}
 use Rattle.ic_in_place.specs.Counting.{AreCounts, AreNameSteps, TellsNameSteps, arguments_at, name_steps}
 use Rattle.ic_in_place.specs.declared.running.End.{End}
 use Rattle.ic_in_place.specs.declared.running.End.TheVariants.{Quiet, Steps, Nodes, Limit, Memory}
-use Rattle.ic_in_place.specs.inner.Summing.{made_from}
+use Rattle.ic_in_place.specs.Summing.{made_from}
 
 -- how many arguments a rule has, and the one at a place
 abbrev pub size : Rule → ℕ

@@ -1,5 +1,5 @@
 -- Lemmas: where an answer is put together, no term can be put for a name.
-use Rattle.std.proofs.Common.{◌≡◌, ◌⊎◌, ℕ, zero, suc, ◌+◌, ◌≤◌, ◌==◌, inl, inr, List, [], ◌∷◌, ◌++◌, Bool, true, false, cond, true≢false, refl, sym, ap, ◌∙◌, arith, subst as transport}
+use Rattle.std.proofs.Common.{◌≡◌, ◌⊎◌, ℕ, ◌+◌, ◌≤◌, ◌==◌, inl, inr, List, [], ◌∷◌, ◌++◌, Bool, true, false, cond, refl, sym, ap, ◌∙◌, arith, subst as transport}
 use Rattle.std.proofs.lemmas.Bool.{eq-eqb}
 use Rattle.std.proofs.lemmas.List.Sums.{sum_by-cons}
 use Rattle.std.specs.Cmp.{unsigned_Decides}
@@ -7,7 +7,7 @@ use Rattle.std.specs.List.{AllByRecursion}
 use Rattle.ic_term.specs.Tree.{Tree, name, agent, names, Pair, pair_names}
 use Rattle.ic_term.specs.Configuration.{Configuration, configuration_names, names_in, occurrences}
 use Rattle.ic_settle.specs.NameSteps.{Binds, NameStep}
-use Rattle.ic_settle.specs.Settling.{Binding, occurs}
+use Rattle.ic_settle.specs.Settling.{Binding}
 use Rattle.ic_settle.specs.lemmas.MiddleLaws.{occurrences-middle}
 use Rattle.ic_settle.specs.lemmas.SubstitutionLaws.{occurrences-append, occurrences_some}
 use Rattle.ic_round.specs.Naming.{HasNames}

@@ -5,7 +5,7 @@ use Rattle.ic_machine.specs.Plan.{Plans}
 use Rattle.ic_in_place.specs.declared.running.End.{End}
 use Rattle.ic_in_place.specs.declared.running.End.TheVariants.{Steps, Nodes}
 use Rattle.ic_in_place.specs.declared.running.TheConstants.{PIECE}
-use Rattle.ic_in_place.specs.inner.Running.{RunsOn, IsLookedAt}
+use Rattle.ic_in_place.specs.Running.{RunsOn, IsLookedAt}
 
 -- a piece that ended before its steps were made
 pub ended_before : (p : Plans) (all left steps : ℕ) (end : End) (first old new : Net) → old.interactions + left ≡ first.interactions + all → steps ≤ left

@@ -16,17 +16,16 @@ use Rattle.ic_in_place.specs.declared.running.Bounds.{Bounds}
 use Rattle.ic_in_place.specs.declared.running.End.{End}
 use Rattle.ic_in_place.specs.declared.running.End.TheVariants.{Quiet, Steps, Nodes, Limit, Memory}
 use Rattle.ic_in_place.specs.Holding.{AreGiven, AreCompiled, HasRun, Holds}
-use Rattle.ic_in_place.specs.Running.{IsWatched}
-use Rattle.ic_in_place.specs.inner.Running.{RunsOn, IsLookedAt}
+use Rattle.ic_in_place.specs.Running.{IsLookedAt, IsWatched, RunsOn}
 use Rattle.ic_in_place.proofs.Counted.{summed_told}
-use Rattle.ic_in_place.specs.inner.Summing.{IsSummed}
+use Rattle.ic_in_place.specs.Summing.{IsSummed}
 use Rattle.ic_in_place.proofs.Onward.{all_of_both, looked_ran, ran_nothing, ran_nothing-fired, ran_through, ran_through-fired}
 use Rattle.ic_machine.specs.lemmas.RunsOn.{ran_steps}
 use Rattle.ic_arena.specs.Piece.{Piece}
 use Rattle.ic_machine.specs.Steps.{Step, Steps as StepsOf, no_step, one_more, turns, puts, meets, joins, fires}
 use Rattle.std.proofs.lemmas.List.Sums.{count_by-le-length}
 use Rattle.std.proofs.lemmas.Option.{slice_get_within}
-use Rattle.ic_in_place.specs.inner.Stopping.{arities_of, IsSound, IsBegun, StopsBy, HasStopped}
+use Rattle.ic_in_place.specs.Stopping.{arities_of, IsSound, IsBegun, StopsBy, HasCome, HasStopped}
 
 pub names_of_configuration : (c : Configuration) → IsWide c → HasNames c
 names_of_configuration c is = record { below = is.below; twice = is.twice }
@@ -58,16 +57,17 @@ pub record StopLaws : Type 0 where
       → IsRuleSet rs → IsTrue (is_over rs.symbols c) → HasNames c → AreCompiled rs numbers p c given plan operands
       → (run : HasRun p (length given) plan operands m) → Holds rs p c given (map (rule_number numbers) run.ran.fired) m
 
-by_end : (bounds : Bounds) (p : Plans) (old m : Net) (end : End) → old.interactions ≡ 0
-    → RunsOn p bounds.steps end old m → (end ≡ Nodes → bounds.nodes < all_entries m) → (end ≡ Nodes → IsLookedAt p old m)
+-- a run that goes on, by as many interactions as are left of those that may be made, stops by the bounds of all
+pub by_end : (bounds : Bounds) (steps : ℕ) (p : Plans) (old m : Net) (end : End) → bounds.steps ≡ old.interactions + steps
+    → RunsOn p steps end old m → (end ≡ Nodes → bounds.nodes < all_entries m) → (end ≡ Nodes → IsLookedAt p old m)
     → StopsBy bounds p m end
-by_end bounds p old m Quiet none runs nodes looked = runs.quiet refl
-by_end bounds p old m Steps none runs nodes looked = let all = runs.all refl in (omega (arith, all, none), runs.more refl)
-by_end bounds p old m Nodes none runs nodes looked =
+by_end bounds steps p old m Quiet all runs nodes looked = runs.quiet refl
+by_end bounds steps p old m Steps all runs nodes looked = let made = runs.all refl in (omega (arith, made, all), runs.more refl)
+by_end bounds steps p old m Nodes all runs nodes looked =
     let at : IsLookedAt p old m = looked refl in
-    (nodes refl, omega (arith, none, runs.early refl), (at.looks, omega (arith, at.whole, none)), at.more)
-by_end bounds p old m Limit none runs nodes looked = (omega (arith, none, runs.limited refl), runs.full refl)
-by_end bounds p old m Memory none runs nodes looked = runs.left refl
+    (nodes refl, omega (arith, all, runs.early refl), at.more)
+by_end bounds steps p old m Limit all runs nodes looked = (omega (arith, all, runs.limited refl), runs.full refl)
+by_end bounds steps p old m Memory all runs nodes looked = runs.left refl
 
 -- each plan that fired is there
 known_step : (p : Plans) (xs ys : List Piece) (fired : List ℕ) → Step p fired xs ys → AllByRecursion (λ i. i < length p.plans) fired
@@ -127,7 +127,7 @@ stopped_so laws s bounds numbers p given plan operands old m end places sound ar
     let by_rules = (λ (i : ℕ). summed_told i numbers m.counts ran.fired (transport (λ (n : ℕ). AllByRecursion (λ k. k < n) ran.fired) (sym numbered) known)
     (λ k there. let before = zeros k in let each = ran.counts.each k (omega (arith, there, numbered, plans_count)) in omega (arith, before, each))) in
     let few = (λ (i : ℕ). count_by-le-length (λ j. j == i) (map (rule_number numbers) ran.fired)) in
-    record {
+    let come : HasCome s bounds given by_rule m end places = record {
       sound = sound;
       below = all_low given stands.names s.config.next (2 ^ 62) sound.next stands.below;
       plans = p;
@@ -137,8 +137,6 @@ stopped_so laws s bounds numbers p given plan operands old m end places sound ar
       compiled = compiled;
       arities = arities;
       own_arities = ran.arities ∙ begun.arities ∙ arities;
-      starts = begun.starts;
-      by_plans = ap (map (rule_number numbers)) (ran_through-fired p old watched.mark m before.0 watched.after ∙ ap (λ l. l ++ watched.after.fired) before.1);
       tables = tables;
       pairs = pairs;
       fired = map (rule_number numbers) ran.fired;
@@ -151,6 +149,13 @@ stopped_so laws s bounds numbers p given plan operands old m end places sound ar
       within = omega (arith, runs.within, begun.none);
       all = all;
       enough = enough;
+      aside = transport (AllByRecursion (IsStuck p)) (sym (ran.aside ∙ ap (λ es. es ++ ran.more) begun.aside)) ran.stuck;
+      ended = by_end bounds bounds.steps p old m end (omega (arith, begun.none)) runs nodes looked;
+    } in
+    record {
+      come = come;
+      starts = begun.starts;
+      by_plans = ap (map (rule_number numbers)) (ran_through-fired p old watched.mark m before.0 watched.after ∙ ap (λ l. l ++ watched.after.fired) before.1);
       first = old;
       begun = transport (λ (f : List ℕ). Holds s.rules p s.config given f old) (ap (map (rule_number numbers)) (ran_nothing-fired p old))
           (laws.reached s.rules numbers p s.config given plan operands old sound.rules sound.over sound.names compiled
@@ -158,6 +163,5 @@ stopped_so laws s bounds numbers p given plan operands old m end places sound ar
       none = begun.none;
       no_aside = begun.aside;
       watched = watched;
-      aside = transport (AllByRecursion (IsStuck p)) (sym (ran.aside ∙ ap (λ es. es ++ ran.more) begun.aside)) ran.stuck;
-      ended = by_end bounds p old m end begun.none runs nodes looked;
+      looked = λ at. let is : IsLookedAt p old m = looked at in (is.looks, omega (arith, is.whole, begun.none));
     }

@@ -1,5 +1,5 @@
 -- Lemmas: what is written of a configuration whose names are numbered anew.
-use Rattle.std.proofs.Common.{◌≡◌, ℕ, ◌+◌, List, length, subst as transport, [], ◌∷◌, Option, cond, map, refl, sym, ap, ◌∙◌}
+use Rattle.std.proofs.Common.{◌≡◌, ◌≢◌, ℕ, ◌+◌, List, length, subst as transport, [], ◌∷◌, Option, cond, map, refl, sym, ap, ◌∙◌, arith}
 use Rattle.ic_term.specs.Configuration.{Configuration}
 use Rattle.ic_term.specs.Symbol.{Symbol}
 use Rattle.ic_flat.specs.declared.word.Word.{Word}
@@ -18,6 +18,7 @@ use Rattle.ic_naming.specs.lemmas.RenamedWords.{forest-renamed, whole-renamed, w
 use Rattle.ic_naming.specs.lemmas.Renumbered.{renumbered-written}
 use Rattle.ic_in_place.specs.Reducing.{Writes}
 use Rattle.ic_in_place.specs.declared.stream.Asked.{Asked}
+use Rattle.ic_in_place.specs.declared.stream.Asked.TheVariants.{Answer, AlsoPart, Nothing}
 use Rattle.ic_in_place.specs.inner.Unwritten.{WritesAlike}
 use Rattle.ic_text.specs.declared.limits.TheConstants.{MAX_NAME}
 use Rattle.ic_streams.specs.Streams.{line_of}
@@ -26,6 +27,17 @@ use Rattle.ic_in_place.specs.declared.running.End.TheVariants.{Quiet, Steps, Nod
 use Rattle.ic_in_place.specs.Reductions.{is_written, line_reached, stuck_at}
 use Rattle.ic_in_place.specs.inner.Told.{words_stuck}
 use Rattle.ic_by_rounds.specs.Stuck.{is_of_agents, pair_text, stuck_text}
+
+-- a line that is asked for is written at a quiet end
+pub asked_for : (asked : Asked) → asked ≢ Nothing → (line : List ℕ) → cond (is_written asked Quiet) line [] ≡ line
+asked_for Answer some line = refl
+asked_for AlsoPart some line = refl
+asked_for Nothing some line = absurd (some refl)
+
+-- no equation is left where there are none
+pub nothing_left : (es : List Pair) → length es ≡ 0 → es ≡ []
+nothing_left [] none = refl
+nothing_left (e ∷ es) none = absurd (omega (arith, none))
 
 pub line_so : (asked : Asked) (end : End) (ss other : List Symbol) (ws : List Word) (terms : ℕ) (answer : Configuration) (line : List ℕ)
     → line ≡ cond (is_written asked end) (line_of ss (configuration_of ws terms 0)) [] → ss ≡ other → configuration_of ws terms (MAX_NAME + 1) ≡ renumbered answer

@@ -1,5 +1,7 @@
 pub mod Holding
 pub mod Running
+pub mod Summing
+pub mod Stopping
 pub mod Counting
 pub mod Reducing
 pub mod Reductions

@@ -1,5 +1,5 @@
 -- What a system is reduced to in place (this project's choice).
-use Rattle.std.specs.Prelude.{◌≡◌, ◌⊎◌, ℕ, suc, ◌+◌, ◌*◌, ◌<◌, ◌≤◌, List, [], ◌++◌, IsTrue, length}
+use Rattle.std.specs.Prelude.{◌≡◌, ◌⊎◌, ℕ, suc, ◌+◌, ◌*◌, ◌<◌, ◌≤◌, List, [], ◌++◌, IsTrue, length, sum}
 use Rattle.std.specs.List.{list_all, AllByRecursion}
 use Rattle.ic_term.specs.Tree.{Tree, name, agent, names, Pair}
 use Rattle.ic_term.specs.Configuration.{Configuration, configuration_names, occurrences}
@@ -14,13 +14,16 @@ use Rattle.ic_round.specs.Rounds.{IsQuiet}
 use Rattle.ic_round.specs.Steps.{Interaction}
 use Rattle.ic_reaching.specs.Reaching.{Reaches}
 use Rattle.ic_text.specs.declared.limits.TheConstants.{MAX_NAME}
-use Rattle.ic_machine.specs.Net.{all_entries, equations_left, HasNext}
+use Rattle.ic_reaching.specs.OneNet.{OneNet}
+use Rattle.ic_machine.specs.Net.{Net, all_entries, equations_left, pieces, HasNext, IsAtPlace, IsPair}
+use Rattle.ic_machine.specs.Plan.{Planned, Plans}
+use Rattle.ic_meaning.specs.Nets.{net_of}
 use Rattle.ic_in_place.specs.declared.running.TheConstants.{PIECE}
 use Rattle.ic_in_place.specs.declared.running.Bounds.{Bounds}
 use Rattle.ic_in_place.specs.declared.running.End.{End}
 use Rattle.ic_in_place.specs.declared.running.End.TheVariants.{Quiet, Steps, Nodes, Limit, Memory}
 use Rattle.ic_in_place.specs.Running.{HasPairs, IsFullNext}
-use Rattle.ic_in_place.specs.Holding.{IsHeldAt}
+use Rattle.ic_in_place.specs.Holding.{AreCompiled, Holds, IsHeldAt}
 use Rattle.ic_in_place.specs.Counting.{AreCounts}
 
 -- a term is an agent, or a name that occurs once
@@ -87,6 +90,55 @@ pub record IsReachedBy (s : SystemParts) (bounds : Bounds) (answer : Configurati
   pub equations : left ≡ equations_left reached.held.machine
   pub ends : (end ≡ Quiet) ⊎ (end ≡ Steps) → HasEnds answer left
   pub counts : AreCounts (length s.rules.rules) reached.fired by_rule
+
+-- What an end says of the configuration that was reached and of how many interactions were made, by however many threads.
+abbrev pub StopsAt : List Rule → Bounds → Configuration → ℕ → End → Type 0
+StopsAt rs bounds c interactions Quiet = IsQuiet rs c × IsPutTogether c
+StopsAt rs bounds c interactions Steps =
+    (interactions ≡ bounds.steps) × CanInteract rs c × IsPutTogether c
+StopsAt rs bounds c interactions Nodes = interactions < bounds.steps
+StopsAt rs bounds c interactions Limit = interactions < bounds.steps
+StopsAt rs bounds c interactions Memory = Unit {0}
+
+-- A configuration is reached from that of a system by so many interactions, at most as many as may be made, so many of them by
+-- each rule. This is why no more were made. Where no interaction is possible, or as many were made as may be, so many equations
+-- of the configuration are no circles. Nothing is said of threads, of machines or of places.
+pub record IsComeTo (s : SystemParts) (bounds : Bounds) (answer : Configuration) (end : End)
+    (interactions left : ℕ) (by_rule : List ℕ) : Type 0 where
+  pub fired : List ℕ
+  pub reached : Reaches s.rules.rules s.config answer fired
+  pub counted : interactions ≡ length fired
+  pub within : interactions ≤ bounds.steps
+  pub ended : StopsAt s.rules.rules bounds answer interactions end
+  pub ends : (end ≡ Quiet) ⊎ (end ≡ Steps) → HasEnds answer left
+  pub counts : AreCounts (length s.rules.rules) fired by_rule
+
+-- The machine that held all in the end had so many places, of names and for agents, the free ones too, and so many equations
+-- left. It holds one net with the answer, which is reached by these rules. At a quiet end no equation is pending. Where it
+-- stopped for what it held, places and equations that are left were together more than the bound, and a pair that can fire
+-- was left. Where it stopped at a limit, a table would be full. Where memory ran out, equations were left, and no side of one
+-- is a name of the net.
+pub record HasPlaces (s : SystemParts) (bounds : Bounds) (answer : Configuration) (end : End)
+    (places left : ℕ) (fired : List ℕ) : Type 0 where
+  pub machine : Net
+  pub plans : Plans
+  pub rule_numbers : List ℕ
+  pub given : List ℕ
+  pub plan : Planned
+  pub operands : List ℕ
+  pub compiled : AreCompiled s.rules rule_numbers plans s.config given plan operands
+  pub held : Holds s.rules plans s.config given fired machine
+  pub one_net : OneNet (net_of held.numbers machine.interface (pieces machine)) answer
+  pub all : places ≡ machine.names + sum machine.agents
+  pub enough : length machine.places ≤ places
+  pub tables : AllByRecursion IsAtPlace machine.places
+  pub pairs : AllByRecursion IsPair machine.pending
+  pub equations : left ≡ equations_left machine
+  pub done : end ≡ Quiet → machine.pending ≡ []
+  pub over : end ≡ Nodes → bounds.nodes < all_entries machine
+  pub next : end ≡ Nodes → HasNext plans machine.pending
+  pub full : end ≡ Limit → IsFullNext plans machine
+  pub left_pairs : end ≡ Memory → HasPairs machine.pending
 
 -- Words write a configuration with its names numbered anew, so many of their terms in its interface, and so many equations.
 pub record Writes (symbols : List Symbol) (words : List Word) (terms equations : ℕ)

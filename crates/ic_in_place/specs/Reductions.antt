@@ -16,7 +16,7 @@ use Rattle.ic_streams.specs.Streams.{Answering, line_of}
 use Rattle.ic_streams.specs.declared.fault.StreamFault.TheVariants.{Read, Text, Round, Memory, Write}
 use Rattle.ic_by_rounds.specs.Stuck.{stuck_text}
 use Rattle.ic_in_place.specs.Counting.{TellsNameSteps}
-use Rattle.ic_in_place.specs.Reducing.{IsPutTogether, IsReachedBy}
+use Rattle.ic_in_place.specs.Reducing.{HasPlaces, IsComeTo, IsPutTogether, IsReachedBy}
 use Rattle.ic_in_place.specs.declared.running.Bounds.{Bounds}
 use Rattle.ic_in_place.specs.declared.running.End.{End}
 use Rattle.ic_in_place.specs.declared.running.End.TheVariants as end
@@ -67,6 +67,41 @@ pub record EndsAs (limits : Limits) (bounds : Bounds) (asked : Asked) (input : L
   pub stuck : option_map (λ text. text.items) outcome.stuck
       ≡ stuck_at outcome.end system.rules.symbols answer
   pub rules : arc_value outcome.rules ≡ system.rules
+
+-- The same of a system, whatever text it was read from.
+pub record EndsWatched (s : SystemParts) (bounds : Bounds) (asked : Asked) (outcome : Outcome)
+    (line : List ℕ) : Type 0 where
+  pub answer : Configuration
+  pub rule_set : IsRuleSet s.rules
+  pub over : IsTrue (is_over s.rules.symbols s.config)
+  pub names : HasNames s.config
+  pub reached : IsReachedBy s bounds answer outcome.end outcome.interactions outcome.places
+      outcome.left outcome.by_rule.items
+  pub name_steps : TellsNameSteps s.rules.rules s.config outcome.interactions
+      (length answer.equations) outcome.end outcome.name_steps
+  pub together : is_written asked outcome.end ≡ true → IsPutTogether answer
+  pub prints : line ≡ line_reached asked outcome.end s.rules.symbols answer
+  pub stuck : option_map (λ text. text.items) outcome.stuck
+      ≡ stuck_at outcome.end s.rules.symbols answer
+  pub rules : arc_value outcome.rules ≡ s.rules
+
+-- The same, by however many threads: word for word, but for how the places were watched on the way.
+pub record EndsOf (s : SystemParts) (bounds : Bounds) (asked : Asked) (outcome : Outcome)
+    (line : List ℕ) : Type 0 where
+  pub answer : Configuration
+  pub rule_set : IsRuleSet s.rules
+  pub over : IsTrue (is_over s.rules.symbols s.config)
+  pub names : HasNames s.config
+  pub reached : IsComeTo s bounds answer outcome.end outcome.interactions outcome.left
+      outcome.by_rule.items
+  pub places : HasPlaces s bounds answer outcome.end outcome.places outcome.left reached.fired
+  pub name_steps : TellsNameSteps s.rules.rules s.config outcome.interactions
+      (length answer.equations) outcome.end outcome.name_steps
+  pub together : is_written asked outcome.end ≡ true → IsPutTogether answer
+  pub prints : line ≡ line_reached asked outcome.end s.rules.symbols answer
+  pub stuck : option_map (λ text. text.items) outcome.stuck
+      ≡ stuck_at outcome.end s.rules.symbols answer
+  pub rules : arc_value outcome.rules ≡ s.rules
 
 -- the answers of reducing in place within limits of the text and bounds of the way
 abbrev pub ReducesInPlace : Limits → Bounds → Asked → Answering

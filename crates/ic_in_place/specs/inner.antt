@@ -1,7 +1,4 @@
 -- For private functions. No public clause needs what stands here.
 pub mod Told
 pub mod Unwritten
-pub mod Running
-pub mod Stopping
 pub mod Numbering
-pub mod Summing

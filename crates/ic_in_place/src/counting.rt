@@ -1,14 +1,14 @@
 //! How often each rule fired, by how often its plans did, and how many steps put a term for a name.
 
 ghost use Rattle.std.specs.Prelude.{◌≡◌, ◌+◌, ◌*◌, ◌^◌, ◌<◌, ◌==◌, ◌≢◌, ℕ, None, SomeIff, IfOk, length, min, slice_index_or, if◌then◌else◌};
-ghost use Rattle.ic_in_place.specs.inner.Summing.{IsSummed, made_from};
+ghost use Rattle.ic_in_place.specs.Summing.{IsSummed, made_from};
 
 use crate::running::End;
 use ic_rules::Rule;
 use std::alloc::{AllocError, Global};
 
 /// So many counts of nothing.
-pub(crate) fn no_counts(alloc: Global, rules: usize) -> Result<Vec<u64>, AllocError>
+pub fn no_counts(alloc: Global, rules: usize) -> Result<Vec<u64>, AllocError>
     ensures len { IfOk result (λ counts. length counts.items ≡ rules) }
     ensures zeros { IfOk result (λ counts. (r : ℕ) → slice_index_or counts.items r 0 ≡ 0) }
 {
@@ -20,7 +20,7 @@ pub(crate) fn no_counts(alloc: Global, rules: usize) -> Result<Vec<u64>, AllocEr
 }
 
 /// Counts how often each rule fired, by the rule of each plan and how often that fired.
-pub(crate) fn sum_by_rule(by_rule: &mut Vec<u64>, numbers: &[u32], counts: &[u64])
+pub fn sum_by_rule(by_rule: &mut Vec<u64>, numbers: &[u32], counts: &[u64])
     requires { (r : ℕ) → slice_index_or by_rule.old.items r 0 ≡ 0 }
     ensures { IsSummed (length by_rule.old.items) numbers.now counts.now by_rule.new.items }
 {

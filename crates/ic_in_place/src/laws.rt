@@ -17,7 +17,7 @@ ghost use Rattle.ic_round.specs.Rounds.{IsQuiet, iterate};
 ghost use Rattle.ic_confluence.specs.Kinds.{Kind, Chain};
 ghost use Rattle.ic_reaching.specs.OneNet.{OneNet, SameButNext};
 ghost use Rattle.ic_reaching.specs.Reaching.{Reaches, rules_fired};
-ghost use Rattle.ic_machine.specs.Net.{Net, equations_left, pieces};
+ghost use Rattle.ic_machine.specs.Net.{Net, all_entries, equations_left, pieces};
 ghost use Rattle.ic_machine.specs.Plan.{Planned, Plans};
 ghost use Rattle.ic_machine.specs.Runs.{Ran};
 ghost use Rattle.ic_meaning.specs.Nets.{net_of};
@@ -32,8 +32,10 @@ ghost use Rattle.ic_in_place.specs.declared.stream.Outcome.{Outcome};
 ghost use Rattle.ic_in_place.specs.Agents.{agents_with_arguments};
 ghost use Rattle.ic_in_place.specs.Counting.{AreCounts, AreNameSteps, TellsNameSteps, arguments_at, name_steps};
 ghost use Rattle.ic_in_place.specs.Reducing.{IsPutTogether, IsReached, IsReachedBy};
-ghost use Rattle.ic_in_place.specs.Reductions.{EndsAs};
+ghost use Rattle.ic_in_place.specs.Reductions.{EndsAs, EndsOf, EndsWatched};
 ghost use Rattle.ic_in_place.specs.Holding.{AreCompiled, HasRun, Holds, HasEnded};
+ghost use Rattle.ic_in_place.specs.Running.{IsLookedAt, RunsOn};
+ghost use Rattle.ic_in_place.specs.Stopping.{StopsBy};
 
 /// Runs go on: what a run leads to, and what a run from there leads to.
 pub fn runs_go_on()
@@ -279,3 +281,98 @@ pub fn a_line_is_the_net_of_every_order()
     a_quiet_end_is_that_of_every_order();
     without_equations_every_order_has_one_text();
 }
+
+/// What is told of a system that one thread reduces is what is told of it where several do, word for word. Beside that it is
+/// told of one thread how its places were watched on the way.
+pub fn one_thread_tells_what_several_tell()
+    ensures { (s : SystemParts) (bounds : Bounds) (asked : Asked) (outcome : Outcome)
+        (line : List ℕ) → EndsWatched s bounds asked outcome line
+        → EndsOf s bounds asked outcome line }
+{}
+
+/// Where a reduction ends quiet, by one thread or by several, its answer is the net of every order: each chain of steps that
+/// ends quiet ends in it, with as many interactions, of each rule too. If its line is asked for, it is that of this answer.
+pub fn by_however_many_threads_the_end_is_that_of_every_order()
+    ensures net { (s : SystemParts) (bounds : Bounds) (asked : Asked) (outcome : Outcome)
+        (line : List ℕ) (e : Configuration) (kinds : List Kind)
+        → (is : EndsOf s bounds asked outcome line) → outcome.end ≡ Quiet
+        → Chain s.rules.rules kinds s.config e → IsQuiet s.rules.rules e
+        → OneNet is.answer e × (length (rules_fired kinds) ≡ outcome.interactions) }
+    ensures by_rule { (s : SystemParts) (bounds : Bounds) (asked : Asked) (outcome : Outcome)
+        (line : List ℕ) (e : Configuration) (kinds : List Kind)
+        → EndsOf s bounds asked outcome line → outcome.end ≡ Quiet
+        → Chain s.rules.rules kinds s.config e → IsQuiet s.rules.rules e
+        → AreCounts (length s.rules.rules) (rules_fired kinds) outcome.by_rule.items }
+    ensures line { (s : SystemParts) (bounds : Bounds) (asked : Asked) (outcome : Outcome)
+        (line : List ℕ) → (is : EndsOf s bounds asked outcome line) → outcome.end ≡ Quiet
+        → asked ≢ Nothing → line ≡ line_of s.rules.symbols (renumbered is.answer) }
+{
+    ic_reaching::laws::what_is_reached_is_one_net();
+    ic_reaching::laws::what_is_reached_goes_on();
+    ic_reaching::laws::what_is_reached_quiet_is_the_end_of_every_order();
+}
+
+/// Where a text is reduced to a quiet end, by one thread or by several, and its line is asked for, this is the line of a
+/// configuration that is the same net as the end of any order, wherever fresh names begin. Where no equation is left in that
+/// net, the line is written as the end of any order is. Some number of rounds ends quiet, too.
+pub fn a_line_of_however_many_threads_is_the_net_of_every_order()
+    ensures written { (limits : Limits) (bounds : Bounds) (asked : Asked) (input line : List ℕ)
+        (outcome : Outcome) (s : SystemParts) (e : Configuration) (kinds : List Kind)
+        → ReadsSystemWithin limits input (Ok s) → EndsOf s bounds asked outcome line
+        → outcome.end ≡ Quiet → asked ≢ Nothing
+        → Chain s.rules.rules kinds s.config e → IsQuiet s.rules.rules e
+        → (written : Configuration) × (line ≡ line_of s.rules.symbols written)
+        × SameButNext written e }
+    ensures text { (limits : Limits) (bounds : Bounds) (asked : Asked) (input line : List ℕ)
+        (outcome : Outcome) (s : SystemParts) (e : Configuration) (kinds : List Kind)
+        → ReadsSystemWithin limits input (Ok s) → EndsOf s bounds asked outcome line
+        → outcome.end ≡ Quiet → asked ≢ Nothing
+        → Chain s.rules.rules kinds s.config e → IsQuiet s.rules.rules e → e.equations ≡ []
+        → line ≡ line_of s.rules.symbols (renumbered e) }
+    ensures rounds { (s : SystemParts) (bounds : Bounds) (asked : Asked) (outcome : Outcome)
+        (line : List ℕ) → EndsOf s bounds asked outcome line → outcome.end ≡ Quiet
+        → (n : ℕ) × IsQuiet s.rules.rules (iterate s.rules.rules n s.config) }
+{
+    ic_confluence::laws::same_nets_have_one_shape();
+    ic_naming::laws::what_is_renumbered_forgets_names();
+    ic_reaching::laws::what_is_reached_quiet_is_the_end_of_every_order();
+    ic_reaching::laws::where_names_begin_is_all_that_differs();
+    ic_reaching::laws::where_names_begin_is_no_matter();
+    ic_reaching::laws::free_names_stay();
+    a_renumbered_net_is_the_same_net();
+    by_however_many_threads_the_end_is_that_of_every_order();
+}
+
+/// What a stop says, by one thread or by several. No more interactions were made than may be, and those of each rule are
+/// together all. Where as many were made, one more is possible. Where places and equations that are left were too many, or a
+/// table would be full, fewer were made than may be.
+pub fn what_a_stop_says_by_however_many_threads()
+    ensures within { (s : SystemParts) (bounds : Bounds) (asked : Asked) (outcome : Outcome)
+        (line : List ℕ) → EndsOf s bounds asked outcome line
+        → outcome.interactions ≤ bounds.steps }
+    ensures by_rule { (s : SystemParts) (bounds : Bounds) (asked : Asked) (outcome : Outcome)
+        (line : List ℕ) → EndsOf s bounds asked outcome line
+        → sum outcome.by_rule.items ≡ outcome.interactions }
+    ensures steps { (s : SystemParts) (bounds : Bounds) (asked : Asked) (outcome : Outcome)
+        (line : List ℕ) → EndsOf s bounds asked outcome line → outcome.end ≡ Steps
+        → (d : Configuration) × (fired : List ℕ) × Reaches s.rules.rules s.config d fired
+        × (length fired ≡ bounds.steps + 1) }
+    ensures nodes { (s : SystemParts) (bounds : Bounds) (asked : Asked) (outcome : Outcome)
+        (line : List ℕ) → EndsOf s bounds asked outcome line → outcome.end ≡ Nodes
+        → (bounds.nodes < outcome.places + outcome.left) × (outcome.interactions < bounds.steps) }
+    ensures limit { (s : SystemParts) (bounds : Bounds) (asked : Asked) (outcome : Outcome)
+        (line : List ℕ) → EndsOf s bounds asked outcome line → outcome.end ≡ Limit
+        → outcome.interactions < bounds.steps }
+{
+    ic_reaching::laws::what_is_reached_is_one_net();
+    ic_reaching::laws::what_is_reached_goes_on();
+}
+
+/// A machine that has made interactions may run on, by as many as are left of those that may be made in all. Then its stop is
+/// by the bounds of all: at `Steps` it has made as many as may be, at `Nodes` and at `Limit` fewer.
+pub fn a_run_that_goes_on_stops_by_the_bounds_of_all()
+    ensures { (bounds : Bounds) (steps : ℕ) (p : Plans) (old new : Net) (end : End)
+        → bounds.steps ≡ old.interactions + steps → RunsOn p steps end old new
+        → (end ≡ Nodes → bounds.nodes < all_entries new)
+        → (end ≡ Nodes → IsLookedAt p old new) → StopsBy bounds p new end }
+{}

@@ -1,7 +1,8 @@
 //! A system reduced by the machine, in place: steps in any order, answered with the net of every order.
 //!
 //! `reduce_in_place` reduces a system, and `reduce_in_place_stream` that which a reader gives. `laws` says what a machine
-//! holds, and that a quiet end is that of every order.
+//! holds, and that a quiet end is that of every order. `begin`, `run_in_pieces` and `stopped_line` are the parts of a
+//! reduction, for those who run machines themselves.
 #![tactic(auto)]
 
 mod counting;
@@ -12,7 +13,8 @@ mod stream;
 mod stuck;
 mod writing;
 
-pub use reducing::{Reduced, reduce_in_place};
-pub use running::{Bounds, End, PIECE, Watch};
-pub use stream::{Asked, Outcome, is_written, reduce_in_place_stream};
+pub use counting::{no_counts, sum_by_rule};
+pub use reducing::{Reduced, Stopped, begin, reduce_in_place};
+pub use running::{Bounds, End, PIECE, Watch, names_until_sweep, run_in_pieces, sweep_if_due};
+pub use stream::{Asked, Outcome, is_written, reduce_in_place_stream, stopped_line};
 pub use stuck::stuck_text;

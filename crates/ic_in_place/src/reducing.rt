@@ -2,13 +2,14 @@
 
 ghost use Rattle.std.specs.Prelude.{◌≡◌, ◌≤◌, IfOk, length};
 ghost use Rattle.ic_term.specs.Configuration.{Configuration, configuration_nodes};
+ghost use Rattle.ic_machine.specs.Net.{equations_left};
 ghost use Rattle.ic_machine.specs.Plan.{planned};
 ghost use Rattle.ic_machine.specs.Runs.{IsStart};
 ghost use Rattle.ic_in_place.specs.declared.running.Bounds.{Bounds as AnyBounds};
 ghost use Rattle.ic_in_place.specs.Counting.{TellsNameSteps};
 ghost use Rattle.ic_in_place.specs.Reducing.{IsPutTogether, IsReachedBy, Writes};
-ghost use Rattle.ic_in_place.specs.inner.Stopping.{HasStopped, IsBegun, IsSound, arities_of};
-ghost use Rattle.ic_in_place.specs.inner.Unwritten.{WritesAlike};
+ghost use Rattle.ic_in_place.specs.Stopping.{HasCome, HasStopped, IsBegun, IsSound, arities_of};
+ghost use Rattle.ic_in_place.specs.inner.Unwritten.{ReadsAs, WritesAlike};
 
 use crate::counting::{name_steps_at, no_counts, sum_by_rule};
 use crate::running::{Bounds, End, Watch, run_in_pieces};
@@ -45,12 +46,17 @@ pub struct Reduced {
 
 /// A machine that has stopped, with the names that it was given.
 #[derive(Drop)]
-pub(crate) struct Stopped {
-    pub(crate) machine: Machine,
-    pub(crate) given: Vec<u64>,
-    pub(crate) by_rule: Vec<u64>,
-    pub(crate) places: u64,
-    pub(crate) end: End,
+pub struct Stopped {
+    /// The machine.
+    pub machine: Machine,
+    /// The names of the configuration that occur once: the machine's given names, in the order of their numbers.
+    pub given: Vec<u64>,
+    /// How often each rule fired, in the order of the rules.
+    pub by_rule: Vec<u64>,
+    /// How many places the machine has, the free ones too.
+    pub places: u64,
+    /// Why it stopped.
+    pub end: End,
 }
 
 /// Reduces a system in place, by interactions in any order, until none is possible, or a bound or a limit is met. What was
@@ -80,17 +86,22 @@ pub(crate) fn read_stopped(
     system: &WideSystem,
     stopped: Stopped,
 ) -> Result<Reduced, AllocError>
-    ensures reached { IfOk result (λ reduced. (bounds : AnyBounds)
-        → HasStopped system.now bounds stopped.given.items stopped.by_rule.items
-        stopped.machine stopped.end stopped.places
+    ensures read { IfOk result (λ reduced. (bounds : AnyBounds)
+        (come : HasCome system.now bounds stopped.given.items stopped.by_rule.items
+        stopped.machine stopped.end stopped.places)
         → (answer : Configuration)
-        × IsReachedBy system.now bounds answer reduced.end reduced.interactions reduced.places
-        reduced.left reduced.by_rule.items
+        × ReadsAs system.now bounds stopped.given.items stopped.by_rule.items
+        stopped.machine stopped.end stopped.places come answer
         × IsPutTogether answer
         × TellsNameSteps system.now.rules.rules system.now.config reduced.interactions
         (length answer.equations) reduced.end reduced.name_steps
         × Writes system.now.rules.symbols reduced.words.items reduced.terms reduced.equations answer) }
+    ensures interactions { IfOk result
+        (λ reduced. reduced.interactions ≡ stopped.machine.interactions) }
+    ensures left { IfOk result (λ reduced. reduced.left ≡ equations_left stopped.machine) }
+    ensures by_rule { IfOk result (λ reduced. reduced.by_rule.items ≡ stopped.by_rule.items) }
     ensures places { IfOk result (λ reduced. reduced.places ≡ stopped.places) }
+    ensures end { IfOk result (λ reduced. reduced.end ≡ stopped.end) }
 {
     let reached = read_words(alloc, system, stopped)?;
     Ok(Reduced {
@@ -112,16 +123,20 @@ pub(crate) fn read_words(
     system: &WideSystem,
     stopped: Stopped,
 ) -> Result<Reduced, AllocError>
-    ensures reached { IfOk result (λ read. (bounds : AnyBounds)
-        → HasStopped system.now bounds stopped.given.items stopped.by_rule.items
-        stopped.machine stopped.end stopped.places
+    ensures read { IfOk result (λ read. (bounds : AnyBounds)
+        (come : HasCome system.now bounds stopped.given.items stopped.by_rule.items
+        stopped.machine stopped.end stopped.places)
         → (answer : Configuration)
-        × IsReachedBy system.now bounds answer read.end read.interactions read.places
-        read.left read.by_rule.items
+        × ReadsAs system.now bounds stopped.given.items stopped.by_rule.items
+        stopped.machine stopped.end stopped.places come answer
         × IsPutTogether answer
         × TellsNameSteps system.now.rules.rules system.now.config read.interactions
         (length answer.equations) read.end read.name_steps
         × WritesAlike system.now.rules.symbols read.words.items read.terms read.equations answer) }
+    ensures interactions { IfOk result
+        (λ read. read.interactions ≡ stopped.machine.interactions) }
+    ensures left { IfOk result (λ read. read.left ≡ equations_left stopped.machine) }
+    ensures by_rule { IfOk result (λ read. read.by_rule.items ≡ stopped.by_rule.items) }
     ensures places { IfOk result (λ read. read.places ≡ stopped.places) }
     ensures end { IfOk result (λ read. read.end ≡ stopped.end) }
 {
@@ -187,8 +202,8 @@ pub(crate) fn run_system<V: Watch>(
     })
 }
 
-/// The machine that holds the configuration of a system.
-fn begin(
+/// The machine that begins with the configuration of a system.
+pub fn begin(
     alloc: Global,
     system: &WideSystem,
     program: &Program,

@@ -5,8 +5,7 @@ ghost use Rattle.std.specs.List.{AllByRecursion};
 ghost use Rattle.ic_machine.specs.Net.{all_entries, equations_left, IsAtPlace, IsPair};
 ghost use Rattle.ic_machine.specs.Plan.{Plans};
 ghost use Rattle.ic_machine.specs.Runs.{Ran};
-ghost use Rattle.ic_in_place.specs.Running.{names_allowed, IsTidy, IsWatched};
-ghost use Rattle.ic_in_place.specs.inner.Running.{RunsOn, IsLookedAt};
+ghost use Rattle.ic_in_place.specs.Running.{names_allowed, IsLookedAt, IsTidy, IsWatched, RunsOn};
 
 use ic_machine::{Ended, Machine, MachineFault, Program};
 
@@ -43,7 +42,7 @@ pub trait Watch {
 }
 
 /// Runs a machine in pieces, until no pair is left or a bound or a limit is met. Tells how many places there are then.
-pub(crate) fn run_in_pieces<V: Watch>(
+pub fn run_in_pieces<V: Watch>(
     machine: &mut Machine,
     program: &Program,
     bounds: Bounds,
@@ -94,7 +93,7 @@ fn is_over(machine: &Machine, places: u64, nodes: u64) -> bool
 }
 
 /// Puts names through if so many are in use. Answers how many may be in use before that is done next.
-fn sweep_if_due(machine: &mut Machine, due: u64) -> u64
+pub fn sweep_if_due(machine: &mut Machine, due: u64) -> u64
     ensures ran { (p : Plans) → Ran p machine.old machine.new }
     ensures same { machine.new ≡ record machine.old { places = machine.new.places } }
     ensures places { AllByRecursion IsAtPlace machine.old.places
@@ -110,7 +109,7 @@ fn sweep_if_due(machine: &mut Machine, due: u64) -> u64
 
 /// How many names may be in use before they are put through: the greater of twice as many as are and half of all that there
 /// are, and 4,096 more. So at least a quarter as many are opened between two passes as a pass visits.
-fn names_until_sweep(machine: &Machine) -> u64
+pub fn names_until_sweep(machine: &Machine) -> u64
     ensures { result ≡ names_allowed machine.now }
 {
     let used = 2 * machine.names_in_use();

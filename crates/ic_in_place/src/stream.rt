@@ -8,11 +8,11 @@ ghost use Rattle.ic_flat.specs.Words.{forest, is_word_over, IsWhole};
 ghost use Rattle.ic_flat.specs.Flat.{configuration_of};
 ghost use Rattle.ic_diagnostics.specs.Telling.{AppendedWithin, AppendedAtWithin};
 ghost use Rattle.ic_streams.specs.Streams.{OfText, IsAnswered, FaultOf, TakesAtWithin, TakesTextWithin, line_of};
-ghost use Rattle.ic_in_place.specs.Reductions.{EndsAs, ReducesInPlace, Tells, is_written};
+ghost use Rattle.ic_in_place.specs.Reductions.{EndsAs, EndsOf, EndsWatched, ReducesInPlace, Tells, is_written};
 ghost use Rattle.ic_in_place.specs.declared.running.Bounds.{Bounds as AnyBounds};
-ghost use Rattle.ic_in_place.specs.inner.Stopping.{HasStopped};
+ghost use Rattle.ic_in_place.specs.Stopping.{HasCome, HasStopped};
 ghost use Rattle.ic_in_place.specs.inner.Told.{words_stuck};
-ghost use Rattle.ic_in_place.specs.inner.Unwritten.{IsTold};
+ghost use Rattle.ic_in_place.specs.inner.Unwritten.{IsTold, IsToldOf};
 
 use crate::reducing::{Reduced, Stopped, read_stopped, read_words, run_system};
 use crate::running::{Bounds, End, Watch};
@@ -125,6 +125,29 @@ fn reached_line<V: Watch>(
         }
     };
     let stopped = run_system(alloc, &system, bounds, watch)?;
+    let answer = stopped_line(alloc, system, stopped, asked)?;
+    Ok(answer)
+}
+
+/// The line of what a machine holds that has stopped, and what is told of it. Where the line isn't to be written, it is empty.
+pub fn stopped_line(
+    alloc: Global,
+    system: WideSystem,
+    stopped: Stopped,
+    asked: Asked,
+) -> Result<(Vec<u8>, Outcome), AllocError>
+    requires { (bounds : AnyBounds)
+        × HasCome system bounds stopped.given.items stopped.by_rule.items
+        stopped.machine stopped.end stopped.places }
+    ensures of { IfOk result (λ answer. (bounds : AnyBounds)
+        → HasCome system bounds stopped.given.items stopped.by_rule.items
+        stopped.machine stopped.end stopped.places
+        → EndsOf system bounds asked answer.1 answer.0.items) }
+    ensures watched { IfOk result (λ answer. (bounds : AnyBounds)
+        → HasStopped system bounds stopped.given.items stopped.by_rule.items
+        stopped.machine stopped.end stopped.places
+        → EndsWatched system bounds asked answer.1 answer.0.items) }
+{
     if !is_written(asked, stopped.end) {
         let outcome = unwritten(alloc, system, stopped)?;
         return Ok((Vec::new(alloc), outcome));
@@ -165,12 +188,16 @@ pub fn is_written(asked: Asked, end: End) -> bool
 /// end is one of an answer.
 fn unwritten(alloc: Global, system: WideSystem, stopped: Stopped) -> Result<Outcome, AllocError>
     requires { (bounds : AnyBounds)
-        × HasStopped system bounds stopped.given.items stopped.by_rule.items
+        × HasCome system bounds stopped.given.items stopped.by_rule.items
         stopped.machine stopped.end stopped.places }
     ensures told { IfOk result (λ outcome. (bounds : AnyBounds)
         → HasStopped system bounds stopped.given.items stopped.by_rule.items
         stopped.machine stopped.end stopped.places
         → IsTold system bounds outcome) }
+    ensures told_of { IfOk result (λ outcome. (bounds : AnyBounds)
+        → HasCome system bounds stopped.given.items stopped.by_rule.items
+        stopped.machine stopped.end stopped.places
+        → IsToldOf system bounds outcome) }
     ensures end { IfOk result (λ outcome. outcome.end ≡ stopped.end) }
 {
     ic_reaching::laws::one_net_is_an_equivalence();
@@ -198,12 +225,16 @@ fn read_unwritten(
     stopped: Stopped,
 ) -> Result<Outcome, AllocError>
     requires { (bounds : AnyBounds)
-        × HasStopped system bounds stopped.given.items stopped.by_rule.items
+        × HasCome system bounds stopped.given.items stopped.by_rule.items
         stopped.machine stopped.end stopped.places }
     ensures told { IfOk result (λ outcome. (bounds : AnyBounds)
         → HasStopped system bounds stopped.given.items stopped.by_rule.items
         stopped.machine stopped.end stopped.places
         → IsTold system bounds outcome) }
+    ensures told_of { IfOk result (λ outcome. (bounds : AnyBounds)
+        → HasCome system bounds stopped.given.items stopped.by_rule.items
+        stopped.machine stopped.end stopped.places
+        → IsToldOf system bounds outcome) }
     ensures end { IfOk result (λ outcome. outcome.end ≡ stopped.end) }
 {
     let read = read_words(alloc, &system, stopped)?;

@@ -1,10 +1,10 @@
-use Rattle.std.proofs.Common.{◌≡◌, ◌+◌, ◌-◌, ◌*◌, ◌^◌, ◌<◌, ◌≤◌, ℕ, zero, suc, List, [], ◌∷◌, Option, None, Some, length, drop, map, refl, sym, ap, ◌∙◌, arith, slice_index_or, subst}
+use Rattle.std.proofs.Common.{◌≡◌, ◌+◌, ◌-◌, ◌*◌, ◌^◌, ◌<◌, ◌≤◌, ℕ, zero, suc, List, [], ◌∷◌, Option, None, Some, length, drop, refl, sym, ap, ◌∙◌, arith, slice_index_or, subst}
 use Rattle.std.specs.Prelude.{SomeIff}
 use Rattle.std.proofs.lemmas.List.{length-map}
 use Rattle.ic_term.specs.Tree.{Tree}
 use Rattle.ic_term.specs.Term.{tree}
 use Rattle.ic_rules.specs.Rule.{Rule}
-use Rattle.ic_in_place.specs.inner.Summing.{made_from}
+use Rattle.ic_in_place.specs.Summing.{made_from}
 use Rattle.ic_in_place.proofs.NameSteps.{made_step}
 use Rattle.ic_in_place.proofs.counting.name_steps.Goals as goal
 

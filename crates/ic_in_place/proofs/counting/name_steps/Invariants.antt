@@ -1,5 +1,5 @@
 use Rattle.std.proofs.Common.{◌≡◌, ◌+◌, ◌^◌, ◌<◌, drop}
-use Rattle.ic_in_place.specs.inner.Summing.{made_from}
+use Rattle.ic_in_place.specs.Summing.{made_from}
 use Rattle.ic_in_place.proofs.counting.name_steps.Given as goal
 
 abbrev pub invariant-loop-place : goal.invariant-loop-place

@@ -1,5 +1,5 @@
 use Rattle.std.proofs.Common.{◌≡◌, ℕ, ◌+◌, ◌<◌, ◌^◌, drop, length, slice_index_or}
-use Rattle.ic_in_place.specs.inner.Summing.{sum_from}
+use Rattle.ic_in_place.specs.Summing.{sum_from}
 use Rattle.ic_in_place.proofs.counting.sum_by_rule.Given as goal
 
 abbrev pub invariant-loop-plan : goal.invariant-loop-plan

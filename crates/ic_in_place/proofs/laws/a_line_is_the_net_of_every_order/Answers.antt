@@ -1,4 +1,4 @@
-use Rattle.std.proofs.Common.{◌≡◌, ◌≢◌, ℕ, List, [], ◌∷◌, cond, Result, Ok, length, refl, sym, ap, ◌∙◌, subst, arith}
+use Rattle.std.proofs.Common.{◌≡◌, ℕ, [], Result, Ok, length, sym, ap, ◌∙◌, subst, arith}
 use Rattle.ic_term.specs.Tree.{Pair}
 use Rattle.ic_term.specs.Configuration.{Configuration, configuration_names, occurrences}
 use Rattle.ic_rules.specs.System.{SystemParts}
@@ -11,18 +11,10 @@ use Rattle.ic_streams.specs.Streams.{line_of}
 use Rattle.ic_text.specs.declared.fault.TextFault.{TextFault}
 use Rattle.ic_in_place.specs.declared.running.End.{End}
 use Rattle.ic_in_place.specs.Reducing.{IsReached}
-use Rattle.ic_in_place.specs.declared.running.End.TheVariants.{Quiet}
-use Rattle.ic_in_place.specs.declared.stream.Asked.{Asked}
-use Rattle.ic_in_place.specs.declared.stream.Asked.TheVariants.{Answer, AlsoPart, Nothing}
-use Rattle.ic_in_place.specs.Reductions.{is_written, line_reached}
+use Rattle.ic_in_place.specs.Reductions.{line_reached}
 use Rattle.ic_in_place.proofs.LowNames.{low_name}
+use Rattle.ic_in_place.proofs.Written.{asked_for, nothing_left}
 use Rattle.ic_in_place.proofs.laws.a_line_is_the_net_of_every_order.Goals as goal
-
--- a line that is asked for is written at a quiet end
-asked_for : (asked : Asked) → asked ≢ Nothing → (line : List ℕ) → cond (is_written asked Quiet) line [] ≡ line
-asked_for Answer some line = refl
-asked_for AlsoPart some line = refl
-asked_for Nothing some line = absurd (some refl)
 
 one_system : (s t : SystemParts) → ◌≡◌ {A = Result SystemParts TextFault} (Ok s) (Ok t) → s ≡ t
 one_system s t same = cc
@@ -61,10 +53,6 @@ returns-clause-written c = λ limits bounds asked input line outcome s e kinds i
     let all = subst (λ (t : SystemParts). Chain t.rules.rules kinds t.config e → IsQuiet t.rules.rules e
     → (line ≡ line_of t.rules.symbols written) × SameButNext written e) same every chain still in
     (written, all.0, all.1)
-
-nothing_left : (es : List Pair) → length es ≡ 0 → es ≡ []
-nothing_left [] none = refl
-nothing_left (e ∷ es) none = absurd (omega (arith, none))
 
 pub returns-clause-text : goal.returns-clause-text
 returns-clause-text c = λ limits bounds asked input line outcome s e kinds is quiet some reads chain still bare.

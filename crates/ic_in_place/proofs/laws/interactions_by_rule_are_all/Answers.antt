@@ -1,4 +1,4 @@
-use Rattle.std.proofs.Common.{◌≡◌, sym, ◌∙◌}
+use Rattle.std.proofs.Common.{sym, ◌∙◌}
 use Rattle.ic_in_place.proofs.NameSteps.{CountLaws, counts_are_all, counts_moved, fired_within}
 use Rattle.ic_in_place.proofs.laws.interactions_by_rule_are_all.Goals as goal
 

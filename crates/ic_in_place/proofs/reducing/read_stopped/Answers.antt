@@ -3,9 +3,9 @@ use Rattle.ic_naming.specs.Naming.{renumbered_words}
 use Rattle.ic_in_place.proofs.Written.{numbered_so}
 use Rattle.ic_in_place.proofs.reducing.read_stopped.Goals as goal
 
-pub returns-clause-reached : goal.returns-clause-reached
-returns-clause-reached c = λ bounds stopped.
-    let read = c.in_ok-reached.ensures.reached bounds stopped in
+pub returns-clause-read : goal.returns-clause-read
+returns-clause-read c = λ bounds come.
+    let read = c.in_ok-reached.ensures.read bounds come in
     let words = c.in_ok-renumbered_words.ensures ∙ ap renumbered_words c.deref.ensures.value in (
       read.0,
       read.1,

@@ -14,21 +14,21 @@ use Rattle.ic_meaning.specs.Nets.{net_of, AreNetPieces}
 use Rattle.ic_readback.specs.declared.token.Token.{Token}
 use Rattle.ic_readback.specs.Reading.{flat_words, configuration_read}
 use Rattle.ic_in_place.specs.Holding.{AreGiven}
-use Rattle.ic_in_place.specs.Reducing.{HasEnds, IsReachedBy}
+use Rattle.ic_in_place.specs.Reducing.{HasEnds}
 use Rattle.ic_in_place.specs.inner.Numbering.{written_numbers, IsNumbered}
-use Rattle.ic_in_place.proofs.Answering.{AnswerLaws, answered_so, quiet_at}
+use Rattle.ic_in_place.proofs.Answering.{AnswerLaws, answered_so, quiet_so}
 use Rattle.ic_in_place.proofs.Interacts.{can_interact}
 use Rattle.ic_in_place.proofs.InRange.{in_range}
 use Rattle.ic_in_place.specs.declared.running.End.TheVariants.{Quiet}
 use Rattle.ic_in_place.specs.Counting.{AreNameSteps}
-use Rattle.ic_in_place.specs.inner.Summing.{made_from}
+use Rattle.ic_in_place.specs.Summing.{made_from}
 use Rattle.ic_reaching.specs.Reaching.{Reaches}
 use Rattle.ic_in_place.proofs.NameSteps.{CountLaws, name_steps_so, tells_so}
 use Rattle.ic_in_place.proofs.Together.{all_pairs, put_together, quiet_read}
 use Rattle.ic_in_place.proofs.reducing.read_words.Goals as goal
 
-pub returns-clause-reached : goal.returns-clause-reached
-returns-clause-reached c = λ bounds stopped.
+pub returns-clause-read : goal.returns-clause-read
+returns-clause-read c = λ bounds stopped.
     let s = c.args.system.now in
     let m = c.args.stopped.machine in
     let end = c.args.stopped.end in
@@ -75,16 +75,16 @@ returns-clause-reached c = λ bounds stopped.
     (subst (λ (ts : List Token). AllByRecursion (IsNumbered c.deref-2.result.now) ts) c.deref-3.ensures.value c.in_ok-words.ensures.numbered) in
     let answer = answered_so laws s bounds given m end places c.args.stopped.by_rule.items stopped read.tokens.items read.terms read.equations c.in_ok-words.words.items
     net next quiet (c.in_ok-read.ensures.whole n arities) (c.in_ok-read.ensures.counted n arities) numbered written in
-    let fired : List ℕ = answer.1.reached.fired in
+    let fired : List ℕ = stopped.fired in
     let by_rule : List ℕ = c.args.stopped.by_rule.items in
     let rs : Rules = s.rules in
-    let interactions : c.interactions-interactions.result ≡ length fired = c.interactions-interactions.ensures ∙ answer.1.reached.counted in
+    let interactions : c.interactions-interactions.result ≡ length fired = c.interactions-interactions.ensures ∙ stopped.counted in
     let given_equations : c.equations_len.result ≡ length s.config.equations =
     c.equations_len.ensures.equations ∙ ap (λ (d : Configuration). length d.equations) c.config.ensures.config in
     let rules_are : c.rules-3.result.now ≡ rs.rules =
     c.rules-3.ensures.rules ∙ ap (λ (r : Rules). r.rules) (c.deref-4.ensures ∙ c.rules-2.ensures.rules) in
     let by_rule_is : c.deref-5.result.now ≡ by_rule = c.deref-5.ensures.value in
-    let reached : Reaches rs.rules s.config answer.0 fired = answer.1.reached.reached in
+    let reached : Reaches rs.rules s.config d fired = answer.0 in
     let counting : CountLaws = record {
       itself = c.what_is_reached_is_one_net.ensures.itself;
       names = c.what_is_reached_is_one_net.ensures.names;
@@ -92,26 +92,31 @@ returns-clause-reached c = λ bounds stopped.
       chain = c.what_is_reached_goes_on.ensures.chain;
     } in
     let told : end ≡ Quiet → (n : ℕ) × AreNameSteps rs.rules s.config n
-    × SomeIff c.name_steps_at-name_steps.result (n + c.interactions-interactions.result + length answer.0.equations < 2 ^ 64) n =
+    × SomeIff c.name_steps_at-name_steps.result (n + c.interactions-interactions.result + length d.equations < 2 ^ 64) n =
     (λ at.
-    let still : IsQuiet rs.rules answer.0 = quiet_at rs.rules bounds answer.0 m.interactions end answer.1.reached.ended at in
-    let steps = name_steps_so counting c.where_names_begin_is_all_that_differs.ensures.equations rs s.config answer.0 fired by_rule
+    let still : IsQuiet rs.rules d = quiet_so rs.rules bounds d m.interactions end answer.1 at in
+    let steps = name_steps_so counting c.where_names_begin_is_all_that_differs.ensures.equations rs s.config d fired by_rule
     sound.rules sound.over sound.names
-    (c.what_is_reached_quiet_is_the_end_of_every_order.ensures.end rs s.config answer.0 fired sound.rules sound.over sound.names reached still)
-    answer.1.counts in
+    (c.what_is_reached_quiet_is_the_end_of_every_order.ensures.end rs s.config d fired sound.rules sound.over sound.names reached still)
+    stopped.counts in
     let made : made_from c.rules-3.result.now c.deref-5.result.now 0 ≡ made_from rs.rules by_rule 0 =
     (λ i. made_from (rules_are i) (by_rule_is i) 0) in
-    let left = answer.3 in (
+    let left = answer.4 in (
       steps.0,
       steps.1,
       subst (λ (k : ℕ). SomeIff c.name_steps_at-name_steps.result (steps.0 + c.interactions-interactions.result + k < 2 ^ 64) steps.0) (sym left)
           (c.name_steps_at-name_steps.ensures.quiet at steps.0 (omega (arith, steps.2, interactions, left, given_equations, made))),
     )) in (
-      answer.0,
-      subst (λ (l : ℕ). IsReachedBy s bounds answer.0 end c.interactions-interactions.result places l by_rule) (sym c.equations_left-left.ensures)
-          (subst (λ (k : ℕ). IsReachedBy s bounds answer.0 end k places (equations_left m) by_rule) (sym c.interactions-interactions.ensures) answer.1),
-      answer.2,
-      tells_so rs.rules s.config c.interactions-interactions.result (length answer.0.equations) end c.name_steps_at-name_steps.result told
+      d,
+      (record { net = net; reached = answer.0; ended = answer.1; ends = answer.2 }),
+      answer.3,
+      tells_so rs.rules s.config c.interactions-interactions.result (length d.equations) end c.name_steps_at-name_steps.result told
           c.name_steps_at-name_steps.ensures.other,
-      answer.4,
+      answer.5,
     )
+
+pub returns-clause-interactions : goal.returns-clause-interactions
+returns-clause-interactions c = c.interactions-interactions.ensures
+
+pub returns-clause-left : goal.returns-clause-left
+returns-clause-left c = c.equations_left-left.ensures

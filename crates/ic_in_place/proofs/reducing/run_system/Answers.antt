@@ -2,7 +2,7 @@ use Rattle.std.proofs.Common.{rules, ◌≡◌, ◌<◌, ◌^◌, ℕ, List, len
 use Rattle.ic_rules.specs.RuleSet.{Rules}
 use Rattle.ic_machine.specs.Plan.{planned}
 use Rattle.ic_meaning.specs.Plans.{ArePlansOf}
-use Rattle.ic_in_place.specs.inner.Summing.{IsSummed}
+use Rattle.ic_in_place.specs.Summing.{IsSummed}
 use Rattle.ic_in_place.proofs.Stopping.{StopLaws, stopped_so}
 use Rattle.ic_in_place.proofs.reducing.run_system.Goals as goal
 

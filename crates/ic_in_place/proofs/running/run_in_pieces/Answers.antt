@@ -1,5 +1,5 @@
-use Rattle.std.proofs.Common.{◌≡◌, ℕ, ◌+◌, ◌≤◌, [], ◌++◌, true, false, length, sum, ap, sym, subst, ◌∙◌, arith, refl}
-use Rattle.ic_machine.specs.Net.{Net, equations_left}
+use Rattle.std.proofs.Common.{◌≡◌, ℕ, [], ◌++◌, true, false, length, sum, ap, sym, subst, ◌∙◌, arith, refl}
+use Rattle.ic_machine.specs.Net.{Net}
 use Rattle.ic_machine.specs.Runs.{Ran}
 use Rattle.ic_in_place.specs.Running.{Looked, no_look, one_more_look}
 use Rattle.ic_in_place.proofs.Onward.{ran_nothing, ran_through}

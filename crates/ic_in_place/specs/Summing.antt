@@ -1,4 +1,4 @@
--- For private functions: how often rules fired, by their plans.
+-- How often rules fired, by their plans.
 use Rattle.std.specs.Prelude.{◌≡◌, ℕ, ◌+◌, ◌*◌, ◌^◌, ◌<◌, ◌==◌, List, [], ◌∷◌, ◌++◌, length, slice_index_or, if◌then◌else◌}
 use Rattle.ic_rules.specs.Rule.{Rule}
 

@@ -1,4 +1,4 @@
--- For private functions: a machine that begins with the configuration of a system, and where it stops.
+-- A machine that begins with the configuration of a system, and where it stops.
 use Rattle.std.specs.Prelude.{◌≡◌, ◌≢◌, ℕ, suc, ◌+◌, ◌*◌, ◌^◌, ◌<◌, ◌≤◌, List, [], ◌++◌, IsTrue, length, map, sum}
 use Rattle.std.specs.List.{AllByRecursion}
 use Rattle.ic_term.specs.Configuration.{configuration_nodes}
@@ -48,13 +48,13 @@ abbrev pub StopsBy : Bounds → Plans → Net → End → Type 0
 StopsBy bounds p m Quiet = m.pending ≡ []
 StopsBy bounds p m Steps = (m.interactions ≡ bounds.steps) × HasNext p m.pending
 StopsBy bounds p m Nodes =
-    (bounds.nodes < all_entries m) × (m.interactions < bounds.steps)
-    × ((looks : ℕ) × (m.interactions ≡ suc looks * PIECE)) × HasNext p m.pending
+    (bounds.nodes < all_entries m) × (m.interactions < bounds.steps) × HasNext p m.pending
 StopsBy bounds p m Limit = (m.interactions < bounds.steps) × IsFullNext p m
 StopsBy bounds p m Memory = m.pending ≢ []
 
--- A machine began with the configuration of a system, whose names that occur once are given, and has stopped.
-pub record HasStopped (s : SystemParts) (bounds : Bounds) (given by_rule : List ℕ) (m : Net)
+-- A machine has stopped that holds what is reached from the configuration of a system, whose names that occur once are given.
+-- Nothing is said of who made the steps: this machine, or others too, from which it has what they held.
+pub record HasCome (s : SystemParts) (bounds : Bounds) (given by_rule : List ℕ) (m : Net)
     (end : End) (places : ℕ) : Type 0 where
   pub sound : IsSound s
   pub below : AllByRecursion (λ x. x < 2 ^ 62) given
@@ -65,15 +65,8 @@ pub record HasStopped (s : SystemParts) (bounds : Bounds) (given by_rule : List 
   pub compiled : AreCompiled s.rules rule_numbers plans s.config given plan operands
   pub arities : plans.arities ≡ arities_of s
   pub own_arities : m.arities ≡ arities_of s
-  pub first : Net
-  pub starts : Starts plans (length given) plan operands first
-  pub none : first.interactions ≡ 0
-  pub no_aside : first.aside ≡ []
-  pub watched : IsWatched plans bounds.nodes first m
   pub fired : List ℕ
-  pub by_plans : fired ≡ map (rule_number rule_numbers) (watched.before ++ watched.after.fired)
   pub held : Holds s.rules plans s.config given fired m
-  pub begun : Holds s.rules plans s.config given [] first
   pub counted : m.interactions ≡ length fired
   pub counts : AreCounts (length s.rules.rules) fired by_rule
   pub within : m.interactions ≤ bounds.steps
@@ -83,3 +76,17 @@ pub record HasStopped (s : SystemParts) (bounds : Bounds) (given by_rule : List 
   pub pairs : AllByRecursion IsPair m.pending
   pub aside : AllByRecursion (IsStuck plans) m.aside
   pub ended : StopsBy bounds plans m end
+
+-- The same of a machine that began with the configuration and made all steps. Its places were watched on the way.
+pub record HasStopped (s : SystemParts) (bounds : Bounds) (given by_rule : List ℕ) (m : Net)
+    (end : End) (places : ℕ) : Type 0 where
+  pub come : HasCome s bounds given by_rule m end places
+  pub first : Net
+  pub starts : Starts come.plans (length given) come.plan come.operands first
+  pub none : first.interactions ≡ 0
+  pub no_aside : first.aside ≡ []
+  pub watched : IsWatched come.plans bounds.nodes first m
+  pub by_plans : come.fired
+      ≡ map (rule_number come.rule_numbers) (watched.before ++ watched.after.fired)
+  pub begun : Holds s.rules come.plans s.config given [] first
+  pub looked : end ≡ Nodes → (looks : ℕ) × (m.interactions ≡ suc looks * PIECE)
