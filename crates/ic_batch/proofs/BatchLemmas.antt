@@ -13,7 +13,7 @@ use Rattle.ic_serving.specs.Booked.{last_kept, IsAllKept}
 use Rattle.ic_serving.specs.Moments.{FaultLeaves, Leaves}
 use Rattle.ic_serving.specs.Faults.{ComesInLine, CountsServe}
 use Rattle.ic_serving.specs.declared.fault.ServeFault.{ServeFault}
-use Rattle.ic_serving.specs.declared.fault.ServeFault.TheVariants.{Read, Write, TooManyLines, Book as of_book, Pool, LongLine, Memory}
+use Rattle.ic_serving.specs.declared.fault.ServeFault.TheVariants.{Read, Write}
 use Rattle.ic_serving.specs.lemmas.Leaving.{leaves_more}
 use Rattle.ic_batch.specs.declared.fault.BatchFault.{BatchFault}
 use Rattle.ic_batch.specs.declared.fault.BatchFault.TheVariants.{Taken, Full, Serve}
@@ -33,19 +33,13 @@ keeps_same (Some bytes) = refl
 
 -- a fault of a call over a book isn't the writer's
 pub not_writing : (fault : ServeFault) → ComesInLine fault → Serve fault ≢ Serve Write
-not_writing Read comes = λ e. cc
 not_writing Write comes = absurd comes
-not_writing TooManyLines comes = λ e. cc
-not_writing (of_book fault) comes = λ e. cc
-not_writing (Pool fault) comes = λ e. cc
-not_writing LongLine comes = λ e. cc
-not_writing Memory comes = λ e. cc
+not_writing fault comes = λ e. cc
 
 -- another fault than the writer's
 pub not_write : (jobs : List NewJob) (t : List JobParts) (fault : BatchFault) → IsTaken jobs t fault → fault ≢ Serve Write
 not_write jobs t (Taken name is) taken = λ e. cc
-not_write jobs t Full taken = absurd taken
-not_write jobs t (Serve other) taken = absurd taken
+not_write jobs t fault taken = absurd taken
 
 -- ---- tables
 
@@ -167,20 +161,14 @@ unchanged book = record { same_start = refl; same_log = refl; same_table = refl;
 
 pub says_taken : {D : Type 0} {ghosts : Ghosts D} (jobs : List NewJob) (book : Book D ghosts) (fault : BatchFault) → IsTaken jobs (table_of book) fault → Says jobs book book fault
 says_taken jobs book (Taken name is) taken = (taken, unchanged book)
-says_taken jobs book Full taken = absurd taken
-says_taken jobs book (Serve fault) taken = absurd taken
+says_taken jobs book fault taken = absurd taken
 
 pub says_full : {D : Type 0} {ghosts : Ghosts D} (jobs : List NewJob) (book : Book D ghosts) → AreSame jobs (table_of book) → HasNoRoom jobs (table_of book) → Says jobs book book Full
 says_full jobs book same full = (same, full, unchanged book)
 
 counts : (T : Type 0) (fault : ServeFault) (old new : ℕ) → CountsServe {T = T} (Err fault) old new → CountsServe {T = Unit {0}} (Err fault) old new
 counts T Read old new is = is
-counts T Write old new is = is
-counts T TooManyLines old new is = is
-counts T (of_book it) old new is = is
-counts T (Pool it) old new is = is
-counts T LongLine old new is = is
-counts T Memory old new is = is
+counts T fault old new is = is
 
 module _ {D : Type 0} {ghosts : Ghosts D} (jobs : List NewJob) (old new : Book D ghosts) (same : AreSame jobs (table_of old)) where
   pub says_failed : (U : Type 0) (fault : ServeFault) → FaultLeaves {T = U} ComesInLine (Err fault) old new → Says jobs old new (Serve fault)

@@ -49,7 +49,7 @@ pub round_changes : (t : List JobParts) (name : List ℕ) (j : JobParts) → job
     → table_after t (Round name) ≡ with_changed name (change j) t
 round_changes t name j there runs = round_table t name j there runs ∙ change_table t name (can_move j)
 
-keeps_name : (b : Bool) (k : JobParts) → ((if b then moved else in_state state.Halted) k).name ≡ k.name
+pub keeps_name : (b : Bool) (k : JobParts) → ((if b then moved else in_state state.Halted) k).name ≡ k.name
 keeps_name true k = refl
 keeps_name false k = refl
 
@@ -97,14 +97,11 @@ pub one_named : (name : List ℕ) (t : List JobParts) (j : JobParts) → IsDisti
     → AllByRecursion (λ y. is_named name y ≡ true → y ≡ j) t
 one_named name [] j distinct there = tt
 one_named name (x ∷ xs) j distinct there =
-    go (IsDistinct-head bytes_eq x.name (job_names xs) distinct) (one_named name xs j (IsDistinct-tail bytes_eq x.name (job_names xs) distinct)) (is_named name x) refl
+    by (is_named name x) refl there (IsDistinct-head bytes_eq x.name (job_names xs) distinct) (one_named name xs j (IsDistinct-tail bytes_eq x.name (job_names xs) distinct))
   where
-    go : AllByRecursion (λ y. bytes_eq x.name y ≡ false) (job_names xs) → (job_named name xs ≡ Some j → AllByRecursion (λ y. is_named name y ≡ true → y ≡ j) xs)
-        → (b : Bool) → is_named name x ≡ b → AllByRecursion (λ y. is_named name y ≡ true → y ≡ j) (x ∷ xs)
-    go none rest true is =
-        let found : job_named name (x ∷ xs) ≡ Some x = rw is refl in
-        let first : x ≡ j = (let e = sym found ∙ there in cc) in
+    by : (b : Bool) → is_named name x ≡ b → ◌≡◌ {A = Option JobParts} (if b then Some x else job_named name xs) (Some j) → AllByRecursion (λ y. bytes_eq x.name y ≡ false) (job_names xs)
+        → (job_named name xs ≡ Some j → AllByRecursion (λ y. is_named name y ≡ true → y ≡ j) xs) → AllByRecursion (λ y. is_named name y ≡ true → y ≡ j) (x ∷ xs)
+    by true is there none rest =
+        let first : x ≡ j = cc in
         (λ named. first, subst (λ (k : JobParts). AllByRecursion (λ y. is_named name y ≡ true → y ≡ k) xs) first (apart name x xs (same_name name x.name is) none))
-    go none rest false is =
-        let after : job_named name xs ≡ Some j = (let found : job_named name (x ∷ xs) ≡ job_named name xs = rw is refl in sym found ∙ there) in
-        (λ named. absurd (true≢false (sym named ∙ is)), rest after)
+    by false is there none rest = (λ named. absurd (true≢false (sym named ∙ is)), rest there)
