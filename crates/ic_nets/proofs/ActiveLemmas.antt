@@ -52,9 +52,8 @@ mutual
 
 sides-thick : (rs : List Rule) (j k : ℕ) (t u : Tree) → thick (wire_between (is_some (rule_of_sides rs t u)) (end_of j t) (end_of k u)) ≡ cond (is_some (rule_of_sides rs t u)) 1 0
 sides-thick rs j k (name m) (name n) = refl
-sides-thick rs j k (name m) (agent r us) = refl
-sides-thick rs j k (agent s ts) (name n) = refl
 sides-thick rs j k (agent s ts) (agent r us) = omega arith
+sides-thick rs j k t u = refl
 
 pair-thick : (rs : List Rule) (k : ℕ) (e : Pair) → thick (plain_wires (pair_links rs k e)) ≡ cond (is_some (rule_of_sides rs e.left e.right)) 1 0
 pair-thick rs k e =

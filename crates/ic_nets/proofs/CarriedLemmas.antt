@@ -70,9 +70,8 @@ module _ (v : ℕ → ℕ) (u : Side → ℕ) where
 
   sides_sum_by : (l r : Side) (t w : Marked) → sum on_numbers (sides_items l r t w) ≡ sum u (sides_by l r t w)
   sides_sum_by l r (letter m) (letter n) = omega arith
-  sides_sum_by l r (letter m) (node k s ts) = refl
-  sides_sum_by l r (node k s ts) (letter n) = refl
   sides_sum_by l r (node k s ts) (node j q us) = refl
+  sides_sum_by l r t w = refl
 
   pub numbers_sum : (ds : List Equation) → sum on_numbers (all_items ds) ≡ sum v (ids_all ds) + sum u (sides_all ds)
   numbers_sum [] = refl
@@ -187,9 +186,8 @@ module _ (f : ℕ → ℕ) (g : Side → Side) where
       let right : g r ≡ (j, true) = cc in
       let rest : map g ss ≡ sides_counted (j + 1) m = cc in
       ((λ d. left d ∷ right d ∷ []), rest)
-  parted_sides l r j k i (letter x) (node a s ts) ss m same = (refl, same)
-  parted_sides l r j k i (node a s ts) (letter y) ss m same = (refl, same)
   parted_sides l r j k i (node a s ts) (node b q us) ss m same = (refl, same)
+  parted_sides l r j k i t u ss m same = (refl, same)
 
   pub all_carried : (j k : ℕ) (ds : List Equation) → map f (ids_all ds) ≡ counted k (length (ids_all ds)) → map g (sides_all ds) ≡ sides_counted j (points_all ds)
       → map carry_item (all_items ds) ≡ all_items (mark_all j k (map bare_pair ds))

@@ -112,9 +112,8 @@ module _ (w : Item → ℕ) where
 
   sides_sum : (j k i : ℕ) (t u : Tree) → sides_items (j, false) (j, true) (mark k t) (mark i u) ≡ ends_items j (end_of k t) (end_of i u)
   sides_sum j k i (name m) (name n) = refl
-  sides_sum j k i (name m) (agent s ts) = refl
-  sides_sum j k i (agent s ts) (name n) = refl
   sides_sum j k i (agent s ts) (agent r us) = refl
+  sides_sum j k i t u = refl
 
   joined_sum : (rs : List Rule) (j k : ℕ) (ps : List Pair) → sum w (links_items j (joined rs k ps)) + sum w (placed_from k (pairs_agents ps)) ≡ sum w (all_items (mark_all j k ps))
   joined_sum rs j k [] = refl

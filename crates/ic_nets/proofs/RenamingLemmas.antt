@@ -3,7 +3,10 @@ use Rattle.std.proofs.Common.{◌≡◌, ℕ, suc, ◌+◌, ◌≤◌, ◌==◌,
 use Rattle.std.specs.Prelude.{is_some}
 use Rattle.std.proofs.lemmas.Bool.{eqb-true}
 use Rattle.std.proofs.lemmas.Bool.Decides.{Decides-eqb, same_from_decides}
+use Rattle.std.specs.List.{flat_map}
 use Rattle.std.proofs.lemmas.List.{length-map, map-append}
+use Rattle.std.proofs.lemmas.List.Folds.{flat_map-map}
+use Rattle.std.proofs.lemmas.Simd.{map-map}
 use Rattle.ic_term.specs.Tree.{Tree, name, agent, Trees, no_trees, more_trees, list_of, trees_of, Pair}
 use Rattle.ic_term.specs.Configuration.{Configuration, configuration_names, occurrences}
 use Rattle.ic_rules.specs.Rule.{Rule}
@@ -12,7 +15,7 @@ use Rattle.ic_rules.specs.lemmas.RenamingLaws.{renamed_trees-trees_of}
 use Rattle.ic_round.specs.Firing.{rule_of_sides}
 use Rattle.ic_confluence.specs.Sameness.{Renames, renamed_in, renamed_pair}
 use Rattle.ic_nets.specs.Links.{agents_among, agents_in, agents_of, end_of, equation_link, hanging, inside, joined, links_of, pair_agents, pair_links, pairs_agents}
-use Rattle.ic_nets.specs.Wiring.{are_names, joins_names, name_wires, named_wires, plain_wires, standings, standings_at, standings_between, wire_between, wire_of, with_standing}
+use Rattle.ic_nets.specs.Wiring.{are_names, joins_names, name_wires, named_wires, plain_wires, standings, standings_at, standings_between, wire_between, wire_of, wires_at, with_standing}
 use Rattle.ic_nets.specs.Nets.{IsNet}
 use Rattle.ic_nets.specs.Ports.{ends, is_bound, port_eq, times}
 use Rattle.ic_nets.specs.declared.net.Net.{Net}
@@ -48,8 +51,7 @@ module _ (f : ℕ → ℕ) where
   pair_agents-renamed p = λ i. agents-renamed p.left i ++ agents-renamed p.right i
 
   pairs_agents-renamed : (ps : List Pair) → pairs_agents (map (renamed_pair f) ps) ≡ pairs_agents ps
-  pairs_agents-renamed [] = refl
-  pairs_agents-renamed (p ∷ ps) = λ i. pair_agents-renamed p i ++ pairs_agents-renamed ps i
+  pairs_agents-renamed ps = flat_map-map pair_agents (renamed_pair f) ps ∙ (λ i. flat_map (λ (p : Pair). pair_agents-renamed p i) ps)
 
   trees-renamed : (ts : List Tree) → trees_of (map (renamed f) ts) ≡ renamed_trees f (trees_of ts)
   trees-renamed ts = sym (renamed_trees-trees_of f ts)
@@ -89,9 +91,8 @@ module _ (f : ℕ → ℕ) where
 
   sides-renamed : (rs : List Rule) (t u : Tree) → rule_of_sides rs (renamed f t) (renamed f u) ≡ rule_of_sides rs t u
   sides-renamed rs (name m) (name n) = refl
-  sides-renamed rs (name m) (agent r us) = refl
-  sides-renamed rs (agent s ts) (name n) = refl
   sides-renamed rs (agent s ts) (agent r us) = refl
+  sides-renamed rs t u = refl
 
   equation-renamed : (rs : List Rule) (j k : ℕ) (p : Pair) → equation_link rs j k (renamed_pair f p) ≡ link_named (equation_link rs j k p)
   equation-renamed rs j k p =
@@ -126,13 +127,11 @@ module _ (f : ℕ → ℕ) where
 
   between-renamed : (active : Bool) (a b : End) → wire_between active (end_named a) (end_named b) ≡ wire_between active a b
   between-renamed active (At p) (At q) = refl
-  between-renamed active (At p) (Named n) = refl
-  between-renamed active (Named m) (At q) = refl
   between-renamed active (Named m) (Named n) = refl
+  between-renamed active a b = refl
 
   plain-renamed : (ls : List Link) → plain_wires (map link_named ls) ≡ plain_wires ls
-  plain-renamed [] = refl
-  plain-renamed (l ∷ ls) = λ d. between-renamed l.active l.from l.to d ++ plain-renamed ls d
+  plain-renamed ls = flat_map-map wires_at link_named ls ∙ (λ d. flat_map (λ (l : Link). between-renamed l.active l.from l.to d) ls)
 
   are_names-renamed : (a b : End) → are_names (end_named a) (end_named b) ≡ are_names a b
   are_names-renamed (At p) b = refl
@@ -150,9 +149,8 @@ module _ (f : ℕ → ℕ) where
 
   at-renamed : (j : ℕ) (a b : End) → standings_between j (end_named a) (end_named b) ≡ map standing_named (standings_between j a b)
   at-renamed j (At p) (At q) = refl
-  at-renamed j (At p) (Named n) = refl
-  at-renamed j (Named m) (At q) = refl
   at-renamed j (Named m) (Named n) = refl
+  at-renamed j a b = refl
 
   standings-renamed : (j : ℕ) (ls : List Link) → standings j (map link_named ls) ≡ map standing_named (standings j ls)
   standings-renamed j [] = refl
@@ -179,8 +177,7 @@ module _ (f : ℕ → ℕ) where
   bound_stays p bound = refl
 
   own-renamed : (es : List (ℕ × Wire)) → own_wires (map entry_named es) ≡ map wire_named (own_wires es)
-  own-renamed [] = refl
-  own-renamed (e ∷ es) = ap (λ (ws : List Wire). wire_named e.1 ∷ ws) (own-renamed es)
+  own-renamed es = map-map (λ (e : ℕ × Wire). e.1) entry_named es ∙ sym (map-map wire_named (λ (e : ℕ × Wire). e.1) es)
 
   module _ (one : (m n : ℕ) → (f m == f n) ≡ (m == n)) where
     standing-renamed : (es : List (ℕ × Wire)) (s : Standing) → is_bound s.port ≡ true → with_standing (map entry_named es) (standing_named s) ≡ map entry_named (with_standing es s)
