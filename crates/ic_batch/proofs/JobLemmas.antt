@@ -1,10 +1,9 @@
 -- The job of a name, after a round and a submit.
-use Rattle.std.proofs.Common.{◌≡◌, ℕ, List, [], ◌∷◌, ◌++◌, Bool, true, false, Option, None, Some, refl, sym, ap, subst, ◌∙◌, true≢false}
-use Rattle.std.specs.Prelude.{IsSome, find, if◌then◌else◌, option_map}
+use Rattle.std.proofs.Common.{◌≡◌, ℕ, List, [], ◌∷◌, Bool, true, false, Option, None, Some, refl, sym, ap, subst, ◌∙◌, true≢false}
+use Rattle.std.specs.Prelude.{IsSome, if◌then◌else◌}
 use Rattle.std.specs.List.{AllByRecursion, IsDistinct}
-use Rattle.std.specs.Option.{option_map_or, option_or}
+use Rattle.std.specs.Option.{option_map_or}
 use Rattle.std.specs.Str.{bytes_eq}
-use Rattle.std.proofs.lemmas.List.Folds.{find-append}
 use Rattle.std.proofs.lemmas.Slice.Eq.{bytes_eq-Decides}
 use Rattle.std.proofs.lemmas.Map.Keys.{IsDistinct-head, IsDistinct-tail}
 use Rattle.ic_jobs.specs.declared.event.Event.TheVariants.{Round}
@@ -16,17 +15,6 @@ use Rattle.ic_jobs.specs.Table.{is_named, job_names, job_named, with_changed}
 use Rattle.ic_jobs.specs.Events.{Outcome, after_round, outcome, where_running}
 use Rattle.ic_jobs.specs.History.{table_after}
 use Rattle.ic_batch.specs.Way.{after_event}
-
--- a change that keeps names changes the job of the name
-pub named_changed : (name : List ℕ) (f : JobParts → JobParts) → ((j : JobParts) → (f j).name ≡ j.name) → (t : List JobParts)
-    → job_named name (with_changed name f t) ≡ option_map f (job_named name t)
-named_changed name f keeps [] = refl
-named_changed name f keeps (j ∷ js) = go (named_changed name f keeps js) (is_named name j) refl
-  where
-    go : job_named name (with_changed name f js) ≡ option_map f (job_named name js) → (b : Bool) → is_named name j ≡ b
-        → job_named name (with_changed name f (j ∷ js)) ≡ option_map f (job_named name (j ∷ js))
-    go rest true is = rw (is, ap (bytes_eq name) (keeps j) ∙ is) refl
-    go rest false is = rw (is, is) rest
 
 -- the table after a round of a running job
 round_table : (t : List JobParts) (name : List ℕ) (j : JobParts) → job_named name t ≡ Some j → is_running j.state ≡ true
@@ -59,20 +47,6 @@ changed_is false j = refl
 
 pub change_is : (j : JobParts) → change j j ≡ after_event j
 change_is j = changed_is (can_move j) j
-
--- the job after its round
-pub named_round : (t : List JobParts) (name : List ℕ) (j : JobParts) → job_named name t ≡ Some j → is_running j.state ≡ true
-    → job_named name (table_after t (Round name)) ≡ Some (after_event j)
-named_round t name j there runs =
-    ap (job_named name) (round_changes t name j there runs) ∙ named_changed name (change j) (keeps_name (can_move j)) t
-    ∙ ap (option_map (change j)) there ∙ ap (λ (k : JobParts). Some k) (change_is j)
-
--- a job that was put last
-pub named_last : (name : List ℕ) (t : List JobParts) (b : JobParts) → job_named name t ≡ None → bytes_eq name b.name ≡ true
-    → job_named name (t ++ b ∷ []) ≡ Some b
-named_last name t b none is =
-    find-append (is_named name) t (b ∷ []) ∙ ap (λ (o : Option JobParts). option_or o (find (is_named name) (b ∷ []))) none
-    ∙ (rw is refl)
 
 pub same_name : (a b : List ℕ) → bytes_eq a b ≡ true → a ≡ b
 same_name a b is = (bytes_eq-Decides a b).0 is

@@ -14,8 +14,6 @@ use Rattle.ic_jobs.specs.Events.{after_command, outcome, refused}
 use Rattle.ic_jobs.specs.Job.{JobParts}
 use Rattle.ic_jobs.specs.Table.{job_named}
 use Rattle.ic_lines.specs.Script.{ReadsScript}
-use Rattle.ic_batch.specs.declared.fault.JobsCause.{JobsCause}
-use Rattle.ic_batch.specs.Faults.{IsRefused, StopsAt}
 use Rattle.ic_batch.specs.declared.jobs.NewJob.{NewJob}
 use Rattle.ic_batch.specs.Jobs.{begun_by, names, submit_of}
 use Rattle.ic_batch.specs.inner.Taking.{IsNext}
@@ -49,18 +47,6 @@ one_read text jobs new command rest next so_far = record {
       ∙ ap (λ (l : List Command). l ++ rest) (sym (map-append submit_of jobs (new ∷ [])))) so_far.read;
   distinct = distinct_more jobs new next.other so_far.distinct;
   few = omega (arith, next.room, length-append jobs (new ∷ []));
-}
-
-pub stops_at : (text : List ℕ) (jobs : List NewJob) (command : Command) (rest : List Command) (is : JobsCause) → IsRefused jobs command is → AreSoFar text jobs (command ∷ rest)
-    → StopsAt text is
-stops_at text jobs command rest is refused so_far = record {
-  jobs = jobs;
-  command = command;
-  after = rest;
-  read = so_far.read;
-  distinct = so_far.distinct;
-  few = so_far.few;
-  refused = refused;
 }
 
 pub first_read : (text : List ℕ) (commands : List Command) (jobs : List NewJob) (rest : List Command) → jobs ≡ [] → rest ≡ commands → ReadsScript text (Ok commands)
