@@ -88,4 +88,6 @@ active_wires rs c net is =
     let ls = links_of rs c in
     let ss = standings 0 ls in
     let ts = trees_of c.interface in
-    omega (arith, sum-count is_thick net.wires.items, ap thick is.wires, thick-append (plain_wires ls) (name_wires ss), thick-links (hanging Interface 1 0 ts) (joined rs (length (agents_among ts)) c.equations), hanging-thin Interface 1 0 ts, equations-thick rs (length (agents_among ts)) c.equations, names-thin [] ss refl)
+    let wires = thick-append (plain_wires ls) (name_wires ss) in
+    let links = thick-links (hanging Interface 1 0 ts) (joined rs (length (agents_among ts)) c.equations) in
+    omega (arith, sum-count is_thick net.wires.items, ap thick is.wires, hanging-thin Interface 1 0 ts, equations-thick rs (length (agents_among ts)) c.equations, names-thin [] ss refl)

@@ -123,10 +123,16 @@ module _ (w : Item → ℕ) where
       let rest = joined rs later ps in
       let equation = equation_link rs k right p in
       let point = next_point j k p in
-      let ends = ends_items j (end_of k p.left) (end_of right p.right) in
-      let items = items_in (mark k p.left) in
       let sides = sides_items (j, false) (j, true) (mark k p.left) (mark right p.right) in
-      omega (arith, ap (λ ks. sum w (links_items j ks)) (append_assoc (inside k p.left) (equation ∷ inside right p.right) rest), inside_sum j k p.left (equation ∷ (inside right p.right ++ rest)), sum-append w ends (links_items point (inside right p.right ++ rest)), inside_sum point right p.right rest, joined_sum rs point later ps, placed-append k (pair_agents p) (pairs_agents ps), placed-append k (agents_in p.left) (agents_in p.right), ap (sum w) (sides_sum j k right p.left p.right), sum-append w (pair_items (mark_pair j k p)) (all_items (mark_all point later ps)), sum-append w items (sides ++ items_in (mark right p.right)) ∙ ap (λ n. sum w items + n) (sum-append w sides (items_in (mark right p.right))))
+      let links = ap (λ ks. sum w (links_items j ks)) (append_assoc (inside k p.left) (equation ∷ inside right p.right) rest) in
+      let left = inside_sum j k p.left (equation ∷ (inside right p.right ++ rest)) in
+      let ends = sum-append w (ends_items j (end_of k p.left) (end_of right p.right)) (links_items point (inside right p.right ++ rest)) in
+      let agents = placed-append k (pair_agents p) (pairs_agents ps) in
+      let both = placed-append k (agents_in p.left) (agents_in p.right) in
+      let items = sum-append w (pair_items (mark_pair j k p)) (all_items (mark_all point later ps)) in
+      let own = sum-append w (items_in (mark k p.left)) (sides ++ items_in (mark right p.right)) in
+      let last = sum-append w sides (items_in (mark right p.right)) in
+      omega (arith, inside_sum point right p.right rest, joined_sum rs point later ps, ap (sum w) (sides_sum j k right p.left p.right))
 
   pub drawn_sum : (rs : List Rule) (c : Configuration) → sum w (links_items 0 (links_of rs c)) + sum w (placed_from 0 (agents_of c)) ≡ sum w (items_of c)
   drawn_sum rs c =

@@ -67,4 +67,6 @@ free_ends_are_names rs c net n twice is =
     let bound = are_bound rs c in
     let low = are_few rs c twice in
     let count : stands n (named_wires ss) ≡ occurrences n (configuration_names c) = omega (arith, all_counted n [] ss bound low, often-names rs c n) in
-    omega (arith, all_ends rs c net twice is (Free n), parted-ports (Free n) 0 (links_of rs c), links-ports (Free n) rs c, free-none n (length c.interface) (agents_of c) (joints (links_of rs c)), free_ends n (named_wires ss) (all_own [] ss bound low tt), ap (λ m. bit (m == 1)) count)
+    let none = free-none n (length c.interface) (agents_of c) (joints (links_of rs c)) in
+    let own = free_ends n (named_wires ss) (all_own [] ss bound low tt) in
+    omega (arith, all_ends rs c net twice is (Free n), parted-ports (Free n) 0 (links_of rs c), links-ports (Free n) rs c, ap (λ m. bit (m == 1)) count)

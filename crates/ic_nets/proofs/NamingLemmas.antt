@@ -122,7 +122,9 @@ module _ (rs : List Rule) (c : Configuration) (net : Net) (f : Port → ℕ) (ne
 
   twice_listed : (p : Port) → times p all_ports ≡ times p (ports_of net) + times p (ports_of net)
   twice_listed p =
-      omega (arith, times-append p places (at_names ++ (agents ++ (points ++ plain))), times-append p at_names (agents ++ (points ++ plain)), times-append p agents (points ++ plain), times-append p points plain, parted-ports p 0 ls, links-ports p rs c, ports_there rs c net sound.twice is p)
+      let first = times-append p places (at_names ++ (agents ++ (points ++ plain))) in
+      let rest = times-append p at_names (agents ++ (points ++ plain)) in
+      omega (arith, times-append p agents (points ++ plain), times-append p points plain, parted-ports p 0 ls, links-ports p rs c, ports_there rs c net sound.twice is p)
 
   bound_ports : AreBound all_ports
   bound_ports = all_bound all_ports (λ m. omega (arith, twice_listed (Free m), ports-parted net (Free m), free-none m net.interface net.agents.items net.joints))

@@ -99,7 +99,10 @@ module _ (p : Port) where
       let j = k + length (agents_in e.left) in
       let link = equation_link rs k j e in
       let below = inside j e.right in
-      omega (arith, joined-append (inside k e.left) (link ∷ below), times-append (port_among (end_of k e.left) ++ port_among (end_of j e.right)) (joined_ports below), times-append (port_among (end_of k e.left)) (port_among (end_of j e.right)), inside-ports k e.left, inside-ports j e.right, agents-append k (agents_in e.left) (agents_in e.right))
+      let links = joined-append (inside k e.left) (link ∷ below) in
+      let ends = times-append (port_among (end_of k e.left) ++ port_among (end_of j e.right)) (joined_ports below) in
+      let both = times-append (port_among (end_of k e.left)) (port_among (end_of j e.right)) in
+      omega (arith, inside-ports k e.left, inside-ports j e.right, agents-append k (agents_in e.left) (agents_in e.right))
 
   equations-ports : (rs : List Rule) (k : ℕ) (es : List Pair) → times p (joined_ports (joined rs k es)) ≡ times p (agent_ports k (pairs_agents es))
   equations-ports rs k [] = refl
