@@ -8,17 +8,17 @@ use Rattle.ic_disk.specs.declared.disk.Disk.{Ghosts}
 use Rattle.ic_output.specs.Output.{AppendsFront}
 use Rattle.ic_jobs.specs.Job.{JobParts}
 use Rattle.ic_book.specs.declared.book.Book.{Book}
-use Rattle.ic_book.specs.Book.{disk_of, table_of, IsUnchanged}
+use Rattle.ic_book.specs.Book.{table_of}
 use Rattle.ic_serving.specs.Booked.{last_kept, IsAllKept}
-use Rattle.ic_serving.specs.Moments.{FaultLeaves, Leaves}
-use Rattle.ic_serving.specs.Faults.{ComesInLine, CountsServe}
+use Rattle.ic_serving.specs.Moments.{Leaves}
+use Rattle.ic_serving.specs.Faults.{ComesInLine}
 use Rattle.ic_serving.specs.declared.fault.ServeFault.{ServeFault}
-use Rattle.ic_serving.specs.declared.fault.ServeFault.TheVariants.{Read, Write, TooManyLines, Book as of_book, Pool, LongLine, Memory}
+use Rattle.ic_serving.specs.declared.fault.ServeFault.TheVariants.{Write}
 use Rattle.ic_serving.specs.lemmas.Leaving.{leaves_more}
 use Rattle.ic_batch.specs.declared.fault.BatchFault.{BatchFault}
-use Rattle.ic_batch.specs.declared.fault.BatchFault.TheVariants.{Taken, Full, Serve}
+use Rattle.ic_batch.specs.declared.fault.BatchFault.TheVariants.{Taken, Serve}
 use Rattle.ic_batch.specs.declared.jobs.NewJob.{NewJob}
-use Rattle.ic_batch.specs.Faults.{AreSame, HasNoRoom, IsTaken, Says, Succeeds}
+use Rattle.ic_batch.specs.Faults.{IsTaken}
 use Rattle.ic_batch.specs.Jobs.{names}
 use Rattle.ic_batch.specs.Way.{all_of, fetched_all, goes_on, missing, AreOnWay, AreWays, HaveEnded, IsKeptOr, IsTextOf, IsUnderWay}
 use Rattle.ic_batch.specs.Batch.{Brings, IsBatch, IsOnWay}
@@ -33,19 +33,13 @@ keeps_same (Some bytes) = refl
 
 -- a fault of a call over a book isn't the writer's
 pub not_writing : (fault : ServeFault) → ComesInLine fault → Serve fault ≢ Serve Write
-not_writing Read comes = λ e. cc
 not_writing Write comes = absurd comes
-not_writing TooManyLines comes = λ e. cc
-not_writing (of_book fault) comes = λ e. cc
-not_writing (Pool fault) comes = λ e. cc
-not_writing LongLine comes = λ e. cc
-not_writing Memory comes = λ e. cc
+not_writing fault comes = λ e. cc
 
 -- another fault than the writer's
 pub not_write : (jobs : List NewJob) (t : List JobParts) (fault : BatchFault) → IsTaken jobs t fault → fault ≢ Serve Write
 not_write jobs t (Taken name is) taken = λ e. cc
-not_write jobs t Full taken = absurd taken
-not_write jobs t (Serve other) taken = absurd taken
+not_write jobs t fault taken = absurd taken
 
 -- ---- tables
 
@@ -159,42 +153,3 @@ module _ {T : Type 0} {D : Type 0} {ghosts : Ghosts D} (r : Result T BatchFault)
     text = on_ok r (HaveEnded most jobs (table_of old) (table_of new)) (IsTextOf most jobs (fetched_all jobs (table_of new))) text brings.ended;
     text_at_cut = λ is. text (brings.ended_at_cut is);
   }
-
--- ---- what it says
-
-unchanged : {D : Type 0} {ghosts : Ghosts D} (book : Book D ghosts) → IsUnchanged book book
-unchanged book = record { same_start = refl; same_log = refl; same_table = refl; same_kept = refl; same_keeper = refl }
-
-pub says_taken : {D : Type 0} {ghosts : Ghosts D} (jobs : List NewJob) (book : Book D ghosts) (fault : BatchFault) → IsTaken jobs (table_of book) fault → Says jobs book book fault
-says_taken jobs book (Taken name is) taken = (taken, unchanged book)
-says_taken jobs book Full taken = absurd taken
-says_taken jobs book (Serve fault) taken = absurd taken
-
-pub says_full : {D : Type 0} {ghosts : Ghosts D} (jobs : List NewJob) (book : Book D ghosts) → AreSame jobs (table_of book) → HasNoRoom jobs (table_of book) → Says jobs book book Full
-says_full jobs book same full = (same, full, unchanged book)
-
-counts : (T : Type 0) (fault : ServeFault) (old new : ℕ) → CountsServe {T = T} (Err fault) old new → CountsServe {T = Unit {0}} (Err fault) old new
-counts T Read old new is = is
-counts T Write old new is = is
-counts T TooManyLines old new is = is
-counts T (of_book it) old new is = is
-counts T (Pool it) old new is = is
-counts T LongLine old new is = is
-counts T Memory old new is = is
-
-module _ {D : Type 0} {ghosts : Ghosts D} (jobs : List NewJob) (old new : Book D ghosts) (same : AreSame jobs (table_of old)) where
-  pub says_failed : (U : Type 0) (fault : ServeFault) → FaultLeaves {T = U} ComesInLine (Err fault) old new → Says jobs old new (Serve fault)
-  says_failed U fault leaves = (
-    same,
-    record {
-      comes = inr leaves.causes;
-      counted = counts U fault (ghosts.failures (disk_of old)) (ghosts.failures (disk_of new)) leaves.counted;
-      breaks = leaves.breaks;
-    },
-  )
-
-  pub succeeds : {U : Type 0} (value : U) → FaultLeaves ComesInLine (Ok value) old new → Succeeds jobs old new
-  succeeds value leaves = record { same = same; counted = leaves.counted; ready = leaves.ready }
-
-  pub says_cut : Succeeds jobs old new → Says jobs old new (Serve Write)
-  says_cut done = (same, record { comes = inl refl; counted = done.counted; breaks = done.ready })

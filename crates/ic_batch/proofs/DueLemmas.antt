@@ -1,12 +1,12 @@
 -- The round that is due from the place of a job that goes on.
-use Rattle.std.proofs.Common.{◌≡◌, ⊎_elim, ℕ, ◌<◌, ◌≤◌, List, Bool, true, false, ◌&&◌, Option, None, Some, refl, sym, ap, ◌∙◌, arith}
+use Rattle.std.proofs.Common.{◌≡◌, ⊎_elim, ℕ, ◌<◌, ◌≤◌, List, true, ◌&&◌, Option, None, Some, refl, sym, ap, ◌∙◌, arith}
 use Rattle.std.specs.Prelude.{◌↔◌, IfNone, IfSome, nat_lt, slice_get}
-use Rattle.std.proofs.lemmas.Bool.{cases_lt}
+use Rattle.std.proofs.lemmas.Bool.{and_parts, cases_lt}
 use Rattle.ic_disk.specs.declared.disk.Disk.{Ghosts}
 use Rattle.ic_flights.specs.Flight.{FlightParts}
 use Rattle.ic_jobs.specs.declared.event.Event.TheVariants.{Round}
 use Rattle.ic_jobs.specs.declared.state.State.{State}
-use Rattle.ic_jobs.specs.declared.state.State.TheVariants.{Running, Paused, Done, Halted, Spent}
+use Rattle.ic_jobs.specs.declared.state.State.TheVariants.{Running}
 use Rattle.ic_jobs.specs.State.{is_running}
 use Rattle.ic_jobs.specs.Job.{JobParts}
 use Rattle.ic_jobs.specs.Table.{IsTable, job_named}
@@ -21,17 +21,10 @@ use Rattle.ic_batch.proofs.WayLemmas.{runs}
 
 running_is : (s : State) → is_running s ≡ true → s ≡ Running
 running_is Running is = refl
-running_is Paused is = cc
-running_is Done is = cc
-running_is Halted is = cc
-running_is Spent is = cc
+running_is s is = cc
 
 pub few : (most : ℕ) (j : JobParts) → goes_on most j ≡ true → nat_lt j.rounds most ≡ true
-few most j goes = second (is_running j.state) (nat_lt j.rounds most) goes
-  where
-    second : (a b : Bool) → a && b ≡ true → b ≡ true
-    second true b is = is
-    second false b is = cc
+few most j goes = (and_parts (is_running j.state) (nat_lt j.rounds most) goes).1
 
 -- the laws of what is due
 pub record DueLaws : Type 0 where

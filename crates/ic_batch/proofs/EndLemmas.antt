@@ -1,6 +1,6 @@
 -- Jobs at their ends, and rounds that are left until then.
 use Rattle.std.proofs.Common.{◌≡◌, ℕ, List, [], ◌∷◌, ◌++◌, Bool, true, false, Option, Some, refl, sym, ap, subst, ◌∙◌}
-use Rattle.std.specs.Prelude.{IfSome, IsSome}
+use Rattle.std.specs.Prelude.{IfSome, IsSome, if◌then◌else◌}
 use Rattle.std.specs.List.{AllByRecursion, flat_map}
 use Rattle.std.proofs.lemmas.List.Concat.{flat_map-cons}
 use Rattle.ic_jobs.specs.Job.{JobParts}
@@ -18,11 +18,11 @@ use Rattle.ic_batch.proofs.JobLemmas.{some_there}
 -- what is so of each job of a table is so of the one of a name
 pub named_one : (P : JobParts → Type 0) (name : List ℕ) (t : List JobParts) (j : JobParts) → AllByRecursion P t → job_named name t ≡ Some j → P j
 named_one P name [] j all there = cc
-named_one P name (x ∷ xs) j all there = go (named_one P name xs j all.1) (is_named name x) refl
+named_one P name (x ∷ xs) j all there = by (is_named name x) there (named_one P name xs j all.1)
   where
-    go : (job_named name xs ≡ Some j → P j) → (b : Bool) → is_named name x ≡ b → P j
-    go rest true is = (let found : job_named name (x ∷ xs) ≡ Some x = rw is refl in let same : x ≡ j = (let e = sym found ∙ there in cc) in subst P same all.0)
-    go rest false is = rest ((let found : job_named name (x ∷ xs) ≡ job_named name xs = rw is refl in sym found ∙ there))
+    by : (b : Bool) → ◌≡◌ {A = Option JobParts} (if b then Some x else job_named name xs) (Some j) → (job_named name xs ≡ Some j → P j) → P j
+    by true there later = let same : x ≡ j = cc in subst P same all.0
+    by false there later = later there
 
 fetched_is : (t : List JobParts) (new : NewJob) (j : JobParts) → job_named new.name t ≡ Some j → fetched t new ≡ ended (shown_text (shown j))
 fetched_is t new j there = ap (λ (o : Option JobParts). ended (reply_text (unless_missing t (λ (k : JobParts). outcome t (Shown (shown k))) o).reply)) there

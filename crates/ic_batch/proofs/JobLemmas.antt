@@ -1,10 +1,9 @@
 -- The job of a name, after a round and a submit.
-use Rattle.std.proofs.Common.{◌≡◌, ℕ, List, [], ◌∷◌, ◌++◌, Bool, true, false, Option, None, Some, refl, sym, ap, subst, ◌∙◌, true≢false}
-use Rattle.std.specs.Prelude.{IsSome, find, if◌then◌else◌, option_map}
+use Rattle.std.proofs.Common.{◌≡◌, ℕ, List, [], ◌∷◌, Bool, true, false, Option, None, Some, refl, sym, ap, subst, ◌∙◌, true≢false}
+use Rattle.std.specs.Prelude.{IsSome, if◌then◌else◌}
 use Rattle.std.specs.List.{AllByRecursion, IsDistinct}
-use Rattle.std.specs.Option.{option_map_or, option_or}
+use Rattle.std.specs.Option.{option_map_or}
 use Rattle.std.specs.Str.{bytes_eq}
-use Rattle.std.proofs.lemmas.List.Folds.{find-append}
 use Rattle.std.proofs.lemmas.Slice.Eq.{bytes_eq-Decides}
 use Rattle.std.proofs.lemmas.Map.Keys.{IsDistinct-head, IsDistinct-tail}
 use Rattle.ic_jobs.specs.declared.event.Event.TheVariants.{Round}
@@ -16,17 +15,6 @@ use Rattle.ic_jobs.specs.Table.{is_named, job_names, job_named, with_changed}
 use Rattle.ic_jobs.specs.Events.{Outcome, after_round, outcome, where_running}
 use Rattle.ic_jobs.specs.History.{table_after}
 use Rattle.ic_batch.specs.Way.{after_event}
-
--- a change that keeps names changes the job of the name
-pub named_changed : (name : List ℕ) (f : JobParts → JobParts) → ((j : JobParts) → (f j).name ≡ j.name) → (t : List JobParts)
-    → job_named name (with_changed name f t) ≡ option_map f (job_named name t)
-named_changed name f keeps [] = refl
-named_changed name f keeps (j ∷ js) = go (named_changed name f keeps js) (is_named name j) refl
-  where
-    go : job_named name (with_changed name f js) ≡ option_map f (job_named name js) → (b : Bool) → is_named name j ≡ b
-        → job_named name (with_changed name f (j ∷ js)) ≡ option_map f (job_named name (j ∷ js))
-    go rest true is = rw (is, ap (bytes_eq name) (keeps j) ∙ is) refl
-    go rest false is = rw (is, is) rest
 
 -- the table after a round of a running job
 round_table : (t : List JobParts) (name : List ℕ) (j : JobParts) → job_named name t ≡ Some j → is_running j.state ≡ true
@@ -49,7 +37,7 @@ pub round_changes : (t : List JobParts) (name : List ℕ) (j : JobParts) → job
     → table_after t (Round name) ≡ with_changed name (change j) t
 round_changes t name j there runs = round_table t name j there runs ∙ change_table t name (can_move j)
 
-keeps_name : (b : Bool) (k : JobParts) → ((if b then moved else in_state state.Halted) k).name ≡ k.name
+pub keeps_name : (b : Bool) (k : JobParts) → ((if b then moved else in_state state.Halted) k).name ≡ k.name
 keeps_name true k = refl
 keeps_name false k = refl
 
@@ -59,20 +47,6 @@ changed_is false j = refl
 
 pub change_is : (j : JobParts) → change j j ≡ after_event j
 change_is j = changed_is (can_move j) j
-
--- the job after its round
-pub named_round : (t : List JobParts) (name : List ℕ) (j : JobParts) → job_named name t ≡ Some j → is_running j.state ≡ true
-    → job_named name (table_after t (Round name)) ≡ Some (after_event j)
-named_round t name j there runs =
-    ap (job_named name) (round_changes t name j there runs) ∙ named_changed name (change j) (keeps_name (can_move j)) t
-    ∙ ap (option_map (change j)) there ∙ ap (λ (k : JobParts). Some k) (change_is j)
-
--- a job that was put last
-pub named_last : (name : List ℕ) (t : List JobParts) (b : JobParts) → job_named name t ≡ None → bytes_eq name b.name ≡ true
-    → job_named name (t ++ b ∷ []) ≡ Some b
-named_last name t b none is =
-    find-append (is_named name) t (b ∷ []) ∙ ap (λ (o : Option JobParts). option_or o (find (is_named name) (b ∷ []))) none
-    ∙ (rw is refl)
 
 pub same_name : (a b : List ℕ) → bytes_eq a b ≡ true → a ≡ b
 same_name a b is = (bytes_eq-Decides a b).0 is
@@ -97,14 +71,11 @@ pub one_named : (name : List ℕ) (t : List JobParts) (j : JobParts) → IsDisti
     → AllByRecursion (λ y. is_named name y ≡ true → y ≡ j) t
 one_named name [] j distinct there = tt
 one_named name (x ∷ xs) j distinct there =
-    go (IsDistinct-head bytes_eq x.name (job_names xs) distinct) (one_named name xs j (IsDistinct-tail bytes_eq x.name (job_names xs) distinct)) (is_named name x) refl
+    by (is_named name x) refl there (IsDistinct-head bytes_eq x.name (job_names xs) distinct) (one_named name xs j (IsDistinct-tail bytes_eq x.name (job_names xs) distinct))
   where
-    go : AllByRecursion (λ y. bytes_eq x.name y ≡ false) (job_names xs) → (job_named name xs ≡ Some j → AllByRecursion (λ y. is_named name y ≡ true → y ≡ j) xs)
-        → (b : Bool) → is_named name x ≡ b → AllByRecursion (λ y. is_named name y ≡ true → y ≡ j) (x ∷ xs)
-    go none rest true is =
-        let found : job_named name (x ∷ xs) ≡ Some x = rw is refl in
-        let first : x ≡ j = (let e = sym found ∙ there in cc) in
+    by : (b : Bool) → is_named name x ≡ b → ◌≡◌ {A = Option JobParts} (if b then Some x else job_named name xs) (Some j) → AllByRecursion (λ y. bytes_eq x.name y ≡ false) (job_names xs)
+        → (job_named name xs ≡ Some j → AllByRecursion (λ y. is_named name y ≡ true → y ≡ j) xs) → AllByRecursion (λ y. is_named name y ≡ true → y ≡ j) (x ∷ xs)
+    by true is there none rest =
+        let first : x ≡ j = cc in
         (λ named. first, subst (λ (k : JobParts). AllByRecursion (λ y. is_named name y ≡ true → y ≡ k) xs) first (apart name x xs (same_name name x.name is) none))
-    go none rest false is =
-        let after : job_named name xs ≡ Some j = (let found : job_named name (x ∷ xs) ≡ job_named name xs = rw is refl in sym found ∙ there) in
-        (λ named. absurd (true≢false (sym named ∙ is)), rest after)
+    by false is there none rest = (λ named. absurd (true≢false (sym named ∙ is)), rest there)

@@ -1,6 +1,6 @@
 -- Jobs on their way are so after a batch, and at its end their text is told.
 use Rattle.std.proofs.Common.{◌≡◌, ℕ, List, [], ◌∷◌, ◌++◌, Bool, true, false, not, Option, None, Some, map, refl, sym, ap, subst, ◌∙◌, true≢false}
-use Rattle.std.specs.Prelude.{IfSome, IsSome, is_some}
+use Rattle.std.specs.Prelude.{IfSome, IsSome, if◌then◌else◌, is_some}
 use Rattle.std.specs.List.{AllByRecursion, IsDistinct}
 use Rattle.std.specs.Option.{option_or}
 use Rattle.std.specs.Str.{bytes_eq}
@@ -54,17 +54,12 @@ alone_front new (k ∷ front) rest alone = (alone.0, alone_front new front rest 
 module _ (most : ℕ) where
   named_front : (new : NewJob) (front : List NewJob) → IsAlone new front → IfSome (job_named new.name (map begun_by front)) (IsOnWay most (begun_by new))
   named_front new [] alone = tt
-  named_front new (k ∷ front) alone = go (named_front new front alone.1) (bytes_eq new.name k.name) refl
+  named_front new (k ∷ front) alone = by (bytes_eq new.name k.name) (λ is. alone.0 (swapped new.name k.name is)) (named_front new front alone.1)
     where
-      go : IfSome (job_named new.name (map begun_by front)) (IsOnWay most (begun_by new)) → (b : Bool) → bytes_eq new.name k.name ≡ b
-          → IfSome (job_named new.name (map begun_by (k ∷ front))) (IsOnWay most (begun_by new))
-      go rest true is =
-          let same : k ≡ new = alone.0 (swapped new.name k.name is) in
-          let found : job_named new.name (map begun_by (k ∷ front)) ≡ Some (begun_by k) = rw is refl in
-          subst (λ (o : Option JobParts). IfSome o (IsOnWay most (begun_by new))) (sym found) (0, ap begun_by same)
-      go rest false is =
-          let found : job_named new.name (map begun_by (k ∷ front)) ≡ job_named new.name (map begun_by front) = rw is refl in
-          subst (λ (o : Option JobParts). IfSome o (IsOnWay most (begun_by new))) (sym found) rest
+      by : (b : Bool) → (b ≡ true → k ≡ new) → IfSome (job_named new.name (map begun_by front)) (IsOnWay most (begun_by new))
+          → IfSome (if b then Some (begun_by k) else job_named new.name (map begun_by front)) (IsOnWay most (begun_by new))
+      by true same rest = (0, ap begun_by (same refl))
+      by false same rest = rest
 
   first_or : (from : JobParts) (a b : Option JobParts) → IfSome a (IsOnWay most from) → IfSome b (IsOnWay most from) → IfSome (option_or a b) (IsOnWay most from)
   first_or from None b one other = other
@@ -92,11 +87,11 @@ module _ (most : ℕ) where
 -- ---- all are there in the end
 
 some_more : (name : List ℕ) (b : JobParts) (js : List JobParts) → IsSome (job_named name js) → IsSome (job_named name (b ∷ js))
-some_more name b js some = go (is_named name b) refl
+some_more name b js some = by (is_named name b)
   where
-    go : (c : Bool) → is_named name b ≡ c → IsSome (job_named name (b ∷ js))
-    go true is = (let found : job_named name (b ∷ js) ≡ Some b = rw is refl in subst (λ (o : Option JobParts). IsSome o) (sym found) refl)
-    go false is = (let found : job_named name (b ∷ js) ≡ job_named name js = rw is refl in subst (λ (o : Option JobParts). IsSome o) (sym found) some)
+    by : (c : Bool) → IsSome (if c then Some b else job_named name js)
+    by true = refl
+    by false = some
 
 abbrev AreFound : List JobParts → List JobParts → List NewJob → Type 0
 AreFound t bs ks = AllByRecursion (λ k. is_new t k ≡ true → IsSome (job_named k.name bs)) ks

@@ -42,11 +42,10 @@ AreEnds most jobs ends = AllZip (λ new end. ComesTo most (begun_by new) end) jo
 same_ends : (most : ℕ) (jobs : List NewJob) (one other : List JobParts) → AreEnds most jobs one → AreEnds most jobs other → one ≡ other
 same_ends most [] [] [] first second = refl
 same_ends most [] (x ∷ xs) other first second = absurd first
-same_ends most [] [] (y ∷ ys) first second = absurd second
 same_ends most (new ∷ jobs) [] other first second = absurd first
-same_ends most (new ∷ jobs) (x ∷ xs) [] first second = absurd second
 same_ends most (new ∷ jobs) (x ∷ xs) (y ∷ ys) first second =
     ap₂ (λ (a : JobParts) (b : List JobParts). a ∷ b) (one_end most (begun_by new) x y first.0 second.0) (same_ends most jobs xs ys first.1 second.1)
+same_ends most jobs one other first second = absurd second
 
 pub one_text : (most : ℕ) (jobs : List NewJob) (one other : List ℕ) → IsTextOf most jobs one → IsTextOf most jobs other → one ≡ other
 one_text most jobs one other first second = first.2 ∙ ap lines_of (same_ends most jobs first.0 second.0 first.1 second.1) ∙ sym second.2

@@ -1,5 +1,5 @@
 -- How many rounds are left at most until no job goes on.
-use Rattle.std.proofs.Common.{◌≡◌, ℕ, ◌+◌, ◌-◌, ◌<◌, ◌≤◌, List, [], ◌∷◌, Bool, true, false, Option, refl, sym, ap, subst, ◌∙◌, arith}
+use Rattle.std.proofs.Common.{◌≡◌, ℕ, ◌+◌, ◌-◌, ◌<◌, ◌≤◌, List, [], ◌∷◌, Bool, true, false, Option, Some, refl, sym, ap, subst, ◌∙◌, arith}
 use Rattle.std.specs.Prelude.{IsSome, if◌then◌else◌}
 use Rattle.std.specs.List.{AllByRecursion}
 use Rattle.std.proofs.lemmas.Bool.{ltb-true}
@@ -33,51 +33,37 @@ left_less most j goes =
     let after = event_less most j (can_move j) below in
     omega (arith, now, after)
 
--- each job of the name has fewer rounds left
-abbrev AreFewer : ℕ → (JobParts → JobParts) → List ℕ → List JobParts → Type 0
-AreFewer most f name t = AllByRecursion (λ y. is_named name y ≡ true → left most (f y) < left most y) t
+-- the job of the name, of which there is one, has fewer rounds left
+module _ (most : ℕ) (name : List ℕ) (j : JobParts) (goes : goes_on most j ≡ true) where
+  abbrev IsOne : List JobParts → Type 0
+  IsOne t = AllByRecursion (λ y. is_named name y ≡ true → y ≡ j) t
 
-head_le : (most : ℕ) (f : JobParts → JobParts) (x : JobParts) (b : Bool) → (b ≡ true → left most (f x) < left most x) → left most (if b then f x else x) ≤ left most x
-head_le most f x true small = (let s = small refl in omega (arith, s))
-head_le most f x false small = omega arith
+  fewer : (x : JobParts) → x ≡ j → left most (change j x) < left most x
+  fewer x same =
+      subst (λ (y : JobParts). left most (change j y) < left most y) (sym same) (subst (λ (y : JobParts). left most y < left most j) (sym (change_is j)) (left_less most j goes))
 
-no_more : (most : ℕ) (f : JobParts → JobParts) (name : List ℕ) (t : List JobParts) → AreFewer most f name t → left_in most (with_changed name f t) ≤ left_in most t
-no_more most f name [] fewer = omega arith
-no_more most f name (x ∷ xs) fewer =
-    let rest = no_more most f name xs fewer.1 in
-    let first = head_le most f x (is_named name x) fewer.0 in
-    omega (arith, rest, first)
+  no_more : (t : List JobParts) → IsOne t → left_in most (with_changed name (change j) t) ≤ left_in most t
+  no_more [] one = omega arith
+  no_more (x ∷ xs) one = by (is_named name x) one.0 (no_more xs one.1)
+    where
+      by : (b : Bool) → (b ≡ true → x ≡ j) → left_in most (with_changed name (change j) xs) ≤ left_in most xs
+          → left most (if b then change j x else x) + left_in most (with_changed name (change j) xs) ≤ left most x + left_in most xs
+      by true same rest = omega (arith, fewer x (same refl), rest)
+      by false same rest = omega (arith, rest)
 
-left_changed : (most : ℕ) (f : JobParts → JobParts) (name : List ℕ) (t : List JobParts) → AreFewer most f name t → IsSome (job_named name t)
-    → left_in most (with_changed name f t) < left_in most t
-left_changed most f name [] fewer there = cc
-left_changed most f name (x ∷ xs) fewer there = go (left_changed most f name xs fewer.1) (is_named name x) refl
-  where
-    go : (IsSome (job_named name xs) → left_in most (with_changed name f xs) < left_in most xs) → (b : Bool) → is_named name x ≡ b
-        → left_in most (with_changed name f (x ∷ xs)) < left_in most (x ∷ xs)
-    go after true is =
-        let first = fewer.0 is in
-        let rest = no_more most f name xs fewer.1 in
-        let head : left most (if is_named name x then f x else x) ≡ left most (f x) = ap (λ (b : Bool). left most (if b then f x else x)) is in
-        omega (arith, first, rest, head)
-    go after false is =
-        let still : IsSome (job_named name xs) = (let e : job_named name (x ∷ xs) ≡ job_named name xs = rw is refl in subst (λ (o : Option JobParts). IsSome o) e there) in
-        let rest = after still in
-        let head : left most (if is_named name x then f x else x) ≡ left most x = ap (λ (b : Bool). left most (if b then f x else x)) is in
-        omega (arith, rest, head)
-
-fewer_of : (most : ℕ) (name : List ℕ) (j : JobParts) (t : List JobParts) → goes_on most j ≡ true → AllByRecursion (λ y. is_named name y ≡ true → y ≡ j) t → AreFewer most (change j) name t
-fewer_of most name j [] goes one = tt
-fewer_of most name j (y ∷ ys) goes one = (
-  λ named. (let same : y ≡ j = one.0 named in
-      subst (λ (x : JobParts). left most (change j x) < left most x) (sym same) (subst (λ (x : JobParts). left most x < left most j) (sym (change_is j)) (left_less most j goes))),
-  fewer_of most name j ys goes one.1,
-)
+  left_changed : (t : List JobParts) → IsOne t → IsSome (job_named name t) → left_in most (with_changed name (change j) t) < left_in most t
+  left_changed [] one there = cc
+  left_changed (x ∷ xs) one there = by (is_named name x) one.0 there (left_changed xs one.1)
+    where
+      by : (b : Bool) → (b ≡ true → x ≡ j) → IsSome (if b then Some x else job_named name xs)
+          → (IsSome (job_named name xs) → left_in most (with_changed name (change j) xs) < left_in most xs)
+          → left most (if b then change j x else x) + left_in most (with_changed name (change j) xs) < left most x + left_in most xs
+      by true same there later = omega (arith, fewer x (same refl), no_more xs one.1)
+      by false same there later = omega (arith, later there)
 
 -- a round leaves fewer
 pub fewer_left : (most : ℕ) (t u : List JobParts) → IsTable t → IsMade most t u → left_in most u < left_in most t
 fewer_left most t u is_table made =
     let same : u ≡ with_changed made.name (change made.job) t = made.table ∙ round_changes t made.name made.job made.there (runs most made.job made.goes) in
-    let fewer = fewer_of most made.name made.job t made.goes (one_named made.name t made.job is_table.distinct made.there) in
     subst (λ (x : List JobParts). left_in most x < left_in most t) (sym same)
-    (left_changed most (change made.job) made.name t fewer (subst (λ (o : Option JobParts). IsSome o) (sym made.there) refl))
+    (left_changed most made.name made.job made.goes t (one_named made.name t made.job is_table.distinct made.there) (subst (λ (o : Option JobParts). IsSome o) (sym made.there) refl))

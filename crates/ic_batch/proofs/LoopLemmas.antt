@@ -1,8 +1,8 @@
 -- What is so of a list, element by element.
-use Rattle.std.proofs.Common.{◌≡◌, ℕ, ◌+◌, ◌<◌, ◌≤◌, List, [], ◌∷◌, ◌++◌, length, drop, take, get_or, true, Option, None, Some, refl, sym, ap, subst, ◌∙◌, append-nil, append_assoc}
+use Rattle.std.proofs.Common.{◌≡◌, ℕ, ◌+◌, ◌<◌, ◌≤◌, List, ◌∷◌, ◌++◌, length, drop, take, get_or, true, Option, None, Some, refl, sym, ap, subst, ◌∙◌, append-nil, append_assoc}
 use Rattle.std.specs.Prelude.{is_some, not, slice_get}
 use Rattle.std.specs.List.{AllByRecursion, flat_map}
-use Rattle.std.proofs.lemmas.List.{drop_all, drop_more, take-append-drop, take_more}
+use Rattle.std.proofs.lemmas.List.{drop_all, drop_more, take-append-drop}
 use Rattle.std.proofs.lemmas.Option.{slice_get_read}
 use Rattle.std.proofs.lemmas.List.Concat.{flat_map-cons}
 
@@ -15,15 +15,6 @@ module _ {X : Type 0} (xs : List X) (i : ℕ) (x : X) (below : i < length xs) (i
 
   pub parted_here : xs ≡ take i xs ++ x ∷ drop (i + 1) xs
   parted_here = sym (take-append-drop i xs) ∙ ap (λ (l : List X). take i xs ++ l) split_here
-
-  -- one element more of a front is so
-  pub front_more : (P : X → Type 0) → P x → AllByRecursion P (take i xs) → AllByRecursion P (take (i + 1) xs)
-  front_more P here so_far =
-      subst (λ (l : List X). AllByRecursion P l) (sym (take_more xs i x below ∙ ap (λ (y : X). take i xs ++ y ∷ []) (sym is))) (snoc P (take i xs) x so_far here)
-    where
-      snoc : (P : X → Type 0) (front : List X) (last : X) → AllByRecursion P front → P last → AllByRecursion P (front ++ last ∷ [])
-      snoc P [] last so_far here = (here, tt)
-      snoc P (y ∷ ys) last so_far here = (so_far.0, snoc P ys last so_far.1 here)
 
   -- one element more is so
   pub all_more : (P : X → Type 0) → P x → (AllByRecursion P (drop i xs) → AllByRecursion P xs) → AllByRecursion P (drop (i + 1) xs) → AllByRecursion P xs

@@ -1,10 +1,12 @@
 -- Jobs that are missing in a table, and their submits.
-use Rattle.std.proofs.Common.{◌≡◌, ℕ, zero, suc, ◌+◌, ◌<◌, ◌≤◌, List, [], ◌∷◌, ◌++◌, Bool, true, false, Option, None, length, map, drop, refl, sym, ap, subst, ◌∙◌, true≢false, append-nil, append_assoc, length-append, arith}
+use Rattle.std.proofs.Common.{◌≡◌, ℕ, zero, suc, ◌+◌, ◌<◌, ◌≤◌, List, [], ◌∷◌, ◌++◌, Bool, true, false, Option, None, length, map, drop, refl, sym, ap, subst, ◌∙◌, append-nil, append_assoc, length-append, arith}
 use Rattle.std.specs.Prelude.{is_some, not, nat_lt, if◌then◌else◌}
 use Rattle.std.specs.List.{AllByRecursion, IsDistinct}
 use Rattle.std.specs.Str.{bytes_eq}
 use Rattle.std.proofs.lemmas.List.{map-append, length-map}
 use Rattle.std.proofs.lemmas.Bool.{lt-ltb}
+use Rattle.std.proofs.lemmas.Bool.Decides.{same_from_decides}
+use Rattle.std.proofs.lemmas.Slice.Eq.{bytes_eq-Decides}
 use Rattle.std.proofs.lemmas.Map.Keys.{IsDistinct-head, IsDistinct-tail}
 use Rattle.ic_jobs.specs.declared.command.Command.{Command}
 use Rattle.ic_jobs.specs.declared.limits.TheConstants.{MAX_JOBS}
@@ -26,12 +28,8 @@ use Rattle.ic_batch.proofs.WayLemmas.{OthersStay}
 pub swapped : (a b : List ℕ) → bytes_eq a b ≡ true → bytes_eq b a ≡ true
 swapped a b is = is_same b a (sym (same_name a b is))
 
-pub swapped_not : (a b : List ℕ) → bytes_eq a b ≡ false → bytes_eq b a ≡ false
-swapped_not a b other = go (bytes_eq b a) refl
-  where
-    go : (c : Bool) → bytes_eq b a ≡ c → bytes_eq b a ≡ false
-    go true is = absurd (true≢false (sym (swapped b a is) ∙ other))
-    go false is = is
+pub bytes_eq-comm : (a b : List ℕ) → bytes_eq a b ≡ bytes_eq b a
+bytes_eq-comm a b = same_from_decides {P = a ≡ b} (bytes_eq a b) (bytes_eq b a) (bytes_eq-Decides a b) (λ is. sym (same_name b a is), λ same. is_same b a (sym same))
 
 -- ---- the submit of one that is missing
 
@@ -132,7 +130,7 @@ module _ (jobs : List NewJob) (t : List JobParts) (new : NewJob) (rest : List Ne
 -- the jobs after one have other names
 apart_from : (x : List ℕ) (jobs : List NewJob) → AllByRecursion (λ y. bytes_eq x y ≡ false) (names jobs) → AllByRecursion (λ k. bytes_eq k.name x ≡ false) jobs
 apart_from x [] none = tt
-apart_from x (k ∷ jobs) none = (swapped_not x k.name none.0, apart_from x jobs none.1)
+apart_from x (k ∷ jobs) none = (bytes_eq-comm k.name x ∙ none.0, apart_from x jobs none.1)
 
 distinct_from : (jobs : List NewJob) (i : ℕ) → IsDistinct bytes_eq (names jobs) → IsDistinct bytes_eq (names (drop i jobs))
 distinct_from jobs zero distinct = distinct

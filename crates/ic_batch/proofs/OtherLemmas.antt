@@ -1,5 +1,6 @@
 -- Other rules and other configurations.
-use Rattle.std.proofs.Common.{◌≡◌, ◌≢◌, Bool, true, false, not, refl, sym}
+use Rattle.std.proofs.Common.{◌≡◌, ◌≢◌, true, false, not, sym, ◌∙◌}
+use Rattle.std.proofs.lemmas.Bool.{not-false, not-true, true≢false}
 use Rattle.ic_rules.specs.RuleSet.{Rules, rules_eq}
 use Rattle.ic_rules.specs.lemmas.RuleLaws.{rules_eq-Decides}
 use Rattle.ic_term.specs.Configuration.{Configuration, configuration_eq}
@@ -9,25 +10,17 @@ use Rattle.ic_batch.specs.declared.fault.Difference.TheVariants as difference
 use Rattle.ic_batch.specs.declared.jobs.NewJob.{NewJob}
 use Rattle.ic_batch.specs.Faults.{IsSame}
 
-not_same : (b : Bool) → not b ≡ true → b ≡ true → ⊥
-not_same true other same = cc
-not_same false other same = cc
-
 pub other_rules : (r s : Rules) → not (rules_eq r s) ≡ true → s ≢ r
-other_rules r s other same = not_same (rules_eq r s) other ((rules_eq-Decides r s).1 (sym same))
+other_rules r s other same = true≢false (sym ((rules_eq-Decides r s).1 (sym same)) ∙ not-true (rules_eq r s) other)
 
 pub other_config : (c d : Configuration) → not (configuration_eq c d) ≡ true → d ≢ c
-other_config c d other same = not_same (configuration_eq c d) other ((configuration_eq-Decides c d).1 (sym same))
-
-same_of : (b : Bool) → not b ≡ false → b ≡ true
-same_of true is = refl
-same_of false is = cc
+other_config c d other same = true≢false (sym ((configuration_eq-Decides c d).1 (sym same)) ∙ not-true (configuration_eq c d) other)
 
 pub same_rules : (r s : Rules) → not (rules_eq r s) ≡ false → s ≡ r
-same_rules r s is = sym ((rules_eq-Decides r s).0 (same_of (rules_eq r s) is))
+same_rules r s is = sym ((rules_eq-Decides r s).0 (not-false (rules_eq r s) is))
 
 pub same_config : (c d : Configuration) → not (configuration_eq c d) ≡ false → d ≡ c
-same_config c d is = sym ((configuration_eq-Decides c d).0 (same_of (configuration_eq c d) is))
+same_config c d is = sym ((configuration_eq-Decides c d).0 (not-false (configuration_eq c d) is))
 
 -- a job that differs in nothing: it is as it began, or has made rounds
 module _ (new : NewJob) (j : JobParts) (rules : j.rules ≡ new.system.rules) (budget : j.budget ≡ new.budget) where

@@ -1,9 +1,9 @@
 -- Jobs that are read one after the other.
-use Rattle.std.proofs.Common.{◌≡◌, ℕ, ◌≤◌, List, [], ◌∷◌, ◌++◌, Bool, true, false, ◌||◌, Ok, Option, Some, length, map, refl, sym, ap, subst, ◌∙◌, append_assoc, arith, length-append}
+use Rattle.std.proofs.Common.{◌≡◌, ℕ, ◌≤◌, List, [], ◌∷◌, ◌++◌, Bool, true, false, ◌||◌, Ok, Some, length, map, refl, sym, ap, subst, ◌∙◌, append_assoc, arith, length-append}
 use Rattle.std.specs.Prelude.{is_some, nat_lt, if◌then◌else◌}
 use Rattle.std.specs.List.{AllByRecursion, IsDistinct, list_any}
 use Rattle.std.specs.Str.{bytes_eq}
-use Rattle.std.proofs.lemmas.Bool.{le-ltb}
+use Rattle.std.proofs.lemmas.Bool.{le-ltb, or_parts}
 use Rattle.std.proofs.lemmas.List.{length-map, map-append}
 use Rattle.std.proofs.lemmas.Map.Keys.{IsDistinct-cons, IsDistinct-head, IsDistinct-tail}
 use Rattle.ic_jobs.specs.declared.command.Command.{Command}
@@ -14,16 +14,10 @@ use Rattle.ic_jobs.specs.Events.{after_command, outcome, refused}
 use Rattle.ic_jobs.specs.Job.{JobParts}
 use Rattle.ic_jobs.specs.Table.{job_named}
 use Rattle.ic_lines.specs.Script.{ReadsScript}
-use Rattle.ic_batch.specs.declared.fault.JobsCause.{JobsCause}
-use Rattle.ic_batch.specs.Faults.{IsRefused, StopsAt}
 use Rattle.ic_batch.specs.declared.jobs.NewJob.{NewJob}
 use Rattle.ic_batch.specs.Jobs.{begun_by, names, submit_of}
 use Rattle.ic_batch.specs.inner.Taking.{IsNext}
-use Rattle.ic_batch.proofs.NewLemmas.{swapped, swapped_not}
-
-neither : (a b : Bool) → a || b ≡ false → (a ≡ false) × (b ≡ false)
-neither true b is = cc
-neither false b is = (refl, is)
+use Rattle.ic_batch.proofs.NewLemmas.{bytes_eq-comm}
 
 apart_more : (x : List ℕ) (jobs : List NewJob) (new : NewJob) → AllByRecursion (λ y. bytes_eq x y ≡ false) (names jobs) → bytes_eq x new.name ≡ false
     → AllByRecursion (λ y. bytes_eq x y ≡ false) (names (jobs ++ new ∷ []))
@@ -35,7 +29,7 @@ pub distinct_more : (jobs : List NewJob) (new : NewJob) → list_any (λ job. by
     → IsDistinct bytes_eq (names (jobs ++ new ∷ []))
 distinct_more [] new none distinct = IsDistinct-cons bytes_eq new.name [] tt distinct
 distinct_more (x ∷ jobs) new none distinct =
-    let parts = neither (bytes_eq x.name new.name) (list_any (λ job. bytes_eq job.name new.name) jobs) none in
+    let parts = or_parts (bytes_eq x.name new.name) (list_any (λ job. bytes_eq job.name new.name) jobs) none in
     IsDistinct-cons bytes_eq x.name (names (jobs ++ new ∷ [])) (apart_more x.name jobs new (IsDistinct-head bytes_eq x.name (names jobs) distinct) parts.0)
     (distinct_more jobs new parts.1 (IsDistinct-tail bytes_eq x.name (names jobs) distinct))
 
@@ -55,18 +49,6 @@ one_read text jobs new command rest next so_far = record {
   few = omega (arith, next.room, length-append jobs (new ∷ []));
 }
 
-pub stops_at : (text : List ℕ) (jobs : List NewJob) (command : Command) (rest : List Command) (is : JobsCause) → IsRefused jobs command is → AreSoFar text jobs (command ∷ rest)
-    → StopsAt text is
-stops_at text jobs command rest is refused so_far = record {
-  jobs = jobs;
-  command = command;
-  after = rest;
-  read = so_far.read;
-  distinct = so_far.distinct;
-  few = so_far.few;
-  refused = refused;
-}
-
 pub first_read : (text : List ℕ) (commands : List Command) (jobs : List NewJob) (rest : List Command) → jobs ≡ [] → rest ≡ commands → ReadsScript text (Ok commands)
     → AreSoFar text jobs rest
 unfolding IsDistinct
@@ -82,18 +64,13 @@ first_read text commands jobs rest none all read =
 -- whether one of the jobs has a name
 pub named_begun : (name : List ℕ) (jobs : List NewJob) → is_some (job_named name (map begun_by jobs)) ≡ list_any (λ job. bytes_eq job.name name) jobs
 named_begun name [] = refl
-named_begun name (x ∷ xs) = go (named_begun name xs) (bytes_eq name x.name) refl
+named_begun name (x ∷ xs) =
+    by (bytes_eq name x.name) (named_begun name xs) ∙ ap (λ (b : Bool). b || list_any (λ job. bytes_eq job.name name) xs) (bytes_eq-comm name x.name)
   where
-    go : is_some (job_named name (map begun_by xs)) ≡ list_any (λ job. bytes_eq job.name name) xs → (b : Bool) → bytes_eq name x.name ≡ b
-        → is_some (job_named name (map begun_by (x ∷ xs))) ≡ list_any (λ job. bytes_eq job.name name) (x ∷ xs)
-    go rest true is =
-        let found : job_named name (map begun_by (x ∷ xs)) ≡ Some (begun_by x) = rw is refl in
-        let any : list_any (λ job. bytes_eq job.name name) (x ∷ xs) ≡ true = rw (swapped name x.name is) refl in
-        ap (λ (o : Option JobParts). is_some o) found ∙ sym any
-    go rest false is =
-        let found : job_named name (map begun_by (x ∷ xs)) ≡ job_named name (map begun_by xs) = rw is refl in
-        let any : list_any (λ job. bytes_eq job.name name) (x ∷ xs) ≡ list_any (λ job. bytes_eq job.name name) xs = rw (swapped_not name x.name is) refl in
-        ap (λ (o : Option JobParts). is_some o) found ∙ rest ∙ sym any
+    by : (b : Bool) → is_some (job_named name (map begun_by xs)) ≡ list_any (λ job. bytes_eq job.name name) xs
+        → is_some (if b then Some (begun_by x) else job_named name (map begun_by xs)) ≡ b || list_any (λ job. bytes_eq job.name name) xs
+    by true rest = refl
+    by false rest = rest
 
 module _ (jobs : List NewJob) (new : NewJob) where
   abbrev t : List JobParts

@@ -24,10 +24,10 @@ use Rattle.ic_batch.specs.Jobs.{begun_by, names}
 use Rattle.ic_batch.specs.Served.{fetches, run_together, runs_jobs}
 use Rattle.ic_batch.specs.Way.{all_of, after_event, after, fetched, fetched_all, goes_on, gone_on, missing, ComesTo, HaveEnded, IsTextOf}
 use Rattle.ic_batch.proofs.BatchLemmas.{under_all}
-use Rattle.ic_batch.proofs.JobLemmas.{change, change_is, one_named, round_changes}
+use Rattle.ic_batch.proofs.JobLemmas.{change, keeps_name, one_named, round_changes}
 use Rattle.ic_batch.proofs.KeepLemmas.{keeps_on_way, text_at_end}
 use Rattle.ic_batch.proofs.LawLemmas.{none_there}
-use Rattle.ic_batch.proofs.WayLemmas.{end_ways}
+use Rattle.ic_batch.proofs.WayLemmas.{end_ways, ways_changed}
 
 -- a job that runs, after so many events
 abbrev ran : ℕ → JobParts → JobParts
@@ -49,31 +49,6 @@ record HaveRun (from t : List JobParts) : Type 0 where
   ways : AllZip IsRan from t
   distinct : IsDistinct bytes_eq (job_names t)
 
-abbrev RunOn : (JobParts → JobParts) → List ℕ → List JobParts → Type 0
-RunOn f name t = AllByRecursion (λ y. is_named name y ≡ true → (f y ≡ after_event y) × (is_running y.state ≡ true)) t
-
-ran_changed : (f : JobParts → JobParts) (from y : JobParts) (b : Bool) → (b ≡ true → (f y ≡ after_event y) × (is_running y.state ≡ true)) → IsRan from y → IsRan from (if b then f y else y)
-ran_changed f from y true next way = (let n = next refl in subst (IsRan from) (sym n.0) (ran_more from y n.1 way))
-ran_changed f from y false next way = way
-
-all_ran : (f : JobParts → JobParts) (name : List ℕ) (from t : List JobParts) → RunOn f name t → AllZip IsRan from t → AllZip IsRan from (with_changed name f t)
-all_ran f name [] [] next ways = tt
-all_ran f name [] (y ∷ ys) next ways = absurd ways
-all_ran f name (x ∷ xs) [] next ways = absurd ways
-all_ran f name (x ∷ xs) (y ∷ ys) next ways = (ran_changed f x y (is_named name y) next.0 ways.0, all_ran f name xs ys next.1 ways.1)
-
-run_on_of : (name : List ℕ) (j : JobParts) (t : List JobParts) → is_running j.state ≡ true → AllByRecursion (λ y. is_named name y ≡ true → y ≡ j) t → RunOn (change j) name t
-run_on_of name j [] runs one = tt
-run_on_of name j (y ∷ ys) runs one = (
-  λ named. (let same : y ≡ j = one.0 named in
-      subst (λ (x : JobParts). (change j x ≡ after_event x) × (is_running x.state ≡ true)) (sym same) (change_is j, runs)),
-  run_on_of name j ys runs one.1,
-)
-
-event_name : (b : Bool) (k : JobParts) → ((if b then moved else in_state Halted) k).name ≡ k.name
-event_name true k = refl
-event_name false k = refl
-
 if_name : (f : JobParts → JobParts) → ((k : JobParts) → (f k).name ≡ k.name) → (y : JobParts) (b : Bool) → (if b then f y else y).name ≡ y.name
 if_name f keeps y true = keeps y
 if_name f keeps y false = refl
@@ -91,8 +66,8 @@ round_run from t name run = go (job_named name t) refl
 
     step : (j : JobParts) → job_named name t ≡ Some j → (b : Bool) → is_running j.state ≡ b → HaveRun from (table_after t (Round name))
     step j there true runs = subst (HaveRun from) (sym (round_changes t name j there runs)) (record {
-      ways = all_ran (change j) name from t (run_on_of name j t runs (one_named name t j run.distinct there)) run.ways;
-      distinct = subst (λ (l : List (List ℕ)). IsDistinct bytes_eq l) (sym (same_names (change j) (event_name (can_move j)) name t)) run.distinct;
+      ways = ways_changed IsRan (λ k. is_running k.state) ran_more name j runs from t (one_named name t j run.distinct there) run.ways;
+      distinct = subst (λ (l : List (List ℕ)). IsDistinct bytes_eq l) (sym (same_names (change j) (keeps_name (can_move j)) name t)) run.distinct;
     })
     step j there false runs = stay (ap (λ (o : Option JobParts). option_map_or (λ (p : Outcome). p.table) (where_running (after_round t name) o) t) there
         ∙ ap (λ (b : Bool). option_map_or (λ (p : Outcome). p.table) (if b then Some (after_round t name j) else None) t) runs)
@@ -151,8 +126,6 @@ HaveStopped most t = AllByRecursion (λ j. (is_running j.state ≡ false) × (j.
 
 all_end : (most : ℕ) (from t : List JobParts) → AllZip IsRan from t → HaveStopped most t → AllZip (ComesTo most) from t
 all_end most [] [] ways stopped = tt
-all_end most [] (y ∷ ys) ways stopped = absurd ways
-all_end most (x ∷ xs) [] ways stopped = absurd ways
 all_end most (x ∷ xs) (y ∷ ys) ways stopped = (
   record {
     on_way = (ways.0.0, ways.0.1 ∙ ran_is most x ways.0.0 (subst (λ (k : JobParts). k.rounds < most) ways.0.1 stopped.0.1));
@@ -160,6 +133,7 @@ all_end most (x ∷ xs) (y ∷ ys) ways stopped = (
   },
   all_end most xs ys ways.1 stopped.1,
 )
+all_end most xs ys ways stopped = absurd ways
 
 -- ---- what the fetches are answered
 

@@ -17,7 +17,7 @@ use Rattle.ic_jobs.specs.Table.{job_named}
 use Rattle.ic_commands.specs.declared.line.Line.{Line}
 use Rattle.ic_commands.specs.declared.line.Line.TheVariants.{Blank, Command as Asks, Run}
 use Rattle.ic_commands.specs.LineSense.{line_sense}
-use Rattle.ic_commands.specs.LineSource.{LinePhrase, nothing, submit, copy, about, list, run}
+use Rattle.ic_commands.specs.LineSource.{LinePhrase, run}
 use Rattle.ic_commands.specs.LineText.{ReadsLine}
 use Rattle.ic_commands.specs.ReplyText.{reply_text}
 use Rattle.ic_commands.specs.ScriptSense.{ReadsScriptLine, script_sense, without_run}
@@ -49,12 +49,8 @@ without_run_is (Ok (Run k)) a is = cc
 without_run_is (Err fault) a is = cc
 
 sense_is : (p : LinePhrase) (a : Option Command) → Ok a ≡ script_sense p → as_line a ≡ line_sense p
-sense_is nothing a is = without_run_is (line_sense nothing) a (sym is)
-sense_is (submit name most s) a is = without_run_is (line_sense (submit name most s)) a (sym is)
-sense_is (copy old new) a is = without_run_is (line_sense (copy old new)) a (sym is)
-sense_is (about verb name) a is = without_run_is (line_sense (about verb name)) a (sym is)
-sense_is list a is = without_run_is (line_sense list) a (sym is)
 sense_is (run digits) a is = cc
+sense_is p a is = without_run_is (line_sense p) a (sym is)
 
 line_read : (line : List ℕ) (a : Option Command) → ReadsScriptLine line (Ok a) → ReadsLine line (as_line a)
 line_read line a read = record {

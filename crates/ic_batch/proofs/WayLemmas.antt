@@ -1,28 +1,24 @@
 -- Ways of the jobs of tables: where they end, and what a change of a job makes of them.
-use Rattle.std.proofs.Common.{◌≡◌, ℕ, zero, suc, ◌+◌, List, [], ◌∷◌, Bool, true, false, ◌&&◌, Option, None, Some, refl, sym, ap, subst, ◌∙◌, arith}
+use Rattle.std.proofs.Common.{◌≡◌, ℕ, zero, suc, ◌+◌, List, [], ◌∷◌, Bool, true, false, Option, None, Some, refl, sym, ap, subst, ◌∙◌, arith}
 use Rattle.std.specs.Prelude.{if◌then◌else◌, nat_lt}
 use Rattle.std.specs.List.{AllByRecursion, AllZip}
 use Rattle.std.specs.Str.{bytes_eq}
+use Rattle.std.proofs.lemmas.Bool.{and_parts}
 use Rattle.ic_jobs.specs.declared.event.Event.{Event}
-use Rattle.ic_jobs.specs.declared.state.State.TheVariants.{Halted}
 use Rattle.ic_jobs.specs.State.{is_running}
-use Rattle.ic_jobs.specs.Job.{JobParts, can_move, moved, in_state}
+use Rattle.ic_jobs.specs.Job.{JobParts, can_move}
 use Rattle.ic_jobs.specs.Table.{is_named, job_named, with_changed}
 use Rattle.ic_jobs.specs.Names.{mentions}
 use Rattle.ic_jobs.specs.History.{table_after}
 use Rattle.ic_batch.specs.Way.{goes_on, after_event, gone_on, after, ComesTo, IsOnWay, AreWays}
-use Rattle.ic_batch.proofs.JobLemmas.{change, change_is}
+use Rattle.ic_batch.proofs.JobLemmas.{change, change_is, keeps_name}
 
 -- an event leaves the jobs of the names that it doesn't mention
 abbrev pub OthersStay : Type 0
 OthersStay = (t : List JobParts) (e : Event) (name : List ℕ) → mentions name e ≡ false → job_named name (table_after t e) ≡ job_named name t
 
 pub runs : (most : ℕ) (j : JobParts) → goes_on most j ≡ true → is_running j.state ≡ true
-runs most j goes = both (is_running j.state) (nat_lt j.rounds most) goes
-  where
-    both : (a b : Bool) → a && b ≡ true → a ≡ true
-    both true b is = refl
-    both false b is = is
+runs most j goes = (and_parts (is_running j.state) (nat_lt j.rounds most) goes).0
 
 on_way_more : (most : ℕ) (from j : JobParts) → goes_on most j ≡ true → IsOnWay most from j → IsOnWay most from (after_event j)
 on_way_more most from j goes way =
@@ -39,12 +35,8 @@ way_then most from mid j first second =
     (second.0 + first.0, second.1 ∙ ap (after most second.0) first.1 ∙ sym (after_more most from first.0 second.0))
 
 -- a job keeps its name on its way
-event_name : (j : JobParts) (b : Bool) → (if b then moved j else in_state Halted j).name ≡ j.name
-event_name j true = refl
-event_name j false = refl
-
 gone_name : (j : JobParts) (b : Bool) → (if b then after_event j else j).name ≡ j.name
-gone_name j true = event_name j (can_move j)
+gone_name j true = ap (λ (k : JobParts). k.name) (sym (change_is j)) ∙ keeps_name (can_move j) j
 gone_name j false = refl
 
 after_name : (most n : ℕ) (from : JobParts) → (after most n from).name ≡ from.name
@@ -63,49 +55,35 @@ ways_same most (j ∷ js) = ((0, refl), ways_same most js)
 -- none goes on: so each has come to its end
 pub ways_end : (most : ℕ) (from t : List JobParts) → AreWays most from t → AllByRecursion (λ j. goes_on most j ≡ false) t → AllZip (ComesTo most) from t
 ways_end most [] [] ways over = tt
-ways_end most [] (y ∷ ys) ways over = absurd ways
-ways_end most (x ∷ xs) [] ways over = absurd ways
 ways_end most (x ∷ xs) (y ∷ ys) ways over = (record { on_way = ways.0; ends = over.0 }, ways_end most xs ys ways.1 over.1)
+ways_end most xs ys ways over = absurd ways
 
 pub end_ways : (most : ℕ) (from t : List JobParts) → AllZip (ComesTo most) from t → AreWays most from t
 end_ways most [] [] ends = tt
-end_ways most [] (y ∷ ys) ends = absurd ends
-end_ways most (x ∷ xs) [] ends = absurd ends
 end_ways most (x ∷ xs) (y ∷ ys) ends = (ends.0.on_way, end_ways most xs ys ends.1)
+end_ways most xs ys ends = absurd ends
 
 pub end_over : (most : ℕ) (from t : List JobParts) → AllZip (ComesTo most) from t → AllByRecursion (λ j. goes_on most j ≡ false) t
 end_over most [] [] ends = tt
-end_over most [] (y ∷ ys) ends = absurd ends
-end_over most (x ∷ xs) [] ends = absurd ends
 end_over most (x ∷ xs) (y ∷ ys) ends = (ends.0.ends, end_over most xs ys ends.1)
+end_over most xs ys ends = absurd ends
 
--- a change of the jobs of a name makes of each what comes next
-abbrev GoOn : ℕ → (JobParts → JobParts) → List ℕ → List JobParts → Type 0
-GoOn most f name t = AllByRecursion (λ y. is_named name y ≡ true → (f y ≡ after_event y) × (goes_on most y ≡ true)) t
+-- a change of the jobs of a name, of which there is one, makes of it what comes next
+module _ (R : JobParts → JobParts → Type 0) (goes : JobParts → Bool) (more : (from j : JobParts) → goes j ≡ true → R from j → R from (after_event j)) (name : List ℕ) (j : JobParts) (on : goes j ≡ true) where
+  way_changed : (x y : JobParts) (b : Bool) → (b ≡ true → y ≡ j) → R x y → R x (if b then change j y else y)
+  way_changed x y true one way =
+      subst (λ (z : JobParts). R x z → R x (change j z)) (sym (one refl)) (λ (here : R x j). subst (R x) (sym (change_is j)) (more x j on here)) way
+  way_changed x y false one way = way
 
-way_changed : (most : ℕ) (f : JobParts → JobParts) (from y : JobParts) (b : Bool) → (b ≡ true → (f y ≡ after_event y) × (goes_on most y ≡ true)) → IsOnWay most from y
-    → IsOnWay most from (if b then f y else y)
-way_changed most f from y true next way = (let n = next refl in subst (IsOnWay most from) (sym n.0) (on_way_more most from y n.1 way))
-way_changed most f from y false next way = way
-
-ways_changed : (most : ℕ) (f : JobParts → JobParts) (name : List ℕ) (from t : List JobParts) → GoOn most f name t → AreWays most from t → AreWays most from (with_changed name f t)
-ways_changed most f name [] [] next ways = tt
-ways_changed most f name [] (y ∷ ys) next ways = absurd ways
-ways_changed most f name (x ∷ xs) [] next ways = absurd ways
-ways_changed most f name (x ∷ xs) (y ∷ ys) next ways = (way_changed most f x y (is_named name y) next.0 ways.0, ways_changed most f name xs ys next.1 ways.1)
-
-go_on_of : (most : ℕ) (name : List ℕ) (j : JobParts) (t : List JobParts) → goes_on most j ≡ true → AllByRecursion (λ y. is_named name y ≡ true → y ≡ j) t → GoOn most (change j) name t
-go_on_of most name j [] goes one = tt
-go_on_of most name j (y ∷ ys) goes one = (
-  λ named. (let same : y ≡ j = one.0 named in
-      subst (λ (x : JobParts). (change j x ≡ after_event x) × (goes_on most x ≡ true)) (sym same) (change_is j, goes)),
-  go_on_of most name j ys goes one.1,
-)
+  pub ways_changed : (from t : List JobParts) → AllByRecursion (λ y. is_named name y ≡ true → y ≡ j) t → AllZip R from t → AllZip R from (with_changed name (change j) t)
+  ways_changed [] [] one ways = tt
+  ways_changed (x ∷ xs) (y ∷ ys) one ways = (way_changed x y (is_named name y) one.0 ways.0, ways_changed xs ys one.1 ways.1)
+  ways_changed xs ys one ways = absurd ways
 
 -- the job of this name, of which there is one, goes on
 pub ways_more : (most : ℕ) (name : List ℕ) (j : JobParts) (from t : List JobParts) → goes_on most j ≡ true → AllByRecursion (λ y. is_named name y ≡ true → y ≡ j) t
     → AreWays most from t → AreWays most from (with_changed name (change j) t)
-ways_more most name j from t goes one ways = ways_changed most (change j) name from t (go_on_of most name j t goes one) ways
+ways_more most name j from t goes one ways = ways_changed (IsOnWay most) (goes_on most) (on_way_more most) name j goes from t one ways
 
 -- ---- of a name
 
@@ -116,20 +94,11 @@ IsNamedWay most (Some from) now = (j : JobParts) × (now ≡ Some j) × IsOnWay 
 
 pub named_way : (most : ℕ) (name : List ℕ) (from t : List JobParts) → AreWays most from t → IsNamedWay most (job_named name from) (job_named name t)
 named_way most name [] [] ways = refl
-named_way most name [] (y ∷ ys) ways = absurd ways
-named_way most name (x ∷ xs) [] ways = absurd ways
-named_way most name (x ∷ xs) (y ∷ ys) ways = go (named_way most name xs ys ways.1) (is_named name x) refl
+named_way most name (x ∷ xs) (y ∷ ys) ways =
+    subst (λ (b : Bool). IsNamedWay most (job_named name (x ∷ xs)) (if b then Some y else job_named name ys)) (ap (bytes_eq name) (sym (way_name most x y ways.0)))
+    (by (is_named name x) (named_way most name xs ys ways.1))
   where
-    same : bytes_eq name y.name ≡ bytes_eq name x.name
-    same = ap (bytes_eq name) (way_name most x y ways.0)
-
-    go : IsNamedWay most (job_named name xs) (job_named name ys) → (b : Bool) → is_named name x ≡ b → IsNamedWay most (job_named name (x ∷ xs)) (job_named name (y ∷ ys))
-    go rest true is =
-        let there : job_named name (x ∷ xs) ≡ Some x = rw is refl in
-        let now : job_named name (y ∷ ys) ≡ Some y = rw (same ∙ is) refl in
-        subst (λ (o : Option JobParts). IsNamedWay most o (job_named name (y ∷ ys))) (sym there) (y, now, ways.0)
-    go rest false is =
-        let there : job_named name (x ∷ xs) ≡ job_named name xs = rw is refl in
-        let now : job_named name (y ∷ ys) ≡ job_named name ys = rw (same ∙ is) refl in
-        subst (λ (o : Option JobParts). IsNamedWay most o (job_named name (y ∷ ys))) (sym there)
-        (subst (λ (o : Option JobParts). IsNamedWay most (job_named name xs) o) (sym now) rest)
+    by : (b : Bool) → IsNamedWay most (job_named name xs) (job_named name ys) → IsNamedWay most (if b then Some x else job_named name xs) (if b then Some y else job_named name ys)
+    by true rest = (y, refl, ways.0)
+    by false rest = rest
+named_way most name xs ys ways = absurd ways

@@ -4,7 +4,7 @@ use Rattle.std.specs.Prelude.{Contains, slice_index_or}
 use Rattle.std.specs.List.{list_any}
 use Rattle.std.specs.Str.{bytes_eq}
 use Rattle.std.specs.Cmp.Lexicographic.{bytes_decides}
-use Rattle.std.proofs.lemmas.Bool.{false≢true}
+use Rattle.std.proofs.lemmas.Bool.{false_from_ne_true, false≢true, or_right}
 use Rattle.std.proofs.lemmas.Option.{none-some}
 use Rattle.ic_jobs.specs.Job.{JobParts}
 use Rattle.ic_jobs.specs.Table.{is_named, job_named, job_names}
@@ -32,10 +32,6 @@ module _ {X : Type 0} where
 
 -- ---- a job has one of the names
 
-or_second : (p q : Bool) → q ≡ true → (p || q) ≡ true
-or_second true q is = refl
-or_second false q is = is
-
 one_is_had : (x : List ℕ) (names : List (List ℕ)) → list_any (λ n. bytes_eq n x) names ≡ true → Contains names x
 one_is_had x [] e = absurd (false≢true e)
 one_is_had x (n ∷ ns) e = by_test (bytes_eq n x) refl e (one_is_had x ns)
@@ -50,7 +46,7 @@ had_is_one x (n ∷ ns) c = by_place (front_or_after n x ns c) (had_is_one x ns)
   where
     by_place : (n ≡ x) ⊎ Contains ns x → (Contains ns x → list_any (λ m. bytes_eq m x) ns ≡ true) → (bytes_eq n x || list_any (λ m. bytes_eq m x) ns) ≡ true
     by_place (inl e) further = ap (λ b. b || list_any (λ m. bytes_eq m x) ns) ((bytes_decides n x).1 e)
-    by_place (inr among) further = or_second (bytes_eq n x) (list_any (λ m. bytes_eq m x) ns) (further among)
+    by_place (inr among) further = or_right (bytes_eq n x) (list_any (λ m. bytes_eq m x) ns) (further among)
 
 pub asked_where : (names : List (List ℕ)) (j : JobParts) → (is_chosen names j ≡ true) ↔ ((names ≡ []) ⊎ Contains names j.name)
 asked_where [] j = (λ e. inl refl, λ o. refl)
@@ -99,11 +95,7 @@ module _ (t : List JobParts) where
   not_had name e c = false≢true (sym e ∙ named_is_found name t c)
 
   has_not : (name : List ℕ) → ¬ Contains (job_names t) name → has name ≡ false
-  has_not name none = by_test (has name) refl
-    where
-      by_test : (b : Bool) → has name ≡ b → b ≡ false
-      by_test true e = absurd (none (found_is_named name t e))
-      by_test false e = refl
+  has_not name none = false_from_ne_true (has name) (λ e. none (found_is_named name t e))
 
   had_with : (n : List ℕ) (ns : List (List ℕ)) → has n ≡ true → AreHad t ns → AreHad t (n ∷ ns)
   had_with n ns e are name c = by_place (front_or_after n name ns c)

@@ -3,7 +3,7 @@ use Rattle.std.proofs.Common.{◌≡◌, ◌≢◌, ℕ, ◌+◌, ◌<◌, ◌�
 use Rattle.std.specs.Prelude.{find}
 use Rattle.std.specs.Option.{option_or}
 use Rattle.std.proofs.lemmas.Bool.{lt-ltb, le-ltb}
-use Rattle.std.proofs.lemmas.List.{take_all, take-append-drop}
+use Rattle.std.proofs.lemmas.List.{take-append-drop}
 use Rattle.std.proofs.lemmas.List.Elements.{filter-append, filter_more}
 use Rattle.std.proofs.lemmas.List.Folds.{find-append}
 use Rattle.std.proofs.lemmas.List.Concat.{flat_map-append}
@@ -55,11 +55,6 @@ module _ (names : List (List ℕ)) (js : List JobParts) (i : ℕ) (j : JobParts)
       ∙ ap (find is_too_long) (filter-append (is_chosen names) (take (i + 1) js) (drop (i + 1) js))
       ∙ find-append is_too_long (chosen names (take (i + 1) js)) (chosen names (drop (i + 1) js))
       ∙ ap (λ o. option_or o (find is_too_long (chosen names (drop (i + 1) js)))) (found true asked (lt-ltb MAX_TEXT (length (job_line j)) long) so_far.short)
-
-pub all_lines : (names : List (List ℕ)) (js : List JobParts) (i : ℕ) (lines : List ℕ) → length js ≤ i → AreLines names js i lines → (lines ≡ lines_of (chosen names js)) × (find is_too_long (chosen names js) ≡ None)
-all_lines names js i lines past so_far =
-    let whole : take i js ≡ js = take_all i js past in
-    (so_far.made ∙ ap (λ l. lines_of (chosen names l)) whole, ap (λ l. find is_too_long (chosen names l)) (sym whole) ∙ so_far.short)
 
 -- what the fault of a line says of the dump
 pub fault_says : (names : List (List ℕ)) (t : List JobParts) (j : JobParts) (fault : DumpFault)

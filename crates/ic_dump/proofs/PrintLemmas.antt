@@ -4,17 +4,17 @@ use Rattle.std.specs.Prelude.{option_map}
 use Rattle.std.specs.List.{slice_get, AllByRecursion}
 use Rattle.std.proofs.lemmas.Option.{slice_get_within}
 use Rattle.std.proofs.lemmas.Bool.{and_parts, false≢true}
-use Rattle.std.proofs.lemmas.Grind.{flat_map-append}
 use Rattle.ic_term.specs.Symbol.{Symbol, symbol_text, has_arity, is_tree_over, are_trees_over}
 use Rattle.ic_term.specs.Term.{tree, cell_tree, term_step, cell_step}
 use Rattle.ic_term.specs.declared.term.Cell.{Cell, out-Cell, fold_out-Cell}
 use Rattle.ic_term.specs.Tree.{Tree, agent, Trees, list_of, trees_of}
 use Rattle.ic_term.specs.declared.term.Term.{Term}
-use Rattle.ic_text.specs.Token.{Token, token_text}
+use Rattle.ic_text.specs.Token.{Token}
 use Rattle.ic_text.specs.Source.{Source, Sources, more_sources, words, argument_words, further_words}
 use Rattle.ic_text.specs.Text.{text_or_none, source_of, sources_of, text_of}
 use Rattle.ic_text.specs.SystemSource.{RulePhrase, rule_words, rules_words}
 use Rattle.ic_dump.specs.inner.Printing.{after_semicolons, joined}
+use Rattle.ic_dump.proofs.Tokens.{text_of-append}
 
 -- an agent's symbol is known
 pub known_symbol : (ss : List Symbol) (s : ℕ) (ts : Trees) → IsTrue (is_tree_over ss (agent s ts)) → s < length ss
@@ -48,9 +48,6 @@ cell_over ss cell over =
     (known_symbol ss (out-Cell cell).sym (trees_of (map tree (out-Cell cell).args.items)) opened, (and_parts _ _ opened).1)
 
 -- ---- a term more of an agent
-
-text_of-append : (ts us : List Token) → text_of (ts ++ us) ≡ text_of ts ++ text_of us
-text_of-append ts us = flat_map-append token_text ts us
 
 arguments_text : (i : ℕ) (t : Source) (ts : Sources) → text_of (arguments_from i (more_sources t ts)) ≡ sign_at i ∷ (text_of (words t) ++ text_of (further_words ts))
 arguments_text zero t ts = ap (λ l. 40 ∷ l) (text_of-append (words t) (further_words ts))

@@ -2,10 +2,11 @@
 use Rattle.std.proofs.Common.{◌≡◌, ◌↔◌, ℕ, ◌+◌, ◌<◌, ◌≤◌, Bool, true, false, cond, List, [], ◌∷◌, ◌++◌, Option, None, Ok, Err, map, length, IsTrue, refl, sym, ap, subst, ◌∙◌, arith, length-append}
 use Rattle.std.specs.Prelude.{nat_le, sum_by}
 use Rattle.std.specs.List.{flat_map, list_all, AllByRecursion}
-use Rattle.std.proofs.lemmas.Bool.{and_parts, and_from, le-leb, leb-true}
+use Rattle.std.proofs.lemmas.Bool.{and_parts, and_from, le-leb}
 use Rattle.std.proofs.lemmas.List.{length-map, map-append}
 use Rattle.std.proofs.lemmas.List.Folds.{list_all-append}
 use Rattle.std.proofs.lemmas.List.Sums.{sum_by-cons}
+use Rattle.std.proofs.lemmas.Simd.{map-map}
 use Rattle.ic_term.specs.Symbol.{Symbol, AreSymbols, is_symbol_text, fits_limits, is_tree_over, is_pair_over, is_over}
 use Rattle.ic_term.specs.Tree.{names}
 use Rattle.ic_term.specs.Configuration.{IsConfiguration, configuration_names, configuration_nodes, third_occurrence, occurrences}
@@ -90,10 +91,6 @@ chosen : (a b : Bool) (o p q r : Option ℕ) (v : SystemParts) → a ≡ true �
     → cond a (cond b (unless_found o NameCount (unless_found p Name (unless_found q Twice (unless_found r Lopsided (Ok v))))) (Err Arity)) (Err Limit) ≡ Ok v
 chosen a b o p q r v ea eb eo ep eq er = rw (ea, eb, eo, ep, eq, er) refl
 
-map_map : {A B C : Type 0} (g : B → C) (f : A → B) (xs : List A) → map g (map f xs) ≡ map (λ x. g (f x)) xs
-map_map g f [] = refl
-map_map g f (x ∷ xs) = ap (λ l. g (f x) ∷ l) (map_map g f xs)
-
 module _ (s : SystemParts) (is : IsWhole s) where
   rules_over_table : AllByRecursion (IsRuleOver s.rules.symbols) s.rules.rules
   rules_over_table = (first_unfit-None s.rules.symbols s.rules.rules).0 is.rules.fitting
@@ -149,7 +146,7 @@ module _ (s : SystemParts) (is : IsWhole s) where
       (All-split (Placed (system_table (system_of s))) (flat_map rule_symbols (system_of s).rules) (phrase_symbols (system_of s).config) placed_all).0
 
   rules_turned : rules_over (system_of s) ≡ map (turned_rule s.rules.symbols (system_table (system_of s))) s.rules.rules
-  rules_turned = map_map (rule_over (system_table (system_of s))) (rule_of s.rules.symbols) s.rules.rules
+  rules_turned = map-map (rule_over (system_table (system_of s))) (rule_of s.rules.symbols) s.rules.rules
 
   -- what is written has a sense
   module _ (third : (ns : List ℕ) → (third_occurrence ns ≡ None) ↔ ((n : ℕ) → occurrences n ns ≤ 2))

@@ -4,6 +4,7 @@ use Rattle.std.specs.Prelude.{filter, find}
 use Rattle.std.specs.List.{flat_map, fold, AllByRecursion, IsDistinct}
 use Rattle.std.specs.Str.{bytes_eq}
 use Rattle.std.proofs.lemmas.Bool.{ltb-false}
+use Rattle.std.proofs.lemmas.List.Sums.{count_by-le-length, length-filter}
 use Rattle.ic_jobs.specs.Job.{JobParts, IsJob}
 use Rattle.ic_jobs.specs.Table.{IsTable, job_names}
 use Rattle.ic_jobs.specs.Events.{Outcome}
@@ -51,14 +52,6 @@ all_kept : (P : JobParts → Type 0) (asks : JobParts → Bool) (js : List JobPa
 all_kept P asks [] all = tt
 all_kept P asks (j ∷ js) all = kept P j (filter asks js) (asks j) all.0 (all_kept P asks js all.1)
 
-fewer_by : (j : JobParts) (kept js : List JobParts) (asked_for : Bool) → length kept ≤ length js → length (cond asked_for (j ∷ kept) kept) ≤ length (j ∷ js)
-fewer_by j kept js true few = omega (arith, few)
-fewer_by j kept js false few = omega (arith, few)
-
-fewer : (asks : JobParts → Bool) (js : List JobParts) → length (filter asks js) ≤ length js
-fewer asks [] = omega arith
-fewer asks (j ∷ js) = fewer_by j (filter asks js) js (asks j) (fewer asks js)
-
 apart_by : (x : List ℕ) (j : JobParts) (js : List JobParts) (asked_for : Bool) → bytes_eq x j.name ≡ false → AllByRecursion (λ y. bytes_eq x y ≡ false) (job_names js)
     → AllByRecursion (λ y. bytes_eq x y ≡ false) (job_names (cond asked_for (j ∷ js) js))
 apart_by x j js true is all = (is, all)
@@ -81,7 +74,7 @@ distinct_kept asks (j ∷ js) distinct = distinct_by j (filter asks js) (asks j)
 
 chosen_table : (names : List (List ℕ)) (t : List JobParts) → IsTable t → IsTable (chosen names t)
 chosen_table names t is = record {
-  few = omega (arith, fewer (is_chosen names) t, is.few);
+  few = omega (arith, length-filter (is_chosen names) t, count_by-le-length (is_chosen names) t, is.few);
   each = all_kept IsJob (is_chosen names) t is.each;
   distinct = distinct_kept (is_chosen names) t is.distinct;
 }

@@ -80,7 +80,7 @@ symbol_read (b ∷ bs) rest is apart =
 name_read : (n : ℕ) (rest : List ℕ) → Apart rest → tokens (name_text n ++ rest) ≡ before (word (name_text n) ∷ []) (tokens rest)
 name_read n rest apart = word_read (97 + n % 26) (map (λ d. 48 + d) (digits_of 10 (n / 26))) rest (name_is_word n) apart
 
-text_of-append : (ts us : List Token) → text_of (ts ++ us) ≡ text_of ts ++ text_of us
+pub text_of-append : (ts us : List Token) → text_of (ts ++ us) ≡ text_of ts ++ text_of us
 text_of-append ts us = flat_map-append token_text ts us
 
 further_apart : (ts : Sources) (rest : List ℕ) → Apart (text_of (further_words ts) ++ rest)

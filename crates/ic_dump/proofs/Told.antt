@@ -1,12 +1,13 @@
 -- A configuration as it is told is the job's but for the names of its wires.
 use Rattle.std.proofs.Common.{◌≡◌, ℕ, ◌≤◌, Bool, true, false, cond, List, [], ◌∷◌, map, refl, sym, ap, ◌∙◌}
 use Rattle.std.specs.Prelude.{nat_le}
-use Rattle.std.specs.List.{list_all, AllByRecursion}
+use Rattle.std.specs.List.{flat_map, list_all, AllByRecursion}
+use Rattle.std.proofs.lemmas.List.{map-id}
 use Rattle.std.proofs.lemmas.Bool.{and_from, le-leb}
-use Rattle.ic_term.specs.Tree.{Tree, name, agent, Trees, no_trees, more_trees, Pair}
+use Rattle.ic_term.specs.Tree.{Tree, names, Pair}
 use Rattle.ic_term.specs.Configuration.{Configuration, configuration_names, occurrences}
-use Rattle.ic_rules.specs.Renaming.{renamed, renamed_trees}
-use Rattle.ic_rules.specs.lemmas.NumberingLaws.{Undone}
+use Rattle.ic_rules.specs.Renaming.{renamed}
+use Rattle.ic_rules.specs.lemmas.NumberingLaws.{Undone, terms-fixed}
 use Rattle.ic_jobs.specs.Job.{JobParts, IsJob}
 use Rattle.ic_text.specs.declared.limits.TheConstants.{MAX_NAME}
 use Rattle.ic_naming.specs.Naming.{renamed_pair, renumbered, told_name}
@@ -18,26 +19,18 @@ use Rattle.ic_dump.specs.Alike.{IsRenaming}
 use Rattle.ic_dump.proofs.Sense.{IsWhole}
 
 -- ---- names that stay
-mutual
-  kept_tree : (t : Tree) → renamed (λ n. n) t ≡ t
-  kept_tree (name n) = refl
-  kept_tree (agent s ts) = ap (agent s) (kept_trees ts)
-
-  kept_trees : (ts : Trees) → renamed_trees (λ n. n) ts ≡ ts
-  kept_trees no_trees = refl
-  kept_trees (more_trees t ts) = λ i. more_trees (kept_tree t i) (kept_trees ts i)
-
-kept_interface : (ts : List Tree) → map (renamed (λ n. n)) ts ≡ ts
-kept_interface [] = refl
-kept_interface (t ∷ ts) = λ i. kept_tree t i ∷ kept_interface ts i
-
-kept_equations : (es : List Pair) → map (renamed_pair (λ n. n)) es ≡ es
-kept_equations [] = refl
-kept_equations (e ∷ es) = λ i. record { left = kept_tree e.left i; right = kept_tree e.right i } ∷ kept_equations es i
-
 same_undone : (ns : List ℕ) → Undone (λ n. n) (λ n. n) ns
 same_undone [] = tt
 same_undone (n ∷ ns) = (refl, same_undone ns)
+
+kept_interface : (ts : List Tree) → map (renamed (λ n. n)) ts ≡ ts
+kept_interface ts = terms-fixed (λ n. n) ts (same_undone (flat_map names ts))
+
+kept_tree : (t : Tree) → renamed (λ n. n) t ≡ t
+kept_tree t = let alone = kept_interface (t ∷ []) in cc
+
+kept_equations : (es : List Pair) → map (renamed_pair (λ n. n)) es ≡ es
+kept_equations es = (λ i. map (λ (e : Pair). record { left = kept_tree e.left i; right = kept_tree e.right i }) es) ∙ map-id es
 
 -- a renaming, and what it is called by
 pub record Renamed (c d : Configuration) : Type 0 where

@@ -2,7 +2,9 @@
 use Rattle.std.proofs.Common.{◌≡◌, ℕ, ◌+◌, List, [], ◌∷◌, ◌++◌, map, length, slice_get, refl, sym, ap, ◌∙◌}
 use Rattle.std.specs.Prelude.{sum_by}
 use Rattle.std.specs.List.{flat_map, range_with_len, AllByRecursion}
+use Rattle.std.proofs.lemmas.List.Folds.{flat_map-map}
 use Rattle.std.proofs.lemmas.List.Sums.{sum_by-cons}
+use Rattle.std.proofs.lemmas.Simd.{map-map}
 use Rattle.ic_term.specs.Symbol.{Symbol}
 use Rattle.ic_term.specs.Tree.{Tree, name, agent, Trees, no_trees, more_trees, Pair, list_of, trees_of, names, names_of, nodes, nodes_of, pair_names, pair_nodes}
 use Rattle.ic_rules.specs.Renaming.{renamed, renamed_trees, first_occurrences}
@@ -52,12 +54,11 @@ module _ (table : List Symbol) where
   rule_nodes_written r = λ i. list_nodes r.left_args i + list_nodes r.right_args i
 
   pub interface_names_written : (ts : List Tree) → flat_map source_names (map (source_of table) ts) ≡ flat_map names ts
-  interface_names_written [] = refl
-  interface_names_written (t ∷ ts) = λ i. names_written t i ++ interface_names_written ts i
+  interface_names_written ts = flat_map-map source_names (source_of table) ts ∙ (λ i. flat_map (λ t. names_written t i) ts)
 
   pub equation_names_written : (es : List Pair) → flat_map (λ (e : Sides). source_names e.left ++ source_names e.right) (map (sides_of table) es) ≡ flat_map pair_names es
-  equation_names_written [] = refl
-  equation_names_written (e ∷ es) = λ i. (names_written e.left i ++ names_written e.right i) ++ equation_names_written es i
+  equation_names_written es =
+      flat_map-map (λ (e : Sides). source_names e.left ++ source_names e.right) (sides_of table) es ∙ (λ i. flat_map (λ (e : Pair). names_written e.left i ++ names_written e.right i) es)
 
   pub interface_nodes_written : (ts : List Tree) → sum_by source_nodes (map (source_of table) ts) ≡ sum_by nodes ts
   interface_nodes_written [] = refl
@@ -139,8 +140,7 @@ module _ (table read : List Symbol) where
   list_turned (t ∷ ts) = ap (λ l. turned t ∷ l) (list_turned ts)
 
   list_names_turned : (ts : List Tree) → flat_map names (map turned ts) ≡ flat_map names ts
-  list_names_turned [] = refl
-  list_names_turned (t ∷ ts) = λ i. names_turned t i ++ list_names_turned ts i
+  list_names_turned ts = flat_map-map names turned ts ∙ (λ i. flat_map (λ t. names_turned t i) ts)
 
   pub rule_names_turned : (r : Rule) → rule_names (turned_rule r) ≡ rule_names r
   rule_names_turned r =
@@ -165,5 +165,4 @@ module _ (table read : List Symbol) where
     renamed_of_turned f (more_trees t ts) = λ i. more_trees (renamed_turned f t i) (renamed_of_turned f ts i)
 
   pub list_renamed_turned : (f : ℕ → ℕ) (ts : List Tree) → map (renamed f) (map turned ts) ≡ map turned (map (renamed f) ts)
-  list_renamed_turned f [] = refl
-  list_renamed_turned f (t ∷ ts) = λ i. renamed_turned f t i ∷ list_renamed_turned f ts i
+  list_renamed_turned f ts = map-map (renamed f) turned ts ∙ (λ i. map (λ t. renamed_turned f t i) ts) ∙ sym (map-map turned (renamed f) ts)

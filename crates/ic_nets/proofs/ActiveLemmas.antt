@@ -16,22 +16,17 @@ use Rattle.ic_nets.specs.declared.links.Link.{Link}
 use Rattle.ic_nets.specs.declared.links.Standing.{Standing}
 use Rattle.ic_nets.specs.declared.port.Port.{Port}
 use Rattle.ic_nets.specs.declared.port.Port.TheVariants.{Interface, Auxiliary}
+use Rattle.ic_nets.proofs.SumLemmas.{bit, sum, sum-append, sum-count}
 use Rattle.ic_nets.proofs.NameLemmas.{own_wires}
 
-abbrev thick : List Wire → ℕ
-thick [] = 0
-thick (w ∷ ws) = cond w.active 1 0 + thick ws
+abbrev is_thick : Wire → Bool
+is_thick w = w.active
 
-thick-count : (ws : List Wire) → thick ws ≡ count_by (λ (w : Wire). w.active) ws
-thick-count [] = refl
-thick-count (w ∷ ws) = ap (λ n. cond w.active 1 0 + n) (thick-count ws) ∙ sym (sum_by-cons (λ (x : Wire). cond x.active 1 0) w ws)
+abbrev thick : List Wire → ℕ
+thick ws = sum (λ w. bit (is_thick w)) ws
 
 thick-append : (vs ws : List Wire) → thick (vs ++ ws) ≡ thick vs + thick ws
-thick-append [] ws = omega arith
-thick-append (v ∷ vs) ws = sums (cond v.active 1 0) _ _ _ (thick-append vs ws)
-  where
-    sums : (a b c d : ℕ) → b ≡ c + d → a + b ≡ a + c + d
-    sums a b c d e = omega arith
+thick-append vs ws = sum-append (λ w. bit (is_thick w)) vs ws
 
 thick-links : (ls ms : List Link) → thick (plain_wires (ls ++ ms)) ≡ thick (plain_wires ls) + thick (plain_wires ms)
 thick-links ls ms = ap thick (flat_map-append wires_at ls ms) ∙ thick-append (plain_wires ls) (plain_wires ms)
@@ -51,28 +46,20 @@ mutual
   hanging-thin port i k no_trees = refl
   hanging-thin port i k (more_trees t ts) =
       let rest = hanging port (i + 1) (k + length (agents_in t)) ts in
-      sums _ _ _ _ _ (thick-append (wires_at (hung (port i) k t)) (plain_wires (inside k t ++ rest))) (hung-thin (port i) k t) (thick-links (inside k t) rest) (inside-thin k t)
-      (hanging-thin port (i + 1) (k + length (agents_in t)) ts)
-    where
-      sums : (all h b i r : ℕ) → all ≡ h + b → h ≡ 0 → b ≡ i + r → i ≡ 0 → r ≡ 0 → all ≡ 0
-      sums all h b i r e1 e2 e3 e4 e5 = omega arith
+      omega (arith, thick-append (wires_at (hung (port i) k t)) (plain_wires (inside k t ++ rest)), hung-thin (port i) k t, thick-links (inside k t) rest, inside-thin k t, hanging-thin port (i + 1) (k + length (agents_in t)) ts)
 
 -- ---- an equation is thick where it has a rule
 
 sides-thick : (rs : List Rule) (j k : ℕ) (t u : Tree) → thick (wire_between (is_some (rule_of_sides rs t u)) (end_of j t) (end_of k u)) ≡ cond (is_some (rule_of_sides rs t u)) 1 0
 sides-thick rs j k (name m) (name n) = refl
-sides-thick rs j k (name m) (agent r us) = refl
-sides-thick rs j k (agent s ts) (name n) = refl
 sides-thick rs j k (agent s ts) (agent r us) = omega arith
+sides-thick rs j k t u = refl
 
 pair-thick : (rs : List Rule) (k : ℕ) (e : Pair) → thick (plain_wires (pair_links rs k e)) ≡ cond (is_some (rule_of_sides rs e.left e.right)) 1 0
 pair-thick rs k e =
     let j = k + length (agents_in e.left) in
     let link = equation_link rs k j e in
-    sums _ _ _ _ _ _ (thick-links (inside k e.left) (link ∷ inside j e.right)) (inside-thin k e.left) (thick-append (wires_at link) (plain_wires (inside j e.right))) (sides-thick rs k j e.left e.right) (inside-thin j e.right)
-  where
-    sums : (all i b l r n : ℕ) → all ≡ i + b → i ≡ 0 → b ≡ l + r → l ≡ n → r ≡ 0 → all ≡ n
-    sums all i b l r n e1 e2 e3 e4 e5 = omega arith
+    omega (arith, thick-links (inside k e.left) (link ∷ inside j e.right), inside-thin k e.left, thick-append (wires_at link) (plain_wires (inside j e.right)), sides-thick rs k j e.left e.right, inside-thin j e.right)
 
 equations-thick : (rs : List Rule) (k : ℕ) (es : List Pair) → thick (plain_wires (joined rs k es)) ≡ count_by (λ (p : Pair). is_some (rule_of_sides rs p.left p.right)) es
 equations-thick rs k [] = refl
@@ -85,21 +72,11 @@ equations-thick rs k (e ∷ es) =
 
 standing-thin : (es : List (ℕ × Wire)) (s : Standing) → thick (own_wires es) ≡ 0 → thick (own_wires (with_standing es s)) ≡ 0
 standing-thin [] s thin = refl
-standing-thin (e ∷ es) s thin = by (s.name == e.0) (cond e.1.active 1 0) thin (standing-thin es s)
+standing-thin (e ∷ es) s thin = by (s.name == e.0) (standing-thin es s (omega (arith, thin)))
   where
-    after : (a r : ℕ) → a + r ≡ 0 → r ≡ 0
-    after a r e1 = omega arith
-
-    front : (r : ℕ) → r ≡ 0 → 0 + r ≡ 0
-    front r e1 = omega arith
-
-    both : (a r x : ℕ) → a + r ≡ 0 → x ≡ 0 → a + x ≡ 0
-    both a r x e1 e2 = omega arith
-
-    by : (b : Bool) (a : ℕ) → cond e.1.active 1 0 + thick (own_wires es) ≡ 0 → (thick (own_wires es) ≡ 0 → thick (own_wires (with_standing es s)) ≡ 0)
-        → thick (own_wires (cond b ((e.0, wire_of (Some e.1) s) ∷ es) (e ∷ with_standing es s))) ≡ 0
-    by true a all rest = front _ (after _ _ all)
-    by false a all rest = both _ _ _ all (rest (after _ _ all))
+    by : (b : Bool) → thick (own_wires (with_standing es s)) ≡ 0 → thick (own_wires (cond b ((e.0, wire_of (Some e.1) s) ∷ es) (e ∷ with_standing es s))) ≡ 0
+    by true rest = omega (arith, thin)
+    by false rest = omega (arith, thin, rest)
 
 names-thin : (es : List (ℕ × Wire)) (ss : List Standing) → thick (own_wires es) ≡ 0 → thick (own_wires (fold with_standing es ss)) ≡ 0
 names-thin es [] thin = thin
@@ -111,9 +88,6 @@ active_wires rs c net is =
     let ls = links_of rs c in
     let ss = standings 0 ls in
     let ts = trees_of c.interface in
-    sym (thick-count net.wires.items) ∙ ap thick is.wires
-    ∙ sums _ _ _ _ _ _ (thick-append (plain_wires ls) (name_wires ss)) (thick-links (hanging Interface 1 0 ts) (joined rs (length (agents_among ts)) c.equations)) (hanging-thin Interface 1 0 ts)
-    (equations-thick rs (length (agents_among ts)) c.equations) (names-thin [] ss refl)
-  where
-    sums : (all p n h e q : ℕ) → all ≡ p + n → p ≡ h + e → h ≡ 0 → e ≡ q → n ≡ 0 → all ≡ q
-    sums all p n h e q e1 e2 e3 e4 e5 = omega arith
+    let wires = thick-append (plain_wires ls) (name_wires ss) in
+    let links = thick-links (hanging Interface 1 0 ts) (joined rs (length (agents_among ts)) c.equations) in
+    omega (arith, sum-count is_thick net.wires.items, ap thick is.wires, hanging-thin Interface 1 0 ts, equations-thick rs (length (agents_among ts)) c.equations, names-thin [] ss refl)

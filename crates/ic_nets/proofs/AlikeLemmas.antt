@@ -1,21 +1,21 @@
 -- Lemmas: each net is like itself, likeness goes on, and the order of wires and of their ends says nothing.
-use Rattle.std.proofs.Common.{◌≡◌, inl, inr, List, [], ◌∷◌, map, refl, sym, ap, ◌∙◌, subst as transport}
-use Rattle.ic_nets.specs.Likeness.{AreAlike, EitherWay, InSomeOrder, empty, matched, crossed, chained, IsVertex, Vertex, carried, carried_ends, edges, points, vertices}
+use Rattle.std.proofs.Common.{◌≡◌, ℕ, inl, inr, List, ◌++◌, true, length, map, refl, sym, ap, ◌∙◌, subst as transport}
+use Rattle.std.proofs.lemmas.List.{map-id}
+use Rattle.std.proofs.lemmas.Simd.{map-map}
+use Rattle.ic_term.specs.Configuration.{Configuration}
+use Rattle.ic_rules.specs.Rule.{Rule}
+use Rattle.ic_nets.specs.Likeness.{AreAlike, EitherWay, InSomeOrder, chained, IsVertex, Vertex, carried, carried_ends, edges, points, vertices}
+use Rattle.ic_nets.specs.Links.{agents_of, links_of}
+use Rattle.ic_nets.specs.Nets.{IsNet}
+use Rattle.ic_nets.specs.Ports.{is_bound}
+use Rattle.ic_nets.specs.Wiring.{name_wires, plain_wires, standings}
+use Rattle.ic_nets.specs.declared.net.Agent.{Agent}
 use Rattle.ic_nets.specs.declared.net.Net.{Net}
+use Rattle.ic_nets.specs.declared.net.Wire.{Wire}
 use Rattle.ic_nets.specs.declared.port.Port.{Port}
-
--- ---- lists in some order
-
-pub as_is : {A : Type 0} (like : A → A → Type 0) → ((x : A) → like x x) → (xs : List A) → InSomeOrder like xs xs
-as_is like itself [] = empty
-as_is like itself (x ∷ xs) = matched x x xs xs (itself x) (as_is like itself xs)
-
-module _ {A : Type 0} (like : A → A → Type 0) (f : A → A) (kept : (x y : A) → like x y → like (f x) (f y)) where
-  pub carried_on : (xs ys : List A) → InSomeOrder like xs ys → InSomeOrder like (map f xs) (map f ys)
-  carried_on xs ys empty = empty
-  carried_on xs ys (matched x y us vs is rest) = matched (f x) (f y) (map f us) (map f vs) (kept x y is) (carried_on us vs rest)
-  carried_on xs ys (crossed x y us) = crossed (f x) (f y) (map f us)
-  carried_on xs ys (chained us vs ws first second) = chained (map f us) (map f vs) (map f ws) (carried_on us vs first) (carried_on vs ws second)
+use Rattle.ic_nets.specs.declared.port.Port.TheVariants.{Interface, Free}
+use Rattle.ic_nets.proofs.PortLemmas.{joints, joints-are}
+use Rattle.ic_nets.proofs.SumLemmas.{as_is, mapped_order}
 
 pub either_through : (d e f : Port × Port) → EitherWay d e → EitherWay e f → EitherWay d f
 either_through d e f (inl a) (inl b) = inl (a ∙ b)
@@ -32,33 +32,16 @@ either_kept to d e (inr same) = inr (ap (carried_ends to) same)
 abbrev same_port : Port → Port
 same_port p = p
 
-ports_stay : (ps : List Port) → map same_port ps ≡ ps
-ports_stay [] = refl
-ports_stay (p ∷ ps) = ap (λ qs. p ∷ qs) (ports_stay ps)
-
 vertices_stay : (vs : List Vertex) → map (carried same_port) vs ≡ vs
-vertices_stay [] = refl
-vertices_stay (v ∷ vs) = λ i. record { sym = v.sym; principal = v.principal; auxiliary = ports_stay v.auxiliary i } ∷ vertices_stay vs i
-
-ends_stay : (es : List (Port × Port)) → map (carried_ends same_port) es ≡ es
-ends_stay [] = refl
-ends_stay (e ∷ es) = ap (λ ds. e ∷ ds) (ends_stay es)
+vertices_stay vs = (λ i. map (λ (v : Vertex). record { sym = v.sym; principal = v.principal; auxiliary = map-id v.auxiliary i }) vs) ∙ map-id vs
 
 module _ (f g : Port → Port) where
   abbrev both : Port → Port
   both p = g (f p)
 
-  ports_twice : (ps : List Port) → map g (map f ps) ≡ map both ps
-  ports_twice [] = refl
-  ports_twice (p ∷ ps) = ap (λ qs. both p ∷ qs) (ports_twice ps)
-
   vertices_twice : (vs : List Vertex) → map (carried g) (map (carried f) vs) ≡ map (carried both) vs
-  vertices_twice [] = refl
-  vertices_twice (v ∷ vs) = λ i. record { sym = v.sym; principal = both v.principal; auxiliary = ports_twice v.auxiliary i } ∷ vertices_twice vs i
-
-  ends_twice : (es : List (Port × Port)) → map (carried_ends g) (map (carried_ends f) es) ≡ map (carried_ends both) es
-  ends_twice [] = refl
-  ends_twice (e ∷ es) = ap (λ ds. carried_ends both e ∷ ds) (ends_twice es)
+  vertices_twice vs =
+      map-map (carried g) (carried f) vs ∙ (λ i. map (λ (v : Vertex). record { sym = v.sym; principal = both v.principal; auxiliary = map-map g f v.auxiliary i }) vs)
 
 -- ---- alike nets
 
@@ -71,13 +54,9 @@ module _ (m n : Net) (interface : m.interface ≡ n.interface) (agents : m.agent
     free = λ k. refl;
     places = λ i. refl;
     interface = interface;
-    agents = transport (λ (vs : List Vertex). InSomeOrder IsVertex vs (vertices 0 n.agents.items))
-        (sym (vertices_stay (vertices 0 m.agents.items)))
-        (transport (λ (vs : List Vertex). InSomeOrder IsVertex (vertices 0 m.agents.items) vs) (ap (vertices 0) agents) (as_is IsVertex (λ v. refl) (vertices 0 m.agents.items)));
-    joints = transport (λ (es : List (Port × Port)). InSomeOrder EitherWay es (points 0 n.joints))
-        (sym (ends_stay (points 0 m.joints)))
-        (transport (λ (es : List (Port × Port)). InSomeOrder EitherWay (points 0 m.joints) es) (ap (points 0) joints) (as_is EitherWay (λ e. inl refl) (points 0 m.joints)));
-    wires = transport (λ (es : List (Port × Port)). InSomeOrder EitherWay es (edges n.wires.items)) (sym (ends_stay (edges m.wires.items))) wires;
+    agents = transport (λ (e : List Vertex × List Vertex). InSomeOrder IsVertex e.0 e.1) (λ i. (sym (vertices_stay (vertices 0 m.agents.items)) i, vertices 0 (agents i))) (as_is IsVertex (λ v. refl) (vertices 0 m.agents.items));
+    joints = transport (λ (e : List (Port × Port) × List (Port × Port)). InSomeOrder EitherWay e.0 e.1) (λ i. (sym (map-id (points 0 m.joints)) i, points 0 (joints i))) (as_is EitherWay (λ e. inl refl) (points 0 m.joints));
+    wires = transport (λ (es : List (Port × Port)). InSomeOrder EitherWay es (edges n.wires.items)) (sym (map-id (edges m.wires.items))) wires;
   }
 
 pub alike_itself : (n : Net) → AreAlike n n
@@ -93,14 +72,36 @@ alike_through m n o r s = record {
   interface = r.interface ∙ s.interface;
   agents = chained _ _ _
       (transport (λ (vs : List Vertex). InSomeOrder IsVertex vs (map (carried s.to) (vertices 0 n.agents.items))) (vertices_twice r.to s.to (vertices 0 m.agents.items))
-      (carried_on IsVertex (carried s.to) (λ v w same. ap (carried s.to) same) _ _ r.agents))
+      (mapped_order IsVertex IsVertex (carried s.to) (λ v w same. ap (carried s.to) same) _ _ r.agents))
       s.agents;
   joints = chained _ _ _
-      (transport (λ (es : List (Port × Port)). InSomeOrder EitherWay es (map (carried_ends s.to) (points 0 n.joints))) (ends_twice r.to s.to (points 0 m.joints))
-      (carried_on EitherWay (carried_ends s.to) (either_kept s.to) _ _ r.joints))
+      (transport (λ (es : List (Port × Port)). InSomeOrder EitherWay es (map (carried_ends s.to) (points 0 n.joints))) (map-map (carried_ends s.to) (carried_ends r.to) (points 0 m.joints))
+      (mapped_order EitherWay EitherWay (carried_ends s.to) (either_kept s.to) _ _ r.joints))
       s.joints;
   wires = chained _ _ _
-      (transport (λ (es : List (Port × Port)). InSomeOrder EitherWay es (map (carried_ends s.to) (edges n.wires.items))) (ends_twice r.to s.to (edges m.wires.items))
-      (carried_on EitherWay (carried_ends s.to) (either_kept s.to) _ _ r.wires))
+      (transport (λ (es : List (Port × Port)). InSomeOrder EitherWay es (map (carried_ends s.to) (edges n.wires.items))) (map-map (carried_ends s.to) (carried_ends r.to) (edges m.wires.items))
+      (mapped_order EitherWay EitherWay (carried_ends s.to) (either_kept s.to) _ _ r.wires))
       s.wires;
+}
+
+abbrev pub wires_of : List Rule → Configuration → List Wire
+wires_of rs c = plain_wires (links_of rs c) ++ name_wires (standings 0 (links_of rs c))
+
+-- nets are alike where the agents, points and wires of their configurations are
+pub nets_alike : (rs : List Rule) (c d : Configuration) (to : Port → Port) → ((p : Port) → is_bound p ≡ true → is_bound (to p) ≡ true) → ((p q : Port) → to p ≡ to q → p ≡ q)
+    → ((k : ℕ) → to (Free k) ≡ Free k) → ((i : ℕ) → to (Interface i) ≡ Interface i) → length c.interface ≡ length d.interface
+    → InSomeOrder IsVertex (map (carried to) (vertices 0 (agents_of c))) (vertices 0 (agents_of d))
+    → InSomeOrder EitherWay (map (carried_ends to) (points 0 (joints (links_of rs c)))) (points 0 (joints (links_of rs d)))
+    → InSomeOrder EitherWay (map (carried_ends to) (edges (wires_of rs c))) (edges (wires_of rs d)) → (m n : Net) → IsNet rs c m → IsNet rs d n → AreAlike m n
+nets_alike rs c d to bound apart free places interface agents both wires m n of_m of_n = record {
+  to = to;
+  bound = bound;
+  apart = λ p q b e same. apart p q same;
+  free = free;
+  places = places;
+  interface = of_m.interface ∙ interface ∙ sym of_n.interface;
+  agents = transport (λ (e : List Agent × List Agent). InSomeOrder IsVertex (map (carried to) (vertices 0 e.0)) (vertices 0 e.1)) (λ i. (sym of_m.agents i, sym of_n.agents i)) agents;
+  joints = transport (λ (e : ℕ × ℕ). InSomeOrder EitherWay (map (carried_ends to) (points 0 e.0)) (points 0 e.1))
+      (λ i. (sym (of_m.joints ∙ joints-are (links_of rs c)) i, sym (of_n.joints ∙ joints-are (links_of rs d)) i)) both;
+  wires = transport (λ (e : List Wire × List Wire). InSomeOrder EitherWay (map (carried_ends to) (edges e.0)) (edges e.1)) (λ i. (sym of_m.wires i, sym of_n.wires i)) wires;
 }

@@ -1,14 +1,15 @@
 -- Lemmas: where one net is like another, the other one is like it. What carries ports there is undone at the ports
 -- that stand in the first net, and carries all others to ports that don't.
-use Rattle.std.proofs.Common.{◌≡◌, ℕ, ◌+◌, ◌<◌, ◌⊎◌, inl, inr, List, [], ◌∷◌, ◌++◌, Bool, true, false, ◌&&◌, ◌≤◌, cond, map, refl, sym, ap, ◌∙◌, arith, subst as transport}
-use Rattle.std.proofs.lemmas.Bool.{true≢false}
-use Rattle.std.specs.Cmp.{unsigned_Decides}
+use Rattle.std.proofs.Common.{◌≡◌, ℕ, ◌+◌, ◌<◌, ◌⊎◌, inl, inr, List, [], ◌∷◌, ◌++◌, Bool, true, false, ◌≤◌, cond, map, refl, sym, ap, ◌∙◌, arith, subst as transport}
+use Rattle.std.proofs.lemmas.Bool.{cond_both, true≢false}
 use Rattle.ic_nets.specs.Likeness.{AreAlike, EitherWay, InSomeOrder, empty, matched, crossed, chained, IsVertex, Vertex, carried, carried_ends, edges, points, vertices}
 use Rattle.ic_nets.specs.Ports.{is_bound, port_eq}
 use Rattle.ic_nets.specs.declared.net.Net.{Net}
 use Rattle.ic_nets.specs.declared.port.Port.{Port}
-use Rattle.ic_nets.specs.declared.port.Port.TheVariants.{Interface, Principal, Auxiliary, Left, Right, Free}
-use Rattle.ic_nets.proofs.AlikeLemmas.{carried_on, either_kept}
+use Rattle.ic_nets.specs.declared.port.Port.TheVariants.{Interface, Left, Free}
+use Rattle.ic_nets.proofs.SumLemmas.{mapped_order}
+use Rattle.ic_nets.proofs.AlikeLemmas.{either_kept}
+use Rattle.ic_nets.proofs.PortLemmas.{port_itself}
 use Rattle.ic_nets.proofs.PortNames.{equal_ports, numbered, numbering, place_of, reach}
 
 module _ {A : Type 0} (like : A → A → Type 0) (turn : (x y : A) → like x y → like y x) where
@@ -39,8 +40,8 @@ in-rest p (r ∷ ps) qs is = inr (in-rest p ps qs is)
 
 low : (p : Port) (ps : List Port) → In p ps → place_of p < reach place_of ps
 low p [] is = absurd is
-low p (q ∷ ps) (inl is) = let same = ap place_of is in omega (arith, same)
-low p (q ∷ ps) (inr is) = let less = low p ps is in omega (arith, less)
+low p (q ∷ ps) (inl is) = omega (arith, ap place_of is)
+low p (q ∷ ps) (inr is) = omega (arith, low p ps is)
 
 abbrev ports_of_vertices : List Vertex → List Port
 ports_of_vertices [] = []
@@ -50,21 +51,7 @@ abbrev ports_of_ends : List (Port × Port) → List Port
 ports_of_ends [] = []
 ports_of_ends (e ∷ es) = e.0 ∷ e.1 ∷ ports_of_ends es
 
-same_is : (p : Port) → port_eq p p ≡ true
-same_is (Interface i) = (unsigned_Decides i i).1 refl
-same_is (Principal k) = (unsigned_Decides k k).1 refl
-same_is (Auxiliary k i) = by _ _ ((unsigned_Decides k k).1 refl) ((unsigned_Decides i i).1 refl)
-  where
-    by : (a b : Bool) → a ≡ true → b ≡ true → (a && b) ≡ true
-    by a b e f = cc
-same_is (Left j) = (unsigned_Decides j j).1 refl
-same_is (Right j) = (unsigned_Decides j j).1 refl
-same_is (Free n) = (unsigned_Decides n n).1 refl
-
 -- ---- the way back
-
-no_place : (i j : ℕ) → Interface i ≡ Left j → ⊥
-no_place i j e = cc
 
 module _ (m n : Net) (is : AreAlike m n) where
   -- the ports that stand in the first net
@@ -80,45 +67,29 @@ module _ (m n : Net) (is : AreAlike m n) where
 
   abbrev back : Port → Port
   back (Interface i) = Interface i
-  back (Principal k) = sought all (Principal k)
-  back (Auxiliary k i) = sought all (Auxiliary k i)
-  back (Left j) = sought all (Left j)
-  back (Right j) = sought all (Right j)
   back (Free k) = Free k
+  back p = sought all p
 
   -- it is what is carried here, or is far off
   abbrev Found : Port → Port → Type 0
   Found q p = ((is.to p ≡ q) × ((j : ℕ) → high ≤ j → p ≡ Left j → ⊥)) ⊎ (p ≡ Left (numbered high q))
 
   near : (p : Port) → place_of p < high → (j : ℕ) → high ≤ j → p ≡ Left j → ⊥
-  near p less j far same = let place = ap place_of same in absurd (omega (arith, less, far, place))
+  near p less j far same = omega (arith, less, far, ap place_of same)
 
   found : (ps : List Port) (q : Port) → ((p : Port) → In p ps → place_of p < high) → Found q (sought ps q)
   found [] q lows = inr refl
-  found (p ∷ ps) q lows = by (port_eq (is.to p) q) refl (found ps q (λ r i. lows r (inr i)))
-    where
-      by : (b : Bool) → port_eq (is.to p) q ≡ b → Found q (sought ps q) → Found q (cond b p (sought ps q))
-      by true e rest = inl (equal_ports (is.to p) q e, near p (lows p (inl refl)))
-      by false e rest = rest
-
-  found_all : (q : Port) → Found q (sought all q)
-  found_all q = found all q (λ p i. low p all i)
+  found (p ∷ ps) q lows =
+      cond_both (port_eq (is.to p) q) p (sought ps q) (Found q) (λ e. inl (equal_ports (is.to p) q e, near p (lows p (inl refl)))) (λ e. found ps q (λ r i. lows r (inr i)))
 
   back_is : (q : Port) → is_bound q ≡ true → Found q (back q)
-  back_is (Interface i) b = inl (is.places i, λ j far. no_place i j)
-  back_is (Principal k) b = found_all (Principal k)
-  back_is (Auxiliary k i) b = found_all (Auxiliary k i)
-  back_is (Left j) b = found_all (Left j)
-  back_is (Right j) b = found_all (Right j)
+  back_is (Interface i) b = inl (is.places i, λ j far e. cc)
   back_is (Free k) b = absurd (true≢false (sym b))
+  back_is q b = found all q (λ p i. low p all i)
 
   bound_by : (p q : Port) → is.to p ≡ q → is_bound q ≡ true → is_bound p ≡ true
-  bound_by (Interface i) q e b = refl
-  bound_by (Principal k) q e b = refl
-  bound_by (Auxiliary k i) q e b = refl
-  bound_by (Left j) q e b = refl
-  bound_by (Right j) q e b = refl
   bound_by (Free k) q e b = absurd (true≢false (sym b ∙ ap is_bound (sym e ∙ is.free k)))
+  bound_by p q e b = refl
 
   found_bound : (p q : Port) → is_bound q ≡ true → Found q p → is_bound p ≡ true
   found_bound p q b (inl a) = bound_by p q a.0 b
@@ -141,28 +112,21 @@ module _ (m n : Net) (is : AreAlike m n) where
     where
       by : (b : Bool) → port_eq (is.to r) q ≡ b → (p ≡ r) ⊎ In p ps → (In p ps → is.to (sought ps q) ≡ q) → is.to (cond b r (sought ps q)) ≡ q
       by true it here rest = equal_ports (is.to r) q it
-      by false isnt (inl same) rest = absurd (true≢false (sym (ap (λ x. port_eq x q) (ap is.to (sym same) ∙ e) ∙ same_is q) ∙ isnt))
+      by false isnt (inl same) rest = absurd (true≢false (sym (ap (λ x. port_eq x q) (ap is.to (sym same) ∙ e) ∙ port_itself q) ∙ isnt))
       by false isnt (inr there) rest = rest there
 
   returns : (p q : Port) → In p all → is.to p ≡ q → is_bound q ≡ true → is.to (back q) ≡ q
   returns p (Interface i) here e b = is.places i
-  returns p (Principal k) here e b = sought_finds all p (Principal k) here e
-  returns p (Auxiliary k i) here e b = sought_finds all p (Auxiliary k i) here e
-  returns p (Left j) here e b = sought_finds all p (Left j) here e
-  returns p (Right j) here e b = sought_finds all p (Right j) here e
   returns p (Free k) here e b = absurd (true≢false (sym b))
+  returns p q here e b = sought_finds all p q here e
 
   undone_bound : (p : Port) → is_bound p ≡ true → In p all → back (is.to p) ≡ p
   undone_bound p b here =
       is.apart (back (is.to p)) p (back_bound (is.to p) (is.bound p b)) b (returns p (is.to p) here refl (is.bound p b))
 
   undone : (p : Port) → In p all → back (is.to p) ≡ p
-  undone (Interface i) here = undone_bound (Interface i) refl here
-  undone (Principal k) here = undone_bound (Principal k) refl here
-  undone (Auxiliary k i) here = undone_bound (Auxiliary k i) refl here
-  undone (Left j) here = undone_bound (Left j) refl here
-  undone (Right j) here = undone_bound (Right j) refl here
   undone (Free k) here = ap back (is.free k)
+  undone p here = undone_bound p refl here
 
   undone_ports : (ps : List Port) → ((p : Port) → In p ps → back (is.to p) ≡ p) → map back (map is.to ps) ≡ ps
   undone_ports [] fixed = refl
@@ -199,11 +163,11 @@ module _ (m n : Net) (is : AreAlike m n) where
     interface = sym is.interface;
     agents = transport (λ (vs : List Vertex). InSomeOrder IsVertex (map (carried back) (vertices 0 n.agents.items)) vs)
         (undone_vertices (vertices 0 m.agents.items) (λ p here. undone p (in-front p of_vertices (of_points ++ of_edges) here)))
-        (carried_on IsVertex (carried back) (λ v w same. ap (carried back) same) _ _ (ordered_back IsVertex (λ v w same. sym same) _ _ is.agents));
+        (mapped_order IsVertex IsVertex (carried back) (λ v w same. ap (carried back) same) _ _ (ordered_back IsVertex (λ v w same. sym same) _ _ is.agents));
     joints = transport (λ (es : List (Port × Port)). InSomeOrder EitherWay (map (carried_ends back) (points 0 n.joints)) es)
         (undone_ends (points 0 m.joints) (λ p here. undone p (in-rest p of_vertices (of_points ++ of_edges) (in-front p of_points of_edges here))))
-        (carried_on EitherWay (carried_ends back) (either_kept back) _ _ (ordered_back EitherWay either_turned _ _ is.joints));
+        (mapped_order EitherWay EitherWay (carried_ends back) (either_kept back) _ _ (ordered_back EitherWay either_turned _ _ is.joints));
     wires = transport (λ (es : List (Port × Port)). InSomeOrder EitherWay (map (carried_ends back) (edges n.wires.items)) es)
         (undone_ends (edges m.wires.items) (λ p here. undone p (in-rest p of_vertices (of_points ++ of_edges) (in-rest p of_points of_edges here))))
-        (carried_on EitherWay (carried_ends back) (either_kept back) _ _ (ordered_back EitherWay either_turned _ _ is.wires));
+        (mapped_order EitherWay EitherWay (carried_ends back) (either_kept back) _ _ (ordered_back EitherWay either_turned _ _ is.wires));
   }

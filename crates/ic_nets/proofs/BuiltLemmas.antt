@@ -1,5 +1,5 @@
 -- Terms are built of the equations of their agents and of what is joined.
-use Rattle.std.proofs.Common.{◌≡◌, ℕ, suc, ◌+◌, ◌≤◌, List, [], ◌∷◌, ◌++◌, true, length, map, refl, sym, ap, ◌∙◌, arith, append_assoc, append-nil}
+use Rattle.std.proofs.Common.{◌≡◌, ℕ, suc, ◌+◌, ◌≤◌, List, [], ◌∷◌, ◌++◌, true, length, map, refl, sym, ap, ◌∙◌, arith, append_assoc, append-nil, eq-eqb}
 use Rattle.std.proofs.lemmas.List.{map-append}
 use Rattle.ic_term.specs.Tree.{Tree, name, agent, Trees, no_trees, more_trees, list_of, trees_of, names_of, Pair}
 use Rattle.ic_term.specs.Configuration.{Configuration, occurrences}
@@ -16,7 +16,7 @@ use Rattle.ic_nets.specs.declared.links.Link.{Link}
 use Rattle.ic_nets.specs.declared.port.Port.{Port}
 use Rattle.ic_nets.specs.declared.port.Port.TheVariants.{Interface, Principal, Auxiliary}
 use Rattle.ic_nets.proofs.NameLemmas.{names_of-trees_of}
-use Rattle.ic_nets.proofs.LeadLemmas.{Laws, Leads, after_these, before, exchange, itself_equal, leads-itself, leads-rearranged, leads-through, moved_after, parts, put_alone, put_among, put_place, put_right, stands_among, turn}
+use Rattle.ic_nets.proofs.LeadLemmas.{Laws, Leads, after_these, before, exchange, leads-itself, leads-rearranged, leads-through, moved_after, parts, put_alone, put_among, put_place, put_right, stands_among, turn}
 
 pub trees_of-list_of : (ts : Trees) → trees_of (list_of ts) ≡ ts
 trees_of-list_of no_trees = refl
@@ -49,8 +49,15 @@ module _ (name_of : Port → ℕ) where
       let count : k + 1 + length xs ≡ k + suc (length xs) = omega arith in
       ap (λ es. agent_equation name_of k a ∷ es) (agents-append (k + 1) xs ys ∙ ap (λ j. agent_equations name_of (k + 1) xs ++ agent_equations name_of j ys) count)
 
-  links-append : (xs ys : List Link) → link_equations (xs ++ ys) ≡ link_equations xs ++ link_equations ys
-  links-append xs ys = map-append link_equation xs ys
+  -- what two parts of a text have, sorted by parts
+  both-append : (k : ℕ) (xs ys : List Agent) (ls ms : List Link) (es : List Pair)
+      → agent_equations name_of k (xs ++ ys) ++ (link_equations (ls ++ ms) ++ es)
+      ≡ agent_equations name_of k xs ++ (agent_equations name_of (k + length xs) ys ++ (link_equations ls ++ (link_equations ms ++ es)))
+  both-append k xs ys ls ms es =
+      let first = agent_equations name_of k xs in
+      let second = agent_equations name_of (k + length xs) ys in
+      (λ d. agents-append k xs ys d ++ (map-append link_equation ls ms d ++ es)) ∙ append_assoc first second ((link_equations ls ++ link_equations ms) ++ es)
+      ∙ ap (λ ps. first ++ (second ++ ps)) (append_assoc (link_equations ls) (link_equations ms) es)
 
   module _ (laws : Laws) (n : ℕ) where
     -- ---- the arguments of an agent, and the places of the interface
@@ -111,7 +118,7 @@ module _ (name_of : Port → ℕ) where
           (leads-through laws _ _ _ (terms-built (Auxiliary k) 1 (k + 1) us ts (own ∷ joined_to ∷ es))
           (leads-through laws _ _ _ (arguments_put (Auxiliary k) 1 [] (list_of us) ts (name x) s (joined_to ∷ es))
           (leads-through laws _ _ _ (leads-itself laws _ _ (ap (λ (u : Tree). parts ts (equated (name x) u ∷ joined_to ∷ es) n) whole))
-          (put_right laws x full v (name x) full ts es n (rw (itself_equal x) refl) (λ few. put_alone x full)))))
+          (put_right laws x full v (name x) full ts es n (rw (eq-eqb x x refl) refl) (λ few. put_alone x full)))))
 
       terms-built : (port : ℕ → Port) (i k : ℕ) (us : Trees) (ts : List Tree) (es : List Pair)
           → Leads (parts ts (agent_equations name_of k (agents_among us) ++ (link_equations (hanging port i k us) ++ es)) n)
@@ -126,10 +133,7 @@ module _ (name_of : Port → ℕ) where
           let l2 = link_equations (hanging port (i + 1) j us) in
           let built = equated (name (name_of (port i))) t in
           let later = hung_equations port (i + 1) (list_of us) in
-          let parted : agent_equations name_of k (agents_in t ++ agents_among us) ++ (h ∷ (link_equations (inside k t ++ hanging port (i + 1) j us) ++ es)) ≡ a1 ++ (a2 ++ (h ∷ (l1 ++ (l2 ++ es)))) =
-          (λ d. agents-append k (agents_in t) (agents_among us) d ++ (h ∷ (links-append (inside k t) (hanging port (i + 1) j us) d ++ es)))
-          ∙ append_assoc a1 a2 (h ∷ ((l1 ++ l2) ++ es))
-          ∙ ap (λ ls. a1 ++ (a2 ++ (h ∷ ls))) (append_assoc l1 l2 es) in
+          let parted = both-append k (agents_in t) (agents_among us) (hung (port i) k t ∷ inside k t) (hanging port (i + 1) j us) es in
           leads-through laws _ _ _ (leads-itself laws _ _ (ap (λ (ls : List Pair). parts ts ls n) parted))
           (leads-through laws _ _ _ (leads-rearranged laws ts n _ _ (after_these a1 _ _ (exchange a2 (h ∷ l1) (l2 ++ es))))
           (leads-through laws _ _ _ (term-built k t (name (name_of (port i))) ts (a2 ++ (l2 ++ es)))
@@ -150,10 +154,7 @@ module _ (name_of : Port → ℕ) where
         let left = end_tree (end_of k p.left) in
         let right = end_tree (end_of j p.right) in
         let q = equated left right in
-        let parted : agent_equations name_of k (agents_in p.left ++ agents_in p.right) ++ (link_equations (pair_links rs k p) ++ es) ≡ a1 ++ (a2 ++ (l1 ++ (q ∷ (l2 ++ es)))) =
-        (λ d. agents-append k (agents_in p.left) (agents_in p.right) d ++ (links-append (inside k p.left) (equation_link rs k j p ∷ inside j p.right) d ++ es))
-        ∙ append_assoc a1 a2 ((l1 ++ (q ∷ l2)) ++ es)
-        ∙ ap (λ ls. a1 ++ (a2 ++ ls)) (append_assoc l1 (q ∷ l2) es) in
+        let parted = both-append k (agents_in p.left) (agents_in p.right) (inside k p.left) (equation_link rs k j p ∷ inside j p.right) es in
         let sorted : Rearranged (a1 ++ (a2 ++ (l1 ++ (q ∷ (l2 ++ es))))) (a2 ++ (q ∷ (l2 ++ (a1 ++ (l1 ++ es))))) =
         one_by_one _ _ _ (exchange a1 a2 (l1 ++ (q ∷ (l2 ++ es))))
         (after_these a2 _ _ (one_by_one _ _ _ (after_these a1 _ _ (exchange l1 (q ∷ l2) es)) (exchange a1 (q ∷ l2) (l1 ++ es)))) in
@@ -173,10 +174,7 @@ module _ (name_of : Port → ℕ) where
         let a2 = agent_equations name_of j (pairs_agents ps) in
         let l1 = link_equations (pair_links rs k p) in
         let l2 = link_equations (joined rs j ps) in
-        let parted : agent_equations name_of k (pair_agents p ++ pairs_agents ps) ++ (link_equations (pair_links rs k p ++ joined rs j ps) ++ es) ≡ a1 ++ (a2 ++ (l1 ++ (l2 ++ es))) =
-        (λ d. agents-append k (pair_agents p) (pairs_agents ps) d ++ (links-append (pair_links rs k p) (joined rs j ps) d ++ es))
-        ∙ append_assoc a1 a2 ((l1 ++ l2) ++ es)
-        ∙ ap (λ ls. a1 ++ (a2 ++ ls)) (append_assoc l1 l2 es) in
+        let parted = both-append k (pair_agents p) (pairs_agents ps) (pair_links rs k p) (joined rs j ps) es in
         leads-through laws _ _ _ (leads-itself laws _ _ (ap (λ (ls : List Pair). parts ts ls n) parted))
         (leads-through laws _ _ _ (leads-rearranged laws ts n _ _ (after_these a1 _ _ (exchange a2 l1 (l2 ++ es))))
         (leads-through laws _ _ _ (equation-built rs k p ts (a2 ++ (l2 ++ es)))
@@ -201,10 +199,9 @@ module _ (name_of : Port → ℕ) where
         let front : 0 + k ≡ k = omega arith in
         let same = list_of-trees_of c.interface in
         let parted : agent_equations name_of 0 (agents_of c) ++ link_equations (links_of rs c) ≡ a1 ++ (a2 ++ (l1 ++ (l2 ++ []))) =
-        (λ d. agents-append 0 (agents_among us) (pairs_agents c.equations) d ++ links-append (hanging Interface 1 0 us) (joined rs k c.equations) d)
-        ∙ ap (λ j. (a1 ++ agent_equations name_of j (pairs_agents c.equations)) ++ (l1 ++ l2)) front
-        ∙ append_assoc a1 a2 (l1 ++ l2)
-        ∙ ap (λ ls. a1 ++ (a2 ++ (l1 ++ ls))) (sym (append-nil l2)) in
+        sym (ap (λ ls. agent_equations name_of 0 (agents_of c) ++ ls) (append-nil (link_equations (links_of rs c))))
+        ∙ both-append 0 (agents_among us) (pairs_agents c.equations) (hanging Interface 1 0 us) (joined rs k c.equations) []
+        ∙ ap (λ m. a1 ++ (agent_equations name_of m (pairs_agents c.equations) ++ (l1 ++ (l2 ++ [])))) front in
         leads-through laws _ _ _ (leads-itself laws _ _ (ap (λ (ls : List Pair). parts places ls n) parted))
         (leads-through laws _ _ _ (leads-rearranged laws places n _ _ (after_these a1 _ _ (exchange a2 l1 (l2 ++ []))))
         (leads-through laws _ _ _ (terms-built Interface 1 0 us places (a2 ++ (l2 ++ [])))

@@ -7,11 +7,11 @@ use Rattle.ic_nets.specs.Ports.{is_bound}
 use Rattle.ic_nets.specs.Wiring.{are_names}
 use Rattle.ic_nets.specs.declared.port.Port.{Port}
 use Rattle.ic_nets.specs.declared.port.Port.TheVariants.{Interface, Principal, Auxiliary, Left, Right, Free}
-use Rattle.ic_nets.proofs.SumLemmas.{sum, sum-append, sum-map, sum-same, total-same}
+use Rattle.ic_nets.proofs.SumLemmas.{counted, sum, sum-append, sum-map, sum-same, total-same}
 use Rattle.ic_nets.proofs.MarkLemmas.{Item, wired, stood, placed, between, Side, side_port, Marked, Markeds, letter, node, no_more, more, bare, bares, hung_item, items_in, items_among, at, one}
 use Rattle.ic_nets.proofs.ValueLemmas.{Weight, name_worth, joined_by, ports_in, ports-sum, value, Few}
 use Rattle.ic_nets.proofs.MovedLemmas.{Equation, bare_pair, sides_items, pair_items, all_items}
-use Rattle.ic_nets.proofs.DrawnLemmas.{mark, marks, mark_all, bares-marks}
+use Rattle.ic_nets.proofs.DrawnLemmas.{mark, marks, mark_all, bares-marks, on_parts}
 
 -- ---- the numbers of agents, and the sides at which names stand, in the order of the text
 
@@ -30,8 +30,7 @@ ids_all (d ∷ ds) = (ids_in d.left ++ ids_in d.right) ++ ids_all ds
 
 abbrev sides_by : (l r : Side) → (t u : Marked) → List Side
 sides_by l r (letter m) (letter n) = l ∷ r ∷ []
-sides_by l r (letter m) (node k s ts) = []
-sides_by l r (node k s ts) u = []
+sides_by l r t u = []
 
 abbrev pub sides_all : List Equation → List Side
 sides_all [] = []
@@ -39,16 +38,11 @@ sides_all (d ∷ ds) = sides_by d.left_side d.right_side d.left d.right ++ sides
 
 abbrev more_points : (t u : Marked) → ℕ → ℕ
 more_points (letter m) (letter n) c = suc c
-more_points (letter m) (node k s ts) c = c
-more_points (node k s ts) u c = c
+more_points t u c = c
 
 abbrev pub points_all : List Equation → ℕ
 points_all [] = 0
 points_all (d ∷ ds) = more_points d.left d.right (points_all ds)
-
-abbrev pub counted : (first count : ℕ) → List ℕ
-counted k zero = []
-counted k (suc n) = k ∷ counted (k + 1) n
 
 abbrev pub sides_counted : (first count : ℕ) → List Side
 sides_counted j zero = []
@@ -56,99 +50,46 @@ sides_counted j (suc n) = (j, false) ∷ (j, true) ∷ sides_counted (j + 1) n
 
 -- ---- what they weigh
 
-abbrev pub on_id : (ℕ → ℕ) → Item → ℕ
-on_id v (wired p q) = 0
-on_id v (stood n p) = 0
-on_id v (placed k a) = v k
-on_id v (between l r) = 0
+module _ (v : ℕ → ℕ) (u : Side → ℕ) where
+  abbrev pub on_numbers : Item → ℕ
+  on_numbers = on_parts (λ k a. v k) (λ l r. u l + u r)
 
-abbrev pub on_side : (Side → ℕ) → Item → ℕ
-on_side v (wired p q) = 0
-on_side v (stood n p) = 0
-on_side v (placed k a) = 0
-on_side v (between l r) = v l + v r
-
-module _ (v : ℕ → ℕ) where
-  hung_id : (p : Port) (t : Marked) → on_id v (hung_item p t) ≡ 0
-  hung_id p (letter n) = refl
-  hung_id p (node k s ts) = refl
+  hung_none : (p : Port) (t : Marked) → on_numbers (hung_item p t) ≡ 0
+  hung_none p (letter n) = refl
+  hung_none p (node k s ts) = refl
 
   mutual
-    ids_sum_in : (t : Marked) → sum v (ids_in t) ≡ sum (on_id v) (items_in t)
+    ids_sum_in : (t : Marked) → sum on_numbers (items_in t) ≡ sum v (ids_in t)
     ids_sum_in (letter n) = refl
     ids_sum_in (node k s ts) = ap (λ n. v k + n) (ids_sum_among (Auxiliary k) 1 ts)
 
-    pub ids_sum_among : (port : ℕ → Port) (i : ℕ) (ts : Markeds) → sum v (ids_among ts) ≡ sum (on_id v) (items_among port i ts)
+    pub ids_sum_among : (port : ℕ → Port) (i : ℕ) (ts : Markeds) → sum on_numbers (items_among port i ts) ≡ sum v (ids_among ts)
     ids_sum_among port i no_more = refl
     ids_sum_among port i (more t ts) =
-        sums _ _ _ _ _ _ _ (sum-append v (ids_in t) (ids_among ts)) (ids_sum_in t) (ids_sum_among port (i + 1) ts) (hung_id (port i) t) (sum-append (on_id v) (items_in t) (items_among port (i + 1) ts))
-      where
-        sums : (all a b x y h xy : ℕ) → all ≡ a + b → a ≡ x → b ≡ y → h ≡ 0 → xy ≡ x + y → all ≡ h + xy
-        sums all a b x y h xy e1 e2 e3 e4 e5 = omega arith
+        omega (arith, sum-append v (ids_in t) (ids_among ts), ids_sum_in t, ids_sum_among port (i + 1) ts, hung_none (port i) t, sum-append on_numbers (items_in t) (items_among port (i + 1) ts))
 
-  sides_id : (l r : Side) (t u : Marked) → sum (on_id v) (sides_items l r t u) ≡ 0
-  sides_id l r (letter m) (letter n) = refl
-  sides_id l r (letter m) (node k s ts) = refl
-  sides_id l r (node k s ts) (letter n) = refl
-  sides_id l r (node k s ts) (node j q us) = refl
+  sides_sum_by : (l r : Side) (t w : Marked) → sum on_numbers (sides_items l r t w) ≡ sum u (sides_by l r t w)
+  sides_sum_by l r (letter m) (letter n) = omega arith
+  sides_sum_by l r (node k s ts) (node j q us) = refl
+  sides_sum_by l r t w = refl
 
-  pub ids_sum_all : (ds : List Equation) → sum v (ids_all ds) ≡ sum (on_id v) (all_items ds)
-  ids_sum_all [] = refl
-  ids_sum_all (d ∷ ds) =
+  pub numbers_sum : (ds : List Equation) → sum on_numbers (all_items ds) ≡ sum v (ids_all ds) + sum u (sides_all ds)
+  numbers_sum [] = refl
+  numbers_sum (d ∷ ds) =
       let middle = sides_items d.left_side d.right_side d.left d.right in
-      sums _ _ _ _ _ _ _ _ _ _
-      (sum-append v (ids_in d.left ++ ids_in d.right) (ids_all ds)) (sum-append v (ids_in d.left) (ids_in d.right)) (ids_sum_in d.left) (ids_sum_in d.right) (ids_sum_all ds)
-      (sum-append (on_id v) (pair_items d) (all_items ds)) (sum-append (on_id v) (items_in d.left) (middle ++ items_in d.right)) (sum-append (on_id v) middle (items_in d.right)) (sides_id d.left_side d.right_side d.left d.right)
-    where
-      sums : (all lr l r ds il ir ids iall ip : ℕ) {im m : ℕ} → all ≡ lr + ds → lr ≡ l + r → l ≡ il → r ≡ ir → ds ≡ ids → iall ≡ ip + ids → ip ≡ il + im → im ≡ m + ir → m ≡ 0 → all ≡ iall
-      sums all lr l r ds il ir ids iall ip e1 e2 e3 e4 e5 e6 e7 e8 e9 = omega arith
-
-module _ (v : Side → ℕ) where
-  hung_side : (p : Port) (t : Marked) → on_side v (hung_item p t) ≡ 0
-  hung_side p (letter n) = refl
-  hung_side p (node k s ts) = refl
-
-  mutual
-    no_sides_in : (t : Marked) → sum (on_side v) (items_in t) ≡ 0
-    no_sides_in (letter n) = refl
-    no_sides_in (node k s ts) = ap (λ n. 0 + n) (no_sides_among (Auxiliary k) 1 ts)
-
-    pub no_sides_among : (port : ℕ → Port) (i : ℕ) (ts : Markeds) → sum (on_side v) (items_among port i ts) ≡ 0
-    no_sides_among port i no_more = refl
-    no_sides_among port i (more t ts) =
-        sums _ _ _ _ (hung_side (port i) t) (sum-append (on_side v) (items_in t) (items_among port (i + 1) ts)) (no_sides_in t) (no_sides_among port (i + 1) ts)
-      where
-        sums : (h xy x y : ℕ) → h ≡ 0 → xy ≡ x + y → x ≡ 0 → y ≡ 0 → h + xy ≡ 0
-        sums h xy x y e1 e2 e3 e4 = omega arith
-
-  sides_side : (l r : Side) (t u : Marked) → sum (on_side v) (sides_items l r t u) ≡ sum v (sides_by l r t u)
-  sides_side l r (letter m) (letter n) = sums (v l) (v r)
-    where
-      sums : (a b : ℕ) → 0 + (0 + (a + b + 0)) ≡ a + (b + 0)
-      sums a b = omega arith
-  sides_side l r (letter m) (node k s ts) = refl
-  sides_side l r (node k s ts) (letter n) = refl
-  sides_side l r (node k s ts) (node j q us) = refl
-
-  pub sides_sum_all : (ds : List Equation) → sum v (sides_all ds) ≡ sum (on_side v) (all_items ds)
-  sides_sum_all [] = refl
-  sides_sum_all (d ∷ ds) =
-      let middle = sides_items d.left_side d.right_side d.left d.right in
-      sums _ _ _ _ _ _ _ _ _
-      (sum-append v (sides_by d.left_side d.right_side d.left d.right) (sides_all ds)) (sides_side d.left_side d.right_side d.left d.right) (sides_sum_all ds)
-      (sum-append (on_side v) (pair_items d) (all_items ds)) (sum-append (on_side v) (items_in d.left) (middle ++ items_in d.right)) (sum-append (on_side v) middle (items_in d.right)) (no_sides_in d.left) (no_sides_in d.right)
-    where
-      sums : (all s ds m ids iall ip il im : ℕ) {ir : ℕ} → all ≡ s + ds → m ≡ s → ds ≡ ids → iall ≡ ip + ids → ip ≡ il + im → im ≡ m + ir → il ≡ 0 → ir ≡ 0 → all ≡ iall
-      sums all s ds m ids iall ip il im e1 e2 e3 e4 e5 e6 e7 e8 = omega arith
+      let ids = sum-append v (ids_in d.left ++ ids_in d.right) (ids_all ds) in
+      let both = sum-append v (ids_in d.left) (ids_in d.right) in
+      let sides = sum-append u (sides_by d.left_side d.right_side d.left d.right) (sides_all ds) in
+      let items = sum-append on_numbers (pair_items d) (all_items ds) in
+      let left = sum-append on_numbers (items_in d.left) (middle ++ items_in d.right) in
+      let right = sum-append on_numbers middle (items_in d.right) in
+      omega (arith, ids_sum_in d.left, ids_sum_in d.right, sides_sum_by d.left_side d.right_side d.left d.right, numbers_sum ds)
 
 -- ---- lists that are counted on
 
-counted_length : (k n : ℕ) → length (counted k n) ≡ n
-counted_length k zero = refl
-counted_length k (suc n) = ap suc (counted_length (k + 1) n)
-
 pub length_counted : (k n : ℕ) → n ≡ length (counted k n)
-length_counted k n = sym (counted_length k n)
+length_counted k zero = refl
+length_counted k (suc n) = ap suc (length_counted (k + 1) n)
 
 pub sides_length : (j : ℕ) (ds : List Equation) → length (sides_all ds) ≡ length (sides_counted j (points_all ds))
 sides_length j [] = refl
@@ -174,12 +115,11 @@ module _ (f : ℕ → ℕ) where
 
 module _ (f : ℕ → ℕ) (g : Side → Side) where
   abbrev pub carry : Port → Port
-  carry (Interface i) = Interface i
   carry (Principal k) = Principal (f k)
   carry (Auxiliary k i) = Auxiliary (f k) i
   carry (Left j) = side_port (g (j, false))
   carry (Right j) = side_port (g (j, true))
-  carry (Free n) = Free n
+  carry p = p
 
   abbrev pub carry_item : Item → Item
   carry_item (wired p q) = wired (carry p) (carry q)
@@ -188,11 +128,8 @@ module _ (f : ℕ → ℕ) (g : Side → Side) where
   carry_item (between l r) = between (g l) (g r)
 
   pub carry_side : (s : Side) → carry (side_port s) ≡ side_port (g s)
-  carry_side s = by s.0 s.1
-    where
-      by : (j : ℕ) (b : Bool) → carry (cond b (Right j) (Left j)) ≡ side_port (g (j, b))
-      by j true = refl
-      by j false = refl
+  carry_side (j, true) = refl
+  carry_side (j, false) = refl
 
   mutual
     ids_count : (t : Marked) → length (ids_in t) ≡ length (agents_in (bare t))
@@ -249,9 +186,8 @@ module _ (f : ℕ → ℕ) (g : Side → Side) where
       let right : g r ≡ (j, true) = cc in
       let rest : map g ss ≡ sides_counted (j + 1) m = cc in
       ((λ d. left d ∷ right d ∷ []), rest)
-  parted_sides l r j k i (letter x) (node a s ts) ss m same = (refl, same)
-  parted_sides l r j k i (node a s ts) (letter y) ss m same = (refl, same)
   parted_sides l r j k i (node a s ts) (node b q us) ss m same = (refl, same)
+  parted_sides l r j k i t u ss m same = (refl, same)
 
   pub all_carried : (j k : ℕ) (ds : List Equation) → map f (ids_all ds) ≡ counted k (length (ids_all ds)) → map g (sides_all ds) ≡ sides_counted j (points_all ds)
       → map carry_item (all_items ds) ≡ all_items (mark_all j k (map bare_pair ds))
@@ -281,84 +217,49 @@ abbrev kind : Port → ℕ
 kind (Interface i) = 0
 kind (Principal k) = 1
 kind (Auxiliary k i) = 2
-kind (Left j) = 3
-kind (Right j) = 3
-kind (Free n) = 4
-
-abbrev place : Port → ℕ
-place (Interface i) = i
-place (Principal k) = k
-place (Auxiliary k i) = i
-place (Left j) = j
-place (Right j) = j
-place (Free n) = n
-
-abbrev host : Port → ℕ
-host (Interface i) = 0
-host (Principal k) = 0
-host (Auxiliary k i) = k
-host (Left j) = 0
-host (Right j) = 0
-host (Free n) = 0
+kind (Free n) = 3
+kind p = 4
 
 abbrev side_of : Port → Side
 side_of (Left j) = (j, false)
 side_of (Right j) = (j, true)
-side_of (Interface i) = (0, false)
-side_of (Principal k) = (0, false)
-side_of (Auxiliary k i) = (0, false)
-side_of (Free n) = (0, false)
+side_of p = (0, false)
 
 side_back : (s : Side) → side_of (side_port s) ≡ s
-side_back s = by s.0 s.1
-  where
-    by : (j : ℕ) (b : Bool) → side_of (cond b (Right j) (Left j)) ≡ (j, b)
-    by j true = refl
-    by j false = refl
+side_back (j, true) = refl
+side_back (j, false) = refl
 
-side_kind : (s : Side) → kind (side_port s) ≡ 3
-side_kind s = by s.0 s.1
-  where
-    by : (j : ℕ) (b : Bool) → kind (cond b (Right j) (Left j)) ≡ 3
-    by j true = refl
-    by j false = refl
+side_kind : (s : Side) → kind (side_port s) ≡ 4
+side_kind (j, true) = refl
+side_kind (j, false) = refl
 
 side_bound : (s : Side) → is_bound (side_port s) ≡ true
-side_bound s = by s.0 s.1
-  where
-    by : (j : ℕ) (b : Bool) → is_bound (cond b (Right j) (Left j)) ≡ true
-    by j true = refl
-    by j false = refl
+side_bound (j, true) = refl
+side_bound (j, false) = refl
 
 module _ (f : ℕ → ℕ) (g : Side → Side) (one_f : (x y : ℕ) → f x ≡ f y → x ≡ y) (one_g : (x y : Side) → g x ≡ g y → x ≡ y) where
   pub carry_bound : (p : Port) → is_bound p ≡ true → is_bound (carry f g p) ≡ true
-  carry_bound (Interface i) b = refl
-  carry_bound (Principal k) b = refl
-  carry_bound (Auxiliary k i) b = refl
   carry_bound (Left j) b = side_bound (g (j, false))
   carry_bound (Right j) b = side_bound (g (j, true))
-  carry_bound (Free n) b = b
+  carry_bound p b = b
 
   carry_kind : (p : Port) → kind (carry f g p) ≡ kind p
-  carry_kind (Interface i) = refl
-  carry_kind (Principal k) = refl
-  carry_kind (Auxiliary k i) = refl
   carry_kind (Left j) = side_kind (g (j, false))
   carry_kind (Right j) = side_kind (g (j, true))
-  carry_kind (Free n) = refl
+  carry_kind p = refl
 
   same_side : (s t : Side) → side_port (g s) ≡ side_port (g t) → s ≡ t
   same_side s t same = one_g s t (sym (side_back (g s)) ∙ ap side_of same ∙ side_back (g t))
 
   apart_by : (p q : Port) → kind p ≡ kind q → carry f g p ≡ carry f g q → p ≡ q
-  apart_by (Interface i) (Interface j) kinds same = ap Interface (ap place same)
-  apart_by (Principal i) (Principal j) kinds same = ap Principal (one_f i j (ap place same))
-  apart_by (Auxiliary k i) (Auxiliary l j) kinds same = let hosts = one_f k l (ap host same) in let places : i ≡ j = ap place same in λ d. Auxiliary (hosts d) (places d)
+  apart_by (Interface i) (Interface j) kinds same = same
+  apart_by (Principal i) (Principal j) kinds same = ap Principal (one_f i j (cc))
+  apart_by (Auxiliary k i) (Auxiliary l j) kinds same = let hosts = one_f k l (cc) in let places : i ≡ j = cc in λ d. Auxiliary (hosts d) (places d)
   apart_by (Left i) (Left j) kinds same = ap side_port (same_side (i, false) (j, false) same)
   apart_by (Left i) (Right j) kinds same = ap side_port (same_side (i, false) (j, true) same)
   apart_by (Right i) (Left j) kinds same = ap side_port (same_side (i, true) (j, false) same)
   apart_by (Right i) (Right j) kinds same = ap side_port (same_side (i, true) (j, true) same)
-  apart_by (Free i) (Free j) kinds same = ap Free (ap place same)
+  apart_by (Free i) (Free j) kinds same = same
   apart_by p q kinds same = absurd (omega (arith, kinds))
 
   pub carry_apart : (p q : Port) → carry f g p ≡ carry f g q → p ≡ q
@@ -368,15 +269,13 @@ module _ (f : ℕ → ℕ) (g : Side → Side) (one_f : (x y : ℕ) → f x ≡ 
 
   ports_carried : (n : ℕ) (xs : List Item) → ports_in n (map (carry_item f g) xs) ≡ map (carry f g) (ports_in n xs)
   ports_carried n [] = refl
-  ports_carried n (wired p q ∷ xs) = ports_carried n xs
-  ports_carried n (placed k a ∷ xs) = ports_carried n xs
-  ports_carried n (between l r ∷ xs) = ports_carried n xs
   ports_carried n (stood m p ∷ xs) = by (m == n) (ports_carried n xs)
     where
       by : (b : Bool) → ports_in n (map (carry_item f g) xs) ≡ map (carry f g) (ports_in n xs)
           → cond b (carry f g p ∷ ports_in n (map (carry_item f g) xs)) (ports_in n (map (carry_item f g) xs)) ≡ map (carry f g) (cond b (p ∷ ports_in n xs) (ports_in n xs))
       by true later = ap (λ ps. carry f g p ∷ ps) later
       by false later = later
+  ports_carried n (x ∷ xs) = ports_carried n xs
 
   module _ (P : Weight) where
     abbrev pub before_carry : Weight
@@ -390,29 +289,19 @@ module _ (f : ℕ → ℕ) (g : Side → Side) (one_f : (x y : ℕ) → f x ≡ 
 
     joined_carried : (x : Item) → joined_by before_carry x ≡ joined_by P (carry_item f g x)
     joined_carried (wired p q) = refl
-    joined_carried (stood n p) = refl
-    joined_carried (placed k a) = refl
-    joined_carried (between l r) = refl
+    joined_carried x = refl
 
     pub value_carried : (N : ℕ) (xs : List Item) → Few N xs → value before_carry N xs ≡ value P N (map (carry_item f g) xs)
     value_carried N xs few =
         λ i. (sum-same (joined_by before_carry) (λ x. joined_by P (carry_item f g x)) joined_carried xs ∙ sym (sum-map (carry_item f g) (joined_by P) xs)) i
         + total-same (λ n. name_worth before_carry n (ports_in n xs)) (λ n. name_worth P n (ports_in n (map (carry_item f g) xs)))
-        (λ n. worth_carried n (ports_in n xs) (low _ _ (ports-sum n one xs) (few n).0) ∙ ap (name_worth P n) (sym (ports_carried n xs))) N i
-      where
-        low : (a b : ℕ) → a ≡ b → b ≤ 2 → a ≤ 2
-        low a b e le = omega arith
+        (λ n. worth_carried n (ports_in n xs) (omega (arith, ports-sum n one xs, (few n).0)) ∙ ap (name_worth P n) (sym (ports_carried n xs))) N i
 
   at_carried : (n : ℕ) (x : Item) → at n one (carry_item f g x) ≡ at n one x
   at_carried n (wired p q) = refl
-  at_carried n (stood m p) = refl
-  at_carried n (placed k a) = refl
-  at_carried n (between l r) = refl
+  at_carried n x = refl
 
   pub few_carried : (N : ℕ) (xs : List Item) → Few N xs → Few N (map (carry_item f g) xs)
   few_carried N xs few n =
       let same = sum-map (carry_item f g) (at n one) xs ∙ sum-same (λ x. at n one (carry_item f g x)) (at n one) (at_carried n) xs in
-      (low _ _ same (few n).0, λ le. same ∙ (few n).1 le)
-    where
-      low : (a b : ℕ) → a ≡ b → b ≤ 2 → a ≤ 2
-      low a b e le = omega arith
+      (omega (arith, same, (few n).0), λ le. same ∙ (few n).1 le)

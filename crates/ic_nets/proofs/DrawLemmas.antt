@@ -11,7 +11,7 @@ use Rattle.ic_text.specs.declared.limits.TheConstants.{MAX_TEXT}
 use Rattle.ic_text.specs.declared.fault.TextFault.{TextFault}
 use Rattle.ic_text.specs.declared.fault.TextFault.TheVariants.{Limit}
 use Rattle.ic_streams.specs.lemmas.Reading.{Carried}
-use Rattle.ic_streams.specs.declared.fault.StreamFault.TheVariants.{Read, Text, Round, Memory, Write}
+use Rattle.ic_streams.specs.declared.fault.StreamFault.TheVariants.{Text}
 use Rattle.ic_nets.specs.Draws.{Draws, DrawsTo, IsDrawnAs, ReadsDrawn, has_rules, reads_by}
 
 -- a text without rules is drawn with none
@@ -39,20 +39,14 @@ long_none : (b : Bool) (text : List ℕ) (system : SystemParts) → MAX_TEXT < l
 long_none true text system long reads = let e = reads.long long in cc
 long_none false text system long reads = let e = reads.0.long long in cc
 
-more : (front rest : List ℕ) → MAX_TEXT < length front → MAX_TEXT < length (front ++ rest)
-more front rest long = omega (arith, length-append front rest)
-
 read_on : (front rest : List ℕ) → (length front ≤ MAX_TEXT → rest ≡ []) → (answer : Result SystemParts TextFault) → ReadsDrawn front answer → ReadsDrawn (front ++ rest) answer
 read_on front rest end answer reads = by (cases_lt MAX_TEXT (length front)) answer reads
   where
-    too_long : MAX_TEXT < length front → (answer : Result SystemParts TextFault) → ReadsDrawn front answer → ReadsDrawn (front ++ rest) answer
-    too_long long (Ok system) r = absurd (long_none (has_rules front) front system long r)
-    too_long long (Err fault) r =
-        let P : TextFault → Type 0 = λ f. ReadsDrawn (front ++ rest) (Err f) in
-        subst P (sym (long_is (has_rules front) front fault long r)) (long_limit (has_rules (front ++ rest)) (front ++ rest) (more front rest long))
-
     by : (MAX_TEXT < length front) ⊎ (length front ≤ MAX_TEXT) → (answer : Result SystemParts TextFault) → ReadsDrawn front answer → ReadsDrawn (front ++ rest) answer
-    by (inl long) answer r = too_long long answer r
+    by (inl long) (Ok system) r = absurd (long_none (has_rules front) front system long r)
+    by (inl long) (Err fault) r =
+        let P : TextFault → Type 0 = λ f. ReadsDrawn (front ++ rest) (Err f) in
+        subst P (sym (long_is (has_rules front) front fault long r)) (long_limit (has_rules (front ++ rest)) (front ++ rest) (omega (arith, long, length-append front rest)))
     by (inr fits) answer r =
         let P : List ℕ → Type 0 = λ text. ReadsDrawn text answer in
         subst P (sym (ap (λ l. front ++ l) (end fits) ∙ append-nil front)) r
@@ -60,7 +54,4 @@ read_on front rest end answer reads = by (cases_lt MAX_TEXT (length front)) answ
 pub draws_carried : Carried Draws
 draws_carried front rest end (Ok output) s = record { system = s.system; reads = read_on front rest end (Ok s.system) s.reads; drawn = s.drawn }
 draws_carried front rest end (Err (Text fault)) s = (read_on front rest end (Err fault) s.0, s.1)
-draws_carried front rest end (Err (Round fault)) s = absurd s
-draws_carried front rest end (Err Read) s = absurd s
-draws_carried front rest end (Err Memory) s = absurd s
-draws_carried front rest end (Err Write) s = absurd s
+draws_carried front rest end (Err fault) s = absurd s

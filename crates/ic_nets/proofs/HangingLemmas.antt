@@ -1,11 +1,10 @@
 -- Terms that hang at ports and stand on a stack: what they join, and which agents they have.
-use Rattle.std.proofs.Common.{◌≡◌, ℕ, ◌+◌, List, [], ◌∷◌, ◌++◌, Option, Some, reverse, map, drop, length, sum_by, refl, sym, ap, ◌∙◌, append_assoc, append-nil, length-append, arith}
+use Rattle.std.proofs.Common.{◌≡◌, ℕ, ◌+◌, List, [], ◌∷◌, ◌++◌, reverse, map, drop, length, sum_by, refl, sym, ap, ◌∙◌, append_assoc, append-nil, length-append, arith}
 use Rattle.std.specs.Borrow.{Bor}
-use Rattle.std.specs.Option.{option_to_list}
 use Rattle.std.proofs.lemmas.List.{reverse-append, map-append}
 use Rattle.std.proofs.lemmas.List.Sums.{sum_by-cons}
 use Rattle.ic_term.specs.declared.term.Term.{Term}
-use Rattle.ic_term.specs.Tree.{Tree, name, agent, trees_of, nodes, nodes_of}
+use Rattle.ic_term.specs.Tree.{Tree, agent, trees_of, nodes, nodes_of}
 use Rattle.ic_term.specs.Term.{tree}
 use Rattle.ic_term.specs.lemmas.TreeLaws.{list_of-trees_of}
 use Rattle.ic_nets.specs.Links.{agents_among, agents_in, hanging, inside, hung}
@@ -18,10 +17,6 @@ use Rattle.ic_nets.specs.declared.port.Port.TheVariants.{Interface, Auxiliary}
 pub coming-append : (hs : List (Port × Bor Term)) (h : Port × Bor Term) → coming (hs ++ h ∷ []) ≡ (h.0, tree h.1.now) ∷ coming hs
 coming-append hs h =
     ap reverse (map-append (λ (x : Port × Bor Term). (x.0, tree x.1.now)) hs (h ∷ [])) ∙ reverse-append (map (λ (x : Port × Bor Term). (x.0, tree x.1.now)) hs) ((h.0, tree h.1.now) ∷ [])
-
-pub coming-some : (old new : List (Port × Bor Term)) (o : Option (Port × Bor Term)) (h : Port × Bor Term) → old ≡ new ++ option_to_list o → o ≡ Some h
-    → coming old ≡ (h.0, tree h.1.now) ∷ coming new
-coming-some old new o h e some = ap coming (e ∙ ap (λ x. new ++ option_to_list x) some) ∙ coming-append new h
 
 -- ---- terms that are put on a stack
 
@@ -88,17 +83,3 @@ module _ (s n : ℕ) (args : List Tree) (t : Tree) (old new : List Agent) (beyon
 
   pub agent-fewer : sum_by (λ (h : Port × Tree). nodes h.1) after + 1 ≡ nodes t + sum_by (λ (h : Port × Tree). nodes h.1) beyond
   agent-fewer = omega (arith, ap (sum_by (λ (h : Port × Tree). nodes h.1)) all, nodes_hung-append (Auxiliary (length old)) 1 args beyond, ap nodes is)
-
--- ---- a name that is opened
-
-module _ (m : ℕ) (t : Tree) (old : List Agent) (beyond : List (Port × Tree)) (is : t ≡ name m) where
-  pub name-agents : old ++ agents_hung beyond ≡ old ++ (agents_in t ++ agents_hung beyond)
-  name-agents = ap (λ u. old ++ (agents_in u ++ agents_hung beyond)) (sym is)
-
-  pub name-links : links_hung (length old) beyond ≡ inside (length old) t ++ links_hung (length old + length (agents_in t)) beyond
-  name-links =
-      let none : length old ≡ length old + length (agents_in t) = omega (arith, ap (λ u. length (agents_in u)) is) in
-      (λ i. inside (length old) (sym is i) ++ links_hung (none i) beyond)
-
-  pub name-fewer : sum_by (λ (h : Port × Tree). nodes h.1) beyond + 1 ≡ nodes t + sum_by (λ (h : Port × Tree). nodes h.1) beyond
-  name-fewer = omega (arith, ap nodes is)

@@ -1,5 +1,5 @@
 -- Configurations that settle to one net: rearranging equations and putting terms for names leads from one to the other.
-use Rattle.std.proofs.Common.{◌≡◌, ℕ, ◌+◌, ◌≤◌, ◌==◌, List, [], ◌∷◌, ◌++◌, true, map, refl, sym, arith, eq-eqb, inl, subst as transport}
+use Rattle.std.proofs.Common.{◌≡◌, ℕ, ◌+◌, ◌≤◌, List, [], ◌∷◌, ◌++◌, true, map, refl, sym, arith, eq-eqb, inl, subst as transport}
 use Rattle.std.specs.List.{flat_map}
 use Rattle.ic_term.specs.Tree.{Tree, name, names, Pair, pair_names}
 use Rattle.ic_term.specs.Configuration.{Configuration, names_in, occurrences}
@@ -58,51 +58,40 @@ terms-absent : (x : ℕ) (u : Tree) (ts : List Tree) → occurrences x (flat_map
 terms-absent x u [] none = refl
 terms-absent x u (t ∷ ts) none =
     let all = occurrences-append x (names t) (flat_map names ts) in
-    let first : occurrences x (names t) ≡ 0 = omega (arith, all, none) in
-    let rest : occurrences x (flat_map names ts) ≡ 0 = omega (arith, all, none) in
-    (λ i. subst-absent x u t first i ∷ terms-absent x u ts rest i)
+    (λ i. subst-absent x u t (omega (arith, all, none)) i ∷ terms-absent x u ts (omega (arith, all, none)) i)
 
 pairs-absent : (x : ℕ) (u : Tree) (es : List Pair) → occurrences x (flat_map pair_names es) ≡ 0 → map (subst_pair x u) es ≡ es
 pairs-absent x u [] none = refl
 pairs-absent x u (p ∷ es) none =
     let all = occurrences-append x (pair_names p) (flat_map pair_names es) in
     let both = occurrences-append x (names p.left) (names p.right) in
-    let left : occurrences x (names p.left) ≡ 0 = omega (arith, all, both, none) in
-    let right : occurrences x (names p.right) ≡ 0 = omega (arith, all, both, none) in
-    let rest : occurrences x (flat_map pair_names es) ≡ 0 = omega (arith, all, none) in
-    (λ i. record { left = subst-absent x u p.left left i; right = subst-absent x u p.right right i } ∷ pairs-absent x u es rest i)
+    let left = subst-absent x u p.left (omega (arith, all, both, none)) in
+    let right = subst-absent x u p.right (omega (arith, all, both, none)) in
+    (λ i. record { left = left i; right = right i } ∷ pairs-absent x u es (omega (arith, all, none)) i)
 
-pub itself_equal : (x : ℕ) → (x == x) ≡ true
-itself_equal x = eq-eqb x x refl
-
-pub alone : (x : ℕ) → occurrences x (x ∷ []) ≡ 1
-alone x = rw (itself_equal x) refl
+alone : (x : ℕ) → occurrences x (x ∷ []) ≡ 1
+alone x = rw (eq-eqb x x refl) refl
 
 pub put_alone : (x : ℕ) (u : Tree) → subst x u (name x) ≡ u
-put_alone x u = rw (itself_equal x) refl
+put_alone x u = rw (eq-eqb x x refl) refl
 
 some_among : (x : ℕ) (front back : List Tree) → 1 ≤ occurrences x (flat_map names (front ++ (name x ∷ back)))
-some_among x [] back = let all = occurrences-append x (x ∷ []) (flat_map names back) in let one = alone x in omega (arith, all, one)
-some_among x (t ∷ ts) back = let all = occurrences-append x (names t) (flat_map names (ts ++ (name x ∷ back))) in let rest = some_among x ts back in omega (arith, all, rest)
+some_among x [] back = omega (arith, occurrences-append x (x ∷ []) (flat_map names back), alone x)
+some_among x (t ∷ ts) back = omega (arith, occurrences-append x (names t) (flat_map names (ts ++ (name x ∷ back))), some_among x ts back)
 
 -- a name among terms
 pub put_among : (x : ℕ) (u : Tree) (before after : List Tree) → occurrences x (flat_map names (before ++ (name x ∷ after))) ≤ 1
     → map (subst x u) (before ++ (name x ∷ after)) ≡ before ++ (u ∷ after)
 put_among x u [] after few =
-    let all = occurrences-append x (x ∷ []) (flat_map names after) in
-    let one = alone x in
-    let none : occurrences x (flat_map names after) ≡ 0 = omega (arith, all, one, few) in
-    (λ i. put_alone x u i ∷ terms-absent x u after none i)
+    let none = terms-absent x u after (omega (arith, occurrences-append x (x ∷ []) (flat_map names after), alone x, few)) in
+    (λ i. put_alone x u i ∷ none i)
 put_among x u (t ∷ ts) after few =
-    let rest = ts ++ (name x ∷ after) in
-    let all = occurrences-append x (names t) (flat_map names rest) in
-    let some = some_among x ts after in
-    let none : occurrences x (names t) ≡ 0 = omega (arith, all, some, few) in
-    let fewer : occurrences x (flat_map names rest) ≤ 1 = omega (arith, all, few) in
-    (λ i. subst-absent x u t none i ∷ put_among x u ts after fewer i)
+    let all = occurrences-append x (names t) (flat_map names (ts ++ (name x ∷ after))) in
+    let none = subst-absent x u t (omega (arith, all, some_among x ts after, few)) in
+    (λ i. none i ∷ put_among x u ts after (omega (arith, all, few)) i)
 
 pub stands_among : (x : ℕ) (before after : List Tree) → occurs x (flat_map names (before ++ (name x ∷ after))) ≡ true
-stands_among x [] after = in_first x (x ∷ []) (flat_map names after) (rw (itself_equal x) refl)
+stands_among x [] after = in_first x (x ∷ []) (flat_map names after) (rw (eq-eqb x x refl) refl)
 stands_among x (t ∷ ts) after = in_either x (names t) (flat_map names (ts ++ (name x ∷ after))) (stands_among x ts after)
 
 module _ (laws : Laws) where
@@ -138,11 +127,8 @@ module _ (laws : Laws) where
   counted_two x u v w ts es =
       let all = occurrences-append x (flat_map names ts) (flat_map pair_names (equated (name x) u ∷ (equated v w ∷ es))) in
       let one = occurrences-append x (x ∷ names u) (flat_map pair_names (equated v w ∷ es)) in
-      let own = occurrences-append x (x ∷ []) (names u) in
-      let self = alone x in
       let two = occurrences-append x (names v ++ names w) (flat_map pair_names es) in
-      let both = occurrences-append x (names v) (names w) in
-      omega (arith, all, one, own, self, two, both)
+      omega (arith, all, one, two, occurrences-append x (x ∷ []) (names u), alone x, occurrences-append x (names v) (names w))
 
   pub put_right : (x : ℕ) (u v w put : Tree) (ts : List Tree) (es : List Pair) (n : ℕ)
       → occurs x (names w) ≡ true → (occurrences x (names w) ≤ 1 → subst x u w ≡ put)
@@ -151,17 +137,13 @@ module _ (laws : Laws) where
       let two = named.twice x in
       let all = counted_two x u v w ts es in
       let some = occurrences_some x (names w) there in
-      let outside : occurrences x (flat_map names ts) ≡ 0 = omega (arith, two, all, some) in
-      let left : occurrences x (names v) ≡ 0 = omega (arith, two, all, some) in
-      let few : occurrences x (names w) ≤ 1 = omega (arith, two, all, some) in
-      let rest : occurrences x (flat_map pair_names es) ≡ 0 = omega (arith, two, all, some) in
-      let stays_left = subst-absent x u v left in
-      let stays = terms-absent x u ts outside in
-      let stay = pairs-absent x u es rest in
-      let c = parts ts (equated (name x) u ∷ (equated v w ∷ es)) n in
+      let stays_left = subst-absent x u v (omega (arith, two, all, some)) in
+      let stays = terms-absent x u ts (omega (arith, two, all, some)) in
+      let stay = pairs-absent x u es (omega (arith, two, all, some)) in
+      let put_there = is (omega (arith, two, all, some)) in
       let result : subst_in x u (parts ts (equated v w ∷ es) n) ≡ parts ts (equated v put ∷ es) n =
-      (λ i. parts (stays i) (equated (stays_left i) (is few i) ∷ stay i) n) in
-      leads-step c (parts ts (equated v put ∷ es) n) (record {
+      (λ i. parts (stays i) (equated (stays_left i) (put_there i) ∷ stay i) n) in
+      leads-step (parts ts (equated (name x) u ∷ (equated v w ∷ es)) n) (parts ts (equated v put ∷ es) n) (record {
         before = [];
         equation = equated (name x) u;
         after = equated v w ∷ es;
@@ -183,10 +165,8 @@ module _ (laws : Laws) where
       let self = alone x in
       let there = stands_among x before after in
       let some = occurrences_some x (flat_map names ts) there in
-      let few : occurrences x (flat_map names ts) ≤ 1 = omega (arith, two, all, one, own, self) in
-      let rest : occurrences x (flat_map pair_names es) ≡ 0 = omega (arith, two, all, one, own, self, some) in
-      let put = put_among x u before after few in
-      let stay = pairs-absent x u es rest in
+      let put = put_among x u before after (omega (arith, two, all, one, own, self)) in
+      let stay = pairs-absent x u es (omega (arith, two, all, one, own, self, some)) in
       let result : subst_in x u (parts ts es n) ≡ parts (before ++ (u ∷ after)) es n = (λ i. parts (put i) (stay i) n) in
       leads-step (parts ts (equated (name x) u ∷ es) n) (parts (before ++ (u ∷ after)) es n) (record {
         before = [];

@@ -1,5 +1,6 @@
 -- Nets that are one graph are of configurations that settle to one net.
-use Rattle.std.proofs.Common.{◌≡◌, ℕ, zero, suc, ◌+◌, ◌≤◌, inl, inr, List, [], ◌∷◌, ◌++◌, map, refl, sym, ap, ◌∙◌, arith, subst as transport}
+use Rattle.std.proofs.Common.{◌≡◌, ℕ, zero, suc, ◌+◌, inl, inr, List, [], ◌∷◌, ◌++◌, map, refl, sym, ap, ◌∙◌, arith, subst as transport}
+use Rattle.std.proofs.lemmas.Simd.{map-map}
 use Rattle.ic_term.specs.Tree.{name, agent, trees_of, Pair}
 use Rattle.ic_term.specs.Configuration.{Configuration, IsConfiguration}
 use Rattle.ic_settle.specs.Settling.{settled}
@@ -7,7 +8,7 @@ use Rattle.ic_rules.specs.Rule.{Rule}
 use Rattle.ic_confluence.specs.Sameness.{Alike, itself, exchanged, Rearranged, nothing, kept, swapped, one_by_one, Same, rearranging, through}
 use Rattle.ic_nets.specs.Likeness.{AreAlike, EitherWay, InSomeOrder, empty, matched, crossed, chained, IsVertex, Vertex, carried, carried_ends, edges, points, vertices}
 use Rattle.ic_nets.specs.Nets.{IsNet}
-use Rattle.ic_nets.specs.Ports.{counted_ports, ports_of, times}
+use Rattle.ic_nets.specs.Ports.{counted_ports, ports_of}
 use Rattle.ic_nets.specs.ReadBack.{IsNaming, agent_equation, agent_equations, equated, joint_equations, names_at, read_back, wire_equations}
 use Rattle.ic_nets.specs.declared.net.Agent.{Agent}
 use Rattle.ic_nets.specs.declared.net.Net.{Net}
@@ -53,10 +54,6 @@ module _ (f : Port → ℕ) where
   of_points j zero = refl
   of_points j (suc m) = ap (λ es. equated (name (f (Left j))) (name (f (Right j))) ∷ es) (of_points (j + 1) m)
 
-  of_edges : (ws : List Wire) → map edge_equation (edges ws) ≡ wire_equations f ws
-  of_edges [] = refl
-  of_edges (w ∷ ws) = ap (λ es. equated (name (f w.from)) (name (f w.to)) ∷ es) (of_edges ws)
-
   same_vertex : (v w : Vertex) → IsVertex v w → Alike (vertex_equation v) (vertex_equation w)
   same_vertex v w same = transport (λ (u : Vertex). Alike (vertex_equation v) (vertex_equation u)) same (itself (vertex_equation v))
 
@@ -68,22 +65,10 @@ module _ (f : Port → ℕ) where
     abbrev there : Port → ℕ
     there p = f (to p)
 
-    carried_names : (ps : List Port) → map (λ p. name (f p)) (map to ps) ≡ map (λ p. name (there p)) ps
-    carried_names [] = refl
-    carried_names (p ∷ ps) = ap (λ ts. name (f (to p)) ∷ ts) (carried_names ps)
-
     pub of_carried_vertices : (k : ℕ) (xs : List Agent) → map vertex_equation (map (carried to) (vertices k xs)) ≡ agent_equations there k xs
     of_carried_vertices k [] = refl
     of_carried_vertices k (a ∷ xs) =
-        (λ i. equated (name (there (Principal k))) (agent a.sym (trees_of (carried_names (counted_ports (Auxiliary k) 1 a.arity) i))) ∷ of_carried_vertices (k + 1) xs i)
-
-    pub of_carried_points : (j m : ℕ) → map edge_equation (map (carried_ends to) (points j m)) ≡ joint_equations there j m
-    of_carried_points j zero = refl
-    of_carried_points j (suc m) = ap (λ es. equated (name (there (Left j))) (name (there (Right j))) ∷ es) (of_carried_points (j + 1) m)
-
-    pub of_carried_edges : (ws : List Wire) → map edge_equation (map (carried_ends to) (edges ws)) ≡ wire_equations there ws
-    of_carried_edges [] = refl
-    of_carried_edges (w ∷ ws) = ap (λ es. equated (name (there w.from)) (name (there w.to)) ∷ es) (of_carried_edges ws)
+        (λ i. equated (name (there (Principal k))) (agent a.sym (trees_of (map-map (λ p. name (f p)) to (counted_ports (Auxiliary k) 1 a.arity) i))) ∷ of_carried_vertices (k + 1) xs i)
 
     pub of_places : ((i : ℕ) → to (Interface i) ≡ Interface i) → (i count : ℕ) → names_at there Interface i count ≡ names_at f Interface i count
     of_places stay i zero = refl
@@ -95,24 +80,23 @@ module _ (m n : Net) (is : AreAlike m n) (f : Port → ℕ) (next : ℕ) where
   abbrev g : Port → ℕ
   g p = f (is.to p)
 
+  abbrev Both : List Pair × List Pair → Type 0
+  Both es = Rearranged es.0 es.1
+
   agents_ordered : Rearranged (agent_equations g 0 m.agents.items) (agent_equations f 0 n.agents.items)
   agents_ordered =
-      let P : List Pair → Type 0 = λ es. Rearranged es (agent_equations f 0 n.agents.items) in
-      let Q : List Pair → Type 0 = λ es. Rearranged (map (vertex_equation f) (map (carried is.to) (vertices 0 m.agents.items))) es in
-      transport P (of_carried_vertices f is.to 0 m.agents.items)
-      (transport Q (of_vertices f 0 n.agents.items) (ordered IsVertex (vertex_equation f) (same_vertex f) _ _ is.agents))
+      transport Both (λ i. (of_carried_vertices f is.to 0 m.agents.items i, of_vertices f 0 n.agents.items i)) (ordered IsVertex (vertex_equation f) (same_vertex f) _ _ is.agents)
 
   points_ordered : Rearranged (joint_equations g 0 m.joints) (joint_equations f 0 n.joints)
   points_ordered =
-      let P : List Pair → Type 0 = λ es. Rearranged es (joint_equations f 0 n.joints) in
-      let Q : List Pair → Type 0 = λ es. Rearranged (map (edge_equation f) (map (carried_ends is.to) (points 0 m.joints))) es in
-      transport P (of_carried_points f is.to 0 m.joints) (transport Q (of_points f 0 n.joints) (ordered EitherWay (edge_equation f) (same_edge f) _ _ is.joints))
+      transport Both (λ i. ((map-map (edge_equation f) (carried_ends is.to) (points 0 m.joints) ∙ of_points g 0 m.joints) i, of_points f 0 n.joints i))
+      (ordered EitherWay (edge_equation f) (same_edge f) _ _ is.joints)
 
   edges_ordered : Rearranged (wire_equations g m.wires.items) (wire_equations f n.wires.items)
   edges_ordered =
-      let P : List Pair → Type 0 = λ es. Rearranged es (wire_equations f n.wires.items) in
-      let Q : List Pair → Type 0 = λ es. Rearranged (map (edge_equation f) (map (carried_ends is.to) (edges m.wires.items))) es in
-      transport P (of_carried_edges f is.to m.wires.items) (transport Q (of_edges f n.wires.items) (ordered EitherWay (edge_equation f) (same_edge f) _ _ is.wires))
+      let ends : Wire → Port × Port = λ w. (w.from, w.to) in
+      let there = map-map (edge_equation f) (carried_ends is.to) (edges m.wires.items) ∙ map-map (edge_equation g) ends m.wires.items in
+      transport Both (λ i. (there i, map-map (edge_equation f) ends n.wires.items i)) (ordered EitherWay (edge_equation f) (same_edge f) _ _ is.wires)
 
   read_alike : Same (read_back g next m) (read_back f next n)
   read_alike =
@@ -134,15 +118,15 @@ alike_nets laws rs c d m n sound_c sound_d of_c of_d is =
     let naming_c : IsNaming there c.next next m = record {
       free = λ k. ap f (is.free k);
       apart = λ p q b e same. is.apart p q b e (naming.apart (is.to p) (is.to q) (is.bound p b) (is.bound q e) same);
-      new = λ p b. let high = naming.new (is.to p) (is.bound p b) in omega (arith, high);
-      below = λ p once. let some : 1 ≤ times p (ports_of m) = omega (arith, once) in let less = reached there p (ports_of m) some in omega (arith, less);
+      new = λ p b. omega (arith, naming.new (is.to p) (is.bound p b));
+      below = λ p once. omega (arith, reached there p (ports_of m) (omega (arith, once)));
       room = omega arith;
     } in
     let naming_d : IsNaming f d.next next n = record {
       free = naming.free;
       apart = naming.apart;
-      new = λ p b. let high = naming.new p b in omega (arith, high);
-      below = λ p once. let less = naming.below p once in omega (arith, less);
+      new = λ p b. omega (arith, naming.new p b);
+      below = λ p once. omega (arith, naming.below p once);
       room = omega arith;
     } in
     let found_c = found_again rs c m there next sound_c of_c naming_c laws in

@@ -1,14 +1,14 @@
 -- Terms whose agents keep their numbers wherever they are put, and what is joined in them.
 use Rattle.std.proofs.Common.{◌≡◌, ℕ, zero, suc, ◌+◌, ◌==◌, ◌⊎◌, inl, inr, List, [], ◌∷◌, ◌++◌, Bool, true, false, cond, length, refl, sym, ap, ◌∙◌, arith, subst as transport}
-use Rattle.std.specs.Cmp.{unsigned_Decides}
-use Rattle.std.proofs.lemmas.List.Sums.{sum_by-cons}
+use Rattle.std.proofs.lemmas.Bool.{cond_both, eqb-true}
 use Rattle.ic_term.specs.Tree.{Tree, name, agent, Trees, no_trees, more_trees, list_of, names, names_of}
 use Rattle.ic_term.specs.Configuration.{occurrences}
 use Rattle.ic_settle.specs.Settling.{subst, subst_all}
+use Rattle.ic_settle.specs.lemmas.SubstitutionLaws.{subst-absent, subst_all-absent}
 use Rattle.ic_nets.specs.declared.net.Agent.{Agent}
 use Rattle.ic_nets.specs.declared.port.Port.{Port}
 use Rattle.ic_nets.specs.declared.port.Port.TheVariants.{Principal, Auxiliary, Left, Right}
-use Rattle.ic_nets.proofs.SumLemmas.{bit, sum, sum-append}
+use Rattle.ic_nets.proofs.SumLemmas.{bit, sum, sum-append, sum-count}
 
 -- the left or the right side of an equation of two names
 abbrev pub Side : Type 0
@@ -86,12 +86,9 @@ module _ (x : ℕ) where
   abbrev is_it : ℕ → ℕ
   is_it n = bit (n == x)
 
-  last : (a : ℕ) → a + 0 ≡ a
-  last a = omega arith
-
   mutual
     held-sum : (t : Tree) → held t ≡ sum is_it (names t)
-    held-sum (name n) = sym (last (is_it n))
+    held-sum (name n) = omega arith
     held-sum (agent s ts) = helds-sum ts
 
     helds-sum : (ts : Trees) → helds ts ≡ sum is_it (names_of ts)
@@ -99,8 +96,7 @@ module _ (x : ℕ) where
     helds-sum (more_trees t ts) = (λ i. held-sum t i + helds-sum ts i) ∙ sym (sum-append is_it (names t) (names_of ts))
 
   pub sum-occurrences : (ns : List ℕ) → sum is_it ns ≡ occurrences x ns
-  sum-occurrences [] = refl
-  sum-occurrences (n ∷ ns) = ap (λ k. is_it n + k) (sum-occurrences ns) ∙ sym (sum_by-cons (λ (m : ℕ). cond (m == x) 1 0) n ns)
+  sum-occurrences ns = sum-count (λ n. n == x) ns
 
   pub held-occurrences : (t : Tree) → held t ≡ occurrences x (names t)
   held-occurrences t = held-sum t ∙ sum-occurrences (names t)
@@ -113,12 +109,6 @@ module _ (x : ℕ) where
   some true e = refl
   some false e = absurd (omega arith)
 
-  here : (a b : ℕ) → a + b ≡ 0 → a ≡ 0
-  here a b e = omega arith
-
-  later : (a b : ℕ) → a + b ≡ 0 → b ≡ 0
-  later a b e = omega arith
-
   one_of : (a b : ℕ) → a + b ≡ 1 → ((a ≡ 1) × (b ≡ 0)) ⊎ ((a ≡ 0) × (b ≡ 1))
   one_of zero b e = inr (refl, omega (arith, e))
   one_of (suc zero) b e = inl (refl, omega (arith, e))
@@ -126,22 +116,15 @@ module _ (x : ℕ) where
 
   -- ---- putting a term for a name
 
-  mutual
-    tree_kept : (u t : Tree) → held t ≡ 0 → subst x u t ≡ t
-    tree_kept u (name n) e = ap (λ b. cond b u (name n)) (none (n == x) e)
-    tree_kept u (agent s ts) e = ap (agent s) (trees_kept u ts e)
+  tree_kept : (u t : Tree) → held t ≡ 0 → subst x u t ≡ t
+  tree_kept u t e = subst-absent x u t (sym (held-occurrences t) ∙ e)
 
-    trees_kept : (u : Tree) (ts : Trees) → helds ts ≡ 0 → subst_all x u ts ≡ ts
-    trees_kept u no_trees e = refl
-    trees_kept u (more_trees t ts) e = λ i. more_trees (tree_kept u t (here _ _ e) i) (trees_kept u ts (later (held t) _ e) i)
+  trees_kept : (u : Tree) (ts : Trees) → helds ts ≡ 0 → subst_all x u ts ≡ ts
+  trees_kept u ts e = subst_all-absent x u ts (sym (helds-sum ts ∙ sum-occurrences (names_of ts)) ∙ e)
 
   mutual
     pub itself_put : (t : Tree) → subst x (name x) t ≡ t
-    itself_put (name n) = by (n == x) refl
-      where
-        by : (b : Bool) → (n == x) ≡ b → cond b (name x) (name n) ≡ name n
-        by true e = ap name (sym ((unsigned_Decides n x).0 e))
-        by false e = refl
+    itself_put (name n) = cond_both (n == x) (name x) (name n) (λ t. t ≡ name n) (λ e. ap name (sym (eqb-true n x e))) (λ e. refl)
     itself_put (agent s ts) = ap (agent s) (itself_puts ts)
 
     itself_puts : (ts : Trees) → subst_all x (name x) ts ≡ ts
@@ -156,7 +139,7 @@ module _ (x : ℕ) where
 
       kept_all : (ts : Markeds) → helds (bares ts) ≡ 0 → puts x U ts ≡ ts
       kept_all no_more e = refl
-      kept_all (more t ts) e = λ i. more (kept t (here _ _ e) i) (kept_all ts (later (held (bare t)) _ e) i)
+      kept_all (more t ts) e = λ i. more (kept t (omega (arith, e)) i) (kept_all ts (omega (arith, e)) i)
 
     mutual
       pub bare-put : (t : Marked) → bare (put x U t) ≡ subst x (bare U) (bare t)
@@ -177,22 +160,6 @@ module _ (x : ℕ) where
 
   -- ---- what is a term with a term put for a name that occurs in it once, is one with its numbers
 
-  abbrev root : Tree → ℕ
-  root (name n) = 0
-  root (agent s ts) = s
-
-  abbrev arguments : Tree → Trees
-  arguments (name n) = no_trees
-  arguments (agent s ts) = ts
-
-  abbrev first : Trees → Tree
-  first no_trees = name 0
-  first (more_trees t ts) = t
-
-  abbrev rest : Trees → Trees
-  rest no_trees = no_trees
-  rest (more_trees t ts) = ts
-
   abbrev pub Parted : Marked → (u t : Tree) → Type 0
   Parted d u t = (U : Marked) × (V : Marked) × (bare U ≡ u) × (bare V ≡ t) × (d ≡ put x U V)
 
@@ -206,24 +173,29 @@ module _ (x : ℕ) where
         (d, letter n, same ∙ ap (λ b. cond b u (name n)) it, refl, sym (ap (λ b. cond b d (letter n)) it))
     parted (letter m) u (agent s ts) same once = cc
     parted (node k r ds) u (agent s ts) same once =
-        let found = all_parted ds u ts (ap arguments same) once in
-        (found.0, node k r found.1, found.2, λ i. agent (ap root same i) (found.3 i), ap (node k r) found.4)
+        let root : s ≡ r = cc in
+        let arguments : bares ds ≡ subst_all x u ts = cc in
+        let found = all_parted ds u ts arguments once in
+        (found.0, node k r found.1, found.2, λ i. agent (sym root i) (found.3 i), ap (node k r) found.4)
 
     all_parted : (ds : Markeds) (u : Tree) (ts : Trees) → bares ds ≡ subst_all x u ts → helds ts ≡ 1 → AllParted ds u ts
     all_parted ds u no_trees same once = absurd (omega (arith, once))
     all_parted no_more u (more_trees t ts) same once = cc
     all_parted (more d ds) u (more_trees t ts) same once =
-        by (one_of (held t) (helds ts) once) (parted d u t (ap first same)) (all_parted ds u ts (ap rest same))
-      where
-        by : ((held t ≡ 1) × (helds ts ≡ 0)) ⊎ ((held t ≡ 0) × (helds ts ≡ 1)) → (held t ≡ 1 → Parted d u t) → (helds ts ≡ 1 → AllParted ds u ts) → AllParted (more d ds) u (more_trees t ts)
-        by (inl e) in_first in_rest =
-            let found = in_first e.0 in
-            let stays = ap rest same ∙ trees_kept u ts e.1 in
-            (found.0, more found.1 ds, found.2, λ i. more_trees (found.3 i) (stays i), λ i. more (found.4 i) (sym (kept_all found.0 ds (ap helds stays ∙ e.1)) i))
-        by (inr e) in_first in_rest =
-            let found = in_rest e.1 in
-            let stays = ap first same ∙ tree_kept u t e.0 in
-            (found.0, more d found.1, found.2, λ i. more_trees (stays i) (found.3 i), λ i. more (sym (kept found.0 d (ap held stays ∙ e.0)) i) (found.4 i))
+        let first : bare d ≡ subst x u t = cc in
+        let rest : bares ds ≡ subst_all x u ts = cc in
+        let in_first = parted d u t first in
+        let in_rest = all_parted ds u ts rest in
+        elim (one_of (held t) (helds ts) once) [
+          | inl e ↦
+              let found = in_first e.0 in
+              let stays = rest ∙ trees_kept u ts e.1 in
+              (found.0, more found.1 ds, found.2, λ i. more_trees (found.3 i) (stays i), λ i. more (found.4 i) (sym (kept_all found.0 ds (ap helds stays ∙ e.1)) i))
+          | inr e ↦
+              let found = in_rest e.1 in
+              let stays = first ∙ tree_kept u t e.0 in
+              (found.0, more d found.1, found.2, λ i. more_trees (stays i) (found.3 i), λ i. more (sym (kept found.0 d (ap held stays ∙ e.0)) i) (found.4 i))
+        ]
 
   -- ---- the name stands at one port, and the term that is put for it hangs there
 
@@ -236,29 +208,17 @@ module _ (x : ℕ) where
     after_front front xs ys z = (
       z.0,
       front ++ z.1,
-      λ w. one (sum w front) _ _ _ _ _ (sum-append w front xs) (z.2 w) (sum-append w front z.1),
-      λ w. two (sum w front) _ _ _ _ _ (sum w (items_in U)) (sum-append w front ys) (z.3 w) (sum-append w front z.1),
+      λ w. omega (arith, sum-append w front xs, z.2 w, sum-append w front z.1),
+      λ w. omega (arith, sum-append w front ys, z.3 w, sum-append w front z.1),
     )
-      where
-        one : (f x a o s t : ℕ) → s ≡ f + x → x ≡ a + o → t ≡ f + o → s ≡ a + t
-        one f x a o s t e1 e2 e3 = omega arith
-
-        two : (f x a o s t u : ℕ) → s ≡ f + x → x ≡ a + (o + u) → t ≡ f + o → s ≡ a + (t + u)
-        two f x a o s t u e1 e2 e3 = omega arith
 
     before : (xs ys tail : List Item) → Zipped xs ys → Zipped (xs ++ tail) (ys ++ tail)
     before xs ys tail z = (
       z.0,
       z.1 ++ tail,
-      λ w. one (sum w tail) _ _ _ _ _ (sum-append w xs tail) (z.2 w) (sum-append w z.1 tail),
-      λ w. two (sum w tail) _ _ _ _ _ (sum w (items_in U)) (sum-append w ys tail) (z.3 w) (sum-append w z.1 tail),
+      λ w. omega (arith, sum-append w xs tail, z.2 w, sum-append w z.1 tail),
+      λ w. omega (arith, sum-append w ys tail, z.3 w, sum-append w z.1 tail),
     )
-      where
-        one : (f x a o s t : ℕ) → s ≡ x + f → x ≡ a + o → t ≡ o + f → s ≡ a + t
-        one f x a o s t e1 e2 e3 = omega arith
-
-        two : (f x a o s t u : ℕ) → s ≡ x + f → x ≡ a + (o + u) → t ≡ o + f → s ≡ a + (t + u)
-        two f x a o s t u e1 e2 e3 = omega arith
 
     noded : (k s : ℕ) (ts : Markeds) → Zipped (items_among (Auxiliary k) 1 ts) (items_among (Auxiliary k) 1 (puts x U ts)) → Zipped (items_in (node k s ts)) (items_in (put x U (node k s ts)))
     noded k s ts z =
@@ -269,43 +229,34 @@ module _ (x : ℕ) where
     all_zipped port i no_more once = absurd (omega (arith, once))
     all_zipped port i (more (letter n) ts) once = by (n == x) refl once (all_zipped port (i + 1) ts)
       where
-        after : List Item
-        after = items_among port (i + 1) (puts x U ts)
-
         tail : List Item
         tail = items_among port (i + 1) ts
 
-        sums : (w : Item → ℕ) → sum w (hung_item (port i) U ∷ (items_in U ++ tail)) ≡ w (hung_item (port i) U) + (sum w tail + sum w (items_in U))
-        sums w = swap (w (hung_item (port i) U)) _ _ _ (sum-append w (items_in U) tail)
-          where
-            swap : (a b c d : ℕ) → b ≡ c + d → a + b ≡ a + (d + c)
-            swap a b c d e = omega arith
+        after : List Item
+        after = items_among port (i + 1) (puts x U ts)
 
         by : (b : Bool) → (n == x) ≡ b → bit b + helds (bares ts) ≡ 1 → (helds (bares ts) ≡ 1 → Zipped tail after)
             → Zipped (stood n (port i) ∷ tail) (hung_item (port i) (cond b U (letter n)) ∷ (items_in (cond b U (letter n)) ++ after))
         by true e once tail_zipped =
             transport (λ (us : Markeds). Zipped (stood n (port i) ∷ tail) (hung_item (port i) U ∷ (items_in U ++ items_among port (i + 1) us)))
             (sym (kept_all U ts (omega (arith, once))))
-            (port i, tail, λ w. ap (λ m. w (stood m (port i)) + sum w tail) ((unsigned_Decides n x).0 e), sums)
+            (port i, tail, λ w. ap (λ m. w (stood m (port i)) + sum w tail) (eqb-true n x e), λ w. omega (arith, sum-append w (items_in U) tail))
         by false e once tail_zipped = after_front (stood n (port i) ∷ []) _ _ (tail_zipped (omega (arith, once)))
     all_zipped port i (more (node k s us) ts) once =
-        by (one_of (helds (bares us)) (helds (bares ts)) once) (λ e. noded k s us (all_zipped (Auxiliary k) 1 us e)) (all_zipped port (i + 1) ts)
-      where
-        tail : List Item
-        tail = items_among port (i + 1) ts
-
-        by : ((helds (bares us) ≡ 1) × (helds (bares ts) ≡ 0)) ⊎ ((helds (bares us) ≡ 0) × (helds (bares ts) ≡ 1))
-            → (helds (bares us) ≡ 1 → Zipped (items_in (node k s us)) (items_in (put x U (node k s us))))
-            → (helds (bares ts) ≡ 1 → Zipped tail (items_among port (i + 1) (puts x U ts)))
-            → Zipped (items_among port i (more (node k s us) ts)) (items_among port i (puts x U (more (node k s us) ts)))
-        by (inl e) in_first in_rest =
-            after_front (wired (port i) (Principal k) ∷ []) (items_in (node k s us) ++ tail) (items_in (put x U (node k s us)) ++ items_among port (i + 1) (puts x U ts))
-            (transport (λ (vs : Markeds). Zipped (items_in (node k s us) ++ tail) (items_in (put x U (node k s us)) ++ items_among port (i + 1) vs))
-            (sym (kept_all U ts e.1)) (before (items_in (node k s us)) (items_in (put x U (node k s us))) tail (in_first e.0)))
-        by (inr e) in_first in_rest =
-            after_front (wired (port i) (Principal k) ∷ []) (items_in (node k s us) ++ tail) (items_in (put x U (node k s us)) ++ items_among port (i + 1) (puts x U ts))
-            (transport (λ (v : Marked). Zipped (items_in (node k s us) ++ tail) (items_in v ++ items_among port (i + 1) (puts x U ts)))
-            (sym (kept U (node k s us) e.0)) (after_front (items_in (node k s us)) tail (items_among port (i + 1) (puts x U ts)) (in_rest e.1)))
+        let tail = items_among port (i + 1) ts in
+        let after = items_among port (i + 1) (puts x U ts) in
+        let in_first = all_zipped (Auxiliary k) 1 us in
+        let in_rest = all_zipped port (i + 1) ts in
+        elim (one_of (helds (bares us)) (helds (bares ts)) once) [
+          | inl e ↦
+              after_front (wired (port i) (Principal k) ∷ []) (items_in (node k s us) ++ tail) (items_in (put x U (node k s us)) ++ after)
+              (transport (λ (vs : Markeds). Zipped (items_in (node k s us) ++ tail) (items_in (put x U (node k s us)) ++ items_among port (i + 1) vs))
+              (sym (kept_all U ts e.1)) (before (items_in (node k s us)) (items_in (put x U (node k s us))) tail (noded k s us (in_first e.0))))
+          | inr e ↦
+              after_front (wired (port i) (Principal k) ∷ []) (items_in (node k s us) ++ tail) (items_in (put x U (node k s us)) ++ after)
+              (transport (λ (v : Marked). Zipped (items_in (node k s us) ++ tail) (items_in v ++ after))
+              (sym (kept U (node k s us) e.0)) (after_front (items_in (node k s us)) tail after (in_rest e.1)))
+        ]
 
     pub zipped : (k s : ℕ) (ts : Markeds) → helds (bares ts) ≡ 1 → Zipped (items_in (node k s ts)) (items_in (put x U (node k s ts)))
     zipped k s ts once = noded k s ts (all_zipped (Auxiliary k) 1 ts once)
@@ -315,9 +266,7 @@ module _ (x : ℕ) where
 -- what the ports at which a name stands weigh
 abbrev pub at : ℕ → (Port → ℕ) → Item → ℕ
 at x v (stood n p) = cond (n == x) (v p) 0
-at x v (wired p q) = 0
-at x v (placed k a) = 0
-at x v (between l r) = 0
+at x v y = 0
 
 abbrev pub one : Port → ℕ
 one p = 1
@@ -325,16 +274,10 @@ one p = 1
 module _ (x : ℕ) where
   mutual
     pub stood_in : (p : Port) (t : Marked) → at x one (hung_item p t) + sum (at x one) (items_in t) ≡ held x (bare t)
-    stood_in p (letter n) = last x (bit (n == x))
-    stood_in p (node k s ts) = front _ _ (stood_among (Auxiliary k) 1 ts)
-      where
-        front : (a b : ℕ) → a ≡ b → 0 + (0 + a) ≡ b
-        front a b e = omega arith
+    stood_in p (letter n) = omega arith
+    stood_in p (node k s ts) = omega (arith, stood_among (Auxiliary k) 1 ts)
 
     stood_among : (port : ℕ → Port) (i : ℕ) (ts : Markeds) → sum (at x one) (items_among port i ts) ≡ helds x (bares ts)
     stood_among port i no_more = refl
     stood_among port i (more t ts) =
-        sums (at x one (hung_item (port i) t)) _ _ _ _ _ (sum-append (at x one) (items_in t) (items_among port (i + 1) ts)) (stood_in (port i) t) (stood_among port (i + 1) ts)
-      where
-        sums : (h a i r t u : ℕ) → a ≡ i + r → h + i ≡ t → r ≡ u → h + a ≡ t + u
-        sums h a i r t u e1 e2 e3 = omega arith
+        omega (arith, sum-append (at x one) (items_in t) (items_among port (i + 1) ts), stood_in (port i) t, stood_among port (i + 1) ts)

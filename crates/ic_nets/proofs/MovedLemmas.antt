@@ -1,12 +1,12 @@
 -- Equations that are rearranged join the same, where agents keep their numbers.
-use Rattle.std.proofs.Common.{◌≡◌, ℕ, ◌+◌, ◌≤◌, ◌<◌, ◌==◌, List, [], ◌∷◌, ◌++◌, Bool, true, false, cond, map, refl, sym, ap, ◌∙◌, arith, append_assoc, subst as transport}
-use Rattle.std.specs.Cmp.{unsigned_Decides}
+use Rattle.std.proofs.Common.{◌≡◌, ℕ, ◌+◌, ◌≤◌, ◌==◌, List, [], ◌∷◌, ◌++◌, Bool, true, false, cond, map, refl, sym, ap, ◌∙◌, arith, append_assoc, subst as transport}
+use Rattle.std.proofs.lemmas.Bool.{eqb-true}
 use Rattle.ic_term.specs.Tree.{Tree, name, agent, Pair}
 use Rattle.ic_settle.specs.Settling.{subst}
 use Rattle.ic_confluence.specs.Sameness.{Alike, itself, exchanged, rotated, in_turn, Rearranged, nothing, kept, swapped, one_by_one, turned}
 use Rattle.ic_nets.specs.declared.port.Port.{Port}
 use Rattle.ic_nets.specs.declared.port.Port.TheVariants.{Principal}
-use Rattle.ic_nets.proofs.SumLemmas.{bit, sum, sum-append}
+use Rattle.ic_nets.proofs.SumLemmas.{bit, itself_equal, sum, sum-append}
 use Rattle.ic_nets.proofs.MarkLemmas.{Item, wired, stood, between, Side, side_port, Marked, Markeds, letter, node, bare, items_in, put, at, one, held, held-occurrences, itself_put, bare-put, parted, Zipped, zipped}
 use Rattle.ic_nets.proofs.ValueLemmas.{Weight, BothWays, value, Few, Symmetric, Blind, SameCounts, value_same, contracted}
 
@@ -46,10 +46,7 @@ module _ (N : ℕ) where
   at_blind n = ((λ p q. refl, λ l r. refl), λ p q. refl, λ m p q. refl)
 
   few_same : (xs ys : List Item) → ((n : ℕ) → sum (at n one) xs ≡ sum (at n one) ys) → Few N xs → Few N ys
-  few_same xs ys same few n = (low _ _ (same n) (few n).0, λ le. sym (same n) ∙ (few n).1 le)
-    where
-      low : (a b : ℕ) → a ≡ b → a ≤ 2 → b ≤ 2
-      low a b e le = omega arith
+  few_same xs ys same few n = (omega (arith, same n, (few n).0), λ le. sym (same n) ∙ (few n).1 le)
 
   pub few_too : (cs xs ys : List Item) → ((w : Item → ℕ) → Blind w → sum w xs ≡ sum w ys) → Few N (cs ++ xs) → Few N (cs ++ ys)
   few_too cs xs ys same few =
@@ -71,10 +68,7 @@ module _ (N : ℕ) where
       (λ w blind. sum-append w ys us ∙ ap (λ k. sum w ys + k) (b.0 w blind) ∙ sym (sum-append w ys vs), λ P both cs few. second P both cs few)
     where
       crossing : (cs xs : List Item) → SameCounts (cs ++ (xs ++ us)) ((cs ++ us) ++ xs)
-      crossing cs xs w even = sums (sum w cs) (sum w xs) (sum w us) _ _ _ _ (sum-append w cs (xs ++ us)) (sum-append w xs us) (sum-append w (cs ++ us) xs) (sum-append w cs us)
-        where
-          sums : (c x u cxu xu cux cu : ℕ) → cxu ≡ c + xu → xu ≡ x + u → cux ≡ cu + x → cu ≡ c + u → cxu ≡ cux
-          sums c x u cxu xu cux cu e1 e2 e3 e4 = omega arith
+      crossing cs xs w even = omega (arith, sum-append w cs (xs ++ us), sum-append w xs us, sum-append w (cs ++ us) xs, sum-append w cs us)
 
       few_across : (cs xs : List Item) → Few N (cs ++ (xs ++ us)) → Few N ((cs ++ us) ++ xs)
       few_across cs xs few = few_same (cs ++ (xs ++ us)) ((cs ++ us) ++ xs) (λ n. crossing cs xs (at n one) (at_blind n).0) few
@@ -128,17 +122,11 @@ module _ (N : ℕ) where
 
     given_counts : (w : Item → ℕ) → sum w given ≡ w (stood x (Principal j)) + (w (stood x b) + (w (wired a (Principal k)) + sum w others))
     given_counts w =
-        sums (w (stood x (Principal j))) (w (stood x b)) (w (wired a (Principal k))) _ _ _ _ _ (in_v.3 w) (in_u.2 w) (sum-append w in_v.1 in_u.1)
-      where
-        sums : (q p e o i t lv lu : ℕ) → i ≡ e + (lv + t) → t ≡ p + lu → o ≡ lv + lu → q + i ≡ q + (p + (e + o))
-        sums q p e o i t lv lu e1 e2 e3 = omega arith
+        omega (arith, in_v.3 w, in_u.2 w, sum-append w in_v.1 in_u.1)
 
     result_counts : (w : Item → ℕ) → sum w result ≡ w (stood x (Principal k)) + (w (stood x a) + (w (wired b (Principal j)) + sum w others))
     result_counts w =
-        sums (w (stood x (Principal k))) (w (stood x a)) (w (wired b (Principal j))) _ _ _ _ _ (in_u.3 w) (in_v.2 w) (sum-append w in_v.1 in_u.1)
-      where
-        sums : (q p e o i t lv lu : ℕ) → i ≡ e + (lu + t) → t ≡ p + lv → o ≡ lv + lu → q + i ≡ q + (p + (e + o))
-        sums q p e o i t lv lu e1 e2 e3 = omega arith
+        omega (arith, in_u.3 w, in_v.2 w, sum-append w in_v.1 in_u.1)
 
     -- the name is a wire, so that it is left out
     wired_up : (P : Weight) → BothWays P → (p q c d : Port) (cs xs : List Item)
@@ -147,45 +135,22 @@ module _ (N : ℕ) where
     wired_up P both p q c d cs xs counts few =
         let tail : List Item = wired c d ∷ (cs ++ others) in
         let sorted : SameCounts (cs ++ xs) (stood x p ∷ stood x q ∷ tail) =
-        λ w even. sums (w (stood x p)) (w (stood x q)) (w (wired c d)) _ _ _ _ _ (sum-append w cs xs) (counts w) (sum-append w cs others) in
-        let it : (x == x) ≡ true = (unsigned_Decides x x).1 refl in
-        let count : sum (at x one) (cs ++ xs) ≡ 1 + (1 + sum (at x one) tail) =
-        sorted (at x one) (at_blind x).0 ∙ ap (λ e. bit e + (bit e + sum (at x one) tail)) it in
-        value_same P both N (cs ++ xs) (stood x p ∷ stood x q ∷ tail) sorted few
-        ∙ contracted P N x p q tail (nowhere _ _ count (few x).0) (below _ _ count (few x).1)
-        ∙ ends (P p q) (P c d) _ _
-      where
-        sums : (s1 s2 e cx c x o co : ℕ) → cx ≡ c + x → x ≡ s1 + (s2 + (e + o)) → co ≡ c + o → cx ≡ s1 + (s2 + (e + co))
-        sums s1 s2 e cx c x o co e1 e2 e3 = omega arith
-
-        nowhere : (m t : ℕ) → m ≡ 1 + (1 + t) → m ≤ 2 → t ≡ 0
-        nowhere m t e le = omega arith
-
-        below : (m t : ℕ) → m ≡ 1 + (1 + t) → (N ≤ x → m ≡ 0) → x < N
-        below m t e none = let isnt : N ≤ x → ⊥ = λ le. some m t e (none le) in omega (arith, isnt)
-          where
-            some : (m t : ℕ) → m ≡ 1 + (1 + t) → m ≡ 0 → ⊥
-            some m t e z = omega arith
-
-        ends : (pq cd s t : ℕ) → pq + (cd + s + t) ≡ pq + (cd + (s + t))
-        ends pq cd s t = omega arith
+        λ w even. omega (arith, sum-append w cs xs, counts w, sum-append w cs others) in
+        let count : sum (at x one) (cs ++ xs) ≡ 1 + (1 + sum (at x one) tail) = omega (arith, sorted (at x one) (at_blind x).0, itself_equal x) in
+        let within : N ≤ x → ⊥ = λ le. omega (arith, count, (few x).1 le) in
+        let contracted_is = contracted P N x p q tail (omega (arith, count, (few x).0)) (omega (arith, within)) in
+        omega (arith, value_same P both N (cs ++ xs) (stood x p ∷ stood x q ∷ tail) sorted few, contracted_is)
 
     recut : Agree given result
     recut =
         let blind_same : (w : Item → ℕ) → Blind w → sum w given ≡ sum w result =
-        λ w blind. sums _ _ _ _ _ _ _ _ _ (given_counts w) (result_counts w) (blind.1 a (Principal k)) (blind.1 b (Principal j)) (blind.2 x (Principal j) (Principal k)) (blind.2 x b a) in (
+        λ w blind. omega (arith, given_counts w, result_counts w, blind.1 a (Principal k), blind.1 b (Principal j), blind.2 x (Principal j) (Principal k), blind.2 x b a) in (
           blind_same,
           λ P both cs few.
-              wired_up P both (Principal j) b a (Principal k) cs given given_counts few
-              ∙ ends _ _ _ _ _ (both (Principal j) b) (both a (Principal k))
-              ∙ sym (wired_up P both (Principal k) a b (Principal j) cs result result_counts (few_too cs given result blind_same few)),
+              let before = wired_up P both (Principal j) b a (Principal k) cs given given_counts few in
+              let after = wired_up P both (Principal k) a b (Principal j) cs result result_counts (few_too cs given result blind_same few) in
+              omega (arith, both (Principal j) b, both a (Principal k)),
         )
-      where
-        sums : (g r sj sb e sk sa f o : ℕ) → g ≡ sj + (sb + (e + o)) → r ≡ sk + (sa + (f + o)) → e ≡ 0 → f ≡ 0 → sj ≡ sk → sb ≡ sa → g ≡ r
-        sums g r sj sb e sk sa f o e1 e2 e3 e4 e5 e6 = omega arith
-
-        ends : (jb bj ak ka v : ℕ) → jb ≡ bj → ak ≡ ka → jb + (ak + v) ≡ ka + (bj + v)
-        ends jb bj ak ka v e1 e2 = omega arith
 
   abbrev pub MovedTo : Equation → Pair → Type 0
   MovedTo d q = (e : Equation) × (bare_pair e ≡ q) × Agree (pair_items d) (pair_items e)
@@ -195,12 +160,12 @@ module _ (N : ℕ) where
   circle_moved x (name n) t once_u once_t d same =
       let it = some_bit (n == x) once_u in
       let right : subst x (name n) t ≡ subst x t (name n) =
-      ap (λ m. subst x (name m) t) ((unsigned_Decides n x).0 it) ∙ itself_put x t ∙ sym (ap (λ b. cond b t (name n)) it) in
+      ap (λ m. subst x (name m) t) (eqb-true n x it) ∙ itself_put x t ∙ sym (ap (λ b. cond b t (name n)) it) in
       (d, same ∙ (λ i. record { left = name x; right = right i }), agree_itself (pair_items d))
   circle_moved x (agent s us) (name n) once_u once_t d same =
       let it = some_bit (n == x) once_t in
       let right : subst x (agent s us) (name n) ≡ subst x (name n) (agent s us) =
-      ap (λ b. cond b (agent s us) (name n)) it ∙ sym (itself_put x (agent s us)) ∙ sym (ap (λ m. subst x (name m) (agent s us)) ((unsigned_Decides n x).0 it)) in
+      ap (λ b. cond b (agent s us) (name n)) it ∙ sym (itself_put x (agent s us)) ∙ sym (ap (λ m. subst x (name m) (agent s us)) (eqb-true n x it)) in
       (d, same ∙ (λ i. record { left = name x; right = right i }), agree_itself (pair_items d))
   circle_moved x (agent s us) (agent r vs) once_u once_t d same =
       let found = parted x d.right (agent s us) (agent r vs) (ap (λ (p : Pair). p.right) same) once_t in
@@ -227,10 +192,7 @@ module _ (N : ℕ) where
   -- ---- equations
 
   sides_turned : (w : Item → ℕ) → Symmetric w → (l r : Side) (t u : Marked) → sum w (sides_items l r t u) ≡ sum w (sides_items r l u t)
-  sides_turned w even l r (letter m) (letter n) = sums (w (stood m (side_port l))) (w (stood n (side_port r))) _ _ (even.1 l r)
-    where
-      sums : (a b c d : ℕ) → c ≡ d → a + (b + (c + 0)) ≡ b + (a + (d + 0))
-      sums a b c d e = omega arith
+  sides_turned w even l r (letter m) (letter n) = omega (arith, even.1 l r)
   sides_turned w even l r (letter m) (node k s ts) = refl
   sides_turned w even l r (node k s ts) (letter n) = refl
   sides_turned w even l r (node k s ts) (node j q us) = ap (λ m. m + 0) (even.0 (Principal k) (Principal j))
@@ -242,12 +204,7 @@ module _ (N : ℕ) where
   turned_counts d w even =
       let middle = sides_items d.left_side d.right_side d.left d.right in
       let back = sides_items d.right_side d.left_side d.right d.left in
-      sums _ _ _ _ _ _ _ _
-      (sum-append w (items_in d.left) (middle ++ items_in d.right)) (sum-append w middle (items_in d.right))
-      (sum-append w (items_in d.right) (back ++ items_in d.left)) (sum-append w back (items_in d.left)) (sides_turned w even d.left_side d.right_side d.left d.right)
-    where
-      sums : (lmr l mr r rbl bl m b : ℕ) → lmr ≡ l + mr → mr ≡ m + r → rbl ≡ r + bl → bl ≡ b + l → m ≡ b → lmr ≡ rbl
-      sums lmr l mr r rbl bl m b e1 e2 e3 e4 e5 = omega arith
+      omega (arith, sum-append w (items_in d.left) (middle ++ items_in d.right), sum-append w middle (items_in d.right), sum-append w (items_in d.right) (back ++ items_in d.left), sum-append w back (items_in d.left), sides_turned w even d.left_side d.right_side d.left d.right)
 
   pair_moved : (p q : Pair) → Alike p q → (d : Equation) → bare_pair d ≡ p → MovedTo d q
   pair_moved p q (itself o) d same = (d, same, agree_itself (pair_items d))
@@ -278,17 +235,12 @@ module _ (N : ℕ) where
   all_moved es fs (swapped p q gs) (d ∷ e ∷ ds) same = (
     e ∷ d ∷ ds,
     swap (bare_pair d) (bare_pair e) (map bare_pair ds) same,
-    by_counts (all_items (d ∷ e ∷ ds)) (all_items (e ∷ d ∷ ds)) (λ w even. counts w),
+    by_counts (all_items (d ∷ e ∷ ds)) (all_items (e ∷ d ∷ ds)) (λ w even.
+        omega (arith, sum-append w (pair_items d) (pair_items e ++ all_items ds), sum-append w (pair_items e) (all_items ds), sum-append w (pair_items e) (pair_items d ++ all_items ds), sum-append w (pair_items d) (all_items ds))),
   )
     where
       swap : (a b : Pair) (cs : List Pair) → (a ∷ b ∷ cs) ≡ (p ∷ q ∷ gs) → (b ∷ a ∷ cs) ≡ (q ∷ p ∷ gs)
       swap a b cs is = cc
-
-      counts : (w : Item → ℕ) → sum w (all_items (d ∷ e ∷ ds)) ≡ sum w (all_items (e ∷ d ∷ ds))
-      counts w = sums _ _ _ _ _ _ _ (sum-append w (pair_items d) (pair_items e ++ all_items ds)) (sum-append w (pair_items e) (all_items ds)) (sum-append w (pair_items e) (pair_items d ++ all_items ds)) (sum-append w (pair_items d) (all_items ds))
-        where
-          sums : (der d er e r edr dr : ℕ) → der ≡ d + er → er ≡ e + r → edr ≡ e + dr → dr ≡ d + r → der ≡ edr
-          sums der d er e r edr dr e1 e2 e3 e4 = omega arith
   all_moved es fs (one_by_one gs hs is first second) ds same =
       let one = all_moved gs hs first ds same in
       let two = all_moved hs is second one.0 one.1 in

@@ -1,10 +1,8 @@
 -- Names that stand at ports: which they are, and the ends of their wires.
-use Rattle.std.proofs.Common.{◌≡◌, ℕ, ◌+◌, ◌≤◌, ◌==◌, ◌⊎◌, inl, inr, List, [], ◌∷◌, ◌++◌, Bool, true, false, cond, Some, fold, length, map, refl, sym, ap, ◌∙◌, subst, append_assoc, arith}
+use Rattle.std.proofs.Common.{◌≡◌, ℕ, ◌+◌, ◌≤◌, ◌==◌, ◌⊎◌, inl, inr, List, [], ◌∷◌, ◌++◌, Bool, true, false, cond, Some, fold, length, map, refl, sym, ap, ◌∙◌, append_assoc, arith, eq-eqb}
 use Rattle.std.specs.List.{flat_map}
-use Rattle.std.specs.Cmp.{unsigned_Decides}
-use Rattle.std.proofs.lemmas.Bool.{true≢false}
+use Rattle.std.proofs.lemmas.Bool.{eqb-false, eqb-true, ne_eqb, true≢false}
 use Rattle.std.proofs.lemmas.List.Concat.{flat_map-append}
-use Rattle.std.proofs.lemmas.List.Sums.{sum_by-cons}
 use Rattle.ic_term.specs.Tree.{Tree, name, agent, Trees, no_trees, more_trees, trees_of, names, names_of, Pair, pair_names}
 use Rattle.ic_term.specs.Configuration.{Configuration, configuration_names, occurrences}
 use Rattle.ic_rules.specs.Rule.{Rule}
@@ -17,8 +15,9 @@ use Rattle.ic_nets.specs.declared.links.End.TheVariants.{At, Named}
 use Rattle.ic_nets.specs.declared.links.Link.{Link}
 use Rattle.ic_nets.specs.declared.links.Standing.{Standing}
 use Rattle.ic_nets.specs.declared.port.Port.{Port}
-use Rattle.ic_nets.specs.declared.port.Port.TheVariants.{Interface, Principal, Auxiliary, Left, Right, Free}
-use Rattle.ic_nets.proofs.PortLemmas.{standing_ports, times-append}
+use Rattle.ic_nets.specs.declared.port.Port.TheVariants.{Interface, Auxiliary, Free}
+use Rattle.ic_nets.proofs.SumLemmas.{bit, itself_equal, sum, sum-count, sum-map}
+use Rattle.ic_nets.proofs.PortLemmas.{AreBound, standing_ports, times-append}
 
 -- ---- the names that are joined are those of the text, in its order
 
@@ -94,13 +93,10 @@ standings-names j (l ∷ ls) = by l.from l.to (standings-names j ls) (standings-
 
 -- how often a name stands
 abbrev pub often : ℕ → List Standing → ℕ
-often n [] = 0
-often n (s ∷ ss) = cond (s.name == n) 1 0 + often n ss
+often n ss = sum (λ s. bit (s.name == n)) ss
 
 pub often-occurrences : (n : ℕ) (ss : List Standing) → often n ss ≡ occurrences n (standing_names ss)
-often-occurrences n [] = refl
-often-occurrences n (s ∷ ss) =
-    ap (λ m. cond (s.name == n) 1 0 + m) (often-occurrences n ss) ∙ sym (sum_by-cons (λ (m : ℕ). cond (m == n) 1 0) s.name (standing_names ss))
+often-occurrences n ss = sym (sum-map (λ (s : Standing). s.name) (λ m. bit (m == n)) ss) ∙ sum-count (λ m. m == n) (standing_names ss)
 
 abbrev pub bound_part : Port → List Port
 bound_part q = cond (is_bound q) (q ∷ []) []
@@ -120,41 +116,36 @@ abbrev pub AreOwn : List (ℕ × Wire) → Type 0
 AreOwn [] = Unit {0}
 AreOwn (e ∷ es) = (is_bound e.1.from ≡ true) × ((is_bound e.1.to ≡ true) ⊎ (e.1.to ≡ Free e.0)) × (stands e.0 es ≡ 0) × AreOwn es
 
-same-refl : (n : ℕ) → (n == n) ≡ true
-same-refl n = (unsigned_Decides n n).1 refl
-
 turned : (m n : ℕ) → (m == n) ≡ true → (n == m) ≡ true
-turned m n e = (unsigned_Decides n m).1 (sym ((unsigned_Decides m n).0 e))
-
-pub few : (b : Bool) → cond b 2 1 ≤ 1 → b ≡ false
-few true le = absurd (omega arith)
-few false le = refl
+turned m n e = eq-eqb n m (sym (eqb-true m n e))
 
 apart : (m n : ℕ) → (m == n) ≡ false → (n == m) ≡ false
-apart m n is = by (n == m) refl
+apart m n is = ne_eqb n m (λ e. eqb-false m n is (sym e))
+
+-- where a name stands at most once, its wire ends free
+pub at_first : (x : ℕ) (e : ℕ × Wire) (es : List (ℕ × Wire)) → (x == e.0) ≡ true → stands x (e ∷ es) ≤ 1 → is_bound e.1.to ≡ false
+at_first x e es is le = few (is_bound e.1.to) (rw (turned x e.0 is) at le)
   where
-    by : (b : Bool) → (n == m) ≡ b → b ≡ false
-    by true e = absurd (true≢false (sym (turned n m e) ∙ is))
-    by false e = refl
+    few : (b : Bool) → cond b 2 1 ≤ 1 → b ≡ false
+    few true le = absurd (omega arith)
+    few false le = refl
+
+pub at_rest : (x : ℕ) (e : ℕ × Wire) (es : List (ℕ × Wire)) → (x == e.0) ≡ false → stands x (e ∷ es) ≤ 1 → stands x es ≤ 1
+at_rest x e es is le = rw (apart x e.0 is) at le
 
 module _ (s : Standing) (bound : is_bound s.port ≡ true) where
   added : (p : Port) (es : List (ℕ × Wire)) → stands s.name es ≤ 1 → times p (closed (with_standing es s)) ≡ times p (closed es) + cond (port_eq p s.port) 1 0
   added p [] le = omega arith
   added p (e ∷ es) le = by (s.name == e.0) refl (added p es)
     where
-      sums : (f t a b o x y : ℕ) → x ≡ t + a → y ≡ t + b → a ≡ b + o → f + x ≡ f + y + o
-      sums f t a b o x y e1 e2 e3 = omega arith
-
       by : (b : Bool) → (s.name == e.0) ≡ b → (stands s.name es ≤ 1 → times p (closed (with_standing es s)) ≡ times p (closed es) + cond (port_eq p s.port) 1 0)
           → times p (closed (cond b ((e.0, wire_of (Some e.1) s) ∷ es) (e ∷ with_standing es s))) ≡ times p (closed (e ∷ es)) + cond (port_eq p s.port) 1 0
       by true is rest =
-          let low : cond (is_bound e.1.to) 2 1 ≤ 1 = subst (λ b. cond b (cond (is_bound e.1.to) 2 1) (stands s.name es) ≤ 1) (turned s.name e.0 is) le in
-          let free = few (is_bound e.1.to) low in
+          let free = at_first s.name e es is le in
           rw (bound, free) (omega arith)
       by false is rest =
-          let low : stands s.name es ≤ 1 = subst (λ b. cond b (cond (is_bound e.1.to) 2 1) (stands s.name es) ≤ 1) (apart s.name e.0 is) le in
-          sums (cond (port_eq p e.1.from) 1 0) (times p (bound_part e.1.to)) (times p (closed (with_standing es s))) (times p (closed es)) (cond (port_eq p s.port) 1 0) _ _
-          (times-append p (bound_part e.1.to) (closed (with_standing es s))) (times-append p (bound_part e.1.to) (closed es)) (rest low)
+          let low = at_rest s.name e es is le in
+          omega (arith, times-append p (bound_part e.1.to) (closed (with_standing es s)), times-append p (bound_part e.1.to) (closed es), rest low)
 
   counted : (n : ℕ) (es : List (ℕ × Wire)) → stands s.name es ≤ 1 → stands n (with_standing es s) ≡ stands n es + cond (s.name == n) 1 0
   counted n [] le = omega arith
@@ -171,65 +162,45 @@ module _ (s : Standing) (bound : is_bound s.port ≡ true) where
       by : (b : Bool) → (s.name == e.0) ≡ b → (stands s.name es ≤ 1 → stands n (with_standing es s) ≡ stands n es + cond (s.name == n) 1 0)
           → stands n (cond b ((e.0, wire_of (Some e.1) s) ∷ es) (e ∷ with_standing es s)) ≡ stands n (e ∷ es) + cond (s.name == n) 1 0
       by true is rest =
-          let low : cond (is_bound e.1.to) 2 1 ≤ 1 = subst (λ b. cond b (cond (is_bound e.1.to) 2 1) (stands s.name es) ≤ 1) (turned s.name e.0 is) le in
-          let free = few (is_bound e.1.to) low in
-          let same : s.name ≡ e.0 = (unsigned_Decides s.name e.0).0 is in
-          let own : (s.name == n) ≡ (e.0 == n) = ap (λ m. m == n) same in
+          let free = at_first s.name e es is le in
+          let own : (s.name == n) ≡ (e.0 == n) = ap (λ m. m == n) (eqb-true s.name e.0 is) in
           rw (bound, free, own) (twice (e.0 == n) (stands n es))
       by false is rest =
-          let low : stands s.name es ≤ 1 = subst (λ b. cond b (cond (is_bound e.1.to) 2 1) (stands s.name es) ≤ 1) (apart s.name e.0 is) le in
-          let off : (e.0 == n) ≡ true → (s.name == n) ≡ false = λ f. ap (λ m. s.name == m) (sym ((unsigned_Decides e.0 n).0 f)) ∙ is in
+          let low = at_rest s.name e es is le in
+          let off : (e.0 == n) ≡ true → (s.name == n) ≡ false = λ f. ap (λ m. s.name == m) (sym (eqb-true e.0 n f)) ∙ is in
           kept (e.0 == n) (s.name == n) (cond (is_bound e.1.to) 2 1) (stands n (with_standing es s)) (stands n es) off (rest low)
 
   pub own_added : (es : List (ℕ × Wire)) → stands s.name es ≤ 1 → AreOwn es → AreOwn (with_standing es s)
   own_added [] le own = (bound, inr refl, refl, tt)
   own_added (e ∷ es) le own = by (s.name == e.0) refl (own_added es)
     where
-      none : (a b : ℕ) (c : Bool) → a ≡ b + cond c 1 0 → b ≡ 0 → c ≡ false → a ≡ 0
-      none a b true e1 e2 e3 = absurd (true≢false e3)
-      none a b false e1 e2 e3 = omega arith
-
       by : (b : Bool) → (s.name == e.0) ≡ b → (stands s.name es ≤ 1 → AreOwn es → AreOwn (with_standing es s))
           → AreOwn (cond b ((e.0, wire_of (Some e.1) s) ∷ es) (e ∷ with_standing es s))
       by true is rest = (own.0, inl bound, own.2, own.3)
       by false is rest =
-          let low : stands s.name es ≤ 1 = subst (λ b. cond b (cond (is_bound e.1.to) 2 1) (stands s.name es) ≤ 1) (apart s.name e.0 is) le in
-          (own.0, own.1, none _ _ (s.name == e.0) (counted e.0 es low) own.2 is, rest low own.3)
-
--- none of these ports is the free end of a name
-abbrev pub AreBound : List Standing → Type 0
-AreBound [] = Unit {0}
-AreBound (s ∷ ss) = (is_bound s.port ≡ true) × AreBound ss
+          let low = at_rest s.name e es is le in
+          (own.0, own.1, omega (arith, counted e.0 es low, own.2, ap bit is), rest low own.3)
 
 -- no name stands more than twice
 abbrev pub AreFew : List (ℕ × Wire) → List Standing → Type 0
 AreFew es ss = (n : ℕ) → stands n es + often n ss ≤ 2
 
 pub first_low : (es : List (ℕ × Wire)) (s : Standing) (ss : List Standing) → AreFew es (s ∷ ss) → stands s.name es ≤ 1
-first_low es s ss le = let here = subst (λ b. stands s.name es + (cond b 1 0 + often s.name ss) ≤ 2) (same-refl s.name) (le s.name) in omega arith
+first_low es s ss le = omega (arith, le s.name, itself_equal s.name)
 
 pub next_few : (es : List (ℕ × Wire)) (s : Standing) (ss : List Standing) → is_bound s.port ≡ true → AreFew es (s ∷ ss) → AreFew (with_standing es s) ss
-next_few es s ss bound le n = let here = counted s bound n es (first_low es s ss le) in let all = le n in sums _ _ _ _ here all
-  where
-    sums : (w e o f : ℕ) → w ≡ e + o → e + (o + f) ≤ 2 → w + f ≤ 2
-    sums w e o f e1 e2 = omega arith
+next_few es s ss bound le n = let here = counted s bound n es (first_low es s ss le) in let all = le n in omega arith
 
-pub all_added : (p : Port) (es : List (ℕ × Wire)) (ss : List Standing) → AreBound ss → AreFew es ss
+pub all_added : (p : Port) (es : List (ℕ × Wire)) (ss : List Standing) → AreBound (standing_ports ss) → AreFew es ss
     → times p (closed (fold with_standing es ss)) ≡ times p (closed es) + times p (standing_ports ss)
 all_added p es [] bound le = omega arith
 all_added p es (s ∷ ss) bound le =
-    sums _ _ _ _ _ (all_added p (with_standing es s) ss bound.1 (next_few es s ss bound.0 le)) (added s bound.0 p es (first_low es s ss le))
-  where
-    sums : (f w r e o : ℕ) → f ≡ w + r → w ≡ e + o → f ≡ e + (o + r)
-    sums f w r e o e1 e2 = omega arith
+    omega (arith, all_added p (with_standing es s) ss bound.1 (next_few es s ss bound.0 le), added s bound.0 p es (first_low es s ss le))
 
-pub all_counted : (n : ℕ) (es : List (ℕ × Wire)) (ss : List Standing) → AreBound ss → AreFew es ss → stands n (fold with_standing es ss) ≡ stands n es + often n ss
+pub all_counted : (n : ℕ) (es : List (ℕ × Wire)) (ss : List Standing) → AreBound (standing_ports ss) → AreFew es ss → stands n (fold with_standing es ss) ≡ stands n es + often n ss
 all_counted n es [] bound le = omega arith
 all_counted n es (s ∷ ss) bound le =
-    sums _ _ _ _ _ (all_counted n (with_standing es s) ss bound.1 (next_few es s ss bound.0 le)) (counted s bound.0 n es (first_low es s ss le))
-  where
-    sums : (f w r e o : ℕ) → f ≡ w + r → w ≡ e + o → f ≡ e + (o + r)
-    sums f w r e o e1 e2 = omega arith
+    omega (arith, all_counted n (with_standing es s) ss bound.1 (next_few es s ss bound.0 le), counted s bound.0 n es (first_low es s ss le))
 
 -- ---- the ends of all wires
 
@@ -237,30 +208,19 @@ abbrev pub own_wires : List (ℕ × Wire) → List Wire
 own_wires es = map (λ w. w.1) es
 
 unbound : (p q : Port) → is_bound p ≡ true → is_bound q ≡ false → port_eq p q ≡ false
-unbound p (Interface j) b e = absurd (true≢false e)
-unbound p (Principal j) b e = absurd (true≢false e)
-unbound p (Auxiliary j k) b e = absurd (true≢false e)
-unbound p (Left j) b e = absurd (true≢false e)
-unbound p (Right j) b e = absurd (true≢false e)
-unbound (Interface i) (Free n) b e = refl
-unbound (Principal i) (Free n) b e = refl
-unbound (Auxiliary i k) (Free n) b e = refl
-unbound (Left i) (Free n) b e = refl
-unbound (Right i) (Free n) b e = refl
-unbound (Free m) (Free n) b e = absurd (true≢false (sym b))
+unbound (Free m) q b e = absurd (true≢false (sym b))
+unbound p (Free n) b e = refl
+unbound p q b e = absurd (true≢false e)
 
 pub bound_ends : (p : Port) (es : List (ℕ × Wire)) → is_bound p ≡ true → times p (ends (own_wires es)) ≡ times p (closed es)
 bound_ends p [] b = refl
 bound_ends p (e ∷ es) b = ap (λ n. cond (port_eq p e.1.from) 1 0 + n) (by (is_bound e.1.to) refl (bound_ends p es b))
   where
-    front : (n : ℕ) → 0 + n ≡ n
-    front n = omega arith
-
     by : (c : Bool) → is_bound e.1.to ≡ c → times p (ends (own_wires es)) ≡ times p (closed es) → cond (port_eq p e.1.to) 1 0 + times p (ends (own_wires es)) ≡ times p (cond c (e.1.to ∷ []) [] ++ closed es)
     by true is rest = ap (λ n. cond (port_eq p e.1.to) 1 0 + n) rest
-    by false is rest = ap (λ c. cond c 1 0 + times p (ends (own_wires es))) (unbound p e.1.to b is) ∙ front (times p (ends (own_wires es))) ∙ rest
+    by false is rest = omega (arith, rest, ap bit (unbound p e.1.to b is))
 
-pub all_own : (es : List (ℕ × Wire)) (ss : List Standing) → AreBound ss → AreFew es ss → AreOwn es → AreOwn (fold with_standing es ss)
+pub all_own : (es : List (ℕ × Wire)) (ss : List Standing) → AreBound (standing_ports ss) → AreFew es ss → AreOwn es → AreOwn (fold with_standing es ss)
 all_own es [] bound le own = own
 all_own es (s ∷ ss) bound le own = all_own (with_standing es s) ss bound.1 (next_few es s ss bound.0 le) (own_added s bound.0 es (first_low es s ss le) own)
 
@@ -270,18 +230,12 @@ free_ends n [] own = refl
 free_ends n (e ∷ es) own = by own.1 (e.0 == n) refl (free_ends n es own.3)
   where
     off : (q : Port) → is_bound q ≡ true → port_eq (Free n) q ≡ false
-    off (Interface i) b = refl
-    off (Principal i) b = refl
-    off (Auxiliary i k) b = refl
-    off (Left i) b = refl
-    off (Right i) b = refl
     off (Free m) b = absurd (true≢false (sym b))
+    off q b = refl
 
     alone : (e.0 == n) ≡ true → times (Free n) (ends (own_wires es)) ≡ cond (stands n es == 1) 1 0 → times (Free n) (ends (own_wires es)) ≡ 0
     alone is rest =
-        let same : e.0 ≡ n = (unsigned_Decides e.0 n).0 is in
-        let none : stands n es ≡ 0 = ap (λ m. stands m es) (sym same) ∙ own.2 in
-        rest ∙ ap (λ m. cond (m == 1) 1 0) none
+        rest ∙ ap (λ m. cond (m == 1) 1 0) (ap (λ m. stands m es) (sym (eqb-true e.0 n is)) ∙ own.2)
 
     by : (is_bound e.1.to ≡ true) ⊎ (e.1.to ≡ Free e.0) → (b : Bool) → (e.0 == n) ≡ b → times (Free n) (ends (own_wires es)) ≡ cond (stands n es == 1) 1 0
         → cond (port_eq (Free n) e.1.from) 1 0 + (cond (port_eq (Free n) e.1.to) 1 0 + times (Free n) (ends (own_wires es))) ≡ cond (cond b (cond (is_bound e.1.to) 2 1) (stands n es) == 1) 1 0

@@ -1,5 +1,5 @@
 -- Lemmas: configurations of one net have their names turned into others once, and their equations rearranged once.
-use Rattle.std.proofs.Common.{◌≡◌, ◌↔◌, ◌==◌, ℕ, ◌≤◌, List, [], ◌∷◌, Bool, true, false, cond, map, refl, sym, ap, ◌∙◌, arith, subst as transport}
+use Rattle.std.proofs.Common.{◌≡◌, ◌↔◌, ◌==◌, ℕ, List, [], ◌∷◌, Bool, true, false, cond, map, refl, sym, ap, ◌∙◌, arith, subst as transport}
 use Rattle.ic_term.specs.Tree.{Tree, name, agent, Trees, no_trees, more_trees, names, Pair}
 use Rattle.ic_term.specs.Configuration.{Configuration, configuration_names, occurrences}
 use Rattle.ic_rules.specs.Renaming.{renamed, renamed_trees}
@@ -7,6 +7,7 @@ use Rattle.ic_rules.specs.lemmas.NumberingLaws.{Undone, occurrences-renamed}
 use Rattle.ic_rules.specs.lemmas.RenamingLaws.{names-renamed}
 use Rattle.ic_settle.specs.Settling.{subst, subst_all}
 use Rattle.ic_confluence.specs.Sameness.{Alike, itself, exchanged, rotated, in_turn, Rearranged, nothing, kept, swapped, one_by_one, renamed_in, renamed_pair, Rearranges, Renames, Same, renaming, rearranging, through}
+use Rattle.ic_nets.proofs.LeadLemmas.{as_they_are}
 use Rattle.ic_nets.proofs.RenamingLemmas.{same_test}
 use Rattle.ic_nets.proofs.SameLemmas.{Renames-refl, renames_through}
 
@@ -58,12 +59,8 @@ module _ (f back : ℕ → ℕ) (undo : (n : ℕ) → back (f n) ≡ n) where
 
 -- ---- the two parts
 
-as_they_stand : (es : List Pair) → Rearranged es es
-as_they_stand [] = nothing
-as_they_stand (p ∷ es) = kept p p es es (itself p) (as_they_stand es)
-
 stays_arranged : (c : Configuration) → Rearranges c c
-stays_arranged c = record { equations = as_they_stand c.equations; result = refl }
+stays_arranged c = record { equations = as_they_are c.equations; result = refl }
 
 arranged_through : (c d e : Configuration) → Rearranges c d → Rearranges d e → Rearranges c e
 arranged_through c d e r s = record {

@@ -1,18 +1,21 @@
 -- A net has no names but free ones: where names are turned into others, it stays.
-use Rattle.std.proofs.Common.{◌≡◌, ℕ, suc, ◌+◌, ◌≤◌, ◌==◌, List, [], ◌∷◌, ◌++◌, Bool, true, false, cond, Some, fold, length, map, refl, sym, ap, ◌∙◌, subst, arith}
+use Rattle.std.proofs.Common.{◌≡◌, ℕ, suc, ◌+◌, ◌≤◌, ◌==◌, List, [], ◌∷◌, ◌++◌, Bool, true, false, cond, Some, fold, length, map, refl, sym, ap, ◌∙◌, subst, arith, eq-eqb}
 use Rattle.std.specs.Prelude.{is_some}
-use Rattle.std.specs.Cmp.{unsigned_Decides}
+use Rattle.std.proofs.lemmas.Bool.{eqb-true}
+use Rattle.std.proofs.lemmas.Bool.Decides.{Decides-eqb, same_from_decides}
+use Rattle.std.specs.List.{flat_map}
 use Rattle.std.proofs.lemmas.List.{length-map, map-append}
-use Rattle.std.proofs.lemmas.List.Concat.{flat_map-append}
-use Rattle.std.proofs.lemmas.List.Sums.{sum_by-cons}
+use Rattle.std.proofs.lemmas.List.Folds.{flat_map-map}
+use Rattle.std.proofs.lemmas.Simd.{map-map}
 use Rattle.ic_term.specs.Tree.{Tree, name, agent, Trees, no_trees, more_trees, list_of, trees_of, Pair}
 use Rattle.ic_term.specs.Configuration.{Configuration, configuration_names, occurrences}
 use Rattle.ic_rules.specs.Rule.{Rule}
 use Rattle.ic_rules.specs.Renaming.{renamed, renamed_trees}
+use Rattle.ic_rules.specs.lemmas.RenamingLaws.{renamed_trees-trees_of}
 use Rattle.ic_round.specs.Firing.{rule_of_sides}
 use Rattle.ic_confluence.specs.Sameness.{Renames, renamed_in, renamed_pair}
 use Rattle.ic_nets.specs.Links.{agents_among, agents_in, agents_of, end_of, equation_link, hanging, inside, joined, links_of, pair_agents, pair_links, pairs_agents}
-use Rattle.ic_nets.specs.Wiring.{are_names, joins_names, joints_in, name_wires, named_wires, plain_wires, standings, standings_at, standings_between, wire_between, wire_of, with_standing}
+use Rattle.ic_nets.specs.Wiring.{are_names, joins_names, name_wires, named_wires, plain_wires, standings, standings_at, standings_between, wire_between, wire_of, wires_at, with_standing}
 use Rattle.ic_nets.specs.Nets.{IsNet}
 use Rattle.ic_nets.specs.Ports.{ends, is_bound, port_eq, times}
 use Rattle.ic_nets.specs.declared.net.Net.{Net}
@@ -22,10 +25,11 @@ use Rattle.ic_nets.specs.declared.links.End.TheVariants.{At, Named}
 use Rattle.ic_nets.specs.declared.links.Link.{Link}
 use Rattle.ic_nets.specs.declared.links.Standing.{Standing}
 use Rattle.ic_nets.specs.declared.port.Port.{Port}
-use Rattle.ic_nets.specs.declared.port.Port.TheVariants.{Interface, Principal, Auxiliary, Left, Right, Free}
-use Rattle.ic_nets.proofs.PortLemmas.{times-append}
-use Rattle.ic_nets.proofs.NameLemmas.{AreBound, often, own_wires}
-use Rattle.ic_nets.proofs.EndLemmas.{AtMostTwice, are_bound, free_ends_are_names, often-names}
+use Rattle.ic_nets.specs.declared.port.Port.TheVariants.{Interface, Auxiliary, Free}
+use Rattle.ic_nets.proofs.SumLemmas.{bit, itself_equal}
+use Rattle.ic_nets.proofs.PortLemmas.{AreBound, joints, joints-are, standing_ports}
+use Rattle.ic_nets.proofs.NameLemmas.{often, own_wires}
+use Rattle.ic_nets.proofs.EndLemmas.{AtMostTwice, all_ends, are_bound, free_ends_are_names, often-names}
 
 module _ (f : ℕ → ℕ) where
   -- ---- agents
@@ -47,12 +51,10 @@ module _ (f : ℕ → ℕ) where
   pair_agents-renamed p = λ i. agents-renamed p.left i ++ agents-renamed p.right i
 
   pairs_agents-renamed : (ps : List Pair) → pairs_agents (map (renamed_pair f) ps) ≡ pairs_agents ps
-  pairs_agents-renamed [] = refl
-  pairs_agents-renamed (p ∷ ps) = λ i. pair_agents-renamed p i ++ pairs_agents-renamed ps i
+  pairs_agents-renamed ps = flat_map-map pair_agents (renamed_pair f) ps ∙ (λ i. flat_map (λ (p : Pair). pair_agents-renamed p i) ps)
 
   trees-renamed : (ts : List Tree) → trees_of (map (renamed f) ts) ≡ renamed_trees f (trees_of ts)
-  trees-renamed [] = refl
-  trees-renamed (t ∷ ts) = ap (more_trees (renamed f t)) (trees-renamed ts)
+  trees-renamed ts = sym (renamed_trees-trees_of f ts)
 
   agents_of-renamed : (c : Configuration) → agents_of (renamed_in f c) ≡ agents_of c
   agents_of-renamed c =
@@ -89,9 +91,8 @@ module _ (f : ℕ → ℕ) where
 
   sides-renamed : (rs : List Rule) (t u : Tree) → rule_of_sides rs (renamed f t) (renamed f u) ≡ rule_of_sides rs t u
   sides-renamed rs (name m) (name n) = refl
-  sides-renamed rs (name m) (agent r us) = refl
-  sides-renamed rs (agent s ts) (name n) = refl
   sides-renamed rs (agent s ts) (agent r us) = refl
+  sides-renamed rs t u = refl
 
   equation-renamed : (rs : List Rule) (j k : ℕ) (p : Pair) → equation_link rs j k (renamed_pair f p) ≡ link_named (equation_link rs j k p)
   equation-renamed rs j k p =
@@ -126,25 +127,20 @@ module _ (f : ℕ → ℕ) where
 
   between-renamed : (active : Bool) (a b : End) → wire_between active (end_named a) (end_named b) ≡ wire_between active a b
   between-renamed active (At p) (At q) = refl
-  between-renamed active (At p) (Named n) = refl
-  between-renamed active (Named m) (At q) = refl
   between-renamed active (Named m) (Named n) = refl
+  between-renamed active a b = refl
 
   plain-renamed : (ls : List Link) → plain_wires (map link_named ls) ≡ plain_wires ls
-  plain-renamed [] = refl
-  plain-renamed (l ∷ ls) = λ d. between-renamed l.active l.from l.to d ++ plain-renamed ls d
+  plain-renamed ls = flat_map-map wires_at link_named ls ∙ (λ d. flat_map (λ (l : Link). between-renamed l.active l.from l.to d) ls)
 
   are_names-renamed : (a b : End) → are_names (end_named a) (end_named b) ≡ are_names a b
   are_names-renamed (At p) b = refl
   are_names-renamed (Named m) (At q) = refl
   are_names-renamed (Named m) (Named n) = refl
 
-  joints-renamed : (ls : List Link) → joints_in (map link_named ls) ≡ joints_in ls
+  joints-renamed : (ls : List Link) → joints (map link_named ls) ≡ joints ls
   joints-renamed [] = refl
-  joints-renamed (l ∷ ls) =
-      sum_by-cons (λ (x : Link). cond (joins_names x) 1 0) (link_named l) (map link_named ls)
-      ∙ (λ d. cond (are_names-renamed l.from l.to d) 1 0 + joints-renamed ls d)
-      ∙ sym (sum_by-cons (λ (x : Link). cond (joins_names x) 1 0) l ls)
+  joints-renamed (l ∷ ls) = λ d. cond (are_names-renamed l.from l.to d) (suc (joints-renamed ls d)) (joints-renamed ls d)
 
   -- ---- names that stand at ports
 
@@ -153,9 +149,8 @@ module _ (f : ℕ → ℕ) where
 
   at-renamed : (j : ℕ) (a b : End) → standings_between j (end_named a) (end_named b) ≡ map standing_named (standings_between j a b)
   at-renamed j (At p) (At q) = refl
-  at-renamed j (At p) (Named n) = refl
-  at-renamed j (Named m) (At q) = refl
   at-renamed j (Named m) (Named n) = refl
+  at-renamed j a b = refl
 
   standings-renamed : (j : ℕ) (ls : List Link) → standings j (map link_named ls) ≡ map standing_named (standings j ls)
   standings-renamed j [] = refl
@@ -168,12 +163,8 @@ module _ (f : ℕ → ℕ) where
   -- ---- their wires
 
   abbrev port_named : Port → Port
-  port_named (Interface i) = Interface i
-  port_named (Principal k) = Principal k
-  port_named (Auxiliary k i) = Auxiliary k i
-  port_named (Left j) = Left j
-  port_named (Right j) = Right j
   port_named (Free n) = Free (f n)
+  port_named p = p
 
   abbrev wire_named : Wire → Wire
   wire_named w = record { from = w.from; to = port_named w.to; active = w.active }
@@ -182,16 +173,11 @@ module _ (f : ℕ → ℕ) where
   entry_named e = (f e.0, wire_named e.1)
 
   bound_stays : (p : Port) → is_bound p ≡ true → port_named p ≡ p
-  bound_stays (Interface i) bound = refl
-  bound_stays (Principal k) bound = refl
-  bound_stays (Auxiliary k i) bound = refl
-  bound_stays (Left j) bound = refl
-  bound_stays (Right j) bound = refl
   bound_stays (Free n) bound = cc
+  bound_stays p bound = refl
 
   own-renamed : (es : List (ℕ × Wire)) → own_wires (map entry_named es) ≡ map wire_named (own_wires es)
-  own-renamed [] = refl
-  own-renamed (e ∷ es) = ap (λ (ws : List Wire). wire_named e.1 ∷ ws) (own-renamed es)
+  own-renamed es = map-map (λ (e : ℕ × Wire). e.1) entry_named es ∙ sym (map-map wire_named (λ (e : ℕ × Wire). e.1) es)
 
   module _ (one : (m n : ℕ) → (f m == f n) ≡ (m == n)) where
     standing-renamed : (es : List (ℕ × Wire)) (s : Standing) → is_bound s.port ≡ true → with_standing (map entry_named es) (standing_named s) ≡ map entry_named (with_standing es s)
@@ -205,7 +191,7 @@ module _ (f : ℕ → ℕ) where
         by true = ap (λ (p : Port). (f e.0, record { from = e.1.from; to = p; active = false }) ∷ map entry_named es) (sym (bound_stays s.port bound))
         by false = refl
 
-    names-renamed : (es : List (ℕ × Wire)) (ss : List Standing) → AreBound ss → fold with_standing (map entry_named es) (map standing_named ss) ≡ map entry_named (fold with_standing es ss)
+    names-renamed : (es : List (ℕ × Wire)) (ss : List Standing) → AreBound (standing_ports ss) → fold with_standing (map entry_named es) (map standing_named ss) ≡ map entry_named (fold with_standing es ss)
     names-renamed es [] bound = refl
     names-renamed es (s ∷ ss) bound =
         ap (λ (x : List (ℕ × Wire)). fold with_standing x (map standing_named ss)) (standing-renamed es s bound.0) ∙ names-renamed (with_standing es s) ss bound.1
@@ -215,39 +201,22 @@ module _ (f : ℕ → ℕ) where
   wires_stay : (ws : List Wire) → ((m : ℕ) → 1 ≤ times (Free m) (ends ws) → f m ≡ m) → map wire_named ws ≡ ws
   wires_stay [] free = refl
   wires_stay (w ∷ ws) free =
-      λ d. record { from = w.from; to = here w.to free d; active = w.active } ∷ wires_stay ws (λ m some. free m (after (cond (port_eq (Free m) w.from) 1 0) (cond (port_eq (Free m) w.to) 1 0) _ some)) d
+      λ d. record { from = w.from; to = here w.to free d; active = w.active } ∷ wires_stay ws (λ m some. free m (omega (arith, some))) d
     where
-      after : (a b r : ℕ) → 1 ≤ r → 1 ≤ a + (b + r)
-      after a b r some = omega arith
-
-      front : (a r : ℕ) → 1 ≤ a + (1 + r)
-      front a r = omega arith
-
       here : (p : Port) → ((m : ℕ) → 1 ≤ cond (port_eq (Free m) w.from) 1 0 + (cond (port_eq (Free m) p) 1 0 + times (Free m) (ends ws)) → f m ≡ m) → port_named p ≡ p
-      here (Interface i) free = refl
-      here (Principal k) free = refl
-      here (Auxiliary k i) free = refl
-      here (Left j) free = refl
-      here (Right j) free = refl
-      here (Free n) free =
-          ap Free (free n (subst (λ b. 1 ≤ cond (port_eq (Free n) w.from) 1 0 + (cond b 1 0 + times (Free n) (ends ws))) (sym ((unsigned_Decides n n).1 refl)) (front _ _)))
+      here (Free n) free = ap Free (free n (omega (arith, itself_equal n)))
+      here p free = refl
 
 -- ---- the law
 
 pub same_test : (f g : ℕ → ℕ) → ((n : ℕ) → g (f n) ≡ n) → (m n : ℕ) → (f m == f n) ≡ (m == n)
-same_test f g back m n = by (m == n) refl (f m == f n) refl
-  where
-    by : (b : Bool) → (m == n) ≡ b → (a : Bool) → (f m == f n) ≡ a → a ≡ b
-    by true e true e2 = refl
-    by false e false e2 = refl
-    by true e false e2 = sym e2 ∙ (unsigned_Decides (f m) (f n)).1 (ap f ((unsigned_Decides m n).0 e))
-    by false e true e2 =
-        let same : m ≡ n = sym (back m) ∙ (ap g ((unsigned_Decides (f m) (f n)).0 e2) ∙ back n) in
-        sym ((unsigned_Decides m n).1 same) ∙ e
+same_test f g back m n =
+    same_from_decides {P = m ≡ n} (f m == f n) (m == n)
+    (λ e. sym (back m) ∙ (ap g (eqb-true (f m) (f n) e) ∙ back n), λ e. eq-eqb (f m) (f n) (ap f e)) (Decides-eqb m n)
 
-free_once : (b : Bool) (t k : ℕ) → t ≡ cond b 1 0 → 1 ≤ k → k ≤ t → b ≡ true
-free_once true t k e some le = refl
-free_once false t k e some le = absurd (omega arith)
+once : (b : Bool) → 1 ≤ bit b → b ≡ true
+once true some = refl
+once false some = absurd (omega arith)
 
 pub net_forgets : (rs : List Rule) (c d : Configuration) (net : Net) → AtMostTwice c → Renames c d → IsNet rs c net → IsNet rs d net
 net_forgets rs c d net twice renames is =
@@ -256,13 +225,9 @@ net_forgets rs c d net twice renames is =
     let ss = standings 0 ls in
     let links = links-renamed f rs c in
     let named = ap (λ (x : List (ℕ × Wire)). own_wires x) (names-renamed f (same_test f renames.from renames.there_and_back) [] ss (are_bound rs c)) ∙ own-renamed f (named_wires ss) in
-    let ends_in : (m : ℕ) → times (Free m) (ends net.wires.items) ≡ times (Free m) (ends (plain_wires ls)) + times (Free m) (ends (name_wires ss)) =
-    λ m. ap (λ ws. times (Free m) (ends ws)) is.wires
-    ∙ ap (times (Free m)) (flat_map-append (λ (w : Wire). w.from ∷ w.to ∷ []) (plain_wires ls) (name_wires ss))
-    ∙ times-append (Free m) (ends (plain_wires ls)) (ends (name_wires ss)) in
     let free : (m : ℕ) → 1 ≤ times (Free m) (ends (name_wires ss)) → f m ≡ m =
-    λ m some. renames.free m ((unsigned_Decides (occurrences m (configuration_names c)) 1).0
-    (free_once (occurrences m (configuration_names c) == 1) _ _ (free_ends_are_names rs c net m twice is) some (within _ _ _ (ends_in m)))) in
+    λ m some. renames.free m (eqb-true (occurrences m (configuration_names c)) 1
+    (once (occurrences m (configuration_names c) == 1) (omega (arith, free_ends_are_names rs c net m twice is, some, all_ends rs c net twice is (Free m))))) in
     let stay = wires_stay f (name_wires ss) free in
     let wires : plain_wires (links_of rs (renamed_in f c)) ++ name_wires (standings 0 (links_of rs (renamed_in f c))) ≡ plain_wires ls ++ name_wires ss =
     (λ i. plain_wires (links i) ++ name_wires (standings 0 (links i)))
@@ -271,13 +236,10 @@ net_forgets rs c d net twice renames is =
     let net_of_renamed : IsNet rs (renamed_in f c) net = record {
       interface = is.interface ∙ sym (length-map c.interface _);
       agents = is.agents ∙ sym (agents_of-renamed f c);
-      joints = is.joints ∙ sym (joints-renamed f ls) ∙ sym (ap joints_in links);
+      joints = is.joints ∙ joints-are ls ∙ sym (joints-are (links_of rs (renamed_in f c)) ∙ ap joints links ∙ joints-renamed f ls);
       wires = is.wires ∙ sym wires;
     } in
     subst (λ (e : Configuration). IsNet rs e net) (sym renames.result) net_of_renamed
-  where
-    within : (t a b : ℕ) → t ≡ a + b → b ≤ t
-    within t a b e = omega arith
 
 -- ---- names occur as often
 
@@ -298,7 +260,4 @@ still_twice c d twice renames n =
     ∙ ap (often n) (standings-renamed f 0 (links_of [] c))
     ∙ often_renamed f g renames.there_and_back renames.back_and_there n (standings 0 (links_of [] c))
     ∙ often-names [] c (g n) in
-    low _ _ same (twice (g n))
-  where
-    low : (a b : ℕ) → a ≡ b → b ≤ 2 → a ≤ 2
-    low a b e le = omega arith
+    omega (arith, twice (g n))

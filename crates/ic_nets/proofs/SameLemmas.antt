@@ -1,8 +1,13 @@
 -- Lemmas: configurations without equations are one net only where one is the other renamed.
-use Rattle.std.proofs.Common.{◌≡◌, ◌↔◌, ℕ, ◌≤◌, List, [], ◌∷◌, map, refl, sym, ap, ◌∙◌, arith, subst as transport}
-use Rattle.ic_term.specs.Tree.{Tree, name, agent, Trees, no_trees, more_trees, Pair}
+use Rattle.std.proofs.Common.{◌≡◌, ◌↔◌, ℕ, List, [], ◌∷◌, map, refl, sym, ap, ◌∙◌, arith, subst as transport}
+use Rattle.std.specs.List.{flat_map}
+use Rattle.std.proofs.lemmas.List.{map-id}
+use Rattle.std.proofs.lemmas.Simd.{map-map}
+use Rattle.ic_term.specs.Tree.{Tree, names, Pair}
 use Rattle.ic_term.specs.Configuration.{Configuration, configuration_names, occurrences}
-use Rattle.ic_rules.specs.Renaming.{renamed, renamed_trees}
+use Rattle.ic_rules.specs.Renaming.{renamed}
+use Rattle.ic_rules.specs.lemmas.NumberingLaws.{Fixes, terms-fixed}
+use Rattle.ic_rules.specs.lemmas.RenamingLaws.{Through, terms-through}
 use Rattle.ic_confluence.specs.Sameness.{Rearranged, nothing, kept, swapped, one_by_one, renamed_in, renamed_pair, Renames, Same, renaming, rearranging, through}
 use Rattle.ic_nets.specs.Church.{alone, church_false, church_true}
 
@@ -11,46 +16,35 @@ use Rattle.ic_nets.specs.Church.{alone, church_false, church_true}
 abbrev same_name : ℕ → ℕ
 same_name n = n
 
-mutual
-  tree_stays : (t : Tree) → renamed same_name t ≡ t
-  tree_stays (name n) = refl
-  tree_stays (agent s ts) = ap (agent s) (trees_stay ts)
-
-  trees_stay : (ts : Trees) → renamed_trees same_name ts ≡ ts
-  trees_stay no_trees = refl
-  trees_stay (more_trees t ts) = λ i. more_trees (tree_stays t i) (trees_stay ts i)
+all_stay : (ns : List ℕ) → Fixes same_name ns
+all_stay [] = tt
+all_stay (n ∷ ns) = (refl, all_stay ns)
 
 terms_stay : (ts : List Tree) → map (renamed same_name) ts ≡ ts
-terms_stay [] = refl
-terms_stay (t ∷ ts) = λ i. tree_stays t i ∷ terms_stay ts i
+terms_stay ts = terms-fixed same_name ts (all_stay (flat_map names ts))
 
-pair_stays : (p : Pair) → renamed_pair same_name p ≡ p
-pair_stays p = λ i. record { left = tree_stays p.left i; right = tree_stays p.right i }
+tree_stays : (t : Tree) → renamed same_name t ≡ t
+tree_stays t = let alone = terms_stay (t ∷ []) in cc
 
 pairs_stay : (es : List Pair) → map (renamed_pair same_name) es ≡ es
-pairs_stay [] = refl
-pairs_stay (p ∷ es) = λ i. pair_stays p i ∷ pairs_stay es i
+pairs_stay es = (λ i. map (λ (p : Pair). record { left = tree_stays p.left i; right = tree_stays p.right i }) es) ∙ map-id es
 
 module _ (f g : ℕ → ℕ) where
   abbrev both : ℕ → ℕ
   both n = g (f n)
 
-  mutual
-    tree_twice : (t : Tree) → renamed g (renamed f t) ≡ renamed both t
-    tree_twice (name n) = refl
-    tree_twice (agent s ts) = ap (agent s) (trees_twice ts)
-
-    trees_twice : (ts : Trees) → renamed_trees g (renamed_trees f ts) ≡ renamed_trees both ts
-    trees_twice no_trees = refl
-    trees_twice (more_trees t ts) = λ i. more_trees (tree_twice t i) (trees_twice ts i)
+  all_twice : (ns : List ℕ) → Through f g both ns
+  all_twice [] = tt
+  all_twice (n ∷ ns) = (refl, all_twice ns)
 
   terms_twice : (ts : List Tree) → map (renamed g) (map (renamed f) ts) ≡ map (renamed both) ts
-  terms_twice [] = refl
-  terms_twice (t ∷ ts) = λ i. tree_twice t i ∷ terms_twice ts i
+  terms_twice ts = terms-through f g both ts (all_twice (flat_map names ts))
+
+  tree_twice : (t : Tree) → renamed g (renamed f t) ≡ renamed both t
+  tree_twice t = let alone = terms_twice (t ∷ []) in cc
 
   pairs_twice : (es : List Pair) → map (renamed_pair g) (map (renamed_pair f) es) ≡ map (renamed_pair both) es
-  pairs_twice [] = refl
-  pairs_twice (p ∷ es) = λ i. record { left = tree_twice p.left i; right = tree_twice p.right i } ∷ pairs_twice es i
+  pairs_twice es = map-map (renamed_pair g) (renamed_pair f) es ∙ (λ i. map (λ (p : Pair). record { left = tree_twice p.left i; right = tree_twice p.right i }) es)
 
   renamed_twice : (c : Configuration) → renamed_in g (renamed_in f c) ≡ renamed_in both c
   renamed_twice c = λ i. record { interface = terms_twice c.interface i; equations = pairs_twice c.equations i; next = c.next }
@@ -68,13 +62,10 @@ Renames-refl c = record {
 
 -- ---- no equations
 
-not_none : (p : Pair) (es : List Pair) → p ∷ es ≡ [] → ⊥
-not_none p es e = cc
-
 none_too : (es fs : List Pair) → Rearranged es fs → es ≡ [] → fs ≡ []
 none_too es fs nothing e = refl
-none_too es fs (kept p q ps qs alike rest) e = absurd (not_none p ps e)
-none_too es fs (swapped p q ps) e = absurd (not_none p (q ∷ ps) e)
+none_too es fs (kept p q ps qs alike rest) e = cc
+none_too es fs (swapped p q ps) e = cc
 none_too es fs (one_by_one ps qs rs first second) e = none_too qs rs second (none_too ps qs first e)
 
 no_equations : (c d : Configuration) → Same c d → c.equations ≡ [] → d.equations ≡ []
@@ -105,21 +96,5 @@ module _ (free : (c d : Configuration) → Same c d → (n : ℕ) → (occurrenc
 
 -- ---- true and false
 
-abbrev kind : Tree → ℕ
-kind (name n) = 0
-kind (agent s ts) = 1
-
-abbrev first_kind : Trees → ℕ
-first_kind no_trees = 0
-first_kind (more_trees t ts) = kind t
-
-abbrev argument_kind : List Tree → ℕ
-argument_kind [] = 0
-argument_kind (name n ∷ ts) = 0
-argument_kind (agent s us ∷ ts) = first_kind us
-
-one_isnt_none : ◌≡◌ {A = ℕ} 1 0 → ⊥
-one_isnt_none e = omega (arith, e)
-
 pub true_isnt_false : (l e : ℕ) → Renames (alone (church_true l e)) (alone (church_false l e)) → ⊥
-true_isnt_false l e r = one_isnt_none (ap (λ (z : Configuration). argument_kind z.interface) r.result)
+true_isnt_false l e r = let same : church_false l e ∷ [] ≡ renamed r.to (church_true l e) ∷ [] = ap (λ (z : Configuration). z.interface) r.result in cc

@@ -1,6 +1,7 @@
 -- Settling is a chain of steps that put terms for names, after which there is none.
-use Rattle.std.proofs.Common.{◌≡◌, ℕ, zero, suc, ◌≤◌, List, [], ◌∷◌, ◌++◌, true, Option, None, Some, is_none, length, map, refl, ap, ◌∙◌, arith, length-append}
+use Rattle.std.proofs.Common.{◌≡◌, ℕ, zero, suc, ◌≤◌, List, [], ◌∷◌, ◌++◌, true, Option, None, Some, is_none, length, refl, ap, ◌∙◌, arith, length-append}
 use Rattle.std.specs.List.{list_all}
+use Rattle.std.proofs.lemmas.List.{length-map}
 use Rattle.ic_term.specs.Tree.{Tree, name, agent, Pair}
 use Rattle.ic_term.specs.Configuration.{Configuration}
 use Rattle.ic_settle.specs.Settling.{Choice, subst_pair, first_choice, applied, settled_in, settled}
@@ -27,14 +28,10 @@ settles_on c d steps = steps_on (length d.equations) c d steps
 
 -- ---- nothing is left to do
 
-mapped_length : (f : Pair → Pair) (es : List Pair) → length (map f es) ≡ length es
-mapped_length f [] = refl
-mapped_length f (e ∷ es) = ap suc (mapped_length f es)
-
 one_fewer : (c d : Configuration) → NameStep c d → length c.equations ≡ suc (length d.equations)
 one_fewer c d s =
     let given = ap length s.place ∙ length-append s.before (s.equation ∷ s.after) in
-    let left = ap (λ (e : Configuration). length e.equations) s.result ∙ (mapped_length (subst_pair s.bound.name s.bound.term) (s.before ++ s.after) ∙ length-append s.before s.after) in
+    let left = ap (λ (e : Configuration). length e.equations) s.result ∙ (length-map (s.before ++ s.after) (subst_pair s.bound.name s.bound.term) ∙ length-append s.before s.after) in
     omega (arith, given, left)
 
 no_choice_left : (n : ℕ) (c : Configuration) → length c.equations ≤ n → first_choice (settled_in n c).interface [] (settled_in n c).equations ≡ None
@@ -49,7 +46,7 @@ no_choice_left (suc n) c few = at (first_choice c.interface [] c.equations) refl
         → ((d : Configuration) → length d.equations ≤ n → first_choice (settled_in n d).interface [] (settled_in n d).equations ≡ None)
         → first_choice (settled_in (suc n) c).interface [] (settled_in (suc n) c).equations ≡ None
     at None e rest = rw e e
-    at (Some choice) e rest = rw e (rest (applied c choice) (let fewer = one_fewer c (applied c choice) (choice_step c choice e) in omega (arith, fewer, few)))
+    at (Some choice) e rest = rw e (rest (applied c choice) (omega (arith, one_fewer c (applied c choice) (choice_step c choice e), few)))
 
 no_rule : (t u : Tree) → is_none (active_pair [] (record { left = t; right = u })) ≡ true
 no_rule (name n) u = refl
@@ -62,7 +59,7 @@ inert (p ∷ es) = and_both (no_rule p.left p.right) (inert es)
 
 pub settled_ends : (c d : Configuration) → NameStep (settled c) d → ⊥
 settled_ends c d step =
-    let none = no_choice_left (length c.equations) c (let same : length c.equations ≤ length c.equations = omega arith in same) in
+    let none = no_choice_left (length c.equations) c (omega arith) in
     let still : is_settled (settled c) ≡ true = rw none refl in
     no_step_when_quiet [] (settled c) (and_both (inert (settled c).equations) still) d (name_step [] (settled c) d step)
 

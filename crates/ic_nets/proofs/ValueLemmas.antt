@@ -1,19 +1,16 @@
 -- What the wires of a net weigh, by what is joined and the ports at which names stand.
-use Rattle.std.proofs.Common.{◌≡◌, ℕ, ◌+◌, ◌≤◌, ◌<◌, ◌==◌, List, [], ◌∷◌, Bool, true, false, cond, Option, None, Some, refl, sym, ap, ◌∙◌, arith}
-use Rattle.std.specs.Cmp.{unsigned_Decides}
+use Rattle.std.proofs.Common.{◌≡◌, ℕ, ◌+◌, ◌≤◌, ◌<◌, ◌==◌, List, [], ◌∷◌, Bool, true, false, cond, Option, None, Some, refl, sym, ap, ◌∙◌, arith, eq-eqb}
 use Rattle.ic_nets.specs.declared.net.Wire.{Wire}
 use Rattle.ic_nets.specs.declared.port.Port.{Port}
 use Rattle.ic_nets.specs.declared.port.Port.TheVariants.{Free}
 use Rattle.ic_nets.proofs.NamedLemmas.{led}
 use Rattle.ic_nets.proofs.SumLemmas.{sum, sum-same, total, total-same, total_but_one}
-use Rattle.ic_nets.proofs.MarkLemmas.{Item, wired, stood, placed, between, Side, at, one}
+use Rattle.ic_nets.proofs.MarkLemmas.{Item, wired, stood, between, Side, at, one}
 
 abbrev pub ports_in : ℕ → List Item → List Port
 ports_in n [] = []
-ports_in n (wired p q ∷ xs) = ports_in n xs
 ports_in n (stood m p ∷ xs) = cond (m == n) (p ∷ ports_in n xs) (ports_in n xs)
-ports_in n (placed k a ∷ xs) = ports_in n xs
-ports_in n (between l r ∷ xs) = ports_in n xs
+ports_in n (x ∷ xs) = ports_in n xs
 
 abbrev pub Weight : Type 0
 Weight = Port → Port → ℕ
@@ -23,9 +20,7 @@ BothWays P = (p q : Port) → P p q ≡ P q p
 
 abbrev pub joined_by : Weight → Item → ℕ
 joined_by P (wired p q) = P p q
-joined_by P (stood n p) = 0
-joined_by P (placed k a) = 0
-joined_by P (between l r) = 0
+joined_by P x = 0
 
 abbrev pub worth : Weight → Option Wire → ℕ
 worth P None = 0
@@ -50,19 +45,14 @@ Symmetric w = ((p q : Port) → w (wired p q) ≡ w (wired q p)) × ((l r : Side
 abbrev pub Blind : (Item → ℕ) → Type 0
 Blind w = Symmetric w × ((p q : Port) → w (wired p q) ≡ 0) × ((n : ℕ) (p q : Port) → w (stood n p) ≡ w (stood n q))
 
-front : (a b : ℕ) → a ≡ b → a ≡ 0 + b
-front a b e = omega arith
-
 pub ports-sum : (n : ℕ) (v : Port → ℕ) (xs : List Item) → sum v (ports_in n xs) ≡ sum (at n v) xs
 ports-sum n v [] = refl
-ports-sum n v (wired p q ∷ xs) = front _ _ (ports-sum n v xs)
-ports-sum n v (placed k a ∷ xs) = front _ _ (ports-sum n v xs)
-ports-sum n v (between l r ∷ xs) = front _ _ (ports-sum n v xs)
 ports-sum n v (stood m p ∷ xs) = by (m == n) (ports-sum n v xs)
   where
     by : (b : Bool) → sum v (ports_in n xs) ≡ sum (at n v) xs → sum v (cond b (p ∷ ports_in n xs) (ports_in n xs)) ≡ cond b (v p) 0 + sum (at n v) xs
-    by true later = ap (λ k. v p + k) later
-    by false later = front _ _ later
+    by true later = omega arith
+    by false later = omega arith
+ports-sum n v (x ∷ xs) = omega (arith, ports-sum n v xs)
 
 pub no_ports : (n : ℕ) (xs : List Item) → sum (at n one) xs ≡ 0 → ports_in n xs ≡ []
 no_ports n xs none = by (ports_in n xs) (ports-sum n one xs ∙ none)
@@ -76,23 +66,17 @@ no_ports n xs none = by (ports_in n xs) (ports-sum n one xs ∙ none)
 module _ (P : Weight) (both : BothWays P) (n : ℕ) where
   pub worth_same : (ps qs : List Port) → ((v : Port → ℕ) → sum v ps ≡ sum v qs) → sum one ps ≤ 2 → name_worth P n ps ≡ name_worth P n qs
   worth_same [] [] same low = refl
-  worth_same [] (q ∷ qs) same low = let e = same one in absurd (omega (arith, e))
-  worth_same (p ∷ []) [] same low = let e = same one in absurd (omega (arith, e))
-  worth_same (p ∷ []) (q ∷ []) same low = last _ _ (same (λ a. P a (Free n)))
-    where
-      last : (a b : ℕ) → a + 0 ≡ b + 0 → a ≡ b
-      last a b e = omega arith
-  worth_same (p ∷ []) (q ∷ r ∷ qs) same low = let e = same one in absurd (omega (arith, e))
-  worth_same (p ∷ q ∷ []) [] same low = let e = same one in absurd (omega (arith, e))
-  worth_same (p ∷ q ∷ []) (r ∷ []) same low = let e = same one in absurd (omega (arith, e))
+  worth_same [] (q ∷ qs) same low = absurd (omega (arith, same one))
+  worth_same (p ∷ []) [] same low = absurd (omega (arith, same one))
+  worth_same (p ∷ []) (q ∷ []) same low = omega (arith, same (λ a. P a (Free n)))
+  worth_same (p ∷ []) (q ∷ r ∷ qs) same low = absurd (omega (arith, same one))
+  worth_same (p ∷ q ∷ []) [] same low = absurd (omega (arith, same one))
+  worth_same (p ∷ q ∷ []) (r ∷ []) same low = absurd (omega (arith, same one))
   worth_same (p ∷ q ∷ []) (r ∷ s ∷ []) same low =
       let ps = p ∷ q ∷ [] in
       let qs = r ∷ s ∷ [] in
-      sums _ _ _ _ _ _ _ _ (same (λ a. sum (P a) ps) ∙ sum-same (λ a. sum (P a) ps) (λ a. sum (P a) qs) (λ a. same (P a)) qs) (same (λ a. P a a)) (both q p) (both s r)
-    where
-      sums : (pp pq qp qq rr rs sr ss : ℕ) → pp + (pq + 0) + (qp + (qq + 0) + 0) ≡ rr + (rs + 0) + (sr + (ss + 0) + 0) → pp + (qq + 0) ≡ rr + (ss + 0) → qp ≡ pq → sr ≡ rs → pq ≡ rs
-      sums pp pq qp qq rr rs sr ss e1 e2 e3 e4 = omega arith
-  worth_same (p ∷ q ∷ []) (r ∷ s ∷ t ∷ qs) same low = let e = same one in absurd (omega (arith, e))
+      omega (arith, same (λ a. sum (P a) ps) ∙ sum-same (λ a. sum (P a) ps) (λ a. sum (P a) qs) (λ a. same (P a)) qs, same (λ a. P a a), both q p, both s r)
+  worth_same (p ∷ q ∷ []) (r ∷ s ∷ t ∷ qs) same low = absurd (omega (arith, same one))
   worth_same (p ∷ q ∷ t ∷ ps) qs same low = absurd (omega (arith, low))
 
 abbrev pub SameCounts : List Item → List Item → Type 0
@@ -103,10 +87,7 @@ value_same P both N xs ys same few =
     λ i. same (joined_by P) (both, λ l r. refl) i
     + total-same (λ n. name_worth P n (ports_in n xs)) (λ n. name_worth P n (ports_in n ys))
     (λ n. worth_same P both n (ports_in n xs) (ports_in n ys)
-    (λ v. ports-sum n v xs ∙ same (at n v) (λ p q. refl, λ l r. refl) ∙ sym (ports-sum n v ys)) (low _ _ (ports-sum n one xs) (few n).0)) N i
-  where
-    low : (a b : ℕ) → a ≡ b → b ≤ 2 → a ≤ 2
-    low a b e le = omega arith
+    (λ v. ports-sum n v xs ∙ same (at n v) (λ p q. refl, λ l r. refl) ∙ sym (ports-sum n v ys)) (omega (arith, ports-sum n one xs, (few n).0))) N i
 
 -- a name that stands at two ports alone is a wire between them
 pub contracted : (P : Weight) (N x : ℕ) (p q : Port) (xs : List Item) → sum (at x one) xs ≡ 0 → x < N → value P N (stood x p ∷ stood x q ∷ xs) ≡ P p q + value P N xs
@@ -117,9 +98,6 @@ contracted P N x p q xs none lt =
     λ n e. ap (λ b. name_worth P n (cond b (p ∷ cond b (q ∷ ports_in n xs) (ports_in n xs)) (cond b (q ∷ ports_in n xs) (ports_in n xs)))) e in
     let nothing = no_ports x xs none in
     let here : f x ≡ P p q =
-    ap (λ b. name_worth P x (cond b (p ∷ cond b (q ∷ ports_in x xs) (ports_in x xs)) (cond b (q ∷ ports_in x xs) (ports_in x xs)))) ((unsigned_Decides x x).1 refl)
+    ap (λ b. name_worth P x (cond b (p ∷ cond b (q ∷ ports_in x xs) (ports_in x xs)) (cond b (q ∷ ports_in x xs) (ports_in x xs)))) (eq-eqb x x refl)
     ∙ ap (λ ps. name_worth P x (p ∷ q ∷ ps)) nothing in
-    sums (sum (joined_by P) xs) _ _ _ _ _ (total_but_one f g x differ N lt) (ap (name_worth P x) nothing) here
-  where
-    sums : (j tf tg fx gx w : ℕ) → tf + gx ≡ tg + fx → gx ≡ 0 → fx ≡ w → 0 + (0 + j) + tf ≡ w + (j + tg)
-    sums j tf tg fx gx w e1 e2 e3 = omega arith
+    omega (arith, total_but_one f g x differ N lt, ap (name_worth P x) nothing)
