@@ -79,7 +79,7 @@ impl Failure {
     /// What standard error is told after the line of the failure, where the disk is in the file of
     /// this path and the cause is that of the last call to it, or to standard input, that has failed:
     /// a line, or nothing.
-    pub fn lines_after(
+    pub(crate) fn lines_after(
         &self,
         alloc: Global,
         path: &[u8],
@@ -394,7 +394,7 @@ fn taken_words(difference: Difference) -> &'static [u8]
 }
 
 /// The line that says this of the file of a path.
-fn said_of(alloc: Global, path: &[u8], words: &[u8]) -> Result<Vec<u8>, AllocError>
+pub(crate) fn said_of(alloc: Global, path: &[u8], words: &[u8]) -> Result<Vec<u8>, AllocError>
     ensures { IfOk result (λ line. line.items ≡ shown_of path.now words.now) }
 {
     let mut line = shown_path(alloc, path)?;

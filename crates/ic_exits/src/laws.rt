@@ -46,6 +46,9 @@ ghost use Rattle.ic_causes.specs.declared.cause.FileCall.{FileCall};
 ghost use Rattle.ic_causes.specs.declared.cause.Reason.TheVariants as reason;
 ghost use Rattle.ic_exits.specs.Endings.{status_of, check_ending, failure_line, failure_of_dump, opening_failure, reduce_ending, stuck_line};
 ghost use Rattle.ic_exits.specs.After.{is_silent, lines_after};
+ghost use Rattle.ic_exits.specs.Others.{lines_or_other};
+ghost use Rattle.ic_exits.specs.declared.others.Other.{Other};
+ghost use Rattle.ic_exits.specs.declared.others.Other.TheVariants as other;
 ghost use Rattle.ic_causes.specs.declared.cause.Cause.{Cause};
 ghost use Rattle.ic_causes.specs.declared.cause.Target.{Target};
 ghost use Rattle.ic_causes.specs.declared.cause.Target.TheVariants.{Input};
@@ -434,4 +437,41 @@ pub fn lines_after_are(text: &String)
         → lines_after (Jobs fault) path cause ≡ [] }
     ensures words { (path : List ℕ) (cause : Option Cause)
         → lines_after (Words (words.Words text.now)) path cause ≡ [] }
+{}
+
+/// Of a file that is known to be no disk it is told alone what it is, where that is why no disk is made or opened. A text
+/// is told so where it has no slot, or would be written over. Where nothing is known, or another failure came, it is told
+/// what is told else.
+pub fn other_files_are_told_to_be_so()
+    ensures reduction { (path : List ℕ) (cause : Option Cause)
+        → lines_or_other NotEmpty path cause (Some other.Reduction) ≡ shown_path path ++ codes ": "
+        ++ (codes "it is one of the two files of a reduction, and no disk: "
+        ++ codes "`icserve reduce --resume F` goes on with F, without .2") ++ 10 ∷ [] }
+    ensures reductions { (path : List ℕ) (cause : Option Cause)
+        → map (λ failure. lines_or_other failure path cause (Some other.Reduction))
+        (Open opening.NoSlot ∷ Open opening.TwoAlike ∷ Open opening.Damaged
+        ∷ Attend (scripts.Open opening.Damaged) ∷ [])
+        ≡ map (λ failure. lines_or_other failure path cause (Some other.Reduction))
+        (NotEmpty ∷ NotEmpty ∷ NotEmpty ∷ NotEmpty ∷ []) }
+    ensures text { (path : List ℕ) (cause : Option Cause)
+        → lines_or_other NotEmpty path cause (Some other.Text) ≡ shown_path path ++ codes ": "
+        ++ codes "the file is a text, and no disk; `icserve create --disk F` makes a new file F one"
+        ++ 10 ∷ [] }
+    ensures texts { (path : List ℕ) (cause : Option Cause)
+        → map (λ failure. lines_or_other failure path cause (Some other.Text))
+        (Open opening.NoSlot ∷ Attend (scripts.Open opening.NoSlot) ∷ [])
+        ≡ map (λ failure. lines_or_other failure path cause (Some other.Text))
+        (NotEmpty ∷ NotEmpty ∷ []) }
+    ensures damaged { (path : List ℕ) (cause : Option Cause)
+        → map (λ failure. lines_or_other failure path cause (Some other.Text))
+        (Open opening.Damaged ∷ Open opening.TwoAlike ∷ [])
+        ≡ map (λ failure. lines_after failure path cause)
+        (Open opening.Damaged ∷ Open opening.TwoAlike ∷ []) }
+    ensures others { (is : Other) (fault : DiskFault) (path : List ℕ) (cause : Option Cause)
+        → map (λ failure. lines_or_other failure path cause (Some is))
+        (Disk fault ∷ Locked ∷ Open opening.Device ∷ Open opening.Memory ∷ [])
+        ≡ map (λ failure. lines_after failure path cause)
+        (Disk fault ∷ Locked ∷ Open opening.Device ∷ Open opening.Memory ∷ []) }
+    ensures unknown { (failure : Failure) (path : List ℕ) (cause : Option Cause)
+        → lines_or_other failure path cause None ≡ lines_after failure path cause }
 {}

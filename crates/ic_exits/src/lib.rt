@@ -6,5 +6,7 @@
 mod after;
 mod failure;
 pub mod laws;
+mod others;
 
 pub use failure::{Failure, Reached, check_ending, opening_failure, reduce_ending, stuck_line};
+pub use others::Other;
