@@ -150,6 +150,10 @@ def warnings(rules, config):
     for name, count in names.items():
         if count == 1:
             yield f"the name {name_text(name)} stands only once"
+    sides = Counter(side[0] for equation in config.equations for side in equation if side[0] >= 0)
+    joined = any(left[0] < 0 and right[0] < 0 for left, right in config.equations)
+    if any({it.left, it.right} <= symbols for it in rules.rules) and not joined and all(it == 1 for it in sides.values()):
+        yield "no two agents meet, so no rule is used: a sum is Add(r,n)=m, not r=Add(m,n)"
 
 
 def of_whole(file, text, kind):

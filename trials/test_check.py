@@ -104,7 +104,14 @@ class Check(Trial):
 
     def test_warnings(self):
         add = "{Add(x,x)><Z;Add(S(x),y)><S(Add(x,y))}"
+        none_meet = "no two agents meet, so no rule is used: a sum is Add(r,n)=m, not r=Add(m,n)"
         systems = {
+            f"{add} <r|r=Add(S(Z),S(Z))>": [none_meet],
+            f"{add} <Add(S(Z),S(Z))|>": [none_meet],
+            f"{add} <r|x=Add(r,Z),x=S(Z)>": [],
+            f"{add} <r|x=Add(r,Z),y=S(Z),x=y>": [],
+            f"{add} <r|x=x,r=Add(S(Z),S(Z))>": [],
+            f"{add} <r,x|x=Add(r,Z),y=Add(Z,S(y))>": [none_meet],
             f"{add} <r|Add(r,S(Z))=S(Z)>": [],
             f"{add} <r|Add(r,Z)=Nil>": ["no rule for Add><Nil", "Nil stands only once", "rule 2, Add><S, is never used"],
             f"{add} <Z|>": ["rule 1, Add><Z, is never used", "rule 2, Add><S, is never used"],

@@ -8,9 +8,11 @@ use Rattle.ic_rules.specs.Rule.{Rule}
 use Rattle.ic_rules.specs.RuleSet.{Rules}
 use Rattle.ic_text.specs.Name.{name_text}
 use Rattle.ic_check.specs.Meanings.{HasNoRule, IsWarned, StandsOnce, faces}
+use Rattle.ic_check.specs.Meeting.{are_apart, has_use}
 use Rattle.ic_check.specs.Reach.{IsReach}
 use Rattle.ic_check.specs.Symbols.{text_symbols}
-use Rattle.ic_check.specs.Warnings.{Warns, count_of, free_line, free_lines, once_line, once_lines, pair_text, ruleless_line, ruleless_lines, unused_line, unused_lines, unused_words, warning_line}
+use Rattle.ic_check.specs.Warnings.{Warns, count_of, free_line, free_lines, idle_line, idle_words, once_line, once_lines, pair_text, ruleless_line, ruleless_lines, unused_line, unused_lines, unused_words, warning_line}
+use Rattle.ic_check.proofs.Idle.{same_use}
 use Rattle.ic_check.proofs.Once.{once_told}
 use Rattle.ic_check.proofs.Placed.{AreOf, all_free_of, all_once_of, all_ruleless_of, all_unused_of, any_words, both_of, either_of, lines_append, ruleless_of, told_of}
 use Rattle.ic_check.proofs.Reached.{one_reach}
@@ -122,6 +124,12 @@ module _ (place : List ℕ) (rs : Rules) (c : Configuration) (told : List ℕ) (
   abbrev fourth : List ℕ
   fourth = free_lines place (configuration_names c) (configuration_names c)
 
+  abbrev fifth : List ℕ
+  fifth = idle_line place among rs.rules c.equations
+
+  fifth_any : AreOf Any place fifth
+  fifth_any = told_of Any place idle_words tt (has_use among rs.rules && are_apart c.equations)
+
   fourth_any : AreOf Any place fourth
   fourth_any = all_free_of Any place (configuration_names c) (λ n. tt) (configuration_names c)
 
@@ -135,10 +143,16 @@ module _ (place : List ℕ) (rs : Rules) (c : Configuration) (told : List ℕ) (
   first_any = all_ruleless_of Any place rs (any_words rs) c.equations
 
   abbrev AreAll : Type 0
-  AreAll = told ≡ first ++ second ++ third ++ fourth
+  AreAll = told ≡ first ++ second ++ third ++ fourth ++ fifth
+
+  in_four : (words : List ℕ) → AreAll → IsWarned place words (first ++ second ++ third ++ fourth) → IsWarned place words told
+  in_four words is there = subst (IsWarned place words) (sym is) (ahead place words (first ++ second ++ third ++ fourth) fifth there fifth_any)
+
+  three_any : AreOf Any place (first ++ second ++ third)
+  three_any = both_of Any place (first ++ second) third (both_of Any place first second first_any second_any) third_any
 
   in_three : (words : List ℕ) → AreAll → IsWarned place words (first ++ second ++ third) → IsWarned place words told
-  in_three words is there = subst (IsWarned place words) (sym is) (ahead place words (first ++ second ++ third) fourth there fourth_any)
+  in_three words is there = in_four words is (ahead place words (first ++ second ++ third) fourth there fourth_any)
 
   in_first : (words : List ℕ) → AreAll → IsWarned place words first → IsWarned place words told
   in_first words is there = in_three words is (ahead place words (first ++ second) third (ahead place words first second there second_any) third_any)
@@ -150,8 +164,11 @@ module _ (place : List ℕ) (rs : Rules) (c : Configuration) (told : List ℕ) (
   in_third words is there = in_three words is (later place words (first ++ second) third (both_of Any place first second first_any second_any) there)
 
   in_fourth : (words : List ℕ) → AreAll → IsWarned place words fourth → IsWarned place words told
-  in_fourth words is there = subst (IsWarned place words) (sym is)
-      (later place words (first ++ second ++ third) fourth (both_of Any place (first ++ second) third (both_of Any place first second first_any second_any) third_any) there)
+  in_fourth words is there = in_four words is (later place words (first ++ second ++ third) fourth three_any there)
+
+  in_fifth : (words : List ℕ) → AreAll → IsWarned place words fifth → IsWarned place words told
+  in_fifth words is there = subst (IsWarned place words) (sym is)
+      (later place words (first ++ second ++ third ++ fourth) fifth (both_of Any place (first ++ second ++ third) fourth three_any fourth_any) there)
 
 pub begins : (place words : List ℕ) → warning_line place words ≡ place ++ codes ": warning: " ++ words ++ 10 ∷ []
 begins place words =
@@ -180,3 +197,11 @@ pub free_told : (place told : List ℕ) (rs : Rules) (c : Configuration) (n : �
 free_told place told rs c n is once =
     in_fourth place rs c told is.0 (codes "the name " ++ name_text n ++ codes " stands only once") is.2
     (each_free place (configuration_names c) (configuration_names c) once.0 n once.1 once)
+
+pub idle_told : (place told : List ℕ) (rs : Rules) (c : Configuration) (among : ℕ → Bool) → Warns place rs c told → IsReach rs.rules c among
+    → has_use among rs.rules ≡ true → are_apart c.equations ≡ true → IsWarned place idle_words told
+idle_told place told rs c among is reach used apart =
+    let same = one_reach rs.rules c is.0 among is.1 reach in
+    let here : has_use is.0 rs.rules ≡ true = same_use is.0 among same rs.rules ∙ used in
+    let line : idle_line place is.0 rs.rules c.equations ≡ warning_line place idle_words = rw (here, apart) refl in
+    in_fifth place rs c told is.0 idle_words is.2 (alone place idle_words (idle_line place is.0 rs.rules c.equations) line)

@@ -2,6 +2,7 @@ pub mod Listing
 pub mod Growth
 pub mod Warned
 pub mod Tallying
+pub mod Idle
 pub mod Told
 pub mod Refused
 pub mod ScriptFaults

@@ -42,7 +42,7 @@ use Rattle.ic_check.specs.declared.due.LineLimit.{LineLimit}
 use Rattle.ic_check.specs.declared.due.LineLimit.TheVariants as line_limit
 use Rattle.ic_check.specs.declared.line_places.LineDetail.{LineDetail}
 use Rattle.ic_check.specs.declared.line_places.LineDetail.TheVariants.{Sought, Passed as Beyond, Within}
-use Rattle.ic_check.specs.Warnings.{Warns, pair_text, symbol_text, unused_words, warning_line}
+use Rattle.ic_check.specs.Warnings.{Warns, idle_words, pair_text, symbol_text, unused_words, warning_line}
 use Rattle.ic_check.proofs.Placed.{AreOf, OfAllWords, lines_of_warnings}
 
 -- ---- texts without a line feed
@@ -401,6 +401,7 @@ one_each file told line rs c are free warns =
       unused = λ i r. one_warning place (unused_words rs.symbols i r) open_place (unused_free rs.symbols texts i r);
       free = λ n. one_warning place (codes "the name " ++ name_text n ++ codes " stands only once") open_place
           (both_free (codes "the name " ++ name_text n) (codes " stands only once") (both_free (codes "the name ") (name_text n) refl (name_free n)) refl);
+      idle = one_warning place idle_words open_place refl;
     } in
     lines_of_warnings (λ w. IsOneLine (warning_line place w)) place rs c told words warns
 

@@ -13,6 +13,7 @@ use Rattle.ic_text.specs.Name.{name_text}
 use Rattle.ic_text.specs.Text.{text_or_none}
 use Rattle.ic_check.specs.Symbols.{text_symbols}
 use Rattle.ic_check.specs.Reach.{IsReach}
+use Rattle.ic_check.specs.Meeting.{are_apart, has_use}
 
 -- the text of a symbol
 abbrev pub symbol_text : List Symbol → ℕ → List ℕ
@@ -74,12 +75,22 @@ free_line place all n = once_line place all n (codes "the name " ++ name_text n)
 abbrev pub free_lines : (place all : List ℕ) → List ℕ → List ℕ
 free_lines place all ns = flat_map (free_line place all) ns
 
+-- what is said where no two agents can meet
+abbrev pub idle_words : List ℕ
+idle_words = codes "no two agents meet, so no rule is used: a sum is Add(r,n)=m, not r=Add(m,n)"
+
+-- where a rule may be used as far as its symbols tell, and no two agents can meet
+abbrev pub idle_line : List ℕ → (ℕ → Bool) → List Rule → List Pair → List ℕ
+idle_line place among rs es =
+    if has_use among rs && are_apart es then warning_line place idle_words else []
+
 -- all warnings of a system, where these symbols may come to stand
 abbrev pub warning_lines : List ℕ → (ℕ → Bool) → Rules → Configuration → List ℕ
 warning_lines place among rs c = ruleless_lines place rs c.equations
     ++ once_lines place (text_symbols rs.rules c) 0 rs.symbols
     ++ unused_lines place among rs.symbols 0 rs.rules
     ++ free_lines place (configuration_names c) (configuration_names c)
+    ++ idle_line place among rs.rules c.equations
 
 -- these lines tell the warnings of a system
 abbrev pub Warns : List ℕ → Rules → Configuration → List ℕ → Type 0

@@ -49,13 +49,14 @@ ghost use Rattle.ic_text.specs.declared.limits.TheConstants.{MAX_TEXT};
 ghost use Rattle.ic_check.specs.declared.checking.Form.TheVariants as form;
 ghost use Rattle.ic_text.specs.Token.{Token, is_blank, is_word_byte, mark, tokens, word, words_among};
 ghost use Rattle.ic_check.specs.Meanings.{AreLines, BeginsLine, GoesWith, HasNoRule, IsOneLine, IsSubmitFront, IsSubmitWithSystem, IsToldAt, IsWarned, Passes, StandsIn, StandsOnce, faces, facing, is_among, is_looked_for, listed, told_commands};
+ghost use Rattle.ic_check.specs.Meeting.{are_apart, has_use};
 ghost use Rattle.ic_check.specs.Reach.{AllAmong, IsReach, IsTakenBy};
 ghost use Rattle.ic_check.specs.Scripts.{TellsScript, TellsScriptLine, run_sentence};
 ghost use Rattle.ic_check.specs.Sessions.{TellsRefusal, lines_sentence, refusal_line};
 ghost use Rattle.ic_check.specs.Symbols.{config_symbols, text_symbols};
 ghost use Rattle.ic_check.specs.Objects.{fault_fields, finding_fields, object_of, objects_of};
 ghost use Rattle.ic_check.specs.Telling.{fault_line, line_limit_sentence, line_sentence, place_text, placed_line, sought_sentence, spot_text};
-ghost use Rattle.ic_check.specs.Warnings.{Warns, once_line, once_lines, pair_text, ruleless_line, unused_line, warning_line};
+ghost use Rattle.ic_check.specs.Warnings.{Warns, idle_line, idle_words, once_line, once_lines, pair_text, ruleless_line, unused_line, warning_line};
 
 /// An equation is told as one without a rule exactly where both sides are agents and no rule is of their two symbols.
 /// Then it is stuck: no interaction takes it, in whatever configuration it stands, and no step takes away an equation
@@ -92,8 +93,8 @@ pub fn symbols_told_once_stand_at_one_place()
 {}
 
 /// Each warning has its line in what is told of a system: an equation of two agents that no rule is of, a symbol at
-/// just one place, a rule whose symbols can't both come to stand in the configuration, a name at just one place of it.
-/// All that is told are lines that begin with the place: the file's name, and of a line its number.
+/// just one place, a rule whose symbols can't both come to stand in the configuration, a name at just one place of it,
+/// and that no two agents can meet, where a rule may be used as far as its symbols tell. All that is told are lines that begin with the place: the file's name, and of a line its number.
 pub fn each_warning_is_told()
     ensures begins { (place words : List ℕ)
         → warning_line place words ≡ place ++ codes ": warning: " ++ words ++ 10 ∷ [] }
@@ -113,7 +114,24 @@ pub fn each_warning_is_told()
     ensures free { (place told : List ℕ) (rs : Rules) (c : Configuration) (n : ℕ)
         → Warns place rs c told → StandsOnce n (configuration_names c)
         → IsWarned place (codes "the name " ++ name_text n ++ codes " stands only once") told }
+    ensures idle { (place told : List ℕ) (rs : Rules) (c : Configuration) (among : ℕ → Bool)
+        → Warns place rs c told → IsReach rs.rules c among → IsTrue (has_use among rs.rules)
+        → IsTrue (are_apart c.equations) → IsWarned place idle_words told }
 {}
+
+/// Where it is told that no two agents meet, none ever do: whatever steps are made, no interaction comes to be possible,
+/// and none is before any round.
+pub fn where_none_meet_none_ever_do()
+    ensures steps { (rs : List Rule) (place : List ℕ) (among : ℕ → Bool) (c d e : Configuration)
+        (i : ℕ) → idle_line place among rs c.equations ≢ [] → Steps rs c d
+        → ¬ Interaction rs d e i }
+    ensures apart { (rs : List Rule) (c d e : Configuration) (i : ℕ)
+        → IsTrue (are_apart c.equations) → Steps rs c d → ¬ Interaction rs d e i }
+    ensures rounds { (rs : List Rule) (c d : Configuration) (n i : ℕ)
+        → IsTrue (are_apart c.equations) → ¬ Interaction rs (iterate rs n c) d i }
+{
+    ic_round::laws::rounds_are_steps();
+}
 
 /// The symbols that are gone through, of which one may stand only once, are those of the whole text: of both sides of
 /// each rule, of their arguments, of the interface and of the equations, however deep they stand.

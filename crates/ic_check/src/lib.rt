@@ -5,7 +5,7 @@
 //! told as compilers do, and lines after a faulty one are looked at, too.
 //!
 //! For a system without a fault it warns of pairs that no rule takes apart, of symbols that stand only once, of rules that
-//! are never used, and of names that stand only once. `check_files` does so of files, one after the other, whatever gives
+//! are never used, of names that stand only once, and where no two agents can meet. `check_files` does so of files, one after the other, whatever gives
 //! them, in lines or as objects of JSON. `tell_refusals` tells a session of its lines that a server refuses. `laws` says
 //! in other words what the warnings are.
 #![tactic(auto)]
@@ -17,6 +17,7 @@ mod front;
 pub mod laws;
 mod line_places;
 mod lines;
+mod meeting;
 mod names;
 mod objects;
 mod reach;

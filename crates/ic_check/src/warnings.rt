@@ -2,10 +2,12 @@
 
 ghost use Rattle.std.specs.Prelude.{◌≡◌, ◌&&◌, ◌++◌, ℕ, List, IfOk, OnOk, codes, map};
 ghost use Rattle.ic_term.specs.Term.{cell_tree, pair, tree};
-ghost use Rattle.ic_check.specs.Warnings.{Warns, count_of, free_lines, once_line, once_lines, pair_text, ruleless_line, ruleless_lines, symbol_text, unused_line, unused_lines, unused_words, warning_line};
+ghost use Rattle.ic_check.specs.Meeting.{has_use};
+ghost use Rattle.ic_check.specs.Warnings.{Warns, count_of, free_lines, idle_line, once_line, once_lines, pair_text, ruleless_line, ruleless_lines, symbol_text, unused_line, unused_lines, unused_words, warning_line};
 ghost use Rattle.ic_check.specs.inner.Growing.{holds};
 ghost use Rattle.ic_check.specs.inner.Tallies.{tallied_line};
 
+use crate::meeting::are_apart;
 use crate::names::{config_names, stands_once, tally};
 use crate::reach::{holds, reach};
 use crate::symbols::text_symbols;
@@ -14,6 +16,10 @@ use ic_rules::{Rule, RuleSet};
 use ic_term::{Cell, Config, Equation, Symbols, Term};
 use ic_text::put_name;
 use std::alloc::{AllocError, Global};
+
+/// What is said where no two agents can meet.
+const IDLE: &[u8] =
+    b"no two agents meet, so no rule is used: a sum is Add(r,n)=m, not r=Add(m,n)";
 
 /// Appends the line of a warning.
 fn put_warning(place: &[u8], words: &[u8], out: &mut Vec<u8>) -> Result<(), AllocError>
@@ -270,6 +276,40 @@ fn put_free_lines(
     Ok(())
 }
 
+/// Whether both symbols of one of these rules are among these.
+fn has_use(seen: &[u32], rules: &[Rule]) -> bool
+    ensures { result ≡ has_use (holds seen.now) rules.now }
+{
+    for rule in rules {
+        if may_be_used(seen, rule) {
+            return true;
+        }
+    }
+    false
+}
+
+/// Appends the line that no two agents can meet, where that is so and a rule may be used as far as the symbols tell that
+/// may come to stand.
+fn put_idle(
+    alloc: Global,
+    place: &[u8],
+    seen: &[u32],
+    rules: &[Rule],
+    equations: &[Equation],
+    out: &mut Vec<u8>,
+) -> Result<(), AllocError>
+    ensures { OnOk result (out.new.items ≡ out.old.items
+        ++ idle_line place.now (holds seen.now) rules.now (map pair equations.now)) }
+{
+    if !has_use(seen, rules) {
+        return Ok(());
+    }
+    if !are_apart(alloc, equations)? {
+        return Ok(());
+    }
+    put_warning(place, IDLE, out)
+}
+
 /// Appends all warnings of a system that stands at this place.
 pub(crate) fn put_warnings(
     alloc: Global,
@@ -289,5 +329,6 @@ pub(crate) fn put_warnings(
     put_ruleless_lines(alloc, place, rules, config.equations(), out)?;
     put_once_lines(alloc, place, &all, symbols, out)?;
     put_unused_lines(alloc, place, &seen, symbols, listed, out)?;
-    put_free_lines(alloc, place, &names, out)
+    put_free_lines(alloc, place, &names, out)?;
+    put_idle(alloc, place, &seen, listed, config.equations(), out)
 }
