@@ -29,5 +29,5 @@ mod warnings;
 
 pub use checking::{Form, check};
 pub use files::{Given, Layout, Source, Verdict, check_files};
-pub use lines::{check_script, check_script_line};
+pub use lines::{check_line, check_script, check_script_line};
 pub use sessions::tell_refusals;

@@ -5,6 +5,7 @@ ghost use Rattle.std.specs.Fmt.{decimal};
 ghost use Rattle.ic_disk.specs.declared.disk.DiskFault.{DiskFault};
 ghost use Rattle.ic_text.specs.Text.{fault_text};
 ghost use Rattle.ic_text.specs.declared.fault.TextFault.{TextFault};
+ghost use Rattle.ic_text.specs.declared.fault.TextFault.TheVariants as text_fault;
 ghost use Rattle.ic_round.specs.declared.round_fault.RoundFault.{RoundFault};
 ghost use Rattle.ic_round.specs.declared.round_fault.RoundFault.TheVariants as round;
 ghost use Rattle.ic_pool.specs.declared.fault.PoolFault.{PoolFault};
@@ -46,6 +47,7 @@ ghost use Rattle.ic_causes.specs.declared.cause.FileCall.{FileCall};
 ghost use Rattle.ic_causes.specs.declared.cause.Reason.TheVariants as reason;
 ghost use Rattle.ic_exits.specs.Endings.{status_of, check_ending, failure_line, failure_of_dump, opening_failure, reduce_ending, stuck_line};
 ghost use Rattle.ic_exits.specs.After.{is_silent, lines_after};
+ghost use Rattle.ic_exits.specs.JobLines.{refused_job_line};
 ghost use Rattle.ic_exits.specs.Others.{lines_or_other};
 ghost use Rattle.ic_exits.specs.declared.others.Other.{Other};
 ghost use Rattle.ic_exits.specs.declared.others.Other.TheVariants as other;
@@ -474,4 +476,22 @@ pub fn other_files_are_told_to_be_so()
         (Disk fault ∷ Locked ∷ Open opening.Device ∷ Open opening.Memory ∷ []) }
     ensures unknown { (failure : Failure) (path : List ℕ) (cause : Option Cause)
         → lines_or_other failure path cause None ≡ lines_after failure path cause }
+{}
+
+/// The line that is told of a line that can be read and gives no job: another command, a name twice, or a 33rd job.
+pub fn lines_of_refused_jobs_are()
+    ensures other { (path : List ℕ) (line : ℕ)
+        → refused_job_line path line (cause_of_line.Text text_fault.Syntax) ≡ shown_path path ++ codes ":"
+        ++ decimal line ++ codes ": " ++ codes "each line submits a job" ++ 10 ∷ [] }
+    ensures twice { (path : List ℕ) (line : ℕ)
+        → refused_job_line path line (cause_of_line.Refused Taken) ≡ shown_path path ++ codes ":"
+        ++ decimal line ++ codes ": " ++ codes "a line before submits a job of this name"
+        ++ 10 ∷ [] }
+    ensures commands { (path : List ℕ) (line : ℕ)
+        → refused_job_line path line (cause_of_line.Text text_fault.Limit)
+        ≡ refused_job_line path line (cause_of_line.Refused Full) }
+    ensures many { (path : List ℕ) (line : ℕ)
+        → refused_job_line path line (cause_of_line.Refused Full) ≡ shown_path path ++ codes ":"
+        ++ decimal line ++ codes ": "
+        ++ codes "a batch has at most 32 jobs; `cluster/cut` parts more into shards" ++ 10 ∷ [] }
 {}
