@@ -349,8 +349,10 @@ pub fn nothing_is_told_where_nobody_reads()
 pub fn lines_after_are(text: &String)
     ensures round_overgrown { (r nodes : ℕ) (path : List ℕ) (cause : Option Cause)
         → lines_after
-        (Round (record { fault = round.Overgrown; round = r; nodes = nodes })) path cause ≡ codes "round " ++ decimal r ++ codes ", nodes " ++ decimal nodes
-        ++ codes ", at most 8192" ++ 10 ∷ [] }
+        (Round (record { fault = round.Overgrown; round = r; nodes = nodes })) path cause
+        ≡ codes "round " ++ decimal r
+        ++ codes " would pass 8192 nodes as its pairs fire; before it there are " ++ decimal nodes
+        ++ 10 ∷ [] }
     ensures names_out { (r nodes : ℕ) (path : List ℕ) (cause : Option Cause)
         → lines_after
         (Round (record { fault = round.NamesOut; round = r; nodes = nodes })) path cause ≡ codes "round " ++ decimal r ++ codes ", nodes " ++ decimal nodes ++ 10 ∷ [] }
