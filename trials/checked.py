@@ -31,6 +31,7 @@ PASSED = {
     "number": "a run makes at most 1000 rounds",
 }
 JOB_NAME = "a job's name has small letters, digits and - only"
+WHOLE_TEXT = "a system is submitted on one line: submit NAME {RULES} <CONFIG>"
 FRONT_COMMENT = "there are no comments; `icserve expand` takes those that begin with # out of a text, and lines for serve have none"
 LINE_COMMENT = "lines have no comments: take this one out"
 READERS = {"system": model.read_system, "configuration": model.read_configuration}
@@ -111,7 +112,8 @@ def found_in_line(line, kind):
     if line.startswith(places.ORDER_MARK):
         return "syntax", 0, places.MARKED
     if not inner or not inner[1]:
-        return "syntax", end, LINE_COMMENT if line.startswith(places.COMMENTS, end) else SOUGHT[due]
+        sought = WHOLE_TEXT if due == "command" and line[end : end + 1] in (b"{", b"<") else SOUGHT[due]
+        return "syntax", end, LINE_COMMENT if line.startswith(places.COMMENTS, end) else sought
     return "syntax", end + inner[1], places.sentence_of_syntax(line, end + inner[1], "system")
 
 

@@ -93,6 +93,16 @@ class Session(Trial):
         missing = [it for it in words if it not in helped and it != "and"]
         self.equals("icserve help serve", "words of the lines that it hasn't", [], missing)
 
+    def test_a_system_that_is_no_line_is_told_how_it_is_submitted(self):
+        text = "{Add(x,x)><Z;\n  Add(S(x),y)><S(Add(x,y))}\n\t<r|Add(r,S(Z))=S(Z)>"
+        words = "a system is submitted on one line: submit NAME {RULES} <CONFIG>"
+        told = [f"line 1, column 1: bad syntax: {words}", TOLD[0].replace("1", "2", 1).replace("column 1", "column 3"), f"line 3, column 2: bad syntax: {words}"]
+        self.serves(self.jobs, text, ["bad syntax"] * 3, "--explain", err=told)
+        path = self.room / "commented.ic"
+        path.write_text(f"// a sum\n{text}\n")
+        told = run("check", path).out.decode().splitlines()
+        self.equals("check", "what is told of lines of a system", [f"{path}:{it}: bad syntax: {words}" for it in ("2:1", "4:2")], [it for it in told if words in it])
+
     def test_who_wants_to_quit_is_told_how_a_session_ends(self):
         told = [f"line {number}, column {column}: bad syntax: {END}" for number, column in ((1, 1), (2, 3), (3, 1))]
         told += [TOLD[0].replace("line 1", "line 5")]

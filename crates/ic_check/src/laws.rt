@@ -294,7 +294,7 @@ pub fn limits_of_lines_are_passed()
 
 /// The sentences of what is looked for. That of a command tells each word with which a line begins, and no others, and
 /// how a file begins that has no lines. Where a job's name goes on with another byte, it is told what names have.
-/// A byte order mark before a line is told.
+/// A byte order mark before a line is told, and so is a system or a configuration in place of a command.
 pub fn sentences_tell_what_is_looked_for()
     ensures command { sought_sentence due.Command
         ≡ codes "a command is looked for here: " ++ listed told_commands
@@ -314,6 +314,10 @@ pub fn sentences_tell_what_is_looked_for()
         (codes "submit a_b {} <|>" ∷ codes "submit a' {} <|>" ∷ []) }
     ensures old_name { line_sentence (codes "copy a_b c") Syntax 6 (Sought due.NewName)
         ≡ codes "a job's name has small letters, digits and - only" }
+    ensures whole_text { (rest : List ℕ) → AllByRecursion
+        (λ front. line_sentence (front ++ rest) Syntax 0 (Sought due.Command)
+        ≡ codes "a system is submitted on one line: submit NAME {RULES} <CONFIG>")
+        (codes "{" ∷ codes "<" ∷ []) }
     ensures order_mark { (rest : List ℕ) (due : Due) →
         line_sentence (239 ∷ 187 ∷ 191 ∷ rest) Syntax 0 (Sought due)
         ≡ codes "a byte order mark stands before the text: take it out" }
