@@ -45,7 +45,7 @@ ghost use Rattle.ic_batch.specs.declared.fault.Difference.{Difference};
 ghost use Rattle.ic_batch.specs.declared.fault.Difference.TheVariants as difference;
 ghost use Rattle.ic_causes.specs.declared.cause.FileCall.{FileCall};
 ghost use Rattle.ic_causes.specs.declared.cause.Reason.TheVariants as reason;
-ghost use Rattle.ic_exits.specs.Endings.{status_of, check_ending, failure_line, failure_of_dump, opening_failure, reduce_ending, stuck_line};
+ghost use Rattle.ic_exits.specs.Endings.{status_of, check_ending, failure_line, failure_of_dump, idle_line, opening_failure, reduce_ending, stuck_line};
 ghost use Rattle.ic_exits.specs.After.{is_silent, lines_after};
 ghost use Rattle.ic_exits.specs.JobLines.{refused_job_line};
 ghost use Rattle.ic_exits.specs.Others.{lines_or_other};
@@ -251,7 +251,7 @@ pub fn lines_of_checks_are()
 
 /// The line on standard error where rounds or interactions didn't suffice, where a round is refused
 /// after others, where a net that is reduced in place is too large or memory ran out, and that of a
-/// stuck pair.
+/// stuck pair and of rules of which none was used.
 pub fn lines_of_looks_are()
     ensures not_done { failure_line NotDone ≡ codes "icserve: not done" ++ 10 ∷ [] }
     ensures round { (r nodes : ℕ) → map (λ fault. failure_line
@@ -266,6 +266,8 @@ pub fn lines_of_looks_are()
         → failure_line (OutOfMemory reached) ≡ codes "icserve: memory" ++ 10 ∷ [] }
     ensures stuck { (pair : List ℕ) → stuck_line pair
         ≡ codes "icserve: stuck " ++ pair ++ 10 ∷ [] }
+    ensures idle { idle_line ≡ codes "icserve: no two agents met, so no rule was used; "
+        ++ codes "`icserve check` warns where none can" ++ 10 ∷ [] }
 {}
 
 /// The statuses and the lines of a reduction that is kept, and what is told after them.
