@@ -156,6 +156,11 @@ def warnings(rules, config):
     joined = any(left[0] < 0 and right[0] < 0 for left, right in config.equations)
     if any({it.left, it.right} <= symbols for it in rules.rules) and not joined and all(it == 1 for it in sides.values()):
         yield "no two agents meet, so no rule is used: a sum is Add(r,n)=m, not r=Add(m,n)"
+    sides = {side for it in rules.rules for side in (it.left, it.right)}
+    for symbol, (text, arity) in enumerate(rules.symbols):
+        made = [symbols_in(it.left_args + it.right_args).count(symbol) for it in rules.rules]
+        if re.fullmatch("[A-Z]", text) and not arity and symbol not in sides and max(made, default=0) >= 2:
+            yield f"{text} is an agent, and no rule is of it: names are small letters, as x"
 
 
 def of_whole(file, text, kind):

@@ -124,6 +124,10 @@ class Check(Trial):
                 "the name x stands only once",
             ],
             "{} <x,A|x=A>": [],
+            "{Add(X,X)><Z} <r|Add(r,Z)=Z>": ["X is an agent, and no rule is of it: names are small letters, as x"],
+            "{Add(T,U)><Z(a,a)} <r,s|Add(r,s)=Z(T,U)>": [],
+            "{Add(X,X)><Z;X><Z} <|Add(X,X)=Z>": [],
+            "{Add(Nil,Nil)><Z;B(X(X(a)),a)><Z} <|Add(b,c)=Z,B(b,c)=Z>": [],
             "{} <A|>": ["A stands only once"],
         }
         for text, told in systems.items():

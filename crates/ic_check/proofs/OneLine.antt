@@ -42,7 +42,7 @@ use Rattle.ic_check.specs.declared.due.LineLimit.{LineLimit}
 use Rattle.ic_check.specs.declared.due.LineLimit.TheVariants as line_limit
 use Rattle.ic_check.specs.declared.line_places.LineDetail.{LineDetail}
 use Rattle.ic_check.specs.declared.line_places.LineDetail.TheVariants.{Sought, Passed as Beyond, Within}
-use Rattle.ic_check.specs.Warnings.{Warns, idle_words, pair_text, symbol_text, unused_words, warning_line}
+use Rattle.ic_check.specs.Warnings.{Warns, idle_words, letter_words, pair_text, symbol_text, unused_words, warning_line}
 use Rattle.ic_check.proofs.Placed.{AreOf, OfAllWords, lines_of_warnings}
 
 -- ---- texts without a line feed
@@ -385,6 +385,12 @@ each_once place free [] are = tt
 each_once place free (s ∷ ss) are =
     (one_warning place (s.text ++ codes " stands only once") free (both_free s.text (codes " stands only once") are.0 refl), each_once place free ss are.1)
 
+each_letter : (place : List ℕ) → has_feed place ≡ false → (ss : List Symbol) → AllByRecursion (λ s. has_feed s.text ≡ false) ss
+    → AllByRecursion (λ s. IsOneLine (warning_line place (letter_words s.text))) ss
+each_letter place free [] are = tt
+each_letter place free (s ∷ ss) are =
+    (one_warning place (letter_words s.text) free (both_free s.text (codes " is an agent, and no rule is of it: names are small letters, as x") are.0 refl), each_letter place free ss are.1)
+
 pub free_texts : (ss : List Symbol) → AllByRecursion (λ s. IsTrue (is_symbol_text s.text)) ss → AllByRecursion (λ s. has_feed s.text ≡ false) ss
 free_texts [] are = tt
 free_texts (s ∷ ss) are = (symbol_free s.text are.0, free_texts ss are.1)
@@ -402,6 +408,7 @@ one_each file told line rs c are free warns =
       free = λ n. one_warning place (codes "the name " ++ name_text n ++ codes " stands only once") open_place
           (both_free (codes "the name " ++ name_text n) (codes " stands only once") (both_free (codes "the name ") (name_text n) refl (name_free n)) refl);
       idle = one_warning place idle_words open_place refl;
+      letter = each_letter place open_place rs.symbols texts;
     } in
     lines_of_warnings (λ w. IsOneLine (warning_line place w)) place rs c told words warns
 

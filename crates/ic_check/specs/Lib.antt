@@ -2,6 +2,7 @@
 pub mod Symbols
 pub mod Reach
 pub mod Meeting
+pub mod Letters
 pub mod Warnings
 pub mod LinePlaces
 pub mod Telling

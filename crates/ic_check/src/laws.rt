@@ -49,6 +49,7 @@ ghost use Rattle.ic_text.specs.declared.limits.TheConstants.{MAX_TEXT};
 ghost use Rattle.ic_check.specs.declared.checking.Form.TheVariants as form;
 ghost use Rattle.ic_text.specs.Token.{Token, is_blank, is_word_byte, mark, tokens, word, words_among};
 ghost use Rattle.ic_check.specs.Meanings.{AreLines, BeginsLine, GoesWith, HasNoRule, IsOneLine, IsSubmitFront, IsSubmitWithSystem, IsToldAt, IsWarned, Passes, StandsIn, StandsOnce, faces, facing, is_among, is_looked_for, listed, told_commands};
+ghost use Rattle.ic_check.specs.Letters.{looks_like_name};
 ghost use Rattle.ic_check.specs.Meeting.{are_apart, has_use};
 ghost use Rattle.ic_check.specs.Reach.{AllAmong, IsReach, IsTakenBy};
 ghost use Rattle.ic_check.specs.Scripts.{TellsScript, TellsScriptLine, run_sentence};
@@ -94,7 +95,8 @@ pub fn symbols_told_once_stand_at_one_place()
 
 /// Each warning has its line in what is told of a system: an equation of two agents that no rule is of, a symbol at
 /// just one place, a rule whose symbols can't both come to stand in the configuration, a name at just one place of it,
-/// and that no two agents can meet, where a rule may be used as far as its symbols tell. All that is told are lines that begin with the place: the file's name, and of a line its number.
+/// that no two agents can meet, where a rule may be used as far as its symbols tell, and a symbol that looks like a name.
+/// All that is told are lines that begin with the place: the file's name, and of a line its number.
 pub fn each_warning_is_told()
     ensures begins { (place words : List ℕ)
         → warning_line place words ≡ place ++ codes ": warning: " ++ words ++ 10 ∷ [] }
@@ -117,6 +119,16 @@ pub fn each_warning_is_told()
     ensures idle { (place told : List ℕ) (rs : Rules) (c : Configuration) (among : ℕ → Bool)
         → Warns place rs c told → IsReach rs.rules c among → IsTrue (has_use among rs.rules)
         → IsTrue (are_apart c.equations) → IsWarned place idle_words told }
+    ensures letter { (place told : List ℕ) (rs : Rules) (c : Configuration) (i : ℕ) (s : Symbol)
+        → Warns place rs c told → slice_get rs.symbols i ≡ Some s
+        → IsTrue (looks_like_name rs.rules i s.text s.arity) → IsWarned place
+        (s.text ++ codes " is an agent, and no rule is of it: names are small letters, as x") told }
+{}
+
+/// A symbol that is told to look like a name has no rule with any other symbol.
+pub fn symbols_that_look_like_names_have_no_rule()
+    ensures { (rs : List Rule) (i other : ℕ) (text : List ℕ) (arity : ℕ)
+        → IsTrue (looks_like_name rs i text arity) → HasNoRule rs i other }
 {}
 
 /// Where it is told that no two agents meet, none ever do: whatever steps are made, no interaction comes to be possible,
