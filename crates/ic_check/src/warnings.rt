@@ -19,8 +19,7 @@ use ic_text::put_name;
 use std::alloc::{AllocError, Global};
 
 /// What is said where no two agents can meet.
-const IDLE: &[u8] =
-    b"no two agents meet, so no rule is used: a sum is Add(r,n)=m, not r=Add(m,n)";
+const IDLE: &[u8] = b"no two agents meet, so no rule is used: a sum is Add(r,n)=m, not r=Add(m,n)";
 
 /// What is said of a symbol that looks like a name.
 const LETTER: &[u8] = b" is an agent, and no rule is of it: names are small letters, as x";
@@ -337,7 +336,15 @@ fn put_letter_lines(
     for symbol in 0..count {
         let number = symbol as u32;
         let text = symbols.text(number);
-        put_letter(alloc, place, rules, number, text, symbols.arity(number), out)?;
+        put_letter(
+            alloc,
+            place,
+            rules,
+            number,
+            text,
+            symbols.arity(number),
+            out,
+        )?;
     }
     Ok(())
 }
