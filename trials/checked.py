@@ -23,7 +23,7 @@ SOUGHT = {
     "budget": "a budget or { is looked for here",
     "system": "{ is looked for here",
     "number": "a number is looked for here",
-    "nothing": "nothing is looked for here",
+    "nothing": "the line ends before this",
 }
 PASSED = {
     "name": "a job's name has at most 16 bytes",
@@ -31,6 +31,7 @@ PASSED = {
     "number": "a run makes at most 1000 rounds",
 }
 JOB_NAME = "a job's name has small letters, digits and - only"
+WHOLE_TEXT = "a system is submitted on one line: submit NAME {RULES} <CONFIG>"
 FRONT_COMMENT = "there are no comments; `icserve expand` takes those that begin with # out of a text, and lines for serve have none"
 LINE_COMMENT = "lines have no comments: take this one out"
 READERS = {"system": model.read_system, "configuration": model.read_configuration}
@@ -111,7 +112,8 @@ def found_in_line(line, kind):
     if line.startswith(places.ORDER_MARK):
         return "syntax", 0, places.MARKED
     if not inner or not inner[1]:
-        return "syntax", end, LINE_COMMENT if line.startswith(places.COMMENTS, end) else SOUGHT[due]
+        sought = WHOLE_TEXT if due == "command" and line[end : end + 1] in (b"{", b"<") else SOUGHT[due]
+        return "syntax", end, LINE_COMMENT if line.startswith(places.COMMENTS, end) else sought
     return "syntax", end + inner[1], places.sentence_of_syntax(line, end + inner[1], "system")
 
 
@@ -150,6 +152,15 @@ def warnings(rules, config):
     for name, count in names.items():
         if count == 1:
             yield f"the name {name_text(name)} stands only once"
+    sides = Counter(side[0] for equation in config.equations for side in equation if side[0] >= 0)
+    joined = any(left[0] < 0 and right[0] < 0 for left, right in config.equations)
+    if any({it.left, it.right} <= symbols for it in rules.rules) and not joined and all(it == 1 for it in sides.values()):
+        yield "no two agents meet, so no rule is used: a sum is Add(r,n)=m, not r=Add(m,n)"
+    sides = {side for it in rules.rules for side in (it.left, it.right)}
+    for symbol, (text, arity) in enumerate(rules.symbols):
+        made = [symbols_in(it.left_args + it.right_args).count(symbol) for it in rules.rules]
+        if re.fullmatch("[A-Z]", text) and not arity and symbol not in sides and max(made, default=0) >= 2:
+            yield f"{text} is an agent, and no rule is of it: names are small letters, as x"
 
 
 def of_whole(file, text, kind):

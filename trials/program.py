@@ -58,8 +58,8 @@ OF_BAD = b"icserve: a line was answered `bad`: serve --explain tells what is wro
 
 def ran_with(command, status, out, err):
     """A run, what it wrote on standard error parted: a line that tells of the disk's file, of standard input, of a net,
-    of a round, of a script, of a history or of a line with a fault stands by itself, and so do the four lines of a
-    place in a text."""
+    of a round, of a script, of a line of a batch, of a history or of a line with a fault stands by itself, and so do the
+    four lines of a place in a text."""
     if OF_BAD in err:
         ran = ran_with(command, status, out, err.replace(OF_BAD, b"", 1))
         return ran._replace(after=OF_BAD + ran.after)
@@ -70,8 +70,9 @@ def ran_with(command, status, out, err):
     of_net = line in OF_NETS and after.startswith(b"interactions ") and after.count(b"\n") in (1, 2)
     of_round = line in OF_ROUNDS and after.startswith(b"round ") and after.count(b"\n") == 1
     of_script = line.startswith(b"icserve: script ") and after.count(b"\n") == 1
+    of_job = line.startswith(b"icserve: line ") and after.count(b"\n") == 1
     of_history = line == b"icserve: log full" and after.startswith(b"the history holds ") and after.count(b"\n") == 1
-    if of_disk or of_text or of_input or of_net or of_round or of_script or of_history:
+    if of_disk or of_text or of_input or of_net or of_round or of_script or of_job or of_history:
         return Ran(command, status, out, line + feed, after)
     return Ran(command, status, out, err)
 

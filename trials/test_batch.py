@@ -4,6 +4,7 @@ import signal
 import subprocess
 import time
 
+from checked import checked
 from known import ADD, LOOP, STILL, TWO, WAVES, WIDE, Job, fetched
 from program import PROGRAM, Server, Trial, as_lines, heeds_signals, run, said_of
 
@@ -84,18 +85,23 @@ class Batch(Trial):
         """No disk is made or opened then."""
         two, loop = submitted("two", TWO), submitted("loop", LOOP)
         many = [submitted(f"j{it}", STILL) for it in range(33)]
-        for lines, line in (
-            ([two, "", "submit loop {A(B(x))><B(A(x))} <|A(x)=B(x)"], "line 3: bad syntax"),
-            (["submit x {} <|x=x,x=y>"], "line 1: bad name x"),
-            ([two, "run 3"], "line 2: bad syntax"),
-            ([two, "list"], "line 2: bad syntax"),
-            (["", two, "", loop, "fetch two"], "line 5: bad syntax"),
-            ([two, "", loop, submitted("two", LOOP)], "line 4: refused taken"),
-            (["", *many], "line 34: refused full"),
-            ([two, "no"], "line 2: bad syntax"),
+        submits = "each line submits a job"
+        sought = "a command is looked for here: submit, copy, pause, resume, cancel, fetch, list or run; a file with one text begins with { or <"
+        for lines, line, after in (
+            ([two, "", "submit loop {A(B(x))><B(A(x))} <|A(x)=B(x)"], "line 3: bad syntax", None),
+            (["submit x {} <|x=x,x=y>"], "line 1: bad name x", None),
+            ([two, "run 3"], "line 2: bad syntax", f"2: {submits}"),
+            ([two, "list"], "line 2: bad syntax", f"2: {submits}"),
+            (["", two, "", loop, "fetch two"], "line 5: bad syntax", f"5: {submits}"),
+            ([two, "", loop, submitted("two", LOOP)], "line 4: refused taken", "4: a line before submits a job of this name"),
+            (["", *many], "line 34: refused full", "34: a batch has at most 32 jobs; `cluster/cut` parts more into shards"),
+            ([two, "no"], "line 2: bad syntax", f"2:1: bad syntax: {sought}"),
         ):
             with self.subTest(line=line):
-                self.refuses(*self.words(lines), line=line, status=1)
+                words = self.words(lines)
+                ran = self.refuses(*words, line=line, status=1)
+                told = checked(words[-1], "\n".join(lines).encode())[0] if after is None else [f"{words[-1]}:{after}"]
+                self.equals(ran.command, "what is told after", "".join(f"{it}\n" for it in told), ran.after.decode())
                 self.equals(line, "whether a disk was made", False, self.path.exists())
         ran = run("batch", "--disk", self.path, self.room / "none")
         after = f"{self.room / 'none'}: open: no such file or folder\n".encode()

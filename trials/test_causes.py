@@ -12,6 +12,7 @@ from program import PROGRAM, Server, Trial, grows_to, run
 from shim import shimmed, was_refused
 
 NO_DISK = "the file is no disk; `icserve create --disk F` makes a new file F one"
+IS_TEXT = "the file is a text, and no disk; `icserve create --disk F` makes a new file F one"
 NOT_AS_LEFT = "something else has changed the file, or it was copied in part"
 
 
@@ -136,10 +137,10 @@ class Causes(Trial):
 
     def test_a_file_that_is_no_disk(self):
         path = self.room / "file"
-        for data in (b"", b"a text\n", bytes(5_000_000)):
+        for data, words in ((b"", NO_DISK), (b"a text\n", IS_TEXT), (bytes(5_000_000), NO_DISK)):
             path.write_bytes(data)
             for word in ("serve", "attend", "dump"):
-                self.tells(run(word, "--disk", path, given="list"), "no slot", f"{path}: {NO_DISK}")
+                self.tells(run(word, "--disk", path, given="list"), "no slot", f"{path}: {words}")
 
     def test_a_disk_that_something_else_has_changed(self):
         path = self.room / "file"

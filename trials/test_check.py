@@ -104,7 +104,14 @@ class Check(Trial):
 
     def test_warnings(self):
         add = "{Add(x,x)><Z;Add(S(x),y)><S(Add(x,y))}"
+        none_meet = "no two agents meet, so no rule is used: a sum is Add(r,n)=m, not r=Add(m,n)"
         systems = {
+            f"{add} <r|r=Add(S(Z),S(Z))>": [none_meet],
+            f"{add} <Add(S(Z),S(Z))|>": [none_meet],
+            f"{add} <r|x=Add(r,Z),x=S(Z)>": [],
+            f"{add} <r|x=Add(r,Z),y=S(Z),x=y>": [],
+            f"{add} <r|x=x,r=Add(S(Z),S(Z))>": [],
+            f"{add} <r,x|x=Add(r,Z),y=Add(Z,S(y))>": [none_meet],
             f"{add} <r|Add(r,S(Z))=S(Z)>": [],
             f"{add} <r|Add(r,Z)=Nil>": ["no rule for Add><Nil", "Nil stands only once", "rule 2, Add><S, is never used"],
             f"{add} <Z|>": ["rule 1, Add><Z, is never used", "rule 2, Add><S, is never used"],
@@ -117,6 +124,10 @@ class Check(Trial):
                 "the name x stands only once",
             ],
             "{} <x,A|x=A>": [],
+            "{Add(X,X)><Z} <r|Add(r,Z)=Z>": ["X is an agent, and no rule is of it: names are small letters, as x"],
+            "{Add(T,U)><Z(a,a)} <r,s|Add(r,s)=Z(T,U)>": [],
+            "{Add(X,X)><Z;X><Z} <|Add(X,X)=Z>": [],
+            "{Add(Nil,Nil)><Z;B(X(X(a)),a)><Z} <|Add(b,c)=Z,B(b,c)=Z>": [],
             "{} <A|>": ["A stands only once"],
         }
         for text, told in systems.items():
@@ -166,8 +177,8 @@ class Check(Trial):
             "submit a {A><B <|>": (16, "syntax", "( or ; or } is looked for here"),
             "submit": (7, "syntax", name),
             "submit Two Add": (8, "syntax", name),
-            "fetch one two": (11, "syntax", "nothing is looked for here"),
-            "copy a b {} <|>": (10, "syntax", "nothing is looked for here"),
+            "fetch one two": (11, "syntax", "the line ends before this"),
+            "copy a b {} <|>": (10, "syntax", "the line ends before this"),
             "run": (4, "syntax", "a number is looked for here"),
             "fetch": (6, "syntax", name),
             "fetch " + "a" * 17: (7, "limit", long),

@@ -9,6 +9,7 @@ from program import IN_MEMORY, SEED, TOP, Trial, run
 MOST = 16_777_216
 SENTENCES = {
     "text": "a text begins with { or <; lines for serve aren't expanded",
+    "word": "copy and erase need a symbol: A to Z or 0 to 9, and then letters and digits",
     "symbol": "copy and erase need a symbol that stands in a term, and this one stands in none",
     "copier": "copy needs a symbol with two arguments, and this one has COUNT where it stands first",
     "eraser": "erase needs a symbol without arguments, and this one has COUNT where it stands first",
@@ -68,8 +69,9 @@ REFUSED = {
     "a copier of none": ("{copy D} <|D=D>", (1, 7), ("copier", 0)),
     "a copier of three in a rule": ("{A><D(a,b,c);copy D} <|D(a,b)=A>", (1, 19), ("copier", 3)),
     "an eraser of one": ("{erase E} <|E(a)=E(a)>", (1, 8), ("eraser", 1)),
-    "a name": ("{copy d} <|D(a,b)=D(a,b)>", (1, 7), "symbol"),
-    "nothing": ("{copy ;A><B} <|D(a,b)=D(a,b)>", (1, 7), "symbol"),
+    "a name": ("{copy d} <|D(a,b)=D(a,b)>", (1, 7), "word"),
+    "a word with a line": ("{erase E_1} <|E=E>", (1, 8), "word"),
+    "nothing": ("{copy ;A><B} <|D(a,b)=D(a,b)>", (1, 7), "word"),
     "twice": ("{copy D;\n  copy D} <|D(a,b)=Z>", (2, 8), "rules"),
     "all given": ("{E><E;A><E;erase E} <|A=E>", (1, 18), "rules"),
     "arguments": ("{copy D(x,y)} <|D(a,b)=Z>", (1, 8), "end"),
@@ -178,7 +180,8 @@ def model(text):
         elif spot in (b"copy", b"erase"):
             if symbols.get(piece) != {b"copy": 2, b"erase": 0}[spot]:
                 lack = "copier" if spot == b"copy" else "eraser"
-                raise Refused(at, (lack, symbols[piece]) if piece in symbols else "symbol")
+                unknown = "symbol" if is_symbol(piece) else "word"
+                raise Refused(at, (lack, symbols[piece]) if piece in symbols else unknown)
             others = [] if piece in earlier else [
                 (it, arity) for it, arity in symbols.items()
                 if len(it) <= 32 and arity <= 15 and frozenset((piece, it)) not in given and it not in earlier

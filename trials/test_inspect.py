@@ -215,9 +215,10 @@ class Inspect(ModelTrial):
                 self.equals("the lines", "what the model tells", lines or report(data), report(data))
 
     def test_a_file_that_is_known_to_be_no_disk_is_told_so(self):
+        text = f"{self.path}: the file is a text, and no disk; `icserve create --disk F` makes a new file F one"
         for data in (b"a text that is no disk\n", b"list"):
             self.path.write_bytes(data)
-            ran = self.runs("inspect", "--disk", self.path, out=report(data), err=[f"{self.path}: the file is a text, and no disk"])
+            ran = self.runs("inspect", "--disk", self.path, out=report(data), err=[text])
             self.equals(ran.command, "what the file holds", data, self.path.read_bytes())
 
     def test_a_disk_that_was_cut(self):

@@ -138,7 +138,7 @@ class Keep(Stops):
             told = self.inspected()
             self.equals(self.file, "what is told", (most, most == total), (told["interactions"], told["ended"]))
         # A file whose second one isn't there, as F.2 itself.
-        alone = "it is one of the two files of a reduction, and no disk: `icserve reduce --resume F` goes on with both"
+        alone = "it is one of the two files of a reduction, and no disk: `icserve reduce --resume F` goes on with F, without .2"
         for path in (self.second, self.file):
             lines = [seen(1, path.read_bytes())[0], "file 2: missing", "held: file 1"]
             self.runs("inspect", "--disk", path, out=lines, err=[f"{path}: {alone}"])
@@ -223,6 +223,9 @@ class Keep(Stops):
                 self.equals(ran.command, f"status; it said {ran.err}", 3, ran.status)
                 is_told = path.read_bytes()[HEAD : HEAD + 8] == b"ICKEPT01"
                 self.equals(ran.command, "whether --resume is told of", is_told, b"`icserve reduce --resume F`" in ran.after)
+                self.equals(ran.command, "lines after the first", 1, ran.after.count(b"\n"))
+                others = (b"something else", b"--overwrite")
+                self.equals(ran.command, "whether more is told", False, is_told and any(it in ran.after for it in others))
         self.equals(self.file, "what the files hold", before, self.contents())
 
     def test_one_process_at_a_time(self):

@@ -27,7 +27,7 @@ MOST = 2**62
 TOLD = re.compile(r"\| `(\w+\.ic)` \| [^|]+ \| (none: the next round is )?`(.+)` \| (\d+) \| (\d+) \| (\d+) \| (\d+\.\d) \| .*\|")
 
 # What a row tells of a refused round, after what is printed: why, and which one it is.
-REFUSED = re.compile(rb"(.*)(overgrown|names out): (round \d+, nodes \d+(?:, at most 8192)?)", re.DOTALL)
+REFUSED = re.compile(rb"(.*)(overgrown|names out): (round \d+(?:, nodes| would pass 8192 nodes as its pairs fire; before it there are) \d+)", re.DOTALL)
 
 # The formats of a trace, by the kinds of rows.
 SHOWN = {"trace": "tsv", "picture": "svg", "objects": "json"}
@@ -123,7 +123,7 @@ class Rows(Trial):
                 word, *options = words
                 ran = run(word, "--rounds", 10**6, *options, given=text)
                 before = run(word, "--rounds", made, *options, given=text)
-                ends = (ran.status, ran.err, ran.out == before.out, ran.after.startswith(f"round {made + 1}, nodes ".encode()))
+                ends = (ran.status, ran.err, ran.out == before.out, ran.after.startswith(f"round {made + 1} would pass 8192 nodes ".encode()))
                 self.equals(ran.command, "how it ends", (1, b"icserve: overgrown\n", True, True), ends)
                 self.equals(before.command, "status", 5 if word == "reduce" else 0, before.status)
 

@@ -22,7 +22,7 @@ END = "the end of the input ends a session: at a terminal, Ctrl-D"
 REFUSED = ["lists", f"submit two {TWO.text}", "fetch one two", "", "run 1001", "list", "submit a {A(x,x)><A} <|>", " run 007"]
 TOLD = [
     "line 1, column 1: bad syntax: a command is looked for here: submit, copy, pause, resume, cancel, fetch, list or run; a file with one text begins with { or <",
-    "line 3, column 11: bad syntax: nothing is looked for here",
+    "line 3, column 11: bad syntax: the line ends before this",
     "line 5, column 5: bad limit: a run makes at most 1000 rounds",
     "line 7, column 19: bad arity: a symbol has one arity: A has 0 here and 2 where it stands first",
     "line 8, column 6: bad syntax: a number is looked for here",
@@ -92,6 +92,16 @@ class Session(Trial):
         words = re.findall(r"\w+", LINES.partition("are ")[2].partition(";")[0])
         missing = [it for it in words if it not in helped and it != "and"]
         self.equals("icserve help serve", "words of the lines that it hasn't", [], missing)
+
+    def test_a_system_that_is_no_line_is_told_how_it_is_submitted(self):
+        text = "{Add(x,x)><Z;\n  Add(S(x),y)><S(Add(x,y))}\n\t<r|Add(r,S(Z))=S(Z)>"
+        words = "a system is submitted on one line: submit NAME {RULES} <CONFIG>"
+        told = [f"line 1, column 1: bad syntax: {words}", TOLD[0].replace("1", "2", 1).replace("column 1", "column 3"), f"line 3, column 2: bad syntax: {words}"]
+        self.serves(self.jobs, text, ["bad syntax"] * 3, "--explain", err=told)
+        path = self.room / "commented.ic"
+        path.write_text(f"// a sum\n{text}\n")
+        told = run("check", path).out.decode().splitlines()
+        self.equals("check", "what is told of lines of a system", [f"{path}:{it}: bad syntax: {words}" for it in ("2:1", "4:2")], [it for it in told if words in it])
 
     def test_who_wants_to_quit_is_told_how_a_session_ends(self):
         told = [f"line {number}, column {column}: bad syntax: {END}" for number, column in ((1, 1), (2, 3), (3, 1))]

@@ -8,6 +8,7 @@ from disks import EMPTY, HEAD, OLD_EMPTY, SECOND, disk_of, old_form, slot, table
 from program import PROGRAM, Server, Trial, grows_to, run
 
 NOT_EMPTY = "the file holds something; `--overwrite` makes it an empty disk all the same"
+IS_TEXT = "the file is a text, and no disk; `icserve create --disk F` makes a new file F one"
 
 ADD = "{Add(x,x)><Z;Add(S(x),y)><S(Add(x,y))}"
 TWO = f"submit two {ADD} <r|Add(r,S(Z))=S(Z)>"
@@ -212,7 +213,8 @@ class Disks(Trial):
             with self.subTest(case=i):
                 path = self.file("disk", data)
                 ran = self.refuses("create", "--disk", path, line="not empty", status=3)
-                self.agrees(ran.command, "what is told after it", f"{path}: {NOT_EMPTY}\n", ran.after)
+                words = IS_TEXT if i < 2 else NOT_EMPTY
+                self.agrees(ran.command, "what is told after it", f"{path}: {words}\n", ran.after)
                 self.holds(path, data)
                 self.runs("create", "--disk", path, "--overwrite")
                 self.serves(path, "list", ["jobs"])

@@ -8,11 +8,14 @@ use Rattle.ic_rules.specs.Rule.{Rule}
 use Rattle.ic_rules.specs.RuleSet.{Rules}
 use Rattle.ic_text.specs.Name.{name_text}
 use Rattle.ic_check.specs.Meanings.{HasNoRule, IsWarned, StandsOnce, faces}
+use Rattle.ic_check.specs.Letters.{looks_like_name}
+use Rattle.ic_check.specs.Meeting.{are_apart, has_use}
 use Rattle.ic_check.specs.Reach.{IsReach}
 use Rattle.ic_check.specs.Symbols.{text_symbols}
-use Rattle.ic_check.specs.Warnings.{Warns, count_of, free_line, free_lines, once_line, once_lines, pair_text, ruleless_line, ruleless_lines, unused_line, unused_lines, unused_words, warning_line}
+use Rattle.ic_check.specs.Warnings.{Warns, count_of, free_line, free_lines, idle_line, idle_words, letter_line, letter_lines, letter_words, once_line, once_lines, pair_text, ruleless_line, ruleless_lines, unused_line, unused_lines, unused_words, warning_line}
+use Rattle.ic_check.proofs.Idle.{same_use}
 use Rattle.ic_check.proofs.Once.{once_told}
-use Rattle.ic_check.proofs.Placed.{AreOf, all_free_of, all_once_of, all_ruleless_of, all_unused_of, any_words, both_of, either_of, lines_append, ruleless_of, told_of}
+use Rattle.ic_check.proofs.Placed.{AreOf, all_free_of, all_letters_of, all_once_of, all_ruleless_of, all_unused_of, any_words, both_of, either_of, lines_append, ruleless_of, told_of}
 use Rattle.ic_check.proofs.Reached.{one_reach}
 use Rattle.ic_check.proofs.Stuck.{stuck_told}
 
@@ -107,6 +110,28 @@ each_free place all (x ∷ xs) (suc i) n at once =
     later place (codes "the name " ++ name_text n ++ codes " stands only once") (free_line place all x) (free_lines place all xs)
     (told_of Any place (codes "the name " ++ name_text x ++ codes " stands only once") tt (count_of all x == 1)) (each_free place all xs i n at once)
 
+any_letters : (place : List ℕ) (ls : List Rule) (k : ℕ) (ss : List Symbol) → AreOf Any place (letter_lines place ls k ss)
+any_letters place ls k ss = all_letters_of Any place ls k ss (each ss)
+  where
+    each : (ss : List Symbol) → AllByRecursion (λ s. Unit {0}) ss
+    each [] = tt
+    each (s ∷ ss) = (tt, each ss)
+
+each_letter : (place : List ℕ) (ls : List Rule) (ss : List Symbol) (k i n : ℕ) (s : Symbol) → n ≡ k + i → slice_get ss i ≡ Some s → looks_like_name ls n s.text s.arity ≡ true
+    → IsWarned place (letter_words s.text) (letter_lines place ls k ss)
+each_letter place ls [] k zero n s is at looks = cc
+each_letter place ls [] k (suc i) n s is at looks = cc
+each_letter place ls (x ∷ xs) k zero n s is at looks =
+    let words = letter_words s.text in
+    let same : x ≡ s = one x s at in
+    let number : k ≡ n = omega (arith, is) in
+    let here : letter_line place ls n s.text s.arity ≡ warning_line place words = rw looks refl in
+    let told : letter_line place ls k x.text x.arity ≡ warning_line place words = (λ i. letter_line place ls (number i) (same i).text (same i).arity) ∙ here in
+    ahead place words (letter_line place ls k x.text x.arity) (letter_lines place ls (k + 1) xs) (alone place words (letter_line place ls k x.text x.arity) told) (any_letters place ls (k + 1) xs)
+each_letter place ls (x ∷ xs) k (suc i) n s is at looks =
+    later place (letter_words s.text) (letter_line place ls k x.text x.arity) (letter_lines place ls (k + 1) xs)
+    (told_of Any place (letter_words x.text) tt (looks_like_name ls k x.text x.arity)) (each_letter place ls xs (k + 1) i n s (omega (arith, is)) at looks)
+
 -- ---- among all warnings of a system
 
 module _ (place : List ℕ) (rs : Rules) (c : Configuration) (told : List ℕ) (among : ℕ → Bool) where
@@ -122,6 +147,15 @@ module _ (place : List ℕ) (rs : Rules) (c : Configuration) (told : List ℕ) (
   abbrev fourth : List ℕ
   fourth = free_lines place (configuration_names c) (configuration_names c)
 
+  abbrev fifth : List ℕ
+  fifth = idle_line place among rs.rules c.equations
+
+  fifth_any : AreOf Any place fifth
+  fifth_any = told_of Any place idle_words tt (has_use among rs.rules && are_apart c.equations)
+
+  abbrev sixth : List ℕ
+  sixth = letter_lines place rs.rules 0 rs.symbols
+
   fourth_any : AreOf Any place fourth
   fourth_any = all_free_of Any place (configuration_names c) (λ n. tt) (configuration_names c)
 
@@ -135,10 +169,23 @@ module _ (place : List ℕ) (rs : Rules) (c : Configuration) (told : List ℕ) (
   first_any = all_ruleless_of Any place rs (any_words rs) c.equations
 
   abbrev AreAll : Type 0
-  AreAll = told ≡ first ++ second ++ third ++ fourth
+  AreAll = told ≡ first ++ second ++ third ++ fourth ++ fifth ++ sixth
+
+  in_five : (words : List ℕ) → AreAll → IsWarned place words (first ++ second ++ third ++ fourth ++ fifth) → IsWarned place words told
+  in_five words is there = subst (IsWarned place words) (sym is)
+      (ahead place words (first ++ second ++ third ++ fourth ++ fifth) sixth there (any_letters place rs.rules 0 rs.symbols))
+
+  in_four : (words : List ℕ) → AreAll → IsWarned place words (first ++ second ++ third ++ fourth) → IsWarned place words told
+  in_four words is there = in_five words is (ahead place words (first ++ second ++ third ++ fourth) fifth there fifth_any)
+
+  three_any : AreOf Any place (first ++ second ++ third)
+  three_any = both_of Any place (first ++ second) third (both_of Any place first second first_any second_any) third_any
+
+  four_any : AreOf Any place (first ++ second ++ third ++ fourth)
+  four_any = both_of Any place (first ++ second ++ third) fourth three_any fourth_any
 
   in_three : (words : List ℕ) → AreAll → IsWarned place words (first ++ second ++ third) → IsWarned place words told
-  in_three words is there = subst (IsWarned place words) (sym is) (ahead place words (first ++ second ++ third) fourth there fourth_any)
+  in_three words is there = in_four words is (ahead place words (first ++ second ++ third) fourth there fourth_any)
 
   in_first : (words : List ℕ) → AreAll → IsWarned place words first → IsWarned place words told
   in_first words is there = in_three words is (ahead place words (first ++ second) third (ahead place words first second there second_any) third_any)
@@ -150,8 +197,14 @@ module _ (place : List ℕ) (rs : Rules) (c : Configuration) (told : List ℕ) (
   in_third words is there = in_three words is (later place words (first ++ second) third (both_of Any place first second first_any second_any) there)
 
   in_fourth : (words : List ℕ) → AreAll → IsWarned place words fourth → IsWarned place words told
-  in_fourth words is there = subst (IsWarned place words) (sym is)
-      (later place words (first ++ second ++ third) fourth (both_of Any place (first ++ second) third (both_of Any place first second first_any second_any) third_any) there)
+  in_fourth words is there = in_four words is (later place words (first ++ second ++ third) fourth three_any there)
+
+  in_fifth : (words : List ℕ) → AreAll → IsWarned place words fifth → IsWarned place words told
+  in_fifth words is there = in_five words is (later place words (first ++ second ++ third ++ fourth) fifth four_any there)
+
+  in_sixth : (words : List ℕ) → AreAll → IsWarned place words sixth → IsWarned place words told
+  in_sixth words is there = subst (IsWarned place words) (sym is)
+      (later place words (first ++ second ++ third ++ fourth ++ fifth) sixth (both_of Any place (first ++ second ++ third ++ fourth) fifth four_any fifth_any) there)
 
 pub begins : (place words : List ℕ) → warning_line place words ≡ place ++ codes ": warning: " ++ words ++ 10 ∷ []
 begins place words =
@@ -180,3 +233,16 @@ pub free_told : (place told : List ℕ) (rs : Rules) (c : Configuration) (n : �
 free_told place told rs c n is once =
     in_fourth place rs c told is.0 (codes "the name " ++ name_text n ++ codes " stands only once") is.2
     (each_free place (configuration_names c) (configuration_names c) once.0 n once.1 once)
+
+pub idle_told : (place told : List ℕ) (rs : Rules) (c : Configuration) (among : ℕ → Bool) → Warns place rs c told → IsReach rs.rules c among
+    → has_use among rs.rules ≡ true → are_apart c.equations ≡ true → IsWarned place idle_words told
+idle_told place told rs c among is reach used apart =
+    let same = one_reach rs.rules c is.0 among is.1 reach in
+    let here : has_use is.0 rs.rules ≡ true = same_use is.0 among same rs.rules ∙ used in
+    let line : idle_line place is.0 rs.rules c.equations ≡ warning_line place idle_words = rw (here, apart) refl in
+    in_fifth place rs c told is.0 idle_words is.2 (alone place idle_words (idle_line place is.0 rs.rules c.equations) line)
+
+pub letter_told : (place told : List ℕ) (rs : Rules) (c : Configuration) (i : ℕ) (s : Symbol) → Warns place rs c told → slice_get rs.symbols i ≡ Some s
+    → looks_like_name rs.rules i s.text s.arity ≡ true → IsWarned place (letter_words s.text) told
+letter_told place told rs c i s is at looks =
+    in_sixth place rs c told is.0 (letter_words s.text) is.2 (each_letter place rs.rules rs.symbols 0 i i s (omega arith) at looks)

@@ -2,6 +2,8 @@ pub mod Listing
 pub mod Growth
 pub mod Warned
 pub mod Tallying
+pub mod Idle
+pub mod Capitals
 pub mod Told
 pub mod Refused
 pub mod ScriptFaults

@@ -35,14 +35,14 @@ use Rattle.ic_diagnostics.specs.declared.telling.Kind.TheVariants.{Config, Syste
 use Rattle.ic_check.specs.Checking.{before, told_fault, told_line_fault}
 use Rattle.ic_check.specs.Meanings.{IsOneLine}
 use Rattle.ic_check.specs.Sessions.{asks_end, asks_help, column_text, end_sentence, lines_sentence, refusal_line, session_sentence}
-use Rattle.ic_check.specs.Telling.{colon, follows_name, job_name_sentence, line_comment_sentence, line_limit_sentence, line_sentence, place_text, placed_line, sought_sentence, spot_text}
+use Rattle.ic_check.specs.Telling.{colon, due_sentence, follows_name, job_name_sentence, line_comment_sentence, line_limit_sentence, line_sentence, opens_text, place_text, placed_line, sought_sentence, spot_text, whole_text_sentence}
 use Rattle.ic_check.specs.declared.due.Due.{Due}
 use Rattle.ic_check.specs.declared.due.Due.TheVariants as due
 use Rattle.ic_check.specs.declared.due.LineLimit.{LineLimit}
 use Rattle.ic_check.specs.declared.due.LineLimit.TheVariants as line_limit
 use Rattle.ic_check.specs.declared.line_places.LineDetail.{LineDetail}
 use Rattle.ic_check.specs.declared.line_places.LineDetail.TheVariants.{Sought, Passed as Beyond, Within}
-use Rattle.ic_check.specs.Warnings.{Warns, pair_text, symbol_text, unused_words, warning_line}
+use Rattle.ic_check.specs.Warnings.{Warns, idle_words, letter_words, pair_text, symbol_text, unused_words, warning_line}
 use Rattle.ic_check.proofs.Placed.{AreOf, OfAllWords, lines_of_warnings}
 
 -- ---- texts without a line feed
@@ -300,16 +300,16 @@ one_fault file kind text None fault detail free = one_of_parts (file ∷ colon �
 one_fault file kind text (Some at) fault detail free =
     placed_free file 0 text at fault (sentence kind text fault at detail) free (sight_free kind fault detail (drop at text) (is_again text at) (sight_at text at))
 
-sought_free : (due : Due) → has_feed (sought_sentence due) ≡ false
-sought_free due.Command = refl
-sought_free due.SubmitName = refl
-sought_free due.Budget = refl
-sought_free due.System = refl
-sought_free due.OldName = refl
-sought_free due.NewName = refl
-sought_free due.VerbName = refl
-sought_free due.Number = refl
-sought_free due.Nothing = refl
+due_free : (rest : List ℕ) (due : Due) → has_feed (due_sentence rest due) ≡ false
+due_free rest due.Command = either_free (opens_text rest) whole_text_sentence (sought_sentence due.Command) refl refl
+due_free rest due.SubmitName = refl
+due_free rest due.Budget = refl
+due_free rest due.System = refl
+due_free rest due.OldName = refl
+due_free rest due.NewName = refl
+due_free rest due.VerbName = refl
+due_free rest due.Number = refl
+due_free rest due.Nothing = refl
 
 line_limit_free : (limit : LineLimit) → has_feed (line_limit_sentence limit) ≡ false
 line_limit_free line_limit.LineBytes = refl
@@ -320,10 +320,10 @@ line_limit_free line_limit.RunRounds = refl
 line_words_free : (line : List ℕ) (fault : TextFault) (at : ℕ) (detail : LineDetail) → has_feed (line_sentence line fault at detail) ≡ false
 line_words_free line fault at (Sought due) =
     let is_named = follows_name due && is_joined (take at line) (drop at line) in
-    let last = if is_named then job_name_sentence else sought_sentence due in
+    let last = if is_named then job_name_sentence else due_sentence (drop at line) due in
     let marked = if opens_order_mark line then order_mark_sentence else last in
     either_free (opens_comment (drop at line)) line_comment_sentence marked refl
-    (either_free (opens_order_mark line) order_mark_sentence last refl (either_free is_named job_name_sentence (sought_sentence due) refl (sought_free due)))
+    (either_free (opens_order_mark line) order_mark_sentence last refl (either_free is_named job_name_sentence (due_sentence (drop at line) due) refl (due_free (drop at line) due)))
 line_words_free line fault at (Beyond limit) = line_limit_free limit
 line_words_free line fault at (Within detail) = sight_free System fault detail (drop at line) (is_again line at) (sight_at line at)
 
@@ -385,6 +385,12 @@ each_once place free [] are = tt
 each_once place free (s ∷ ss) are =
     (one_warning place (s.text ++ codes " stands only once") free (both_free s.text (codes " stands only once") are.0 refl), each_once place free ss are.1)
 
+each_letter : (place : List ℕ) → has_feed place ≡ false → (ss : List Symbol) → AllByRecursion (λ s. has_feed s.text ≡ false) ss
+    → AllByRecursion (λ s. IsOneLine (warning_line place (letter_words s.text))) ss
+each_letter place free [] are = tt
+each_letter place free (s ∷ ss) are =
+    (one_warning place (letter_words s.text) free (both_free s.text (codes " is an agent, and no rule is of it: names are small letters, as x") are.0 refl), each_letter place free ss are.1)
+
 pub free_texts : (ss : List Symbol) → AllByRecursion (λ s. IsTrue (is_symbol_text s.text)) ss → AllByRecursion (λ s. has_feed s.text ≡ false) ss
 free_texts [] are = tt
 free_texts (s ∷ ss) are = (symbol_free s.text are.0, free_texts ss are.1)
@@ -401,6 +407,8 @@ one_each file told line rs c are free warns =
       unused = λ i r. one_warning place (unused_words rs.symbols i r) open_place (unused_free rs.symbols texts i r);
       free = λ n. one_warning place (codes "the name " ++ name_text n ++ codes " stands only once") open_place
           (both_free (codes "the name " ++ name_text n) (codes " stands only once") (both_free (codes "the name ") (name_text n) refl (name_free n)) refl);
+      idle = one_warning place idle_words open_place refl;
+      letter = each_letter place open_place rs.symbols texts;
     } in
     lines_of_warnings (λ w. IsOneLine (warning_line place w)) place rs c told words warns
 

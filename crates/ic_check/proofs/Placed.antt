@@ -15,7 +15,9 @@ use Rattle.ic_check.specs.Checking.{TellsAnswer, TellsLine, TellsLines, WarnsOf}
 use Rattle.ic_check.specs.Meanings.{IsToldAt}
 use Rattle.ic_check.specs.Telling.{place_text}
 use Rattle.ic_check.specs.Symbols.{text_symbols}
-use Rattle.ic_check.specs.Warnings.{Warns, count_of, free_line, free_lines, once_line, once_lines, pair_text, ruleless_line, ruleless_lines, unused_line, unused_lines, unused_words, warning_line}
+use Rattle.ic_check.specs.Letters.{looks_like_name}
+use Rattle.ic_check.specs.Meeting.{are_apart, has_use}
+use Rattle.ic_check.specs.Warnings.{Warns, count_of, free_line, free_lines, idle_line, idle_words, letter_line, letter_lines, letter_words, once_line, once_lines, pair_text, ruleless_line, ruleless_lines, unused_line, unused_lines, unused_words, warning_line}
 
 -- these are lines of warnings of this place, of words of which this holds
 abbrev pub AreOf : (List ℕ → Type 0) → List ℕ → List ℕ → Type 0
@@ -37,6 +39,8 @@ pub record OfAllWords (Holds : List ℕ → Type 0) (rs : Rules) : Type 0 where
   pub once : AllByRecursion (λ s. Holds (s.text ++ codes " stands only once")) rs.symbols
   pub unused : (i : ℕ) (r : Rule) → Holds (unused_words rs.symbols i r)
   pub free : (n : ℕ) → Holds (codes "the name " ++ name_text n ++ codes " stands only once")
+  pub idle : Holds idle_words
+  pub letter : AllByRecursion (λ s. Holds (letter_words s.text)) rs.symbols
 
 module _ (Holds : List ℕ → Type 0) (place : List ℕ) where
   none_of : AreOf Holds place []
@@ -84,6 +88,12 @@ module _ (Holds : List ℕ → Type 0) (place : List ℕ) where
       both_of (free_line place all n) (free_lines place all ns)
       (told_of (codes "the name " ++ name_text n ++ codes " stands only once") (of n) (count_of all n == 1)) (all_free_of all of ns)
 
+  pub all_letters_of : (ls : List Rule) (i : ℕ) (ss : List Symbol) → AllByRecursion (λ s. Holds (letter_words s.text)) ss → AreOf Holds place (letter_lines place ls i ss)
+  all_letters_of ls i [] of = none_of
+  all_letters_of ls i (s ∷ ss) of =
+      both_of (letter_line place ls i s.text s.arity) (letter_lines place ls (i + 1) ss)
+      (told_of (letter_words s.text) of.0 (looks_like_name ls i s.text s.arity)) (all_letters_of ls (i + 1) ss of.1)
+
   pub lines_of_warnings : (rs : Rules) (c : Configuration) (told : List ℕ) → OfAllWords Holds rs → Warns place rs c told → AreOf Holds place told
   lines_of_warnings rs c told of is =
       let among = is.0 in
@@ -91,11 +101,17 @@ module _ (Holds : List ℕ → Type 0) (place : List ℕ) where
       let two = once_lines place (text_symbols rs.rules c) 0 rs.symbols in
       let three = unused_lines place among rs.symbols 0 rs.rules in
       let four = free_lines place (configuration_names c) (configuration_names c) in
+      let five = idle_line place among rs.rules c.equations in
+      let six = letter_lines place rs.rules 0 rs.symbols in
       subst (AreOf Holds place) (sym is.2)
+      (both_of ((((one ++ two) ++ three) ++ four) ++ five) six
+      (both_of (((one ++ two) ++ three) ++ four) five
       (both_of ((one ++ two) ++ three) four
       (both_of (one ++ two) three (both_of one two (all_ruleless_of rs of c.equations) (all_once_of (text_symbols rs.rules c) 0 rs.symbols of.once))
       (all_unused_of rs of among 0 rs.rules))
       (all_free_of (configuration_names c) of.free (configuration_names c)))
+      (told_of idle_words of.idle (has_use among rs.rules && are_apart c.equations)))
+      (all_letters_of rs.rules 0 rs.symbols of.letter))
 
 -- ---- whatever their words are
 
@@ -103,7 +119,7 @@ abbrev pub AreLinesOf : List ℕ → List ℕ → Type 0
 AreLinesOf place told = (words : List (List ℕ)) × (told ≡ flat_map (warning_line place) words)
 
 pub any_words : (rs : Rules) → OfAllWords (λ w. Unit {0}) rs
-any_words rs = record { ruleless = λ a b. tt; once = each rs.symbols; unused = λ i r. tt; free = λ n. tt }
+any_words rs = record { ruleless = λ a b. tt; once = each rs.symbols; unused = λ i r. tt; free = λ n. tt; idle = tt; letter = each rs.symbols }
   where
     each : (ss : List Symbol) → AllByRecursion (λ s. Unit {0}) ss
     each [] = tt

@@ -24,7 +24,7 @@ tally_more names i number old new within is updated so_far x = by_name (cases_eq
       ap (λ o. unwrap_or o 0) (updated x ∙ ap (λ b. cond b (Some number) (found old x)) (ne_eqb (get_or names i 0) x e)) ∙ so_far x
       ∙ ap (λ k. min k 2) (sym (count_by_more_no (λ y. y == x) names i 0 within (ne_eqb (get_or names i 0) x e)))
 
-same_once : (seen count : ℕ) → seen ≡ min count 2 → (seen == 1) ≡ (count == 1)
+pub same_once : (seen count : ℕ) → seen ≡ min count 2 → (seen == 1) ≡ (count == 1)
 same_once seen count is = elim (cases_eq count 1) [
   | inl once ↦ eq-eqb seen 1 (omega (arith, is, once)) ∙ sym (eq-eqb count 1 once)
   | inr not ↦ ne_eqb seen 1 (λ once. not (omega (arith, is, once))) ∙ sym (ne_eqb count 1 not)

@@ -23,7 +23,7 @@ use Rattle.ic_check.specs.declared.line_places.LineDetail.{LineDetail}
 use Rattle.ic_commands.specs.LineText.{ReadsLine}
 use Rattle.ic_check.specs.Reach.{IsReach}
 use Rattle.ic_check.specs.Symbols.{text_symbols}
-use Rattle.ic_check.specs.Warnings.{Warns, free_lines, once_lines, ruleless_lines, unused_lines, warning_lines}
+use Rattle.ic_check.specs.Warnings.{Warns, free_lines, idle_line, letter_lines, once_lines, ruleless_lines, unused_lines, warning_lines}
 use Rattle.ic_check.specs.inner.Growing.{holds}
 
 -- the lines of a text are appended, and it has a fault or none
@@ -60,23 +60,29 @@ system_warned file text s rs c old new reads are is warned =
     subst (λ (d : Configuration). Warns file s.rules d warned.0) is (subst (λ (r : Rules). Warns file r c warned.0) are warned.1) in
     (warned.0, (Ok s, reads, (warns, refl)), warned.2)
 
--- the four kinds of warnings, one after the other
-pub warned : {T E : Type 0} (place : List ℕ) (rs : Rules) (c : Configuration) (all seen ns old one two three new : List ℕ) (r : Result T E) → all ≡ text_symbols rs.rules c
+-- the six kinds of warnings, one after the other
+pub warned : {T E : Type 0} (place : List ℕ) (rs : Rules) (c : Configuration) (all seen ns old one two three four five new line : List ℕ) (r : Result T E) → all ≡ text_symbols rs.rules c
     → IsReach rs.rules c (holds seen) → ns ≡ configuration_names c → one ≡ old ++ ruleless_lines place rs c.equations → two ≡ one ++ once_lines place all 0 rs.symbols
     → three ≡ two ++ unused_lines place (holds seen) rs.symbols 0 rs.rules
-    → OnOk r (new ≡ three ++ free_lines place ns ns) → OnOk r (AppendsWarnings place rs c old new)
-warned place rs c all seen ns old one two three new (Ok v) are reach named first second third fourth =
+    → four ≡ three ++ free_lines place ns ns → line ≡ idle_line place (holds seen) rs.rules c.equations
+    → five ≡ four ++ line → OnOk r (new ≡ five ++ letter_lines place rs.rules 0 rs.symbols) → OnOk r (AppendsWarnings place rs c old new)
+warned place rs c all seen ns old one two three four five new line (Ok v) are reach named first second third fourth same fifth sixth =
     let a : List ℕ = ruleless_lines place rs c.equations in
     let b : List ℕ = once_lines place (text_symbols rs.rules c) 0 rs.symbols in
     let d : List ℕ = unused_lines place (holds seen) rs.symbols 0 rs.rules in
     let e : List ℕ = free_lines place (configuration_names c) (configuration_names c) in
     let both : two ≡ (old ++ a) ++ b = second ∙ (λ i. first i ++ once_lines place (are i) 0 rs.symbols) in
-    let all_three : three ≡ old ++ ((a ++ b) ++ d) = third ∙ ap (λ l. l ++ d) (both ∙ append_assoc old a b) ∙ append_assoc old (a ++ b) d in (
+    let f : List ℕ = idle_line place (holds seen) rs.rules c.equations in
+    let all_three : three ≡ old ++ ((a ++ b) ++ d) = third ∙ ap (λ l. l ++ d) (both ∙ append_assoc old a b) ∙ append_assoc old (a ++ b) d in
+    let all_four : four ≡ old ++ (((a ++ b) ++ d) ++ e) =
+    fourth ∙ (λ i. all_three i ++ free_lines place (named i) (named i)) ∙ append_assoc old ((a ++ b) ++ d) e in
+    let g : List ℕ = letter_lines place rs.rules 0 rs.symbols in
+    let all_five : five ≡ old ++ ((((a ++ b) ++ d) ++ e) ++ f) = fifth ∙ (λ i. all_four i ++ same i) ∙ append_assoc old (((a ++ b) ++ d) ++ e) f in (
       warning_lines place (holds seen) rs c,
       (holds seen, reach, refl),
-      fourth ∙ (λ i. all_three i ++ free_lines place (named i) (named i)) ∙ append_assoc old ((a ++ b) ++ d) e,
+      sixth ∙ ap (λ l. l ++ g) all_five ∙ append_assoc old ((((a ++ b) ++ d) ++ e) ++ f) g,
     )
-warned place rs c all seen ns old one two three new (Err e) are reach named first second third fourth = tt
+warned place rs c all seen ns old one two three four five new line (Err e) are reach named first second third fourth same fifth sixth = tt
 
 -- ---- lines
 

@@ -5,11 +5,11 @@ use Rattle.std.proofs.lemmas.List.{drop_all}
 use Rattle.std.proofs.lemmas.Option.{slice_get_cases}
 use Rattle.ic_rules.specs.Rule.{Rule}
 use Rattle.ic_rules.specs.RuleSet.{Rules, rule_for}
-use Rattle.ic_term.specs.Symbol.{Symbol, symbol_text}
+use Rattle.ic_term.specs.Symbol.{Symbol, symbol_arity, symbol_text}
 use Rattle.ic_term.specs.Term.{cell_tree}
 use Rattle.ic_term.specs.lemmas.TermLaws.{cell_tree-out}
 use Rattle.ic_term.specs.declared.term.Cell.{Cell, out-Cell}
-use Rattle.ic_check.specs.Warnings.{free_line, free_lines, once_line, once_lines, pair_text, ruleless_line, unused_line, unused_lines, warning_line}
+use Rattle.ic_check.specs.Warnings.{free_line, free_lines, letter_line, letter_lines, once_line, once_lines, pair_text, ruleless_line, unused_line, unused_lines, warning_line}
 use Rattle.ic_check.proofs.Listing.{from_place}
 
 -- nothing is left
@@ -34,6 +34,26 @@ once_next place all ss i text out new whole below is put so_far = elim (slice_ge
 
 pub once_end : (place all : List ℕ) (ss : List Symbol) (i : ℕ) (out whole : List ℕ) → length ss ≤ i → out ++ once_lines place all i (drop i ss) ≡ whole → out ≡ whole
 once_end place all ss i out whole past so_far = all_written (once_lines place all i) refl ss i out whole past so_far
+
+same_number : (m n : ℕ) → Some m ≡ Some n → m ≡ n
+same_number m n e = cc
+
+pub letter_next : (place : List ℕ) (rs : List Rule) (ss : List Symbol) (i : ℕ) (text : List ℕ) (arity : ℕ) (out new whole : List ℕ) → i < length ss → symbol_text ss i ≡ Some text
+    → symbol_arity ss i ≡ Some arity → new ≡ out ++ letter_line place rs i text arity → out ++ letter_lines place rs i (drop i ss) ≡ whole
+    → new ++ letter_lines place rs (i + 1) (drop (i + 1) ss) ≡ whole
+letter_next place rs ss i text arity out new whole below is has put so_far = elim (slice_get_cases ss i).1 [
+  | inl there ↦
+      let s = there.0 in
+      let same : s.text ≡ text = same_some s.text text (sym (ap (λ (o : Option Symbol). option_map (λ (t : Symbol). t.text) o) there.2) ∙ is) in
+      let many : s.arity ≡ arity = same_number s.arity arity (sym (ap (λ (o : Option Symbol). option_map (λ (t : Symbol). t.arity) o) there.2) ∙ has) in
+      let rest : List ℕ = letter_lines place rs (i + 1) (drop (i + 1) ss) in
+      ap (λ l. l ++ rest) put ∙ append_assoc out (letter_line place rs i text arity) rest ∙ (λ j. out ++ (letter_line place rs i (sym same j) (sym many j) ++ rest))
+      ∙ ap (λ l. out ++ letter_lines place rs i l) (sym (from_place ss i s below (sym there.3))) ∙ so_far
+  | inr past ↦ absurd (omega (arith, past.0))
+]
+
+pub letter_end : (place : List ℕ) (rs : List Rule) (ss : List Symbol) (i : ℕ) (out whole : List ℕ) → length ss ≤ i → out ++ letter_lines place rs i (drop i ss) ≡ whole → out ≡ whole
+letter_end place rs ss i out whole past so_far = all_written (letter_lines place rs i) refl ss i out whole past so_far
 
 pub unused_next : (place : List ℕ) (among : ℕ → Bool) (ss : List Symbol) (rs : List Rule) (i : ℕ) (r : Rule) (out new whole : List ℕ) → i < length rs → r ≡ get_or rs i r
     → new ≡ out ++ unused_line place among ss i r → out ++ unused_lines place among ss i (drop i rs) ≡ whole → new ++ unused_lines place among ss (i + 1) (drop (i + 1) rs) ≡ whole

@@ -1,6 +1,8 @@
 -- What a reader of the public contracts must believe, and `inner`, which is for private functions.
 pub mod Symbols
 pub mod Reach
+pub mod Meeting
+pub mod Letters
 pub mod Warnings
 pub mod LinePlaces
 pub mod Telling

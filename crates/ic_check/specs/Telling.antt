@@ -1,7 +1,7 @@
 -- To be believed: how a fault is told (this project's choice).
-use Rattle.std.specs.Prelude.{ℕ, ◌+◌, List, [], ◌∷◌, ◌++◌, Bool, true, false, ◌&&◌, Option, None, Some, codes, drop, take, if◌then◌else◌}
+use Rattle.std.specs.Prelude.{ℕ, ◌+◌, List, [], ◌∷◌, ◌++◌, Bool, true, false, ◌&&◌, ◌||◌, Option, None, Some, codes, drop, take, nat_eq, if◌then◌else◌}
 use Rattle.std.specs.Fmt.{decimal}
-use Rattle.std.specs.List.{concat}
+use Rattle.std.specs.List.{concat, starts_with}
 use Rattle.ic_text.specs.declared.fault.TextFault.{TextFault}
 use Rattle.ic_text.specs.Text.{fault_text}
 use Rattle.ic_text.specs.Token.{is_blank}
@@ -55,11 +55,24 @@ sought_sentence Command = codes "a command is looked for here: submit, copy, pau
 sought_sentence Budget = codes "a budget or { is looked for here"
 sought_sentence Opened = codes "{ is looked for here"
 sought_sentence Number = codes "a number is looked for here"
-sought_sentence Nothing = codes "nothing is looked for here"
+sought_sentence Nothing = codes "the line ends before this"
 sought_sentence SubmitName = name_sought
 sought_sentence OldName = name_sought
 sought_sentence NewName = name_sought
 sought_sentence VerbName = name_sought
+
+-- a text begins as a system or a configuration does
+abbrev pub opens_text : List ℕ → Bool
+opens_text text = starts_with nat_eq text (codes "{") || starts_with nat_eq text (codes "<")
+
+-- where one stands in place of a command
+abbrev pub whole_text_sentence : List ℕ
+whole_text_sentence = codes "a system is submitted on one line: submit NAME {RULES} <CONFIG>"
+
+-- what is looked for, or what stands there in place of a command
+abbrev pub due_sentence : List ℕ → Due → List ℕ
+due_sentence rest Command = if opens_text rest then whole_text_sentence else sought_sentence Command
+due_sentence rest due = sought_sentence due
 
 -- what is amiss where a limit of a line is passed, or of a word before its system
 abbrev pub line_limit_sentence : LineLimit → List ℕ
@@ -99,6 +112,6 @@ line_sentence line fault at (Sought due) =
     if opens_comment (drop at line) then line_comment_sentence
     else (if opens_order_mark line then order_mark_sentence
     else (if follows_name due && is_joined (take at line) (drop at line) then job_name_sentence
-    else sought_sentence due))
+    else due_sentence (drop at line) due))
 line_sentence line fault at (Passed limit) = line_limit_sentence limit
 line_sentence line fault at (Within detail) = sentence System line fault at detail

@@ -13,6 +13,8 @@ use Rattle.ic_text.specs.Name.{name_text}
 use Rattle.ic_text.specs.Text.{text_or_none}
 use Rattle.ic_check.specs.Symbols.{text_symbols}
 use Rattle.ic_check.specs.Reach.{IsReach}
+use Rattle.ic_check.specs.Letters.{looks_like_name}
+use Rattle.ic_check.specs.Meeting.{are_apart, has_use}
 
 -- the text of a symbol
 abbrev pub symbol_text : List Symbol → ℕ → List ℕ
@@ -74,12 +76,38 @@ free_line place all n = once_line place all n (codes "the name " ++ name_text n)
 abbrev pub free_lines : (place all : List ℕ) → List ℕ → List ℕ
 free_lines place all ns = flat_map (free_line place all) ns
 
+-- what is said where no two agents can meet
+abbrev pub idle_words : List ℕ
+idle_words = codes "no two agents meet, so no rule is used: a sum is Add(r,n)=m, not r=Add(m,n)"
+
+-- where a rule may be used as far as its symbols tell, and no two agents can meet
+abbrev pub idle_line : List ℕ → (ℕ → Bool) → List Rule → List Pair → List ℕ
+idle_line place among rs es =
+    if has_use among rs && are_apart es then warning_line place idle_words else []
+
+-- `A is an agent, ..`
+abbrev pub letter_words : List ℕ → List ℕ
+letter_words text = text ++ codes " is an agent, and no rule is of it: names are small letters, as x"
+
+-- a symbol of this number, text and arity that looks like a name
+abbrev pub letter_line : List ℕ → List Rule → ℕ → List ℕ → ℕ → List ℕ
+letter_line place rs i text arity =
+    if looks_like_name rs i text arity then warning_line place (letter_words text) else []
+
+-- those of these symbols that do, the first of which has this number
+abbrev pub letter_lines : List ℕ → List Rule → ℕ → List Symbol → List ℕ
+letter_lines place rs i [] = []
+letter_lines place rs i (s ∷ ss) =
+    letter_line place rs i s.text s.arity ++ letter_lines place rs (i + 1) ss
+
 -- all warnings of a system, where these symbols may come to stand
 abbrev pub warning_lines : List ℕ → (ℕ → Bool) → Rules → Configuration → List ℕ
 warning_lines place among rs c = ruleless_lines place rs c.equations
     ++ once_lines place (text_symbols rs.rules c) 0 rs.symbols
     ++ unused_lines place among rs.symbols 0 rs.rules
     ++ free_lines place (configuration_names c) (configuration_names c)
+    ++ idle_line place among rs.rules c.equations
+    ++ letter_lines place rs.rules 0 rs.symbols
 
 -- these lines tell the warnings of a system
 abbrev pub Warns : List ℕ → Rules → Configuration → List ℕ → Type 0

@@ -49,13 +49,15 @@ ghost use Rattle.ic_text.specs.declared.limits.TheConstants.{MAX_TEXT};
 ghost use Rattle.ic_check.specs.declared.checking.Form.TheVariants as form;
 ghost use Rattle.ic_text.specs.Token.{Token, is_blank, is_word_byte, mark, tokens, word, words_among};
 ghost use Rattle.ic_check.specs.Meanings.{AreLines, BeginsLine, GoesWith, HasNoRule, IsOneLine, IsSubmitFront, IsSubmitWithSystem, IsToldAt, IsWarned, Passes, StandsIn, StandsOnce, faces, facing, is_among, is_looked_for, listed, told_commands};
+ghost use Rattle.ic_check.specs.Letters.{looks_like_name};
+ghost use Rattle.ic_check.specs.Meeting.{are_apart, has_use};
 ghost use Rattle.ic_check.specs.Reach.{AllAmong, IsReach, IsTakenBy};
 ghost use Rattle.ic_check.specs.Scripts.{TellsScript, TellsScriptLine, run_sentence};
 ghost use Rattle.ic_check.specs.Sessions.{TellsRefusal, lines_sentence, refusal_line};
 ghost use Rattle.ic_check.specs.Symbols.{config_symbols, text_symbols};
 ghost use Rattle.ic_check.specs.Objects.{fault_fields, finding_fields, object_of, objects_of};
 ghost use Rattle.ic_check.specs.Telling.{fault_line, line_limit_sentence, line_sentence, place_text, placed_line, sought_sentence, spot_text};
-ghost use Rattle.ic_check.specs.Warnings.{Warns, once_line, once_lines, pair_text, ruleless_line, unused_line, warning_line};
+ghost use Rattle.ic_check.specs.Warnings.{Warns, idle_line, idle_words, once_line, once_lines, pair_text, ruleless_line, unused_line, warning_line};
 
 /// An equation is told as one without a rule exactly where both sides are agents and no rule is of their two symbols.
 /// Then it is stuck: no interaction takes it, in whatever configuration it stands, and no step takes away an equation
@@ -92,7 +94,8 @@ pub fn symbols_told_once_stand_at_one_place()
 {}
 
 /// Each warning has its line in what is told of a system: an equation of two agents that no rule is of, a symbol at
-/// just one place, a rule whose symbols can't both come to stand in the configuration, a name at just one place of it.
+/// just one place, a rule whose symbols can't both come to stand in the configuration, a name at just one place of it,
+/// that no two agents can meet, where a rule may be used as far as its symbols tell, and a symbol that looks like a name.
 /// All that is told are lines that begin with the place: the file's name, and of a line its number.
 pub fn each_warning_is_told()
     ensures begins { (place words : List ℕ)
@@ -113,7 +116,34 @@ pub fn each_warning_is_told()
     ensures free { (place told : List ℕ) (rs : Rules) (c : Configuration) (n : ℕ)
         → Warns place rs c told → StandsOnce n (configuration_names c)
         → IsWarned place (codes "the name " ++ name_text n ++ codes " stands only once") told }
+    ensures idle { (place told : List ℕ) (rs : Rules) (c : Configuration) (among : ℕ → Bool)
+        → Warns place rs c told → IsReach rs.rules c among → IsTrue (has_use among rs.rules)
+        → IsTrue (are_apart c.equations) → IsWarned place idle_words told }
+    ensures letter { (place told : List ℕ) (rs : Rules) (c : Configuration) (i : ℕ) (s : Symbol)
+        → Warns place rs c told → slice_get rs.symbols i ≡ Some s
+        → IsTrue (looks_like_name rs.rules i s.text s.arity) → IsWarned place
+        (s.text ++ codes " is an agent, and no rule is of it: names are small letters, as x") told }
 {}
+
+/// A symbol that is told to look like a name has no rule with any other symbol.
+pub fn symbols_that_look_like_names_have_no_rule()
+    ensures { (rs : List Rule) (i other : ℕ) (text : List ℕ) (arity : ℕ)
+        → IsTrue (looks_like_name rs i text arity) → HasNoRule rs i other }
+{}
+
+/// Where it is told that no two agents meet, none ever do: whatever steps are made, no interaction comes to be possible,
+/// and none is before any round.
+pub fn where_none_meet_none_ever_do()
+    ensures steps { (rs : List Rule) (place : List ℕ) (among : ℕ → Bool) (c d e : Configuration)
+        (i : ℕ) → idle_line place among rs c.equations ≢ [] → Steps rs c d
+        → ¬ Interaction rs d e i }
+    ensures apart { (rs : List Rule) (c d e : Configuration) (i : ℕ)
+        → IsTrue (are_apart c.equations) → Steps rs c d → ¬ Interaction rs d e i }
+    ensures rounds { (rs : List Rule) (c d : Configuration) (n i : ℕ)
+        → IsTrue (are_apart c.equations) → ¬ Interaction rs (iterate rs n c) d i }
+{
+    ic_round::laws::rounds_are_steps();
+}
 
 /// The symbols that are gone through, of which one may stand only once, are those of the whole text: of both sides of
 /// each rule, of their arguments, of the interface and of the equations, however deep they stand.
@@ -276,7 +306,7 @@ pub fn limits_of_lines_are_passed()
 
 /// The sentences of what is looked for. That of a command tells each word with which a line begins, and no others, and
 /// how a file begins that has no lines. Where a job's name goes on with another byte, it is told what names have.
-/// A byte order mark before a line is told.
+/// A byte order mark before a line is told, and so is a system or a configuration in place of a command.
 pub fn sentences_tell_what_is_looked_for()
     ensures command { sought_sentence due.Command
         ≡ codes "a command is looked for here: " ++ listed told_commands
@@ -290,12 +320,16 @@ pub fn sentences_tell_what_is_looked_for()
     ensures budget { sought_sentence due.Budget ≡ codes "a budget or { is looked for here" }
     ensures system { sought_sentence due.System ≡ codes "{ is looked for here" }
     ensures number { sought_sentence due.Number ≡ codes "a number is looked for here" }
-    ensures nothing { sought_sentence due.Nothing ≡ codes "nothing is looked for here" }
+    ensures nothing { sought_sentence due.Nothing ≡ codes "the line ends before this" }
     ensures submit_name { AllByRecursion (λ line. line_sentence line Syntax 8 (Sought due.Budget)
         ≡ codes "a job's name has small letters, digits and - only")
         (codes "submit a_b {} <|>" ∷ codes "submit a' {} <|>" ∷ []) }
     ensures old_name { line_sentence (codes "copy a_b c") Syntax 6 (Sought due.NewName)
         ≡ codes "a job's name has small letters, digits and - only" }
+    ensures whole_text { (rest : List ℕ) → AllByRecursion
+        (λ front. line_sentence (front ++ rest) Syntax 0 (Sought due.Command)
+        ≡ codes "a system is submitted on one line: submit NAME {RULES} <CONFIG>")
+        (codes "{" ∷ codes "<" ∷ []) }
     ensures order_mark { (rest : List ℕ) (due : Due) →
         line_sentence (239 ∷ 187 ∷ 191 ∷ rest) Syntax 0 (Sought due)
         ≡ codes "a byte order mark stands before the text: take it out" }
@@ -399,7 +433,7 @@ pub fn refusals_are_told_so()
         → (at : ℕ) × (detail : LineDetail) × IsLinePlace line fault at detail
         × (told ≡ refusal_line number line fault at detail) }
     ensures example { refusal_line 7 (codes "fetch a b") Syntax 8 (Sought due.Nothing)
-        ≡ codes "line 7, column 9: bad syntax: nothing is looked for here" ++ 10 ∷ [] }
+        ≡ codes "line 7, column 9: bad syntax: the line ends before this" ++ 10 ∷ [] }
     ensures help { refusal_line 1 (codes "help run") Syntax 0 (Sought due.Command)
         ≡ codes "line 1, column 1: bad syntax: " ++ lines_sentence ++ 10 ∷ [] }
     ensures quit { map (λ line. refusal_line 1 line Syntax 0 (Sought due.Command))

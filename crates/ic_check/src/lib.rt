@@ -5,9 +5,9 @@
 //! told as compilers do, and lines after a faulty one are looked at, too.
 //!
 //! For a system without a fault it warns of pairs that no rule takes apart, of symbols that stand only once, of rules that
-//! are never used, and of names that stand only once. `check_files` does so of files, one after the other, whatever gives
-//! them, in lines or as objects of JSON. `tell_refusals` tells a session of its lines that a server refuses. `laws` says
-//! in other words what the warnings are.
+//! are never used, of names that stand only once, where no two agents can meet, and of symbols that look like names.
+//! `check_files` does so of files, one after the other, whatever gives them, in lines or as objects of JSON.
+//! `tell_refusals` tells a session of its lines that a server refuses. `laws` says in other words what the warnings are.
 #![tactic(auto)]
 
 mod checking;
@@ -15,8 +15,10 @@ mod due;
 mod files;
 mod front;
 pub mod laws;
+mod letters;
 mod line_places;
 mod lines;
+mod meeting;
 mod names;
 mod objects;
 mod reach;
@@ -28,5 +30,5 @@ mod warnings;
 
 pub use checking::{Form, check};
 pub use files::{Given, Layout, Source, Verdict, check_files};
-pub use lines::{check_script, check_script_line};
+pub use lines::{check_line, check_script, check_script_line};
 pub use sessions::tell_refusals;

@@ -48,7 +48,7 @@ fn put_asked(alloc: Global, place: &[u8], asked: &Line, out: &mut Vec<u8>) -> Re
 }
 
 /// Appends what is told of the line of this number, and tells whether it has a fault.
-fn check_line(
+pub fn check_line(
     alloc: Global,
     file: &[u8],
     number: usize,

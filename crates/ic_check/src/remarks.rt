@@ -2,7 +2,7 @@
 
 ghost use Rattle.std.specs.Prelude.{◌≡◌, ◌≢◌, ◌≤◌, ◌++◌, IfOk, IfSome, OnOk, length};
 ghost use Rattle.ic_check.specs.Checking.{told_fault, told_line_fault};
-ghost use Rattle.ic_check.specs.Telling.{fault_line, follows_name, line_limit_sentence, line_sentence, place_text, placed_line, sought_sentence, spot_text};
+ghost use Rattle.ic_check.specs.Telling.{due_sentence, fault_line, follows_name, line_limit_sentence, line_sentence, opens_text, place_text, placed_line, sought_sentence, spot_text};
 
 use crate::due::{Due, LineLimit};
 use crate::line_places::{LineDetail, LinePlace};
@@ -173,10 +173,43 @@ fn sought_sentence(due: Due) -> &'static [u8]
         Due::Budget => b"a budget or { is looked for here",
         Due::System => b"{ is looked for here",
         Due::Number => b"a number is looked for here",
-        Due::Nothing => b"nothing is looked for here",
+        Due::Nothing => b"the line ends before this",
         Due::SubmitName | Due::OldName | Due::NewName | Due::VerbName => {
             b"a job's name is looked for here: a small letter, then small letters, digits and -"
         }
+    }
+}
+
+/// What is told where a system or a configuration stands in place of a command.
+const WHOLE_TEXT: &[u8] = b"a system is submitted on one line: submit NAME {RULES} <CONFIG>";
+
+/// Whether a text begins as a system or a configuration does.
+fn opens_text(text: &[u8]) -> bool
+    ensures { result ≡ opens_text text.now }
+{
+    text.starts_with(b"{".as_slice()) || text.starts_with(b"<".as_slice())
+}
+
+/// What is looked for, or what stands there in place of a command.
+fn due_sentence(rest: &[u8], due: Due) -> &'static [u8]
+    ensures { result.now ≡ due_sentence rest.now due }
+{
+    match due {
+        Due::Command => {
+            if opens_text(rest) {
+                WHOLE_TEXT
+            } else {
+                sought_sentence(due)
+            }
+        }
+        Due::SubmitName
+        | Due::Budget
+        | Due::System
+        | Due::OldName
+        | Due::NewName
+        | Due::VerbName
+        | Due::Number
+        | Due::Nothing => sought_sentence(due),
     }
 }
 
@@ -213,7 +246,7 @@ pub(crate) fn line_sentence(
             } else if follows_name(due) && is_joined(front, rest) {
                 Vec::from_slice(alloc, JOB_NAME)
             } else {
-                Vec::from_slice(alloc, sought_sentence(due))
+                Vec::from_slice(alloc, due_sentence(rest, due))
             }
         }
         LineDetail::Passed(limit) => Vec::from_slice(alloc, line_limit_sentence(limit)),

@@ -2,10 +2,13 @@
 
 ghost use Rattle.std.specs.Prelude.{◌≡◌, ◌&&◌, ◌++◌, ℕ, List, IfOk, OnOk, codes, map};
 ghost use Rattle.ic_term.specs.Term.{cell_tree, pair, tree};
-ghost use Rattle.ic_check.specs.Warnings.{Warns, count_of, free_lines, once_line, once_lines, pair_text, ruleless_line, ruleless_lines, symbol_text, unused_line, unused_lines, unused_words, warning_line};
+ghost use Rattle.ic_check.specs.Meeting.{has_use};
+ghost use Rattle.ic_check.specs.Warnings.{Warns, free_lines, idle_line, letter_line, letter_lines, once_line, once_lines, pair_text, ruleless_line, ruleless_lines, symbol_text, unused_line, unused_lines, unused_words, warning_line};
 ghost use Rattle.ic_check.specs.inner.Growing.{holds};
 ghost use Rattle.ic_check.specs.inner.Tallies.{tallied_line};
 
+use crate::letters::{count_of, looks_like_name};
+use crate::meeting::are_apart;
 use crate::names::{config_names, stands_once, tally};
 use crate::reach::{holds, reach};
 use crate::symbols::text_symbols;
@@ -14,6 +17,12 @@ use ic_rules::{Rule, RuleSet};
 use ic_term::{Cell, Config, Equation, Symbols, Term};
 use ic_text::put_name;
 use std::alloc::{AllocError, Global};
+
+/// What is said where no two agents can meet.
+const IDLE: &[u8] = b"no two agents meet, so no rule is used: a sum is Add(r,n)=m, not r=Add(m,n)";
+
+/// What is said of a symbol that looks like a name.
+const LETTER: &[u8] = b" is an agent, and no rule is of it: names are small letters, as x";
 
 /// Appends the line of a warning.
 fn put_warning(place: &[u8], words: &[u8], out: &mut Vec<u8>) -> Result<(), AllocError>
@@ -116,19 +125,6 @@ fn put_ruleless_lines(
         put_ruleless(alloc, place, rules, equation, out)?;
     }
     Ok(())
-}
-
-/// How often a symbol occurs among these.
-fn count_of(symbols: &[u32], symbol: u32) -> usize
-    ensures { result ≡ count_of symbols.now symbol }
-{
-    let mut count = 0;
-    for other in symbols {
-        if *other == symbol {
-            count += 1;
-        }
-    }
-    count
 }
 
 /// Appends the line of a symbol of this text, where it stands just once among these.
@@ -270,6 +266,89 @@ fn put_free_lines(
     Ok(())
 }
 
+/// Whether both symbols of one of these rules are among these.
+fn has_use(seen: &[u32], rules: &[Rule]) -> bool
+    ensures { result ≡ has_use (holds seen.now) rules.now }
+{
+    for rule in rules {
+        if may_be_used(seen, rule) {
+            return true;
+        }
+    }
+    false
+}
+
+/// Appends the line that no two agents can meet, where that is so and a rule may be used as far as the symbols tell that
+/// may come to stand.
+fn put_idle(
+    alloc: Global,
+    place: &[u8],
+    seen: &[u32],
+    rules: &[Rule],
+    equations: &[Equation],
+    out: &mut Vec<u8>,
+) -> Result<(), AllocError>
+    ensures { OnOk result (out.new.items ≡ out.old.items
+        ++ idle_line place.now (holds seen.now) rules.now (map pair equations.now)) }
+{
+    if !has_use(seen, rules) {
+        return Ok(());
+    }
+    if !are_apart(alloc, equations)? {
+        return Ok(());
+    }
+    put_warning(place, IDLE, out)
+}
+
+/// Appends the line of a symbol of this text and arity, where it looks like a name.
+fn put_letter(
+    alloc: Global,
+    place: &[u8],
+    rules: &[Rule],
+    symbol: u32,
+    text: &[u8],
+    arity: usize,
+    out: &mut Vec<u8>,
+) -> Result<(), AllocError>
+    ensures { OnOk result (out.new.items
+        ≡ out.old.items ++ letter_line place.now rules.now symbol text.now arity) }
+{
+    if !looks_like_name(alloc, rules, symbol, text, arity)? {
+        return Ok(());
+    }
+    let mut words = text.to_vec(alloc)?;
+    words.extend_from_slice(LETTER)?;
+    put_warning(place, &words, out)
+}
+
+/// Appends the lines of the symbols that look like names.
+fn put_letter_lines(
+    alloc: Global,
+    place: &[u8],
+    rules: &[Rule],
+    symbols: &Symbols,
+    out: &mut Vec<u8>,
+) -> Result<(), AllocError>
+    ensures { OnOk result (out.new.items
+        ≡ out.old.items ++ letter_lines place.now rules.now 0 symbols.now) }
+{
+    let count = symbols.len();
+    for symbol in 0..count {
+        let number = symbol as u32;
+        let text = symbols.text(number);
+        put_letter(
+            alloc,
+            place,
+            rules,
+            number,
+            text,
+            symbols.arity(number),
+            out,
+        )?;
+    }
+    Ok(())
+}
+
 /// Appends all warnings of a system that stands at this place.
 pub(crate) fn put_warnings(
     alloc: Global,
@@ -289,5 +368,7 @@ pub(crate) fn put_warnings(
     put_ruleless_lines(alloc, place, rules, config.equations(), out)?;
     put_once_lines(alloc, place, &all, symbols, out)?;
     put_unused_lines(alloc, place, &seen, symbols, listed, out)?;
-    put_free_lines(alloc, place, &names, out)
+    put_free_lines(alloc, place, &names, out)?;
+    put_idle(alloc, place, &seen, listed, config.equations(), out)?;
+    put_letter_lines(alloc, place, listed, symbols, out)
 }

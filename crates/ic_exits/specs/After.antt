@@ -242,16 +242,18 @@ abbrev pub overgrown_lines : Reached → ℕ → List ℕ
 overgrown_lines reached nodes =
     reached_text reached ++ codes ", --nodes " ++ decimal nodes ++ 10 ∷ []
 
--- the most nodes that a round may lead to, where they are why it is refused
-abbrev pub limit_text : RoundFault → List ℕ
-limit_text round.Overgrown = codes ", at most 8192"
-limit_text round.NamesOut = []
-limit_text round.Memory = []
+-- what stands before the nodes that there are before a round: that it would pass the most, where they are
+-- why it is refused
+abbrev pub nodes_words : RoundFault → List ℕ
+nodes_words round.Overgrown =
+    codes " would pass 8192 nodes as its pairs fire; before it there are "
+nodes_words round.NamesOut = codes ", nodes "
+nodes_words round.Memory = codes ", nodes "
 
 -- which round is refused, and how many nodes there are before it
 abbrev pub round_lines : Refusal → List ℕ
-round_lines refusal = codes "round " ++ decimal refusal.round ++ codes ", nodes "
-    ++ decimal refusal.nodes ++ limit_text refusal.fault ++ 10 ∷ []
+round_lines refusal = codes "round " ++ decimal refusal.round ++ nodes_words refusal.fault
+    ++ decimal refusal.nodes ++ 10 ∷ []
 
 -- what standard error is told after the line of a failure, where the disk is in the file of this
 -- path and the cause is that of the last call to it, or to standard input, that has failed

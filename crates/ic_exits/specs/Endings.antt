@@ -263,6 +263,10 @@ failure_line (TableFull reached) = told (codes "table full")
 failure_line (OutOfMemory reached) = told (codes "memory")
 failure_line (Kept fault) = told (kept_word fault)
 
+-- the line where there are rules and none was used
+abbrev pub idle_line : List ℕ
+idle_line = told (codes "no two agents met, so no rule was used; `icserve check` warns where none can")
+
 -- the line that tells a stuck pair
 abbrev pub stuck_line : List ℕ → List ℕ
 stuck_line pair = told (codes "stuck " ++ pair)

@@ -1,2 +1,4 @@
 pub mod Endings
 pub mod After
+pub mod Others
+pub mod JobLines

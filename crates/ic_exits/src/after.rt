@@ -3,7 +3,7 @@
 
 ghost use Rattle.std.specs.Prelude.{◌≡◌, IfOk};
 ghost use Rattle.ic_exits.specs.After.{book_lines, create_lines, ends_without_reader, is_of_writing, is_silent, lines_after, open_lines, scripts_lines};
-ghost use Rattle.ic_exits.specs.After.{batch_lines, input_lines, inspect_lines, limit_text, overgrown_lines, reached_lines, reached_text, round_lines};
+ghost use Rattle.ic_exits.specs.After.{batch_lines, input_lines, inspect_lines, nodes_words, overgrown_lines, reached_lines, reached_text, round_lines};
 ghost use Rattle.ic_exits.specs.After.{disk_lines, finds_no_second, found_lines, keep_lines, kept_lines};
 ghost use Rattle.ic_exits.specs.After.{serve_lines, shown_of, stream_lines, taken_words};
 
@@ -79,7 +79,7 @@ impl Failure {
     /// What standard error is told after the line of the failure, where the disk is in the file of
     /// this path and the cause is that of the last call to it, or to standard input, that has failed:
     /// a line, or nothing.
-    pub fn lines_after(
+    pub(crate) fn lines_after(
         &self,
         alloc: Global,
         path: &[u8],
@@ -120,26 +120,26 @@ fn ends_without_reader(cause: Option<Cause>) -> bool
     }
 }
 
-/// Which round is refused, how many nodes there are before it, and how many a round may lead to.
+/// Which round is refused, and how many nodes there are before it.
 fn round_lines(alloc: Global, refusal: Refusal) -> Result<Vec<u8>, AllocError>
     ensures { IfOk result (λ line. line.items ≡ round_lines refusal) }
 {
     let mut line = b"round ".to_vec(alloc)?;
     line.extend_from_slice(refusal.round.to_string(alloc)?.as_bytes())?;
-    line.extend_from_slice(b", nodes ")?;
+    line.extend_from_slice(nodes_words(refusal.fault))?;
     line.extend_from_slice(refusal.nodes.to_string(alloc)?.as_bytes())?;
-    line.extend_from_slice(limit_text(refusal.fault))?;
     line.push(b'\n')?;
     Ok(line)
 }
 
-/// The most nodes that a round may lead to, where they are why it is refused.
-fn limit_text(fault: RoundFault) -> &'static [u8]
-    ensures { result.now ≡ limit_text fault }
+/// What stands before the nodes that there are before a round: that it would pass the most, where they are why it is
+/// refused.
+fn nodes_words(fault: RoundFault) -> &'static [u8]
+    ensures { result.now ≡ nodes_words fault }
 {
     match fault {
-        RoundFault::Overgrown => b", at most 8192",
-        RoundFault::NamesOut | RoundFault::Memory => b"",
+        RoundFault::Overgrown => b" would pass 8192 nodes as its pairs fire; before it there are ",
+        RoundFault::NamesOut | RoundFault::Memory => b", nodes ",
     }
 }
 
@@ -394,7 +394,7 @@ fn taken_words(difference: Difference) -> &'static [u8]
 }
 
 /// The line that says this of the file of a path.
-fn said_of(alloc: Global, path: &[u8], words: &[u8]) -> Result<Vec<u8>, AllocError>
+pub(crate) fn said_of(alloc: Global, path: &[u8], words: &[u8]) -> Result<Vec<u8>, AllocError>
     ensures { IfOk result (λ line. line.items ≡ shown_of path.now words.now) }
 {
     let mut line = shown_path(alloc, path)?;

@@ -5,6 +5,7 @@ ghost use Rattle.std.specs.Fmt.{decimal};
 ghost use Rattle.ic_disk.specs.declared.disk.DiskFault.{DiskFault};
 ghost use Rattle.ic_text.specs.Text.{fault_text};
 ghost use Rattle.ic_text.specs.declared.fault.TextFault.{TextFault};
+ghost use Rattle.ic_text.specs.declared.fault.TextFault.TheVariants as text_fault;
 ghost use Rattle.ic_round.specs.declared.round_fault.RoundFault.{RoundFault};
 ghost use Rattle.ic_round.specs.declared.round_fault.RoundFault.TheVariants as round;
 ghost use Rattle.ic_pool.specs.declared.fault.PoolFault.{PoolFault};
@@ -44,8 +45,12 @@ ghost use Rattle.ic_batch.specs.declared.fault.Difference.{Difference};
 ghost use Rattle.ic_batch.specs.declared.fault.Difference.TheVariants as difference;
 ghost use Rattle.ic_causes.specs.declared.cause.FileCall.{FileCall};
 ghost use Rattle.ic_causes.specs.declared.cause.Reason.TheVariants as reason;
-ghost use Rattle.ic_exits.specs.Endings.{status_of, check_ending, failure_line, failure_of_dump, opening_failure, reduce_ending, stuck_line};
+ghost use Rattle.ic_exits.specs.Endings.{status_of, check_ending, failure_line, failure_of_dump, idle_line, opening_failure, reduce_ending, stuck_line};
 ghost use Rattle.ic_exits.specs.After.{is_silent, lines_after};
+ghost use Rattle.ic_exits.specs.JobLines.{refused_job_line};
+ghost use Rattle.ic_exits.specs.Others.{lines_or_other};
+ghost use Rattle.ic_exits.specs.declared.others.Other.{Other};
+ghost use Rattle.ic_exits.specs.declared.others.Other.TheVariants as other;
 ghost use Rattle.ic_causes.specs.declared.cause.Cause.{Cause};
 ghost use Rattle.ic_causes.specs.declared.cause.Target.{Target};
 ghost use Rattle.ic_causes.specs.declared.cause.Target.TheVariants.{Input};
@@ -246,7 +251,7 @@ pub fn lines_of_checks_are()
 
 /// The line on standard error where rounds or interactions didn't suffice, where a round is refused
 /// after others, where a net that is reduced in place is too large or memory ran out, and that of a
-/// stuck pair.
+/// stuck pair and of rules of which none was used.
 pub fn lines_of_looks_are()
     ensures not_done { failure_line NotDone ≡ codes "icserve: not done" ++ 10 ∷ [] }
     ensures round { (r nodes : ℕ) → map (λ fault. failure_line
@@ -261,6 +266,8 @@ pub fn lines_of_looks_are()
         → failure_line (OutOfMemory reached) ≡ codes "icserve: memory" ++ 10 ∷ [] }
     ensures stuck { (pair : List ℕ) → stuck_line pair
         ≡ codes "icserve: stuck " ++ pair ++ 10 ∷ [] }
+    ensures idle { idle_line ≡ codes "icserve: no two agents met, so no rule was used; "
+        ++ codes "`icserve check` warns where none can" ++ 10 ∷ [] }
 {}
 
 /// The statuses and the lines of a reduction that is kept, and what is told after them.
@@ -344,8 +351,10 @@ pub fn nothing_is_told_where_nobody_reads()
 pub fn lines_after_are(text: &String)
     ensures round_overgrown { (r nodes : ℕ) (path : List ℕ) (cause : Option Cause)
         → lines_after
-        (Round (record { fault = round.Overgrown; round = r; nodes = nodes })) path cause ≡ codes "round " ++ decimal r ++ codes ", nodes " ++ decimal nodes
-        ++ codes ", at most 8192" ++ 10 ∷ [] }
+        (Round (record { fault = round.Overgrown; round = r; nodes = nodes })) path cause
+        ≡ codes "round " ++ decimal r
+        ++ codes " would pass 8192 nodes as its pairs fire; before it there are " ++ decimal nodes
+        ++ 10 ∷ [] }
     ensures names_out { (r nodes : ℕ) (path : List ℕ) (cause : Option Cause)
         → lines_after
         (Round (record { fault = round.NamesOut; round = r; nodes = nodes })) path cause ≡ codes "round " ++ decimal r ++ codes ", nodes " ++ decimal nodes ++ 10 ∷ [] }
@@ -434,4 +443,59 @@ pub fn lines_after_are(text: &String)
         → lines_after (Jobs fault) path cause ≡ [] }
     ensures words { (path : List ℕ) (cause : Option Cause)
         → lines_after (Words (words.Words text.now)) path cause ≡ [] }
+{}
+
+/// Of a file that is known to be no disk it is told alone what it is, where that is why no disk is made or opened. A text
+/// is told so where it has no slot, or would be written over. Where nothing is known, or another failure came, it is told
+/// what is told else.
+pub fn other_files_are_told_to_be_so()
+    ensures reduction { (path : List ℕ) (cause : Option Cause)
+        → lines_or_other NotEmpty path cause (Some other.Reduction) ≡ shown_path path ++ codes ": "
+        ++ (codes "it is one of the two files of a reduction, and no disk: "
+        ++ codes "`icserve reduce --resume F` goes on with F, without .2") ++ 10 ∷ [] }
+    ensures reductions { (path : List ℕ) (cause : Option Cause)
+        → map (λ failure. lines_or_other failure path cause (Some other.Reduction))
+        (Open opening.NoSlot ∷ Open opening.TwoAlike ∷ Open opening.Damaged
+        ∷ Attend (scripts.Open opening.Damaged) ∷ [])
+        ≡ map (λ failure. lines_or_other failure path cause (Some other.Reduction))
+        (NotEmpty ∷ NotEmpty ∷ NotEmpty ∷ NotEmpty ∷ []) }
+    ensures text { (path : List ℕ) (cause : Option Cause)
+        → lines_or_other NotEmpty path cause (Some other.Text) ≡ shown_path path ++ codes ": "
+        ++ codes "the file is a text, and no disk; `icserve create --disk F` makes a new file F one"
+        ++ 10 ∷ [] }
+    ensures texts { (path : List ℕ) (cause : Option Cause)
+        → map (λ failure. lines_or_other failure path cause (Some other.Text))
+        (Open opening.NoSlot ∷ Attend (scripts.Open opening.NoSlot) ∷ [])
+        ≡ map (λ failure. lines_or_other failure path cause (Some other.Text))
+        (NotEmpty ∷ NotEmpty ∷ []) }
+    ensures damaged { (path : List ℕ) (cause : Option Cause)
+        → map (λ failure. lines_or_other failure path cause (Some other.Text))
+        (Open opening.Damaged ∷ Open opening.TwoAlike ∷ [])
+        ≡ map (λ failure. lines_after failure path cause)
+        (Open opening.Damaged ∷ Open opening.TwoAlike ∷ []) }
+    ensures others { (is : Other) (fault : DiskFault) (path : List ℕ) (cause : Option Cause)
+        → map (λ failure. lines_or_other failure path cause (Some is))
+        (Disk fault ∷ Locked ∷ Open opening.Device ∷ Open opening.Memory ∷ [])
+        ≡ map (λ failure. lines_after failure path cause)
+        (Disk fault ∷ Locked ∷ Open opening.Device ∷ Open opening.Memory ∷ []) }
+    ensures unknown { (failure : Failure) (path : List ℕ) (cause : Option Cause)
+        → lines_or_other failure path cause None ≡ lines_after failure path cause }
+{}
+
+/// The line that is told of a line that can be read and gives no job: another command, a name twice, or a 33rd job.
+pub fn lines_of_refused_jobs_are()
+    ensures other { (path : List ℕ) (line : ℕ)
+        → refused_job_line path line (cause_of_line.Text text_fault.Syntax) ≡ shown_path path ++ codes ":"
+        ++ decimal line ++ codes ": " ++ codes "each line submits a job" ++ 10 ∷ [] }
+    ensures twice { (path : List ℕ) (line : ℕ)
+        → refused_job_line path line (cause_of_line.Refused Taken) ≡ shown_path path ++ codes ":"
+        ++ decimal line ++ codes ": " ++ codes "a line before submits a job of this name"
+        ++ 10 ∷ [] }
+    ensures commands { (path : List ℕ) (line : ℕ)
+        → refused_job_line path line (cause_of_line.Text text_fault.Limit)
+        ≡ refused_job_line path line (cause_of_line.Refused Full) }
+    ensures many { (path : List ℕ) (line : ℕ)
+        → refused_job_line path line (cause_of_line.Refused Full) ≡ shown_path path ++ codes ":"
+        ++ decimal line ++ codes ": "
+        ++ codes "a batch has at most 32 jobs; `cluster/cut` parts more into shards" ++ 10 ∷ [] }
 {}

@@ -5,6 +5,12 @@
 
 mod after;
 mod failure;
+mod job_lines;
 pub mod laws;
+mod others;
 
-pub use failure::{Failure, Reached, check_ending, opening_failure, reduce_ending, stuck_line};
+pub use failure::{
+    Failure, Reached, check_ending, idle_line, opening_failure, reduce_ending, stuck_line,
+};
+pub use job_lines::refused_job_line;
+pub use others::Other;

@@ -2,10 +2,10 @@
 use Rattle.std.proofs.Common.{◌≡◌, ◌≢◌, ℕ, suc, ◌+◌, ◌≤◌, Bool, true, false, cond, List, [], ◌∷◌, ◌++◌, length, Option, None, Some, Result, Ok, Err, refl, sym, ap, ◌∙◌, subst, arith, length-append, nat_le}
 use Rattle.std.specs.List.{concat}
 use Rattle.std.proofs.lemmas.Bool.Decides.{nat_tests}
-use Rattle.ic_term.specs.Symbol.{Symbol}
+use Rattle.ic_term.specs.Symbol.{Symbol, is_symbol_text}
 use Rattle.ic_text.specs.Token.{is_blank}
 use Rattle.ic_expand.specs.declared.fault.Reason.{Reason}
-use Rattle.ic_expand.specs.declared.fault.Reason.TheVariants.{TextBytes, NoText, NoEnd}
+use Rattle.ic_expand.specs.declared.fault.Reason.TheVariants.{TextBytes, NoText, NotSymbol, NoSymbol, NoEnd}
 use Rattle.ic_expand.specs.declared.fault.ExpandFault.{ExpandFault}
 use Rattle.ic_expand.specs.declared.fault.ExpandFault.TheVariants.{Refused, Memory}
 use Rattle.ic_expand.specs.declared.limits.TheConstants.{MAX_RICH_TEXT}
@@ -31,10 +31,14 @@ inner_some : (text : List ℕ) (ts : List Symbol) → Inner text (unless_some ts
 inner_some text [] = refl
 inner_some text (t ∷ ts) = tt
 
-inner_lack : (text : List ℕ) (kind : Kind) (arity : Option ℕ) → Inner text (Some (lack_of kind arity))
-inner_lack text kind None = refl
-inner_lack text Copier (Some n) = refl
-inner_lack text Eraser (Some n) = refl
+inner_unknown : (text : List ℕ) (b : Bool) → Inner text (Some (cond b NoSymbol NotSymbol))
+inner_unknown text true = refl
+inner_unknown text false = refl
+
+inner_lack : (text : List ℕ) (kind : Kind) (p : List ℕ) (arity : Option ℕ) → Inner text (Some (lack_of kind p arity))
+inner_lack text kind p None = inner_unknown text (is_symbol_text p)
+inner_lack text Copier p (Some n) = refl
+inner_lack text Eraser p (Some n) = refl
 
 inner_by : (text : List ℕ) (b : Bool) (o p : Option Reason) → Inner text o → Inner text p → Inner text (cond b o p)
 inner_by text true o p one other = one
@@ -44,7 +48,7 @@ inner_at : (text : List ℕ) (sheet : Sheet) (earlier : List (List ℕ)) (spot :
 inner_at text sheet earlier Elsewhere p = tt
 inner_at text sheet earlier Opening p = tt
 inner_at text sheet earlier (Asked kind) p =
-    inner_by text (has_symbol sheet.symbols kind p) (unless_some (wanted sheet earlier p)) (Some (lack_of kind (arity_in sheet.symbols p))) (inner_some text (wanted sheet earlier p)) (inner_lack text kind (arity_in sheet.symbols p))
+    inner_by text (has_symbol sheet.symbols kind p) (unless_some (wanted sheet earlier p)) (Some (lack_of kind p (arity_in sheet.symbols p))) (inner_some text (wanted sheet earlier p)) (inner_lack text kind p (arity_in sheet.symbols p))
 inner_at text sheet earlier Given p = inner_by text (is_end (first_byte p)) None (Some NoEnd) tt refl
 
 inner_refusal : (text : List ℕ) (sheet : Sheet) (earlier : List (List ℕ)) (spot : Spot) (p : List ℕ) → Inner text (refusal sheet earlier spot p)

@@ -3,9 +3,9 @@ use Rattle.std.specs.Prelude.{ℕ, ◌+◌, ◌==◌, List, [], ◌∷◌, ◌++
 use Rattle.std.specs.List.{list_any}
 use Rattle.std.specs.Str.{bytes_eq}
 use Rattle.ic_text.specs.Token.{is_blank}
-use Rattle.ic_term.specs.Symbol.{Symbol}
+use Rattle.ic_term.specs.Symbol.{Symbol, is_symbol_text}
 use Rattle.ic_expand.specs.declared.fault.Reason.{Reason}
-use Rattle.ic_expand.specs.declared.fault.Reason.TheVariants.{TextBytes, NoText, NoSymbol, NoCopier, NoEraser, NoRules, NoEnd}
+use Rattle.ic_expand.specs.declared.fault.Reason.TheVariants.{TextBytes, NoText, NotSymbol, NoSymbol, NoCopier, NoEraser, NoRules, NoEnd}
 use Rattle.ic_expand.specs.declared.fault.ExpandFault.{ExpandFault}
 use Rattle.ic_expand.specs.declared.fault.ExpandFault.TheVariants.{Refused}
 use Rattle.ic_expand.specs.declared.limits.TheConstants.{MAX_RICH_TEXT}
@@ -66,11 +66,15 @@ abbrev pub arity_in : List Symbol → List ℕ → Option ℕ
 arity_in [] s = None
 arity_in (t ∷ ts) s = if bytes_eq s t.text then Some t.arity else arity_in ts s
 
--- what is amiss with a symbol that isn't the one that is looked for, by how many arguments it has
-abbrev pub lack_of : Kind → Option ℕ → Reason
-lack_of kind None = NoSymbol
-lack_of Copier (Some n) = NoCopier n
-lack_of Eraser (Some n) = NoEraser n
+-- what is amiss with a piece that no term has
+abbrev pub unknown : List ℕ → Reason
+unknown p = if is_symbol_text p then NoSymbol else NotSymbol
+
+-- what is amiss with a piece that isn't the symbol that is looked for, by how many arguments it has in a term
+abbrev pub lack_of : Kind → List ℕ → Option ℕ → Reason
+lack_of kind p None = unknown p
+lack_of Copier p (Some n) = NoCopier n
+lack_of Eraser p (Some n) = NoEraser n
 
 -- why there are no rules, if there are none
 abbrev pub unless_some : List Symbol → Option Reason
@@ -85,7 +89,7 @@ is_end b = b == 59 || b == 125
 abbrev pub refused_at : Sheet → (earlier : List (List ℕ)) → Spot → List ℕ → Option Reason
 refused_at sheet earlier (Asked kind) p = if has_symbol sheet.symbols kind p
     then unless_some (wanted sheet earlier p)
-    else Some (lack_of kind (arity_in sheet.symbols p))
+    else Some (lack_of kind p (arity_in sheet.symbols p))
 refused_at sheet earlier Given p = if is_end (first_byte p) then None else Some NoEnd
 refused_at sheet earlier spot p = None
 

@@ -11,7 +11,7 @@ use Rattle.ic_diagnostics.specs.Lines.{place_lines}
 use Rattle.ic_expand.specs.Comments.{uncommented}
 use Rattle.ic_expand.specs.Expanding.{expanded}
 use Rattle.ic_expand.specs.declared.fault.Reason.{Reason}
-use Rattle.ic_expand.specs.declared.fault.Reason.TheVariants.{TextBytes, NoText, NoSymbol, NoCopier, NoEraser, NoRules, NoEnd}
+use Rattle.ic_expand.specs.declared.fault.Reason.TheVariants.{TextBytes, NoText, NotSymbol, NoSymbol, NoCopier, NoEraser, NoRules, NoEnd}
 use Rattle.ic_expand.specs.declared.fault.ExpandFault.TheVariants.{Refused}
 use Rattle.ic_expand.specs.declared.limits.TheConstants.{MAX_RICH_TEXT}
 
@@ -19,6 +19,7 @@ use Rattle.ic_expand.specs.declared.limits.TheConstants.{MAX_RICH_TEXT}
 abbrev pub text_fault : Reason → TextFault
 text_fault TextBytes = Limit
 text_fault NoText = Syntax
+text_fault NotSymbol = Syntax
 text_fault NoSymbol = Syntax
 text_fault (NoCopier n) = Syntax
 text_fault (NoEraser n) = Syntax
@@ -33,6 +34,8 @@ counted words n = words ++ decimal n ++ codes " where it stands first"
 abbrev pub reason_sentence : Reason → List ℕ
 reason_sentence TextBytes = codes "a text has at most 16777216 bytes"
 reason_sentence NoText = codes "a text begins with { or <; lines for serve aren't expanded"
+reason_sentence NotSymbol =
+    codes "copy and erase need a symbol: A to Z or 0 to 9, and then letters and digits"
 reason_sentence NoSymbol =
     codes "copy and erase need a symbol that stands in a term, and this one stands in none"
 reason_sentence (NoCopier n) =
@@ -46,6 +49,7 @@ reason_sentence NoEnd = codes "; or } is looked for here"
 abbrev pub told_text : Reason → List ℕ → List ℕ
 told_text TextBytes text = text
 told_text NoText text = uncommented text
+told_text NotSymbol text = uncommented text
 told_text NoSymbol text = uncommented text
 told_text (NoCopier n) text = uncommented text
 told_text (NoEraser n) text = uncommented text

@@ -12,7 +12,9 @@ pub enum Reason {
     TextBytes,
     /// It begins neither with `{` nor with `<`.
     NoText,
-    /// After `copy` or `erase` no symbol stands that a term of the text has.
+    /// After `copy` or `erase` no symbol stands.
+    NotSymbol,
+    /// After `copy` or `erase` a symbol stands that no term of the text has.
     NoSymbol,
     /// The symbol after `copy` has not two, but so many arguments where it stands first.
     NoCopier(usize),

@@ -1,10 +1,12 @@
 //! What is proved of the definitions alone: each law is the contract of a function that does nothing.
 
-ghost use Rattle.std.specs.Prelude.{◌≡◌, ◌≤◌, ◌==◌, ℕ, List, [], ◌∷◌, ◌++◌, Ok, false, true, codes, length};
+ghost use Rattle.std.specs.Prelude.{◌≡◌, ◌≤◌, ◌==◌, ℕ, List, [], ◌∷◌, ◌++◌, Ok, Err, false, true, codes, length};
 ghost use Rattle.std.specs.List.{concat, list_any, AllByRecursion};
 ghost use Rattle.ic_expand.specs.declared.limits.TheConstants.{MAX_RICH_TEXT};
 ghost use Rattle.ic_expand.specs.declared.names.Spelling.{Spelling};
 ghost use Rattle.ic_expand.specs.declared.names.Spelling.TheVariants.{Short, Long};
+ghost use Rattle.ic_expand.specs.declared.fault.ExpandFault.TheVariants.{Refused};
+ghost use Rattle.ic_expand.specs.declared.fault.Reason.TheVariants.{NoSymbol, NotSymbol};
 ghost use Rattle.ic_expand.specs.declared.spot.Spot.TheVariants.{Elsewhere};
 ghost use Rattle.ic_expand.specs.Begins.{is_begun};
 ghost use Rattle.ic_expand.specs.Comments.{uncommented};
@@ -59,6 +61,12 @@ pub fn generic_rules_keep_arities()
     ensures erased { (s : List ℕ) (t : Symbol) → (zs : List (List ℕ)) × (length zs ≡ t.arity)
         × AllByRecursion (λ z. z ≡ s) zs
         × (erased s t ≡ rule_text (agent_text s []) (agent_text t.text zs)) }
+{}
+
+/// A word after `copy` that is no symbol is told to be none, and a symbol to stand in no term.
+pub fn words_and_unknown_symbols_are_told_apart()
+    ensures word { expanded (codes "{ copy dup }") ≡ Err (Refused NotSymbol 7) }
+    ensures symbol { expanded (codes "{ copy Dup }") ≡ Err (Refused NoSymbol 7) }
 {}
 
 /// A text with each of these, and what it is written as.

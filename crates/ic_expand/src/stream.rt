@@ -120,6 +120,7 @@ fn refusal_lines(
     match reason {
         Reason::TextBytes => place_lines(alloc, text, at, &sentence),
         Reason::NoText
+        | Reason::NotSymbol
         | Reason::NoSymbol
         | Reason::NoCopier(_)
         | Reason::NoEraser(_)
@@ -150,6 +151,12 @@ fn reason_sentence(alloc: Global, reason: Reason) -> Result<Vec<u8>, AllocError>
             Vec::from_slice(
                 alloc,
                 b"a text begins with { or <; lines for serve aren't expanded",
+            )
+        }
+        Reason::NotSymbol => {
+            Vec::from_slice(
+                alloc,
+                b"copy and erase need a symbol: A to Z or 0 to 9, and then letters and digits",
             )
         }
         Reason::NoSymbol => {
@@ -187,6 +194,7 @@ fn text_fault(reason: Reason) -> TextFault
     match reason {
         Reason::TextBytes => TextFault::Limit,
         Reason::NoText
+        | Reason::NotSymbol
         | Reason::NoSymbol
         | Reason::NoCopier(_)
         | Reason::NoEraser(_)

@@ -3,7 +3,7 @@
 ghost use Rattle.std.specs.Prelude.{◌≡◌, ◌≢◌, ◌++◌, true, IfErr, IfOk, OnOk, Ok, Err, map};
 ghost use Rattle.ic_expand.specs.Generic.{in_row};
 ghost use Rattle.ic_expand.specs.Spots.{after_first};
-ghost use Rattle.ic_expand.specs.Expanding.{arity_in, expanded, has_symbol, kept_word, lack_of, piece_text, refusal, rules_of, sheet_of, unless_some, wanted, with_generic, written_pieces};
+ghost use Rattle.ic_expand.specs.Expanding.{arity_in, expanded, has_symbol, kept_word, lack_of, piece_text, refusal, rules_of, sheet_of, unknown, unless_some, wanted, with_generic, written_pieces};
 ghost use Rattle.ic_expand.specs.Pieces.{pieces};
 ghost use Rattle.ic_expand.specs.inner.Sheets.{sheet_in, symbol_in};
 
@@ -17,6 +17,7 @@ use crate::pieces::{first_byte, split_piece};
 use crate::reading::{Pair, Use, pairs_of, symbols_of};
 use crate::rules::{is_wanted, rules_with};
 use crate::spot::{Kind, Spot, after_first};
+use ic_term::is_symbol;
 use ic_text::is_blank;
 use indexmap::IndexSet;
 use std::alloc::{AllocError, Global};
@@ -54,14 +55,25 @@ fn arity_in(symbols: &[Use], text: &[u8]) -> Option<usize>
     None
 }
 
-/// What is amiss with a symbol that isn't the one that is looked for, by how many arguments it has.
-fn lack_of(kind: Kind, arity: Option<usize>) -> Reason
-    ensures { result ≡ lack_of kind arity }
+/// What is amiss with a piece that no term has.
+fn unknown(piece: &[u8]) -> Reason
+    ensures { result ≡ unknown piece.now }
+{
+    if is_symbol(piece) {
+        Reason::NoSymbol
+    } else {
+        Reason::NotSymbol
+    }
+}
+
+/// What is amiss with a piece that isn't the symbol that is looked for, by how many arguments it has in a term.
+fn lack_of(kind: Kind, piece: &[u8], arity: Option<usize>) -> Reason
+    ensures { result ≡ lack_of kind piece.now arity }
 {
     match (kind, arity) {
         (Kind::Copier, Some(count)) => Reason::NoCopier(count),
         (Kind::Eraser, Some(count)) => Reason::NoEraser(count),
-        (Kind::Copier | Kind::Eraser, None) => Reason::NoSymbol,
+        (Kind::Copier | Kind::Eraser, None) => unknown(piece),
     }
 }
 
@@ -111,7 +123,7 @@ impl Sheet {
             Spot::Asked(kind) if has_symbol(&self.symbols, kind, piece) => {
                 self.lacks_rules(earlier, piece)
             }
-            Spot::Asked(kind) => Some(lack_of(kind, arity_in(&self.symbols, piece))),
+            Spot::Asked(kind) => Some(lack_of(kind, piece, arity_in(&self.symbols, piece))),
         }
     }
 

@@ -4,15 +4,17 @@ ghost use Rattle.std.specs.List.{IsDistinct};
 ghost use Rattle.std.specs.Str.{bytes_eq};
 ghost use Rattle.ic_batch.specs.Jobs.{names};
 
-use crate::scripts::read_file;
+use crate::scripts::{line_of, read_file};
 use crate::{Making, NotedDisk, open_disk};
-use ic_batch::{BatchFault, JobsFault, NewJob, read_jobs};
+use ic_batch::{BatchFault, JobsCause, JobsFault, NewJob, read_jobs};
 use ic_book::{Book, OpenCause, OpenFault};
-use ic_causes::{NotedOutput, Notes};
-use ic_exits::Failure;
+use ic_causes::{NotedOutput, Notes, shown_path};
+use ic_check::check_line;
+use ic_exits::{Failure, refused_job_line};
 use ic_progress::{Progress, WipedFirst};
 use ic_scripts::ScriptsFault;
 use ic_slots::is_unused;
+use std::alloc::{AllocError, Global};
 use std::io;
 use std::sync::Wait;
 use std::thread::Threads;
@@ -25,7 +27,8 @@ pub(crate) struct Files<'a> {
 }
 
 /// Brings the jobs of the lines in a file to their ends, over the disk in another one, which is made
-/// where it is missing, each by so many rounds at most. Where the lines can't be read, why is appended to `told`.
+/// where it is missing, each by so many rounds at most. Where the lines can't be read, or one is refused, why is appended to
+/// `told`.
 pub(crate) fn batch<T: Threads + Wait + Copy + Send + 'static>(
     rt: &HostRuntime,
     threads: &T,
@@ -38,7 +41,10 @@ pub(crate) fn batch<T: Threads + Wait + Copy + Send + 'static>(
     let text = lines_of(rt, files.lines, told).map_err(Failure::Jobs)?;
     let jobs = match read_jobs(rt.alloc(), &text) {
         Ok(jobs) => jobs,
-        Err(fault) => return Err(Failure::Jobs(fault)),
+        Err(fault) => {
+            let _ = tell_refusal(rt.alloc(), files.lines, &text, fault, told);
+            return Err(Failure::Jobs(fault));
+        }
     };
     let book = made_book(rt, files.disk, notes)?;
     bring(rt, threads, book, &jobs, most, making, notes).map_err(Failure::Batch)
@@ -51,6 +57,28 @@ fn lines_of(rt: &HostRuntime, path: &str, told: &mut Vec<u8>) -> Result<Vec<u8>,
         Err(ScriptsFault::Memory) => Err(JobsFault::Memory),
         Err(_) => Err(JobsFault::Read),
     }
+}
+
+/// Appends where the lines in the file of this path are refused, and what is amiss there.
+fn tell_refusal(
+    alloc: Global,
+    path: &str,
+    text: &[u8],
+    fault: JobsFault,
+    told: &mut Vec<u8>,
+) -> Result<(), AllocError> {
+    let JobsFault::Line(number, cause) = fault else {
+        return Ok(());
+    };
+    if let JobsCause::Text(_) = cause {
+        let file = shown_path(alloc, path.as_bytes())?;
+        let mut lines = Vec::new(alloc);
+        if check_line(alloc, &file, number, line_of(text, number), &mut lines)? {
+            return told.extend_from_slice(&lines);
+        }
+    }
+    let line = refused_job_line(alloc, path.as_bytes(), number, cause)?;
+    told.extend_from_slice(&line)
 }
 
 /// The book on the disk in the file of this path. Where there is no disk, or what a stopped making of one

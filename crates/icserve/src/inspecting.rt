@@ -1,7 +1,7 @@
 //! The program's word `inspect`: what a disk's file holds, or two files in which a reduction is kept, on standard output.
 
 use crate::kept;
-use crate::others::{other_at, other_line};
+use crate::others::other_at;
 use crate::standing::stand_ins;
 use ic_args::ReportFormat;
 use ic_causes::{NotedFile, NotedFiles, NotedOutput, Notes, Target};
@@ -94,7 +94,7 @@ fn look(rt: &HostRuntime, path: &str, layout: Layout, notes: &Notes) -> Result<b
 /// Tells on standard error what the file of this path is, where that is known and it is no disk.
 fn tell_other(rt: &HostRuntime, path: &str) {
     if let Some(other) = other_at(rt, path) {
-        if let Ok(line) = other_line(rt.alloc(), path, other) {
+        if let Ok(line) = other.line(rt.alloc(), path.as_bytes()) {
             let _ = rt.stderr().write_all(&line);
         }
     }

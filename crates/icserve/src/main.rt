@@ -21,7 +21,7 @@ mod texts;
 use crate::answers::Answers;
 use crate::input::{Input, open_file, told_of};
 use crate::keeping::KeptIn;
-use crate::others::{Other, other_at, other_line};
+use crate::others::other_at;
 use crate::reducing::Wanted;
 use crate::session::Session;
 use crate::standing::stand_ins;
@@ -79,28 +79,12 @@ fn begin<T: Threads + Wait + Copy + Send + Sync + 'static>(
         return Err(Failure::Words(WordsFault::Memory));
     }
     let done = answer(rt, threads, &task, notes, told);
-    if let Err(failure) = &done {
-        tell_of_reduction(rt, failure, path_of(&task), told);
-    }
     if let (Err(failure), Some(file)) = (&done, file_of(&task)) {
         if let Ok(lines) = told_of(rt.alloc(), file, failure, notes, told) {
             *told = lines;
         }
     }
     done
-}
-
-/// Appends of a file that was taken for a disk, and isn't opened, that it is of a reduction which is kept.
-fn tell_of_reduction(rt: &HostRuntime, failure: &Failure, path: &str, told: &mut Vec<u8>) {
-    let is_of_disk = matches!(
-        failure,
-        Failure::Open(_) | Failure::NotEmpty | Failure::Attend(ScriptsFault::Open(_))
-    );
-    if is_of_disk && matches!(other_at(rt, path), Some(Other::Reduction)) {
-        if let Ok(line) = other_line(rt.alloc(), path, Other::Reduction) {
-            let _ = told.extend_from_slice(&line);
-        }
-    }
 }
 
 /// Opens what a task reads, and does it.
@@ -636,7 +620,8 @@ fn refuse(rt: &HostRuntime, failure: &Failure, path: &str, notes: &Notes, told: 
     ExitCode::from(failure.status())
 }
 
-/// Writes the line of a failure to standard error, and what is to be told of the disk's file of this path.
+/// Writes the line of a failure to standard error, and what is to be told of the disk's file of this path: if it is known
+/// to be no disk, what it is.
 fn tell_failure(
     rt: &HostRuntime,
     failure: &Failure,
@@ -645,10 +630,23 @@ fn tell_failure(
 ) -> Result<(), AllocError> {
     let line = failure.line(rt.alloc())?;
     tell(rt, &line);
-    if let Ok(lines) = failure.lines_after(rt.alloc(), path.as_bytes(), notes.last()) {
+    let other = if is_of_disk(failure) {
+        other_at(rt, path)
+    } else {
+        None
+    };
+    if let Ok(lines) = failure.lines_or_other(rt.alloc(), path.as_bytes(), notes.last(), other) {
         tell(rt, &lines);
     }
     Ok(())
+}
+
+/// Whether a failure is that a file was taken for a disk, and isn't made or opened as one.
+fn is_of_disk(failure: &Failure) -> bool {
+    matches!(
+        failure,
+        Failure::Open(_) | Failure::NotEmpty | Failure::Attend(ScriptsFault::Open(_))
+    )
 }
 
 /// Writes lines to standard error, as far as that can be done.

@@ -3,11 +3,11 @@
 use crate::looking::tell_stuck;
 use ic_args::FiguresFormat;
 use ic_causes::{NotedOutput, Notes};
-use ic_exits::{Failure, Reached, reduce_ending};
-use ic_in_place::{Asked, Bounds, Outcome, reduce_in_place_stream};
+use ic_exits::{Failure, Reached, idle_line, reduce_ending};
+use ic_in_place::{Asked, Bounds, End, Outcome, reduce_in_place_stream};
 use ic_progress::{Watching, WipedFirst, figures_lines, figures_object};
 use ic_text::Limits;
-use std::io::{self, Read, Write};
+use std::io::{self, IsTerminal, Read, Write};
 use std::time::{Duration, Instant};
 
 /// What is wanted of a reduction in place.
@@ -50,7 +50,8 @@ pub(crate) fn reduce<R: Read>(
 }
 
 /// Tells on standard error what is told of a reduction that took so long: figures, as far as they are wanted, and a stuck
-/// pair. The answer says how it ended, where its net may have so many places.
+/// pair. A terminal is told if there are rules and none was used. The answer says how it ended, where its net may have so
+/// many places.
 pub(crate) fn tell_end(
     rt: &HostRuntime,
     outcome: &Outcome,
@@ -63,6 +64,8 @@ pub(crate) fn tell_end(
     }
     if let Some(pair) = &outcome.stuck {
         tell_stuck(rt, pair);
+    } else if is_idle(outcome) && rt.stderr().is_terminal() {
+        tell_idle(rt);
     }
     let reached = Reached {
         interactions: outcome.interactions,
@@ -70,6 +73,18 @@ pub(crate) fn tell_end(
         left: outcome.left,
     };
     reduce_ending(outcome.end, reached, nodes)
+}
+
+/// Whether a reduction ended where no step is possible, and used none of its rules.
+fn is_idle(outcome: &Outcome) -> bool {
+    matches!(outcome.end, End::Quiet) && outcome.interactions == 0 && !outcome.by_rule.is_empty()
+}
+
+/// Tells on standard error that no two agents met.
+fn tell_idle(rt: &HostRuntime) {
+    if let Ok(line) = idle_line(rt.alloc()) {
+        let _ = rt.stderr().write_all(&line);
+    }
 }
 
 /// How much time has passed, or none where the clock can't be read.

@@ -55,7 +55,7 @@ fn tell_refusal(
 }
 
 /// The line of this number, from 1, of a text.
-fn line_of(text: &[u8], number: usize) -> &[u8] {
+pub(crate) fn line_of(text: &[u8], number: usize) -> &[u8] {
     let mut rest = text;
     for _ in 1..number {
         rest = split_line(rest).1;

@@ -1,6 +1,6 @@
 use Rattle.std.proofs.Common.{◌≡◌, ◌≤◌, ◌+◌, drop}
 use Rattle.ic_check.specs.Warnings.{count_of}
-use Rattle.ic_check.proofs.warnings.count_of.Given as goal
+use Rattle.ic_check.proofs.letters.count_of.Given as goal
 
 -- those counted so far and those left are all
 abbrev pub invariant-loop-other : goal.invariant-loop-other

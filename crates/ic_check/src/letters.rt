@@ -1,0 +1,98 @@
+//! Which symbols look like names, as variables are written elsewhere.
+
+ghost use Rattle.std.specs.Prelude.{◌≡◌, IfOk};
+ghost use Rattle.std.specs.List.{list_any};
+ghost use Rattle.ic_check.specs.Letters.{is_capital, is_letter, is_side, looks_like_name, makes_twice};
+ghost use Rattle.ic_check.specs.Warnings.{count_of};
+
+use crate::symbols::made_symbols;
+use ic_rules::Rule;
+use std::alloc::{AllocError, Global};
+
+/// How often a symbol occurs among these.
+pub(crate) fn count_of(symbols: &[u32], symbol: u32) -> usize
+    ensures { result ≡ count_of symbols.now symbol }
+{
+    let mut count = 0;
+    for other in symbols {
+        if *other == symbol {
+            count += 1;
+        }
+    }
+    count
+}
+
+/// Whether a text is one capital letter.
+fn is_capital(text: &[u8]) -> bool
+    ensures { result ≡ is_capital text.now }
+{
+    match text.split_first() {
+        None => false,
+        Some((letter, rest)) => letter.is_ascii_uppercase() && rest.is_empty(),
+    }
+}
+
+/// Whether a symbol of this text and arity is written as a name could be.
+fn is_letter(text: &[u8], arity: usize) -> bool
+    ensures { result ≡ is_letter text.now arity }
+{
+    is_capital(text) && arity == 0
+}
+
+/// Whether a symbol is a side of a rule.
+fn is_side(symbol: u32, rule: &Rule) -> bool
+    ensures { result ≡ is_side symbol rule.now }
+{
+    rule.left() == symbol || rule.right() == symbol
+}
+
+/// Whether a symbol is a side of one of these rules.
+fn is_any_side(symbol: u32, rules: &[Rule]) -> bool
+    ensures { result ≡ list_any (is_side symbol) rules.now }
+{
+    for rule in rules {
+        if is_side(symbol, rule) {
+            return true;
+        }
+    }
+    false
+}
+
+/// Whether a rule makes a symbol at least twice.
+fn makes_twice(alloc: Global, symbol: u32, rule: &Rule) -> Result<bool, AllocError>
+    ensures { IfOk result (λ twice. twice ≡ makes_twice symbol rule.now) }
+{
+    let made = made_symbols(alloc, rule)?;
+    Ok(2 <= count_of(&made, symbol))
+}
+
+/// Whether one of these rules makes a symbol at least twice.
+fn any_makes_twice(alloc: Global, symbol: u32, rules: &[Rule]) -> Result<bool, AllocError>
+    ensures { IfOk result (λ any. any ≡ list_any (makes_twice symbol) rules.now) }
+{
+    for rule in rules {
+        if makes_twice(alloc, symbol, rule)? {
+            return Ok(true);
+        }
+    }
+    Ok(false)
+}
+
+/// Whether a symbol of this text and arity looks like a name where these are the rules.
+pub(crate) fn looks_like_name(
+    alloc: Global,
+    rules: &[Rule],
+    symbol: u32,
+    text: &[u8],
+    arity: usize,
+) -> Result<bool, AllocError>
+    ensures { IfOk result (λ looks. looks ≡ looks_like_name rules.now symbol text.now arity) }
+{
+    if !is_letter(text, arity) {
+        return Ok(false);
+    }
+    if is_any_side(symbol, rules) {
+        return Ok(false);
+    }
+    any_makes_twice(alloc, symbol, rules)
+}
