@@ -1,5 +1,5 @@
 -- Arguments that stand at the one place after the options.
-use Rattle.std.proofs.Common.{◌≡◌, ◌⊎◌, ◌<◌, ◌^◌, ℕ, List, [], ◌∷◌, ◌++◌, Bool, true, false, ◌&&◌, ◌||◌, cond, fold, ne_eqb, option_map, slice_get, true≢false, Option, None, Some, codes, length, refl, sym, ◌∙◌, ap, ap₂, inl, inr, subst, append-nil, append_assoc, arith}
+use Rattle.std.proofs.Common.{◌≡◌, ◌⊎◌, ◌<◌, ◌^◌, ℕ, List, [], ◌∷◌, ◌++◌, Bool, true, false, ◌&&◌, cond, fold, ne_eqb, option_map, slice_get, Option, None, Some, codes, length, refl, sym, ◌∙◌, ap, ap₂, inl, inr, subst, append-nil, append_assoc, arith}
 use Rattle.std.specs.List.{AllByRecursion}
 use Rattle.std.specs.Prelude.{option_and_then}
 use Rattle.std.specs.Option.{option_map_or}
@@ -10,21 +10,19 @@ use Rattle.clap.specs.Words.{Rule, Row, Text, all_of, first_of, new_rule}
 use Rattle.clap.specs.Simple.{Shape}
 use Rattle.clap.specs.Lexer.{long_of, short_of, usize_max}
 use Rattle.clap.specs.Kinds.{or_else, range_kinds, values_kinds}
-use Rattle.clap.specs.Walk.{Held, Walk, arg_by_id, arg_by_index, default_rows, has_row, idle, more_values, positional, reading_by, settled, takes_several, used, used_by_id, walked, with_default, with_values, without}
+use Rattle.clap.specs.Walk.{Held, Walk, arg_by_id, arg_by_index, default_rows, has_row, idle, more_values, positional, reading_by, settled, takes_several, used, used_by_id, walked, with_default, with_values}
 use Rattle.clap.specs.Faults.{settle_fault, turn_fault, use_fault}
 use Rattle.clap.specs.declared.builder.action.ArgAction.TheVariants.{Append, Set}
 use Rattle.clap.specs.declared.builder.value_parser.Reading.TheVariants as reading
-use Rattle.clap.specs.declared.builder.value_parser.ValueParser.{ValueParser}
 use Rattle.clap.specs.declared.builder.value_parser.ValueParser.TheVariants as vp
 use Rattle.clap.specs.declared.error.ErrorKind.TheVariants as kind
 use Rattle.clap.specs.declared.parser.matches.ValueSource.TheVariants.{CommandLine}
 use Rattle.ic_args.specs.Lines.{HasNoHyphen}
 use Rattle.ic_args.specs.Words.{file_named}
-use Rattle.ic_args.proofs.LineRows.{IsFoundRow, found_in, found_last, found_more, row_after}
-use Rattle.ic_args.proofs.OneValue.{Each, Good, Passes, at_end}
-use Rattle.ic_args.proofs.Options.{Fits, no_default, other_values}
-use Rattle.ic_args.proofs.OptionLines.{found_all, is_held, none_stays}
-use Rattle.ic_args.proofs.Steps.{Leads, at, dashes, leads_more, leads_none, level, no_dashes, no_long, no_short, one_turn}
+use Rattle.ic_args.proofs.LineRows.{IsFoundRow, found_in, found_last, found_more, none_found, row_after}
+use Rattle.ic_args.proofs.OneValue.{at_end}
+use Rattle.ic_args.proofs.OptionLines.{found_all, none_stays}
+use Rattle.ic_args.proofs.Steps.{Leads, at, dashes, is_held, leads_more, leads_none, level, no_dashes, no_long, no_short, one_turn}
 
 -- an argument that may have one value, as it is built
 abbrev pub one_argument : Text → Bool → Rule
@@ -55,31 +53,6 @@ argument_row id vs = record { id = id; values = vs; count = None; source = Some 
 pub same_id : (id : Text) → bytes_eq id id ≡ true
 same_id id = (bytes_eq-Decides id id).1 refl
 
--- ---- they leave good rows of an option
-
-module _ (target : Text) (q : ValueParser) (id : Text) (other : bytes_eq id target ≡ false) where
-  without_good : (rows : List Row) → Each (Good target q) rows → Each (Good target q) (without id rows)
-  without_good [] good = tt
-  without_good (r ∷ rs) good = go (bytes_eq r.id id) (without_good rs good.1)
-    where
-      go : (b : Bool) → Each (Good target q) (without id rs) → Each (Good target q) (cond b ([] ++ rs) (r ∷ without id rs))
-      go true rest = good.1
-      go false rest = (good.0, rest)
-
-  one_passes : (required : Bool) → Passes target q (one_argument id required)
-  one_passes required [] rows e good = other_values target q id reading.AsWritten CommandLine [] (without id rows) other (without_good rows good)
-  one_passes required (v ∷ vs) rows e good = other_values target q id reading.AsWritten CommandLine (v ∷ vs) (without id rows) other (without_good rows good)
-
-  pub one_fits : (required : Bool) → Fits target q (one_argument id required)
-  one_fits required = (one_passes required, λ rows e good. no_default id (Each (Good target q)) rows good)
-
-  several_passes : (least : ℕ) (required : Bool) → Passes target q (several_argument id least required)
-  several_passes least required [] rows e good = other_values target q id reading.AsWritten CommandLine [] rows other good
-  several_passes least required (v ∷ vs) rows e good = other_values target q id reading.AsWritten CommandLine (v ∷ vs) rows other good
-
-  pub several_fits : (least : ℕ) (required : Bool) → Fits target q (several_argument id least required)
-  several_fits least required = (several_passes least required, λ rows e good. no_default id (Each (Good target q)) rows good)
-
 -- ---- the words
 
 -- a word that is no option and no end of options
@@ -108,15 +81,6 @@ none_after id before rows (inr grew) name other none =
     ap (has_row name) grew.2 ∙ row_after name before grew.0 none (ap (λ (t : Text). bytes_eq t name) grew.1 ∙ other)
 
 -- ---- what is found of it at the end
-
--- where there is no row, none is found
-pub none_found : (id : Text) (rows : List Row) → has_row id rows ≡ false → found_in id rows ≡ None
-none_found id [] none = refl
-none_found id (r ∷ rs) none = go (bytes_eq r.id id) none (none_found id rs)
-  where
-    go : (b : Bool) → (b || has_row id rs) ≡ false → (has_row id rs ≡ false → found_in id rs ≡ None) → cond b (Some r) (found_in id rs) ≡ None
-    go true none rest = absurd (true≢false none)
-    go false none rest = rest none
 
 -- the arguments of this name have no default
 abbrev pub HaveNoDefault : Text → List Rule → Type 0

@@ -4,18 +4,16 @@ use Rattle.std.specs.Str.{bytes_eq}
 use Rattle.clap.specs.Words.{Rule, Row, Text}
 use Rattle.clap.specs.Simple.{filled, with_index}
 use Rattle.clap.specs.Values.{reading_of}
-use Rattle.clap.specs.Walk.{has_row, more_values, used, values_or_missing, with_default, with_values, without}
+use Rattle.clap.specs.Walk.{has_row, more_values, used, with_default, with_values}
 use Rattle.clap.specs.Faults.{use_fault}
 use Rattle.clap.specs.Kinds.{or_else, values_kinds}
 use Rattle.clap.proofs.OnLiterals.{clap_on_literals}
 use Rattle.clap.specs.declared.error.ErrorKind.TheVariants as kind
-use Rattle.clap.specs.declared.builder.value_parser.ValueParser.{ValueParser}
 use Rattle.clap.specs.declared.builder.value_parser.ValueParser.TheVariants as vp
 use Rattle.clap.specs.declared.parser.matches.ValueSource.TheVariants.{CommandLine, DefaultValue}
 use Rattle.ic_args.specs.Words.{a_flag, rule_for}
 use Rattle.ic_args.proofs.LineRows.{found_in, found_last}
-use Rattle.ic_args.proofs.OneValue.{Each, Good, Passes, at_end}
-use Rattle.ic_args.proofs.Options.{Fits, other_values}
+use Rattle.ic_args.proofs.OneValue.{at_end}
 
 -- a flag as it is built
 abbrev pub built_flag : Text → Rule
@@ -27,28 +25,6 @@ flag_row name = record { id = name; values = codes "true" ∷ []; count = None; 
 
 abbrev pub unset_row : Text → Row
 unset_row name = record { id = name; values = codes "false" ∷ []; count = None; source = Some DefaultValue; reading = reading_of vp.Bool }
-
--- it leaves good rows of an option
-module _ (target : Text) (q : ValueParser) (name : Text) (other : bytes_eq name target ≡ false) where
-  without_good : (rows : List Row) → Each (Good target q) rows → Each (Good target q) (without name rows)
-  without_good [] good = good
-  without_good (r ∷ rs) good = go (without_good rs good.1) (bytes_eq r.id name)
-    where
-      go : Each (Good target q) (without name rs) → (b : Bool) → Each (Good target q) (cond b ([] ++ rs) (r ∷ without name rs))
-      go rest true = good.1
-      go rest false = (good.0, rest)
-
-  flag_passes : Passes target q (built_flag name)
-  flag_passes values rows e good =
-      other_values target q name (reading_of vp.Bool) CommandLine (values_or_missing (built_flag name) values) (without name rows) other (without_good rows good)
-
-  pub flag_fits : Fits target q (built_flag name)
-  flag_fits = (flag_passes, λ rows e good. go (has_row name rows) rows good)
-    where
-      go : (b : Bool) (rows : List Row) → Each (Good target q) rows
-          → Each (Good target q) (cond b rows (with_values name (reading_of vp.Bool) DefaultValue (codes "false" ∷ []) rows))
-      go true rows good = good
-      go false rows good = other_values target q name (reading_of vp.Bool) DefaultValue (codes "false" ∷ []) rows other good
 
 -- where it is given, its rows grow by one
 pub flag_grown : (name : Text) (rows : List Row) → has_row name rows ≡ false → used (built_flag name) [] rows ≡ rows ++ flag_row name ∷ []

@@ -15,8 +15,8 @@ use Rattle.clap.specs.declared.parser.matches.Found.{Found}
 use Rattle.clap.proofs.WalkLemmas.{first_value-rows, raw_values-rows}
 use Rattle.std.specs.Str.{bytes_eq}
 use Rattle.clap.specs.Kinds.{or_else}
-use Rattle.ic_args.specs.Words.{BeginsWith, commands, asks_in_place, asks_kept, asks_rounds, clashes, command_line, has_help, is_format, is_given, figures_met, is_figures, is_limits, limits_met, own_faults, own_mistakes, reduce_faults, value_if_met, value_met, values_met, is_report_format}
-use Rattle.ic_args.specs.inner.Asking.{IsIn, IsMet, TellsReport}
+use Rattle.ic_args.specs.Words.{BeginsWith, asks_in_place, asks_kept, asks_rounds, clashes, command_line, has_help, is_format, is_given, figures_met, is_figures, is_limits, limits_met, own_faults, own_mistakes, reduce_faults, value_if_met, value_met, values_met, is_report_format}
+use Rattle.ic_args.specs.inner.Asking.{IsMet, TellsReport, is_command}
 use Rattle.ic_args.proofs.WordsExact.{IsCalled, first_met}
 
 command_line_simple : is_simple_and_free command_line ≡ true
@@ -94,7 +94,7 @@ pub rows_met : (app : App) (words : List Text) (m : ArgMatches) → app ≡ comm
 rows_met app words m is matches = (matches (ap is_simple is ∙ simple)).1 ∙ ap (λ a. subcommand_of a words) is
 
 -- where one command alone was written, that is met
-pub alone_met : (one other : Text) (words : List Text) → IsIn other commands → IsMet one (subcommand_of command_line words) → words ≡ other ∷ [] → one ≡ other
+pub alone_met : (one other : Text) (words : List Text) → is_command other ≡ true → IsMet one (subcommand_of command_line words) → words ≡ other ∷ [] → one ≡ other
 alone_met one other words is met alone = one_met one other (subcommand_of command_line words) met (ap command_of alone ∙ first_met other [] is)
 
 -- ---- mistakes of a command's own
