@@ -8,20 +8,21 @@ use Rattle.clap.specs.Words.{Kinds, Row, Rule, Shape, Text, all_of, fault_of, fi
 use Rattle.clap.specs.Simple.{new_shape}
 use Rattle.clap.specs.Takes.{is_given}
 use Rattle.clap.specs.Kinds.{check_kinds, or_else, value_kinds}
-use Rattle.clap.specs.Values.{refused_kind}
+use Rattle.clap.specs.Values.{reading_of, refused_kind}
+use Rattle.clap.specs.declared.builder.value_parser.ValueParser.TheVariants as vp
 use Rattle.clap.specs.Walk.{Held, arg_by_id, arg_by_long, has_row, idle, nothing_held, reacted, settled, with_default}
 use Rattle.clap.specs.Faults.{check_fault, settle_fault}
 use Rattle.clap.proofs.OnLiterals.{clap_on_literals}
-use Rattle.ic_args.specs.Words.{Choice, Entry, Kind, Tail, a_flag, a_number, a_text, an_option, choice_named, command_line, name_of, file_met, file_named, is_flag_met, many_words, most_rounds, no_words, one_word, value_if_met, value_met, values_met}
+use Rattle.ic_args.specs.Words.{Choice, Entry, Kind, Tail, a_flag, a_number, a_text, an_option, choice_named, command_line, name_of, file_met, file_named, is_flag_met, listed, many_words, most_rounds, no_words, one_word, value_if_met, value_met, values_met}
 use Rattle.ic_args.specs.Lines.{ArePlain, AreWrittenBy, Given, Gives, given_value, HasFlag, HasNone, HasValue, IsFileWord, IsGivenAs, IsLine, IsOneOf, Takes}
 use Rattle.ic_args.specs.inner.Asking.{IsMet}
 use Rattle.ic_args.proofs.Accepted.{accepted}
 use Rattle.ic_args.proofs.Arguments.{HaveNoDefault, IsGivenBy, IsPlainWord, ReadsArgument, first_shown, found_after, hyphen_alone, many_read, no_hyphen, none_after, none_first, none_kept, none_read, one_argument, one_read, plain_word, range_none, range_some, same_id, several_argument, shown_of}
 use Rattle.ic_args.proofs.Entries.{after_options, apart_parts, are_apart, aside_differs, both_true, built_choice, choice_apart, choice_sound, default_of, default_passes, default_value, differ, differ_parts, id_is, is_name, is_sound, kind_fits, named_so, reader, rule_after, rule_by_id, rule_by_index, rule_by_long, rules_of, spelled, tail_name}
-use Rattle.ic_args.proofs.Flags.{built_flag, flag_free, flag_grown, flag_row, flag_unset, unset_row}
+use Rattle.ic_args.proofs.Flags.{built_flag, flag_free}
 use Rattle.ic_args.proofs.LineEnds.{IsHarmless, either_none, entered_after, given_row, given_there, last_found, or_none, text}
 use Rattle.ic_args.proofs.LineRows.{default_found, first_value, found_in, fresh_first, given_found, not_given}
-use Rattle.ic_args.proofs.OneValue.{one_value}
+use Rattle.ic_args.proofs.OneValue.{set_grown, used_row}
 use Rattle.ic_args.proofs.OptionLines.{all_read, found_all, none_stays}
 use Rattle.ic_args.proofs.Steps.{IsSpelled, Leads, ReadsGiven, at, given_as, is_held, level, long_leads}
 use Rattle.ic_args.proofs.WordsExact.{IsCommand, help}
@@ -49,17 +50,22 @@ module _ (base : Shape) (c : List Rule) (name : Text) (by_long : arg_by_long c n
       let is_word : words ≡ (45 ∷ 45 ∷ name) ∷ [] = written ∙ ap (λ (n : Text). (45 ∷ 45 ∷ n) ∷ []) named in
       record {
         after = flagged h;
-        row = flag_row name;
+        row = used_row name (reading_of vp.Bool) (codes "true" ∷ []);
         leads = subst (λ (ws : List Text). Leads base c ws (at base c h) (at base c (flagged h))) (sym is_word)
             (long_leads base c (45 ∷ 45 ∷ name) name None (built_flag name) h (flagged h) idle is.alone.0 is.alone.1 by_long refl
             (ap₂ or_else settles (flag_free name (settled c h).rows free)));
         settles = refl;
-        rows = flag_grown name (settled c h).rows free;
+        rows = set_grown name (reading_of vp.Bool) (codes "true" ∷ []) (settled c h).rows free;
         of = (sym named, ap (λ (v : Text). v ∷ []) (sym valued), refl);
         apart = refl;
       }
 
 -- ---- what is said of all arguments of a command
+
+defaults_of : (x : Choice) → (built_choice x).defaults ≡ listed (default_of x)
+defaults_of (a_flag name) = refl
+defaults_of (an_option name kind None needed) = refl
+defaults_of (an_option name kind (Some v) needed) = refl
 
 -- no option of another name has a default of this one
 module _ (more : List Rule) (name : Text) (plain : HaveNoDefault name more) where
@@ -68,20 +74,20 @@ module _ (more : List Rule) (name : Text) (plain : HaveNoDefault name more) wher
   no_defaults (x ∷ xs) apart = let parts = differ_parts name x xs apart in (inl (ap (λ (t : Text). bytes_eq t name) (id_is x) ∙ parts.0), no_defaults xs parts.1)
 
   -- where no row has the name, its default is found
-  shown_default : (options : List Choice) (n v : Text) (beyond : List Row) (r : Row) → n ≡ name → found_in n beyond ≡ Some r → r.values ≡ v ∷ []
-      → first_of name (fold with_default beyond (map built_choice options ++ more)) ≡ Some v
-  shown_default options n v beyond r is found values =
-      first_value name v _ r (found_all (map built_choice options ++ more) name beyond r (ap (λ (t : Text). found_in t beyond) (sym is) ∙ found)) values
-
   own_default : (x : Choice) (xs : List Choice) (rows : List Row) → name_of x ≡ name → differ (name_of x) xs ≡ true → has_row name rows ≡ false
       → first_of name (fold with_default (with_default rows (built_choice x)) (map built_choice xs ++ more)) ≡ default_of x
-  own_default (a_flag n) xs rows is apart none =
-      shown_default xs n (codes "false") (with_default rows (built_flag n)) (unset_row n) is (flag_unset n rows (same_id n) (ap (λ (t : Text). has_row t rows) is ∙ none)) refl
-  own_default (an_option n kind (Some v) needed) xs rows is apart none =
-      shown_default xs n v (with_default rows (one_value n n (Some v) (reader kind) needed)) _ is
-      (default_found n (reader kind) needed v rows (same_id n) (ap (λ (t : Text). has_row t rows) is ∙ none)) refl
-  own_default (an_option n kind None needed) xs rows is apart none =
-      none_first name _ (none_kept (one_value n n None (reader kind) needed ∷ (map built_choice xs ++ more)) name rows (inr refl, no_defaults xs (ap (λ (t : Text). differ t xs) (sym is) ∙ apart)) none)
+  own_default x xs rows is apart none = go (default_of x) (defaults_of x)
+    where
+      id : (built_choice x).id ≡ name
+      id = id_is x ∙ is
+
+      go : (o : Option Text) → (built_choice x).defaults ≡ listed o → first_of name (fold with_default (with_default rows (built_choice x)) (map built_choice xs ++ more)) ≡ o
+      go (Some v) defaults =
+          let one = default_found (built_choice x) v rows defaults (ap (λ (t : Text). has_row t rows) id ∙ none) in
+          first_value name v _ one.0
+          (found_all (map built_choice xs ++ more) name _ one.0 (ap (λ (t : Text). found_in t (with_default rows (built_choice x))) (sym id) ∙ one.1)) one.2
+      go None empty =
+          none_first name _ (none_kept (built_choice x ∷ (map built_choice xs ++ more)) name rows (inr empty, no_defaults xs (ap (λ (t : Text). differ t xs) (sym is) ∙ apart)) none)
 
   pub defaults_are : (aside : Text) (options : List Choice) → are_apart options aside ≡ true → (rows : List Row) → has_row name rows ≡ false
       → first_of name (fold with_default rows (map built_choice options ++ more)) ≡ default_value name options

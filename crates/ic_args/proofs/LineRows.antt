@@ -6,12 +6,10 @@ use Rattle.std.proofs.lemmas.List.Folds.{find-append, list_any-append}
 use Rattle.std.specs.List.{AllByRecursion}
 use Rattle.std.specs.Str.{bytes_eq}
 use Rattle.std.proofs.lemmas.Slice.Eq.{bytes_eq-Decides}
-use Rattle.clap.specs.Walk.{Row, Text, first_of, has_row, more_values, with_default, with_values}
-use Rattle.clap.specs.Values.{reading_of}
-use Rattle.clap.specs.declared.builder.value_parser.ValueParser.{ValueParser}
+use Rattle.clap.specs.Walk.{Row, Rule, Text, default_rows, first_of, has_row, more_values, reading_by, with_default}
 use Rattle.clap.specs.declared.parser.matches.ValueSource.TheVariants.{CommandLine, DefaultValue}
 use Rattle.ic_args.specs.Lines.{Given, Gives, HasNone}
-use Rattle.ic_args.proofs.OneValue.{at_end, one_value}
+use Rattle.ic_args.proofs.OneValue.{at_end}
 
 pub same_texts : (a b : Text) → a ≡ b → bytes_eq a b ≡ true
 same_texts a b is = (bytes_eq-Decides a b).1 is
@@ -118,16 +116,15 @@ not_given (g ∷ gs) (r ∷ rs) name are none =
 
 -- ---- defaults
 
--- an option with one value: what its default does to rows
-module _ (id : Text) (parser : ValueParser) (required : Bool) where
-  abbrev default_row : Text → Row
-  default_row v = record { id = id; values = v ∷ []; count = None; source = Some DefaultValue; reading = reading_of parser }
-
-  pub default_found : (v : Text) (rows : List Row) → bytes_eq id id ≡ true → has_row id rows ≡ false
-      → found_in id (with_default rows (one_value id id (Some v) parser required)) ≡ Some (default_row v)
-  default_found v rows same none =
-      ap (λ b. found_in id (cond b rows (with_values id (reading_of parser) DefaultValue (v ∷ []) rows))) none
-      ∙ ap (found_in id) (at_end id (more_values DefaultValue (v ∷ [])) (default_row v ∷ []) rows none) ∙ found_last id rows (default_row v) none same
+-- an argument that has no row gets that of its default
+pub default_found : (a : Rule) (v : Text) (rows : List Row) → a.defaults ≡ v ∷ [] → has_row a.id rows ≡ false → (r : Row) × (found_in a.id (with_default rows a) ≡ Some r) × (r.values ≡ v ∷ [])
+default_found a v rows is none =
+    let row : Row = record { id = a.id; values = v ∷ []; count = None; source = Some DefaultValue; reading = reading_by a } in (
+      row,
+      ap₂ (λ (b : Bool) (vs : List Text). found_in a.id (cond b rows (default_rows a.id (reading_by a) vs rows))) none is
+          ∙ ap (found_in a.id) (at_end a.id (more_values DefaultValue (v ∷ [])) (row ∷ []) rows none) ∙ found_last a.id rows row none (same_texts a.id a.id refl),
+      refl,
+    )
 
 -- the value of a row that is found
 pub first_value : (id value : Text) (rows : List Row) (r : Row) → found_in id rows ≡ Some r → r.values ≡ value ∷ [] → first_of id rows ≡ Some value

@@ -1,9 +1,9 @@
 -- Options that are written one after the other, word by word.
-use Rattle.std.proofs.Common.{◌≡◌, List, [], ◌∷◌, ◌++◌, Bool, true, false, ◌&&◌, cond, ne_eqb, Option, None, Some, fold, refl, sym, ◌∙◌, ap, ap₂, append-nil, append_assoc, inl, inr, subst}
+use Rattle.std.proofs.Common.{◌≡◌, List, [], ◌∷◌, ◌++◌, Bool, true, false, ◌&&◌, cond, ne_eqb, Option, None, Some, fold, refl, sym, ◌∙◌, ap, ap₂, append_assoc, inl, inr, subst}
 use Rattle.std.specs.Prelude.{option_and_then}
 use Rattle.std.specs.Option.{option_map_or}
 use Rattle.std.specs.Str.{bytes_eq}
-use Rattle.clap.specs.Walk.{Held, Row, Rule, Step, Text, Waiting, Walk, after_flag, after_step, arg_by_id, arg_by_long, has_row, idle, long_met, long_or_other, next, option, reacted, settled, trailing, used, used_by_id, walked, with_values, more_values}
+use Rattle.clap.specs.Walk.{Held, Row, Rule, Step, Text, Waiting, Walk, after_flag, after_step, arg_by_id, arg_by_long, has_row, idle, long_met, long_or_other, next, option, reacted, settled, trailing, used_by_id, walked}
 use Rattle.clap.specs.Lexer.{long_of, long_of_rest, short_of, short_of_rest, strip_byte}
 use Rattle.clap.specs.Values.{reading_of}
 use Rattle.clap.specs.Simple.{Shape}
@@ -11,10 +11,9 @@ use Rattle.clap.specs.Kinds.{Kinds, or_else, value_kinds}
 use Rattle.clap.specs.Faults.{flag_word_fault, long_fault, settle_fault, step_fault, turn_fault, use_fault, walk_fault}
 use Rattle.clap.specs.declared.error.ErrorKind.TheVariants as kind
 use Rattle.clap.specs.declared.builder.value_parser.ValueParser.{ValueParser}
-use Rattle.clap.specs.declared.parser.matches.ValueSource.TheVariants.{CommandLine}
 use Rattle.ic_args.specs.Lines.{Given, HasNoHyphen, IsWritten}
 use Rattle.ic_args.proofs.LineRows.{IsRowOf}
-use Rattle.ic_args.proofs.OneValue.{at_end, one_value}
+use Rattle.ic_args.proofs.OneValue.{one_value, set_grown, used_row}
 
 abbrev pub dashes : Text
 dashes = 45 ∷ 45 ∷ []
@@ -41,10 +40,6 @@ pub record IsSpelled (name : Text) : Type 0 where
 -- the argument has a value that isn't settled yet
 abbrev pub is_held : Text → Held → Bool
 is_held id h = option_map_or (λ (q : Text × List Text). bytes_eq q.0 id) h.pending false
-
--- the row of an option with one value
-abbrev pub row_with : Text → Text → ValueParser → Row
-row_with id v parser = record { id = id; values = v ∷ []; count = None; source = Some CommandLine; reading = reading_of parser }
 
 module _ (base : Shape) (c : List Rule) where
   abbrev pub level : Shape
@@ -127,12 +122,6 @@ module _ (base : Shape) (c : List Rule) where
     abbrev a : Rule
     a = one_value id id default parser required
 
-    -- its rows grow by one
-    grown : (v : Text) (rows : List Row) → has_row id rows ≡ false → used a (v ∷ []) rows ≡ rows ++ row_with id v parser ∷ []
-    grown v rows none =
-        ap (with_values id (reading_of parser) CommandLine (v ∷ [])) (at_end id (λ r. []) [] rows none ∙ append-nil rows)
-        ∙ at_end id (more_values CommandLine (v ∷ [])) (row_with id v parser ∷ []) rows none
-
     no_fault : (v : Text) (rows : List Row) → has_row id rows ≡ false → value_kinds false parser v ≡ [] → use_fault false a (v ∷ []) rows ≡ []
     no_fault v rows none accepted = ap₂ (λ b (k : Kinds). or_else (cond (b && true) (kind.ArgumentConflict ∷ []) []) (or_else k [])) none accepted
 
@@ -160,10 +149,10 @@ module _ (base : Shape) (c : List Rule) where
           (ap₂ or_else settles (no_fault v (settled c h).rows fresh accepted)) in
           record {
             after = reacted c a (v ∷ []) h;
-            row = row_with id v parser;
+            row = used_row id (reading_of parser) (v ∷ []);
             leads = subst (λ (ws : List Text). Leads ws (at h) (at (reacted c a (v ∷ []) h))) (sym (joined ∙ ap (λ (n : Text). (45 ∷ 45 ∷ n ++ 61 ∷ v) ∷ []) is)) leads;
             settles = refl;
-            rows = grown v (settled c h).rows fresh;
+            rows = set_grown id (reading_of parser) (v ∷ []) (settled c h).rows fresh;
             of = (sym is, refl, refl);
             apart = refl;
           }
@@ -174,11 +163,11 @@ module _ (base : Shape) (c : List Rule) where
           let value = one_turn v (waits_at id (waiting h)) (at (valued v h)) (turn_value v h parted.1) (walked_value v h parted.1) in
           record {
             after = valued v h;
-            row = row_with id v parser;
+            row = used_row id (reading_of parser) (v ∷ []);
             leads = subst (λ (ws : List Text). Leads ws (at h) (at (valued v h))) (sym (parted.0 ∙ ap (λ (n : Text). (45 ∷ 45 ∷ n) ∷ v ∷ []) is))
                 (leads_more ((45 ∷ 45 ∷ id) ∷ []) (v ∷ []) (at h) (waits_at id (waiting h)) (at (valued v h)) named value);
             settles = ap (λ (o : Option Rule). option_map_or (λ (x : Rule). use_fault false x (v ∷ []) (settled c h).rows) o []) by_id ∙ no_fault v (settled c h).rows fresh accepted;
-            rows = ap (λ (o : Option Rule). used_by_id o (v ∷ []) (settled c h).rows) by_id ∙ grown v (settled c h).rows fresh;
+            rows = ap (λ (o : Option Rule). used_by_id o (v ∷ []) (settled c h).rows) by_id ∙ set_grown id (reading_of parser) (v ∷ []) (settled c h).rows fresh;
             of = (sym is, refl, refl);
             apart = other;
           }
