@@ -1,15 +1,14 @@
 #!/usr/bin/env python3
-"""Writes the helps of crates/ic_args/src/help.rt into crates/ic_args/specs/Help.antt, by the names in `named_help`, and the
-proofs that go through these names or find parts of a help: run it after an edit of a help, or of the law on helps."""
+"""Writes the proofs that go through the names of helps in crates/ic_args/src/help.rt, or find parts of a help: run it after
+an edit of a help, or of the law on helps."""
 
 import re
 from pathlib import Path
 
 CRATE = Path(__file__).resolve().parent.parent / "crates/ic_args"
-SPECS, LAWS = CRATE / "specs/Help.antt", CRATE / "src/laws.rt"
+LAWS = CRATE / "src/laws.rt"
 PROOF = CRATE / "proofs/laws/each_command_has_its_help/Answers.antt"
 NAMED = CRATE / "proofs/help/named_help/Answers.antt"
-COLUMNS = 96
 
 
 def plain(text):
@@ -19,7 +18,7 @@ def plain(text):
 
 def helps():
     """The helps of the source, by their names there."""
-    found = re.findall(r'const (\w+): &str = "\\\n(.*?)";\n', (CRATE / "src/help.rt").read_text(), re.S)
+    found = re.findall(r'(?:pub\(crate\) )?const (\w+): &str = "\\\n(.*?)";\n', (CRATE / "src/help.rt").read_text(), re.S)
     return {name.lower(): plain(text) for name, text in found}
 
 
@@ -28,49 +27,8 @@ def names():
     return re.findall(r'"(\w+)" => Some\((\w+)\),', (CRATE / "src/help.rt").read_text())
 
 
-def quoted(text):
-    """A text as it stands in a definition."""
-    return 'codes "' + text.replace("\\", "\\\\").replace('"', '\\"') + '"'
-
-
-def line_of(text):
-    """The definition of a line, in parts where it is long."""
-    if not text:
-        return "[]"
-    if len(quoted(text)) <= COLUMNS:
-        return quoted(text)
-    at = text.rindex(" ", 0, 80)
-    rest = line_of(text[at:])
-    return f"({quoted(text[:at])}\n    ++ {rest[1:-1] if rest.startswith('(') else rest})"
-
-
-def definition(name, text):
-    lines = text.split("\n")[:-1]
-    body = "\n    ∷ ".join(line_of(it) for it in lines)
-    return f"abbrev pub {name}_help : Text\n{name}_help = text_of ({body}\n    ∷ [])\n"
-
-
-def specs():
-    """The definitions of the helps, in their file."""
-    before, rest = SPECS.read_text().split("abbrev pub program_help", 1)
-    after = rest[rest.index("-- the help of the command of this name") :]
-    return before + "\n".join(definition(*it) for it in helps().items()) + "\n" + table() + "\n" + after
-
-
-def table():
-    """The definition of the helps by the names of their commands."""
-    lines = ["helps = "]
-    for name, help in names():
-        row = f"({quoted(name)}, {help.lower()}_help) ∷ "
-        if len(lines[-1] + row) > COLUMNS + 4:
-            lines.append("    ∷ ")
-            lines[-2] = lines[-2].removesuffix("∷ ").rstrip()
-        lines[-1] += row
-    return "-- the help of each command\nabbrev pub helps : List (Text × Text)\n" + "\n".join(lines) + "[]\n"
-
-
 def named():
-    """The proof of `named_help`, which goes through the names."""
+    """The proof of `named_help` for a word that is none of the names."""
     others = "".join(f"(other.not-{name}, " for name, _ in names()) + "tt" + ")" * len(names())
     before = NAMED.read_text().split("pub returns-in_default", 1)[0]
     default = f"""pub returns-in_default : goal.returns-in_default
@@ -78,11 +36,7 @@ returns-in_default c =
     let other = c.in_default in
     sym (no_help_named c.args.word.now {others})
 """
-    each = (
-        f"\npub returns-in-{name} : goal.returns-in-{name}\nreturns-in-{name} c = sym (ap named_help c.in-{name}.is)\n"
-        for name, _ in names()
-    )
-    return before + default + "".join(each)
+    return before + default
 
 
 def places(clause):
@@ -110,7 +64,7 @@ def proof():
 
 def written():
     """Each file that this writes, with what it has to hold."""
-    return {SPECS: specs(), PROOF: proof(), NAMED: named()}
+    return {PROOF: proof(), NAMED: named()}
 
 
 if __name__ == "__main__":

@@ -207,7 +207,7 @@ def texts(path):
 
 
 def helps_are_as_written():
-    """The definitions of the helps, and the places in their law's proof, are those that helps.py writes."""
+    """The proofs on helps are those that helps.py writes."""
     for path, text in helps.written().items():
         if path.read_text() != text:
             yield path.relative_to(Path.cwd()), 1, "is not as python3 checks/helps.py writes it"

@@ -1,5 +1,5 @@
 -- Arguments that stand at the one place after the options.
-use Rattle.std.proofs.Common.{◌≡◌, ◌⊎◌, ◌<◌, ◌^◌, ℕ, List, [], ◌∷◌, ◌++◌, Bool, true, false, ◌&&◌, ◌||◌, cond, fold, ne_eqb, option_map, slice_get, true≢false, Option, None, Some, codes, length, refl, sym, ◌∙◌, ap, ap₂, inl, inr, subst, append-nil, append_assoc, arith}
+use Rattle.std.proofs.Common.{◌≡◌, ◌⊎◌, ◌<◌, ◌^◌, ℕ, List, [], ◌∷◌, ◌++◌, Bool, true, false, ◌&&◌, cond, fold, ne_eqb, option_map, slice_get, Option, None, Some, codes, length, refl, sym, ◌∙◌, ap, ap₂, inl, inr, subst, append-nil, append_assoc, arith}
 use Rattle.std.specs.List.{AllByRecursion}
 use Rattle.std.specs.Prelude.{option_and_then}
 use Rattle.std.specs.Option.{option_map_or}
@@ -10,21 +10,19 @@ use Rattle.clap.specs.Words.{Rule, Row, Text, all_of, first_of, new_rule}
 use Rattle.clap.specs.Simple.{Shape}
 use Rattle.clap.specs.Lexer.{long_of, short_of, usize_max}
 use Rattle.clap.specs.Kinds.{or_else, range_kinds, values_kinds}
-use Rattle.clap.specs.Walk.{Held, Walk, arg_by_id, arg_by_index, default_rows, has_row, idle, more_values, positional, reading_by, settled, takes_several, used, used_by_id, walked, with_default, with_values, without}
+use Rattle.clap.specs.Walk.{Held, Waiting, Walk, arg_by_id, arg_by_index, default_rows, has_row, idle, more_values, positional, reading_by, settled, takes_several, used, used_by_id, walked, with_default}
 use Rattle.clap.specs.Faults.{settle_fault, turn_fault, use_fault}
 use Rattle.clap.specs.declared.builder.action.ArgAction.TheVariants.{Append, Set}
 use Rattle.clap.specs.declared.builder.value_parser.Reading.TheVariants as reading
-use Rattle.clap.specs.declared.builder.value_parser.ValueParser.{ValueParser}
 use Rattle.clap.specs.declared.builder.value_parser.ValueParser.TheVariants as vp
 use Rattle.clap.specs.declared.error.ErrorKind.TheVariants as kind
 use Rattle.clap.specs.declared.parser.matches.ValueSource.TheVariants.{CommandLine}
 use Rattle.ic_args.specs.Lines.{HasNoHyphen}
 use Rattle.ic_args.specs.Words.{file_named}
-use Rattle.ic_args.proofs.LineRows.{IsFoundRow, found_in, found_last, found_more, row_after}
-use Rattle.ic_args.proofs.OneValue.{Each, Good, Passes, at_end}
-use Rattle.ic_args.proofs.Options.{Fits, no_default, other_values}
-use Rattle.ic_args.proofs.OptionLines.{found_all, is_held, none_stays}
-use Rattle.ic_args.proofs.Steps.{Leads, at, dashes, leads_more, leads_none, level, no_dashes, no_long, no_short, one_turn}
+use Rattle.ic_args.proofs.LineRows.{IsFoundRow, found_in, found_last, found_more, none_found, row_after}
+use Rattle.ic_args.proofs.OneValue.{at_end, set_grown, used_row}
+use Rattle.ic_args.proofs.OptionLines.{found_all, none_stays}
+use Rattle.ic_args.proofs.Steps.{Leads, at, dashes, is_held, leads_more, leads_none, level, no_dashes, no_long, no_short, one_turn}
 
 -- an argument that may have one value, as it is built
 abbrev pub one_argument : Text → Bool → Rule
@@ -50,35 +48,10 @@ several_argument id least required = record (new_rule id) {
 
 -- the row of its values
 abbrev pub argument_row : Text → List Text → Row
-argument_row id vs = record { id = id; values = vs; count = None; source = Some CommandLine; reading = reading.AsWritten }
+argument_row id vs = used_row id reading.AsWritten vs
 
 pub same_id : (id : Text) → bytes_eq id id ≡ true
 same_id id = (bytes_eq-Decides id id).1 refl
-
--- ---- they leave good rows of an option
-
-module _ (target : Text) (q : ValueParser) (id : Text) (other : bytes_eq id target ≡ false) where
-  without_good : (rows : List Row) → Each (Good target q) rows → Each (Good target q) (without id rows)
-  without_good [] good = tt
-  without_good (r ∷ rs) good = go (bytes_eq r.id id) (without_good rs good.1)
-    where
-      go : (b : Bool) → Each (Good target q) (without id rs) → Each (Good target q) (cond b ([] ++ rs) (r ∷ without id rs))
-      go true rest = good.1
-      go false rest = (good.0, rest)
-
-  one_passes : (required : Bool) → Passes target q (one_argument id required)
-  one_passes required [] rows e good = other_values target q id reading.AsWritten CommandLine [] (without id rows) other (without_good rows good)
-  one_passes required (v ∷ vs) rows e good = other_values target q id reading.AsWritten CommandLine (v ∷ vs) (without id rows) other (without_good rows good)
-
-  pub one_fits : (required : Bool) → Fits target q (one_argument id required)
-  one_fits required = (one_passes required, λ rows e good. no_default id (Each (Good target q)) rows good)
-
-  several_passes : (least : ℕ) (required : Bool) → Passes target q (several_argument id least required)
-  several_passes least required [] rows e good = other_values target q id reading.AsWritten CommandLine [] rows other good
-  several_passes least required (v ∷ vs) rows e good = other_values target q id reading.AsWritten CommandLine (v ∷ vs) rows other good
-
-  pub several_fits : (least : ℕ) (required : Bool) → Fits target q (several_argument id least required)
-  several_fits least required = (several_passes least required, λ rows e good. no_default id (Each (Good target q)) rows good)
 
 -- ---- the words
 
@@ -108,15 +81,6 @@ none_after id before rows (inr grew) name other none =
     ap (has_row name) grew.2 ∙ row_after name before grew.0 none (ap (λ (t : Text). bytes_eq t name) grew.1 ∙ other)
 
 -- ---- what is found of it at the end
-
--- where there is no row, none is found
-pub none_found : (id : Text) (rows : List Row) → has_row id rows ≡ false → found_in id rows ≡ None
-none_found id [] none = refl
-none_found id (r ∷ rs) none = go (bytes_eq r.id id) none (none_found id rs)
-  where
-    go : (b : Bool) → (b || has_row id rs) ≡ false → (has_row id rs ≡ false → found_in id rs ≡ None) → cond b (Some r) (found_in id rs) ≡ None
-    go true none rest = absurd (true≢false none)
-    go false none rest = rest none
 
 -- the arguments of this name have no default
 abbrev pub HaveNoDefault : Text → List Rule → Type 0
@@ -192,6 +156,24 @@ module _ (base : Shape) (c : List Rule) where
   abbrev valued : Text → List Text → Held → Held
   valued id vs h = record (settled c h) { pending = Some (id, vs) }
 
+  -- values are read, which nothing is wrong with, and which join the rows
+  argument_read : (a : Rule) (id v : Text) (more : List Text) (before : List Row) (h : Held) (waiting : Waiting) (position : ℕ) → arg_by_id c id ≡ Some a
+      → Leads base c (v ∷ more) (at base c h) (record { held = valued id (v ∷ more) h; waiting = waiting; position = position; is_trailing = false; stopped = None })
+      → use_fault false a (v ∷ more) (settled c h).rows ≡ [] → used a (v ∷ more) (settled c h).rows ≡ (settled c h).rows ++ argument_row id (v ∷ more) ∷ []
+      → (settled c h).rows ≡ before → has_row id before ≡ false → ReadsArgument id before h (v ∷ more)
+  argument_read a id v more before h waiting position by_id leads free grown are none =
+      let row = argument_row id (v ∷ more) in
+      record {
+        end = record { held = valued id (v ∷ more) h; waiting = waiting; position = position; is_trailing = false; stopped = None };
+        leads = leads;
+        settles = ap (λ (o : Option Rule). option_map_or (λ (x : Rule). use_fault false x (v ∷ more) (settled c h).rows) o []) by_id ∙ free;
+        rows = before ++ row ∷ [];
+        are = ap (λ (o : Option Rule). used_by_id o (v ∷ more) (settled c h).rows) by_id ∙ grown ∙ ap (λ (rs : List Row). rs ++ row ∷ []) are;
+        grew = inr (row, refl, refl);
+        shows = shows_values c id before (v ∷ more) none;
+        given = (row, found_last id before row none (same_id id), refl, refl);
+      }
+
   -- ---- no value
 
   pub none_read : (id : Text) → HaveNoDefault id c → (before : List Row) (h : Held) → settle_fault c false h ≡ [] → (settled c h).rows ≡ before
@@ -222,11 +204,6 @@ module _ (base : Shape) (c : List Rule) where
     unfolding walked
     one_walks v h plain aside = rw (plain.0, plain.1, plain.2, by_index, aside) refl
 
-    grown : (v : Text) (rows : List Row) → has_row id rows ≡ false → used (one_argument id required) (v ∷ []) rows ≡ rows ++ argument_row id (v ∷ []) ∷ []
-    grown v rows none =
-        ap (with_values id reading.AsWritten CommandLine (v ∷ [])) (at_end id (λ r. []) [] rows none ∙ append-nil rows)
-        ∙ at_end id (more_values CommandLine (v ∷ [])) (argument_row id (v ∷ []) ∷ []) rows none
-
     one_free : (v : Text) (rows : List Row) → has_row id rows ≡ false → use_fault false (one_argument id required) (v ∷ []) rows ≡ []
     one_free v rows none = ap (λ (b : Bool). or_else (cond (b && true) (kind.ArgumentConflict ∷ []) []) []) none
 
@@ -234,16 +211,8 @@ module _ (base : Shape) (c : List Rule) where
         → has_row id before ≡ false → ReadsArgument id before h (v ∷ [])
     one_read v before h plain aside settles are none =
         let fresh = ap (has_row id) are ∙ none in
-        record {
-          end = once h (v ∷ []);
-          leads = one_turn base c v (at base c h) (once h (v ∷ [])) (one_turns v h plain aside settles) (one_walks v h plain aside);
-          settles = ap (λ (o : Option Rule). option_map_or (λ (x : Rule). use_fault false x (v ∷ []) (settled c h).rows) o []) by_id ∙ one_free v (settled c h).rows fresh;
-          rows = before ++ argument_row id (v ∷ []) ∷ [];
-          are = ap (λ (o : Option Rule). used_by_id o (v ∷ []) (settled c h).rows) by_id ∙ grown v (settled c h).rows fresh ∙ ap (λ (rs : List Row). rs ++ argument_row id (v ∷ []) ∷ []) are;
-          grew = inr (argument_row id (v ∷ []), refl, refl);
-          shows = shows_values c id before (v ∷ []) none;
-          given = (argument_row id (v ∷ []), found_last id before (argument_row id (v ∷ [])) none (same_id id), refl, refl);
-        }
+        argument_read (one_argument id required) id v [] before h idle 2 by_id (one_turn base c v (at base c h) (once h (v ∷ [])) (one_turns v h plain aside settles) (one_walks v h plain aside))
+        (one_free v (settled c h).rows fresh) (set_grown id reading.AsWritten (v ∷ []) (settled c h).rows fresh) are none
 
   -- ---- several values
 
@@ -279,22 +248,11 @@ module _ (base : Shape) (c : List Rule) where
     pub several_read : (v : Text) (more : List Text) (before : List Row) (h : Held) → AllByRecursion IsPlainWord (v ∷ more) → length (v ∷ more) < 2 ^ 64
         → is_held id h ≡ false → settle_fault c false h ≡ [] → (settled c h).rows ≡ before → has_row id before ≡ false → ReadsArgument id before h (v ∷ more)
     several_read v more before h plain few aside settles are none =
-        let row = argument_row id (v ∷ more) in
-        let fresh = ap (has_row id) are ∙ none in
-        record {
-          end = among h (v ∷ more);
-          leads = leads_more base c (v ∷ []) more (at base c h) (among h (v ∷ [])) (among h (v ∷ more))
-              (one_turn base c v (at base c h) (among h (v ∷ [])) (first_turns v h plain.0 aside settles) (first_walks v h plain.0 aside))
-              (more_lead more h (v ∷ []) plain.1);
-          settles = ap (λ (o : Option Rule). option_map_or (λ (x : Rule). use_fault false x (v ∷ more) (settled c h).rows) o []) by_id
-              ∙ ap₂ or_else (ranges (length (v ∷ more)) (omega arith) few) (strings_none (v ∷ more));
-          rows = before ++ row ∷ [];
-          are = ap (λ (o : Option Rule). used_by_id o (v ∷ more) (settled c h).rows) by_id
-              ∙ at_end id (more_values CommandLine (v ∷ more)) (row ∷ []) (settled c h).rows fresh ∙ ap (λ (rs : List Row). rs ++ row ∷ []) are;
-          grew = inr (row, refl, refl);
-          shows = shows_values c id before (v ∷ more) none;
-          given = (row, found_last id before row none (same_id id), refl, refl);
-        }
+        let first = one_turn base c v (at base c h) (among h (v ∷ [])) (first_turns v h plain.0 aside settles) (first_walks v h plain.0 aside) in
+        argument_read (several_argument id least required) id v more before h positional 1 by_id
+        (leads_more base c (v ∷ []) more (at base c h) (among h (v ∷ [])) (among h (v ∷ more)) first (more_lead more h (v ∷ []) plain.1))
+        (ap₂ or_else (ranges (length (v ∷ more)) (omega arith) few) (strings_none (v ∷ more)))
+        (at_end id (more_values CommandLine (v ∷ more)) (argument_row id (v ∷ more) ∷ []) (settled c h).rows (ap (has_row id) are ∙ none)) are none
 
     all_plain : (vs : List Text) → AllByRecursion HasNoHyphen vs → AllByRecursion IsPlainWord vs
     all_plain [] bare = tt

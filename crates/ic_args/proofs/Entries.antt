@@ -1,21 +1,23 @@
 -- The options of a command as rows of its entry: how the parser finds them by their names.
-use Rattle.std.proofs.Common.{◌≡◌, List, [], ◌∷◌, ◌++◌, Bool, true, false, ◌&&◌, ◌||◌, not, cond, Option, None, Some, codes, find, map, option_map, inl, inr, refl, sym, ◌∙◌, ap, ap₂, true≢false, leb}
-use Rattle.std.specs.List.{AllByRecursion, list_all}
+use Rattle.std.proofs.Common.{◌≡◌, ◌==◌, zero, suc, arith, List, [], ◌∷◌, ◌++◌, Bool, true, false, ◌&&◌, ◌||◌, not, cond, Option, None, Some, codes, find, map, option_map, refl, sym, ◌∙◌, ap, ap₂, true≢false, leb}
+use Rattle.std.specs.List.{list_all}
+use Rattle.std.proofs.lemmas.Bool.{eq-eqb}
 use Rattle.std.specs.Prelude.{option_and_then}
 use Rattle.std.specs.Str.{bytes_eq}
+use Rattle.std.proofs.lemmas.Slice.Eq.{bytes_eq-Decides}
 use Rattle.clap.specs.Words.{Rule, Text}
-use Rattle.clap.specs.Lexer.{long_of}
+use Rattle.clap.specs.Lexer.{has_byte}
+use Rattle.clap.proofs.CutLemmas.{Lacks}
+use Rattle.clap.proofs.LexerLemmas.{name_and_value-at, name_and_value-without}
 use Rattle.clap.specs.ValueTests.{accepts}
 use Rattle.clap.specs.Walk.{arg_by_id, arg_by_index, arg_by_long}
 use Rattle.clap.specs.declared.builder.value_parser.ValueParser.{ValueParser}
 use Rattle.clap.specs.declared.builder.value_parser.ValueParser.TheVariants as vp
-use Rattle.ic_args.specs.Words.{Choice, Entry, Kind, Tail, a_flag, a_number, a_text, an_option, many_words, most_rounds, no_words, one_word}
-use Rattle.ic_args.specs.Lines.{Given, IsGivenAs, IsOneOf}
+use Rattle.ic_args.specs.Words.{Choice, Entry, Kind, Tail, a_flag, a_number, a_text, an_option, choice_named, many_words, most_rounds, name_of, no_words, one_word}
 use Rattle.ic_args.proofs.Arguments.{one_argument, several_argument}
 use Rattle.ic_args.proofs.Flags.{built_flag}
-use Rattle.ic_args.proofs.LineRows.{other_texts, same_texts}
 use Rattle.ic_args.proofs.OneValue.{one_value}
-use Rattle.ic_args.proofs.Steps.{dashes}
+use Rattle.ic_args.proofs.Steps.{IsSpelled}
 use Rattle.ic_args.proofs.WordsExact.{help}
 
 -- ---- an entry, as it is built
@@ -23,10 +25,6 @@ use Rattle.ic_args.proofs.WordsExact.{help}
 abbrev pub reader : Kind → ValueParser
 reader a_text = vp.String
 reader (a_number least most) = vp.Unsigned least most
-
-abbrev pub name_of : Choice → Text
-name_of (a_flag name) = name
-name_of (an_option name kind default needed) = name
 
 abbrev pub built_choice : Choice → Rule
 built_choice (a_flag name) = built_flag name
@@ -59,10 +57,10 @@ abbrev pub are_apart : List Choice → Text → Bool
 are_apart [] aside = true
 are_apart (x ∷ options) aside = differ (name_of x) options && (not (bytes_eq (name_of x) aside) && are_apart options aside)
 
--- the parser reads the option's name from its word
-abbrev pub IsSpelled : Text → Type 0
-IsSpelled name = ((v : Text) → (bytes_eq (45 ∷ 45 ∷ name ++ 61 ∷ v) dashes ≡ false) × (long_of (45 ∷ 45 ∷ name ++ 61 ∷ v) ≡ Some (name, Some v)))
-    × (bytes_eq (45 ∷ 45 ∷ name) dashes ≡ false) × (long_of (45 ∷ 45 ∷ name) ≡ Some (name, None))
+-- the parser reads such a name from its word: it isn't empty, and has no equals sign (61)
+abbrev pub is_name : Text → Bool
+is_name [] = false
+is_name (x ∷ xs) = not (has_byte 61 (x ∷ xs))
 
 abbrev pub default_passes : Kind → Option Text → Bool
 default_passes kind None = true
@@ -73,9 +71,9 @@ kind_fits a_text = true
 kind_fits (a_number least most) = leb most most_rounds
 
 -- its numbers are small enough, and its default is one of its values
-abbrev pub IsSound : Choice → Type 0
-IsSound (a_flag name) = IsSpelled name
-IsSound (an_option name kind default needed) = IsSpelled name × ((kind_fits kind && default_passes kind default) ≡ true)
+abbrev pub is_sound : Choice → Bool
+is_sound (a_flag name) = is_name name
+is_sound (an_option name kind default needed) = is_name name && (kind_fits kind && default_passes kind default)
 
 -- ---- tests
 
@@ -87,6 +85,10 @@ pub not_true : (b : Bool) → not b ≡ true → b ≡ false
 not_true true is = absurd (true≢false (sym is))
 not_true false is = refl
 
+neither : (a b : Bool) → (a || b) ≡ false → (a ≡ false) × (b ≡ false)
+neither true b is = absurd (true≢false is)
+neither false b is = (refl, is)
+
 -- what holds of all holds of one that is found
 pub one_of_all : {X : Type 0} (xs : List X) (p q : X → Bool) (x : X) → find p xs ≡ Some x → list_all q xs ≡ true → q x ≡ true
 one_of_all [] p q x is all = cc
@@ -95,9 +97,6 @@ one_of_all (y ∷ ys) p q x is all = go (p y) (one_of_all ys p q x) is
     go : (b : Bool) → (find p ys ≡ Some x → list_all q ys ≡ true → q x ≡ true) → cond b (Some y) (find p ys) ≡ Some x → q x ≡ true
     go true rest is = let same : y ≡ x = cc in ap q (sym same) ∙ (both_true (q y) (list_all q ys) all).0
     go false rest is = rest is (both_true (q y) (list_all q ys) all).1
-
-pub apart_other_way : (a b : Text) → bytes_eq a b ≡ false → bytes_eq b a ≡ false
-apart_other_way a b is = other_texts b a (λ same. true≢false (sym (same_texts a b (sym same)) ∙ is))
 
 -- an option differs from those after it, and from what stands after them
 pub apart_parts : (x : Choice) (xs : List Choice) (aside : Text) → are_apart (x ∷ xs) aside ≡ true
@@ -120,12 +119,13 @@ id_is (an_option name kind default needed) = refl
 
 -- ---- an option of a name
 
-abbrev pub choice_named : Text → List Choice → Option Choice
-choice_named name options = find (λ (x : Choice). bytes_eq (name_of x) name) options
-
-pub name_is : (x : Choice) (g : Given) (words : List Text) → IsGivenAs x g words → g.name ≡ name_of x
-name_is (a_flag name) g words how = how.0
-name_is (an_option name kind default needed) g words how = how.0
+pub named_so : (options : List Choice) (name : Text) (x : Choice) → choice_named name options ≡ Some x → name_of x ≡ name
+named_so [] name x is = cc
+named_so (y ∷ ys) name x is = go (bytes_eq (name_of y) name) refl (named_so ys name x) is
+  where
+    go : (b : Bool) → bytes_eq (name_of y) name ≡ b → (choice_named name ys ≡ Some x → name_of x ≡ name) → cond b (Some y) (choice_named name ys) ≡ Some x → name_of x ≡ name
+    go true same rest is = let e : y ≡ x = cc in ap name_of (sym e) ∙ (bytes_eq-Decides (name_of y) name).0 same
+    go false other rest is = rest is
 
 -- its value where it isn't given: its default, or that of a flag
 abbrev pub default_of : Choice → Option Text
@@ -135,36 +135,25 @@ default_of (an_option name kind default needed) = default
 abbrev pub default_value : Text → List Choice → Option Text
 default_value name options = option_and_then default_of (choice_named name options)
 
--- an option that is given is one of the entry, which is found by its name
-pub record IsChosen (options : List Choice) (aside : Text) (g : Given) (words : List Text) : Type 0 where
-  pub choice : Choice
-  pub is : choice_named g.name options ≡ Some choice
-  pub how : IsGivenAs choice g words
-  pub sound : IsSound choice
-  pub apart : bytes_eq (name_of choice) aside ≡ false
+pub choice_apart : (options : List Choice) (aside : Text) → are_apart options aside ≡ true → (name : Text) (x : Choice) → choice_named name options ≡ Some x → bytes_eq (name_of x) aside ≡ false
+choice_apart options aside apart name x is =
+    not_true _ (one_of_all options (λ (y : Choice). bytes_eq (name_of y) name) (λ (y : Choice). not (bytes_eq (name_of y) aside)) x is (aside_differs options aside apart))
 
-pub chosen : (options : List Choice) (aside : Text) → are_apart options aside ≡ true → AllByRecursion IsSound options → (g : Given) (words : List Text) → IsOneOf options g words
-    → IsChosen options aside g words
-chosen [] aside apart sound g words of = absurd of
-chosen (x ∷ xs) aside apart sound g words (inl how) = record {
-  choice = x;
-  is = ap (λ (b : Bool). cond b (Some x) (choice_named g.name xs)) (same_texts (name_of x) g.name (sym (name_is x g words how)));
-  how = how;
-  sound = sound.0;
-  apart = (apart_parts x xs aside apart).1;
-}
-chosen (x ∷ xs) aside apart sound g words (inr there) =
-    let parts = apart_parts x xs aside apart in
-    let one = chosen xs aside parts.2 sound.1 g words there in
-    let other : bytes_eq (name_of x) (name_of one.choice) ≡ false = apart_other_way (name_of one.choice) (name_of x)
-    (not_true _ (one_of_all xs (λ (y : Choice). bytes_eq (name_of y) g.name) (λ (y : Choice). not (bytes_eq (name_of y) (name_of x))) one.choice one.is parts.0)) in
-    record {
-      choice = one.choice;
-      is = ap (λ (b : Bool). cond b (Some x) (choice_named g.name xs)) (ap (bytes_eq (name_of x)) (name_is one.choice g words one.how) ∙ other) ∙ one.is;
-      how = one.how;
-      sound = one.sound;
-      apart = one.apart;
-    }
+pub choice_sound : (options : List Choice) → list_all is_sound options ≡ true → (name : Text) (x : Choice) → choice_named name options ≡ Some x → is_sound x ≡ true
+choice_sound options sound name x is = one_of_all options (λ (y : Choice). bytes_eq (name_of y) name) is_sound x is sound
+
+-- ---- how a name is spelled
+
+lacks : (name : Text) → has_byte 61 name ≡ false → Lacks 61 name
+lacks [] none i below = absurd (omega arith)
+lacks (x ∷ xs) none zero below = λ same. true≢false (sym (eq-eqb x 61 same) ∙ (neither _ _ none).0)
+lacks (x ∷ xs) none (suc i) below = lacks xs (neither (x == 61) _ none).1 i (omega arith)
+
+pub spelled : (name : Text) → is_name name ≡ true → IsSpelled name
+spelled [] is = absurd (true≢false (sym is))
+spelled (x ∷ xs) is =
+    let free = lacks (x ∷ xs) (not_true _ is) in
+    record { joined = λ v. (refl, ap Some (name_and_value-at (x ∷ xs) v free)); alone = (refl, ap Some (name_and_value-without (x ∷ xs) free)) }
 
 -- ---- the rule of a name
 

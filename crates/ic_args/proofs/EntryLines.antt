@@ -1,31 +1,30 @@
 -- Each well-formed line of a command is taken; its options have the values that it gives them, or their defaults.
 use Rattle.std.proofs.Common.{◌≡◌, ◌≢◌, ◌⊎◌, List, [], ◌∷◌, ◌++◌, Bool, true, false, ◌&&◌, ◌||◌, not, cond, Option, None, Some, codes, fold, map, slice_get, unwrap_or, inl, inr, refl, sym, ◌∙◌, ap, ap₂, subst, leb-true}
-use Rattle.std.specs.Prelude.{option_and_then}
-use Rattle.std.specs.List.{AllByRecursion, list_any}
+use Rattle.std.specs.Prelude.{find, option_and_then, option_map}
+use Rattle.std.specs.List.{AllByRecursion, list_all, list_any}
 use Rattle.std.specs.Str.{bytes_eq}
 use Rattle.std.proofs.lemmas.Slice.Eq.{bytes_eq-Decides}
 use Rattle.clap.specs.Words.{Kinds, Row, Rule, Shape, Text, all_of, fault_of, first_of, subcommand_of}
 use Rattle.clap.specs.Simple.{new_shape}
 use Rattle.clap.specs.Takes.{is_given}
 use Rattle.clap.specs.Kinds.{check_kinds, or_else, value_kinds}
-use Rattle.clap.specs.Values.{refused_kind}
-use Rattle.clap.specs.Lexer.{long_of}
-use Rattle.clap.specs.Walk.{Held, after_flag, after_step, arg_by_id, arg_by_long, has_row, idle, long_met, long_or_other, nothing_held, reacted, settled, trailing, walked, with_default}
-use Rattle.clap.specs.Walk.{Walk}
-use Rattle.clap.specs.Faults.{check_fault, flag_word_fault, long_fault, settle_fault, step_fault, turn_fault}
+use Rattle.clap.specs.Values.{reading_of, refused_kind}
+use Rattle.clap.specs.declared.builder.value_parser.ValueParser.TheVariants as vp
+use Rattle.clap.specs.Walk.{Held, arg_by_id, arg_by_long, has_row, idle, nothing_held, reacted, settled, with_default}
+use Rattle.clap.specs.Faults.{check_fault, settle_fault}
 use Rattle.clap.proofs.OnLiterals.{clap_on_literals}
-use Rattle.ic_args.specs.Words.{Choice, Entry, Kind, Tail, a_flag, a_number, a_text, an_option, command_line, file_met, file_named, is_flag_met, many_words, most_rounds, no_words, one_word, value_if_met, value_met, values_met}
-use Rattle.ic_args.specs.Lines.{ArePlain, AreWrittenBy, Given, Gives, HasFlag, HasNone, HasValue, IsFileWord, IsGivenAs, IsLine, IsOneOf, Takes}
+use Rattle.ic_args.specs.Words.{Choice, Entry, Kind, Tail, a_flag, a_number, a_text, an_option, choice_named, command_line, name_of, file_met, file_named, is_flag_met, listed, many_words, most_rounds, no_words, one_word, value_if_met, value_met, values_met}
+use Rattle.ic_args.specs.Lines.{ArePlain, AreWrittenBy, Given, Gives, given_value, HasFlag, HasNone, HasValue, IsFileWord, IsGivenAs, IsLine, IsOneOf, Takes}
 use Rattle.ic_args.specs.inner.Asking.{IsMet}
 use Rattle.ic_args.proofs.Accepted.{accepted}
 use Rattle.ic_args.proofs.Arguments.{HaveNoDefault, IsGivenBy, IsPlainWord, ReadsArgument, first_shown, found_after, hyphen_alone, many_read, no_hyphen, none_after, none_first, none_kept, none_read, one_argument, one_read, plain_word, range_none, range_some, same_id, several_argument, shown_of}
-use Rattle.ic_args.proofs.Entries.{IsSound, after_options, apart_parts, are_apart, aside_differs, both_true, built_choice, choice_named, chosen, default_of, default_passes, default_value, differ, differ_parts, id_is, kind_fits, name_is, name_of, reader, rule_after, rule_by_id, rule_by_index, rule_by_long, rules_of, tail_name}
-use Rattle.ic_args.proofs.Flags.{built_flag, flag_free, flag_grown, flag_row, flag_unset, unset_row}
+use Rattle.ic_args.proofs.Entries.{after_options, apart_parts, are_apart, aside_differs, both_true, built_choice, choice_apart, choice_sound, default_of, default_passes, default_value, differ, differ_parts, id_is, is_name, is_sound, kind_fits, named_so, reader, rule_after, rule_by_id, rule_by_index, rule_by_long, rules_of, spelled, tail_name}
+use Rattle.ic_args.proofs.Flags.{built_flag, flag_free}
 use Rattle.ic_args.proofs.LineEnds.{IsHarmless, either_none, entered_after, given_row, given_there, last_found, or_none, text}
-use Rattle.ic_args.proofs.LineRows.{default_found, first_value, found_in, fresh_first, given_found, named_apart, not_given}
-use Rattle.ic_args.proofs.OneValue.{one_value}
-use Rattle.ic_args.proofs.OptionLines.{ReadsGiven, all_read, found_all, given_as, is_held, none_stays}
-use Rattle.ic_args.proofs.Steps.{Leads, at, dashes, level, one_turn}
+use Rattle.ic_args.proofs.LineRows.{default_found, first_value, found_in, fresh_first, given_found, not_given}
+use Rattle.ic_args.proofs.OneValue.{set_grown, used_row}
+use Rattle.ic_args.proofs.OptionLines.{all_read, found_all, none_stays}
+use Rattle.ic_args.proofs.Steps.{IsSpelled, Leads, ReadsGiven, at, given_as, is_held, level, long_leads}
 use Rattle.ic_args.proofs.WordsExact.{IsCommand, help}
 
 -- a command without arguments, as it is built
@@ -36,63 +35,37 @@ leaf name = record (new_shape name) { no_binary_name = true; disable_help_subcom
 pub record IsKnown (entry : Entry) : Type 0 where
   pub command : IsCommand entry.name (leaf entry.name) (rules_of entry)
   pub apart : are_apart entry.options (tail_name entry.tail) ≡ true
-  pub sound : AllByRecursion IsSound entry.options
+  pub sound : list_all is_sound entry.options ≡ true
 
 -- ---- a flag, which is used at once
 
-module _ (base : Shape) (c : List Rule) (name : Text) (by_long : arg_by_long c name ≡ Some (built_flag name))
-    (other : bytes_eq (45 ∷ 45 ∷ name) dashes ≡ false) (long : long_of (45 ∷ 45 ∷ name) ≡ Some (name, None)) where
-  abbrev word : Text
-  word = 45 ∷ 45 ∷ name
-
+module _ (base : Shape) (c : List Rule) (name : Text) (by_long : arg_by_long c name ≡ Some (built_flag name)) (is : IsSpelled name) where
   abbrev flagged : Held → Held
   flagged h = reacted c (built_flag name) [] h
-
-  abbrev long_turn : Held → Bool → Option (Text × Option Text) → Kinds
-  long_turn h b l =
-      let met = cond b (h, trailing 1) (long_or_other c idle word l h) in
-      or_else (cond b [] (flag_word_fault c false l word h)) (step_fault (level base c) 1 met.0 met.1)
-
-  abbrev met_turn : Held → Option Rule → Kinds
-  met_turn h o =
-      let met = after_flag c idle word (long_met c o None h).0 (long_met c o None h).1 in
-      or_else (long_fault c false o None h) (step_fault (level base c) 1 met.0 met.1)
-
-  flag_turns : (h : Held) → settle_fault c false h ≡ [] → has_row name (settled c h).rows ≡ false → turn_fault (level base c) [] (at base c h) word ≡ []
-  flag_turns h settles none =
-      ap₂ (long_turn h) other long ∙ ap (met_turn h) by_long ∙ ap₂ (λ (a b : Kinds). or_else (or_else a b) []) settles (flag_free name (settled c h).rows none)
-
-  abbrev long_walk : Held → Bool → Option (Text × Option Text) → Walk
-  long_walk h b l =
-      let met = cond b (h, trailing 1) (long_or_other c idle word l h) in
-      after_step c word (at base c h) met.0 met.1
-
-  abbrev met_walk : Held → Option Rule → Walk
-  met_walk h o =
-      let met = after_flag c idle word (long_met c o None h).0 (long_met c o None h).1 in
-      after_step c word (at base c h) met.0 met.1
-
-  flag_walks : (h : Held) → walked c [] (at base c h) word ≡ at base c (flagged h)
-  unfolding walked
-  flag_walks h = ap₂ (long_walk h) other long ∙ ap (met_walk h) by_long
 
   flag_read : (aside : Text) (g : Given) → g.name ≡ name → g.value ≡ codes "true" → (words : List Text) → words ≡ (45 ∷ 45 ∷ g.name) ∷ [] → (h : Held)
       → settle_fault c false h ≡ [] → has_row g.name (settled c h).rows ≡ false → ReadsGiven base c aside g words h
   flag_read aside g named valued words written h settles none =
       let free = ap (λ (n : Text). has_row n (settled c h).rows) (sym named) ∙ none in
-      let is_word : words ≡ word ∷ [] = written ∙ ap (λ (n : Text). (45 ∷ 45 ∷ n) ∷ []) named in
+      let is_word : words ≡ (45 ∷ 45 ∷ name) ∷ [] = written ∙ ap (λ (n : Text). (45 ∷ 45 ∷ n) ∷ []) named in
       record {
         after = flagged h;
-        row = flag_row name;
+        row = used_row name (reading_of vp.Bool) (codes "true" ∷ []);
         leads = subst (λ (ws : List Text). Leads base c ws (at base c h) (at base c (flagged h))) (sym is_word)
-            (one_turn base c word (at base c h) (at base c (flagged h)) (flag_turns h settles free) (flag_walks h));
+            (long_leads base c (45 ∷ 45 ∷ name) name None (built_flag name) h (flagged h) idle is.alone.0 is.alone.1 by_long refl
+            (ap₂ or_else settles (flag_free name (settled c h).rows free)));
         settles = refl;
-        rows = flag_grown name (settled c h).rows free;
+        rows = set_grown name (reading_of vp.Bool) (codes "true" ∷ []) (settled c h).rows free;
         of = (sym named, ap (λ (v : Text). v ∷ []) (sym valued), refl);
         apart = refl;
       }
 
 -- ---- what is said of all arguments of a command
+
+defaults_of : (x : Choice) → (built_choice x).defaults ≡ listed (default_of x)
+defaults_of (a_flag name) = refl
+defaults_of (an_option name kind None needed) = refl
+defaults_of (an_option name kind (Some v) needed) = refl
 
 -- no option of another name has a default of this one
 module _ (more : List Rule) (name : Text) (plain : HaveNoDefault name more) where
@@ -101,20 +74,20 @@ module _ (more : List Rule) (name : Text) (plain : HaveNoDefault name more) wher
   no_defaults (x ∷ xs) apart = let parts = differ_parts name x xs apart in (inl (ap (λ (t : Text). bytes_eq t name) (id_is x) ∙ parts.0), no_defaults xs parts.1)
 
   -- where no row has the name, its default is found
-  shown_default : (options : List Choice) (n v : Text) (beyond : List Row) (r : Row) → n ≡ name → found_in n beyond ≡ Some r → r.values ≡ v ∷ []
-      → first_of name (fold with_default beyond (map built_choice options ++ more)) ≡ Some v
-  shown_default options n v beyond r is found values =
-      first_value name v _ r (found_all (map built_choice options ++ more) name beyond r (ap (λ (t : Text). found_in t beyond) (sym is) ∙ found)) values
-
   own_default : (x : Choice) (xs : List Choice) (rows : List Row) → name_of x ≡ name → differ (name_of x) xs ≡ true → has_row name rows ≡ false
       → first_of name (fold with_default (with_default rows (built_choice x)) (map built_choice xs ++ more)) ≡ default_of x
-  own_default (a_flag n) xs rows is apart none =
-      shown_default xs n (codes "false") (with_default rows (built_flag n)) (unset_row n) is (flag_unset n rows (same_id n) (ap (λ (t : Text). has_row t rows) is ∙ none)) refl
-  own_default (an_option n kind (Some v) needed) xs rows is apart none =
-      shown_default xs n v (with_default rows (one_value n n (Some v) (reader kind) needed)) _ is
-      (default_found n (reader kind) needed v rows (same_id n) (ap (λ (t : Text). has_row t rows) is ∙ none)) refl
-  own_default (an_option n kind None needed) xs rows is apart none =
-      none_first name _ (none_kept (one_value n n None (reader kind) needed ∷ (map built_choice xs ++ more)) name rows (inr refl, no_defaults xs (ap (λ (t : Text). differ t xs) (sym is) ∙ apart)) none)
+  own_default x xs rows is apart none = go (default_of x) (defaults_of x)
+    where
+      id : (built_choice x).id ≡ name
+      id = id_is x ∙ is
+
+      go : (o : Option Text) → (built_choice x).defaults ≡ listed o → first_of name (fold with_default (with_default rows (built_choice x)) (map built_choice xs ++ more)) ≡ o
+      go (Some v) defaults =
+          let one = default_found (built_choice x) v rows defaults (ap (λ (t : Text). has_row t rows) id ∙ none) in
+          first_value name v _ one.0
+          (found_all (map built_choice xs ++ more) name _ one.0 (ap (λ (t : Text). found_in t (with_default rows (built_choice x))) (sym id) ∙ one.1)) one.2
+      go None empty =
+          none_first name _ (none_kept (built_choice x ∷ (map built_choice xs ++ more)) name rows (inr empty, no_defaults xs (ap (λ (t : Text). differ t xs) (sym is) ∙ apart)) none)
 
   pub defaults_are : (aside : Text) (options : List Choice) → are_apart options aside ≡ true → (rows : List Row) → has_row name rows ≡ false
       → first_of name (fold with_default rows (map built_choice options ++ more)) ≡ default_value name options
@@ -129,14 +102,15 @@ module _ (more : List Rule) (name : Text) (plain : HaveNoDefault name more) wher
 
 -- defaults are no mistakes
 module _ (more : List Rule) (beyond : AllByRecursion IsHarmless more) where
-  pub harmless_all : (options : List Choice) → AllByRecursion IsSound options → AllByRecursion IsHarmless (map built_choice options ++ more)
+  pub harmless_all : (options : List Choice) → list_all is_sound options ≡ true → AllByRecursion IsHarmless (map built_choice options ++ more)
   unfolding clap_on_literals
   harmless_all [] sound = beyond
-  harmless_all (a_flag n ∷ xs) sound = ((λ rows. or_none _ _ refl), harmless_all xs sound.1)
-  harmless_all (an_option n kind None needed ∷ xs) sound = ((λ rows. either_none _ _), harmless_all xs sound.1)
+  harmless_all (a_flag n ∷ xs) sound = ((λ rows. or_none _ _ refl), harmless_all xs (both_true (is_name n) _ sound).1)
+  harmless_all (an_option n kind None needed ∷ xs) sound = ((λ rows. either_none _ _), harmless_all xs (both_true (is_sound (an_option n kind None needed)) _ sound).1)
   harmless_all (an_option n kind (Some v) needed ∷ xs) sound =
-      let passes = (both_true (kind_fits kind) (default_passes kind (Some v)) sound.0.1).1 in
-      ((λ rows. or_none _ _ (ap (λ (b : Bool). or_else (cond b [] (refused_kind (reader kind) ∷ [])) []) passes)), harmless_all xs sound.1)
+      let parts = both_true (is_sound (an_option n kind (Some v) needed)) (list_all is_sound xs) sound in
+      let passes = (both_true (kind_fits kind) _ (both_true (is_name n) _ parts.0).1).1 in
+      ((λ rows. or_none _ _ (ap (λ (b : Bool). or_else (cond b [] (refused_kind (reader kind) ∷ [])) []) passes)), harmless_all xs parts.1)
 
 -- an argument that isn't missing at the end: it needn't be given, or is
 abbrev pub IsThere : List Row → Rule → Type 0
@@ -181,7 +155,7 @@ is_needed no_words = false
 is_needed (one_word name needed) = needed
 is_needed (many_words name needed) = needed
 
-tail_plain : (tail : Tail) (id : Text) → HaveNoDefault id (after_options tail)
+pub tail_plain : (tail : Tail) (id : Text) → HaveNoDefault id (after_options tail)
 tail_plain no_words id = (inr refl, tt)
 tail_plain (one_word name needed) id = (inr refl, (inr refl, tt))
 tail_plain (many_words name needed) id = (inr refl, (inr refl, tt))
@@ -246,13 +220,6 @@ takes_value : (kind : Kind) (v : Text) → kind_fits kind ≡ true → Takes kin
 takes_value a_text v fits takes = refl
 takes_value (a_number least most) v fits takes = accepted least most v (leb-true most most_rounds fits) takes
 
-abbrev Any : Given → Type 0
-Any g = Unit {0}
-
-any : (gs : List Given) → AllByRecursion Any gs
-any [] = tt
-any (g ∷ gs) = (tt, any gs)
-
 module _ (entry : Entry) (known : IsKnown entry) where
   abbrev options : List Choice
   options = entry.options
@@ -269,27 +236,39 @@ module _ (entry : Entry) (known : IsKnown entry) where
   abbrev base : Shape
   base = leaf entry.name
 
-  one_read_by : (g : Given) → Any g → (words : List Text) → IsOneOf options g words → (h : Held) → settle_fault c false h ≡ [] → has_row g.name (settled c h).rows ≡ false
+  one_read_by : (g : Given) (words : List Text) → IsOneOf options g words → (h : Held) → settle_fault c false h ≡ [] → has_row g.name (settled c h).rows ≡ false
       → ReadsGiven base c aside g words h
-  one_read_by g is_any words of h settles none = (let one = chosen options aside known.apart known.sound g words of in go one.choice one.is one.how one.sound one.apart)
+  one_read_by g words of h settles none = go (choice_named g.name options) refl of
     where
-      go : (x : Choice) → choice_named g.name options ≡ Some x → IsGivenAs x g words → IsSound x → bytes_eq (name_of x) aside ≡ false → ReadsGiven base c aside g words h
-      go (a_flag n) is how sound other =
-          let found = ap (λ (t : Text). choice_named t options) (sym how.0) ∙ is in
-          flag_read base c n (rule_by_long after options n (a_flag n) found) sound.1 sound.2 aside g how.0 how.1 words how.2 h settles none
-      go (an_option n kind default needed) is how sound other =
-          let found = ap (λ (t : Text). choice_named t options) (sym how.0) ∙ is in
+      go : (o : Option Choice) → choice_named g.name options ≡ o → IsGivenAs o g words → ReadsGiven base c aside g words h
+      go None is how = absurd how
+      go (Some (a_flag n)) is how =
+          let named : n ≡ g.name = named_so options g.name (a_flag n) is in
+          let found = ap (λ (t : Text). choice_named t options) named ∙ is in
+          flag_read base c n (rule_by_long after options n (a_flag n) found) (spelled n (choice_sound options known.sound g.name (a_flag n) is))
+          aside g (sym named) how.0 words how.1 h settles none
+      go (Some (an_option n kind default needed)) is how =
           let x = an_option n kind default needed in
-          given_as base c aside n default (reader kind) needed (rule_by_long after options n x found) (rule_by_id after options n x found) (same_id n)
-          sound.0.0 (sound.0.1, sound.0.2) other g how.0 words how.2 h settles none
-          (takes_value kind g.value (both_true (kind_fits kind) (default_passes kind default) sound.1).0 how.1)
+          let named : n ≡ g.name = named_so options g.name x is in
+          let found = ap (λ (t : Text). choice_named t options) named ∙ is in
+          let parts = both_true (is_name n) (kind_fits kind && default_passes kind default) (choice_sound options known.sound g.name x is) in
+          given_as base c n default (reader kind) needed (rule_by_long after options n x found) (rule_by_id after options n x found) (same_id n)
+          (spelled n parts.0) aside (choice_apart options aside known.apart g.name x is) g (sym named) words how.1 h settles none
+          (takes_value kind g.value (both_true (kind_fits kind) (default_passes kind default) parts.1).0 how.0)
 
   -- no option is named as what stands after them
+  given_apart : (g : Given) (words : List Text) → IsOneOf options g words → bytes_eq g.name aside ≡ false
+  given_apart g words of = go (choice_named g.name options) refl of
+    where
+      go : (o : Option Choice) → choice_named g.name options ≡ o → IsGivenAs o g words → bytes_eq g.name aside ≡ false
+      go None is how = absurd how
+      go (Some x) is how = ap (λ (t : Text). bytes_eq t aside) (sym (named_so options g.name x is)) ∙ choice_apart options aside known.apart g.name x is
+
   all_apart : (gs : List Given) (words : List Text) → AreWrittenBy (IsOneOf options) gs words → HasNone gs aside
-  all_apart [] words written = tt
+  all_apart [] words written = refl
   all_apart (g ∷ gs) words written =
-      let one = chosen options aside known.apart known.sound g written.0 written.3 in
-      (named_apart g (name_of one.choice) aside (name_is one.choice g written.0 one.how) one.apart, all_apart gs written.1 written.4)
+      ap (λ (b : Bool). option_map (λ (x : Given). x.value) (cond b (Some g) (find (λ (x : Given). bytes_eq x.name aside) gs))) (given_apart g written.0 written.3)
+      ∙ all_apart gs written.1 written.4
 
   module _ (words : List Text) (given : List Given) (rest : List Text) where
     -- the line is taken, and its options and what stands after them have these values
@@ -303,12 +282,12 @@ module _ (entry : Entry) (known : IsKnown entry) where
 
     pub taken : IsLine entry words given rest → HasNeeded given options → IsRest entry.tail rest → (is_needed entry.tail ≡ true → rest ≢ []) → IsTaken
     taken line needed is_rest some =
-        let all = all_read base c aside Any (IsOneOf options) one_read_by given (any given) line.once line.front line.written nothing_held refl (fresh_first given) refl in
+        let all = all_read base c aside (IsOneOf options) one_read_by given line.once line.front line.written nothing_held refl (fresh_first given) refl in
         let apart = not_given given all.more aside all.of (all_apart given line.front line.written) in
         let argument = tail_read base options entry.tail (aside_differs options aside known.apart) rest is_rest all.more all.after all.apart all.settles all.rows apart in
         let rows = argument.rows in
         let last = fold with_default rows c in
-        let found = λ (name value : Text) (g : Gives given name value). last_found c name value rows (found_after aside all.more rows argument.grew name value (given_found given all.more name value all.of line.once g)) in
+        let found = λ (name value : Text) (g : Gives given name value). last_found c name value rows (found_after aside all.more rows argument.grew name value (given_found given all.more name value all.of g)) in
         let there = all_there given last (λ name value g. given_there name value last (found name value g)) after (tail_there c entry.tail rest rows some argument.given) options needed in
         let checked : check_fault (level base c) last false ≡ [] = ap check_by (none_missing last c there) in
         let entered = entered_after entry.name base c known.command (harmless_all after (tail_harmless entry.tail) options known.sound) aside words line.front rest all.more all.after line.begins all.leads argument checked in
@@ -329,8 +308,11 @@ module _ (entry : Entry) (known : IsKnown entry) where
 
     pub value_is : IsTaken → (name default value : Text) → bytes_eq aside name ≡ false → default_value name options ≡ Some default → HasValue given name default value
         → value_met name (subcommand_of command_line words) ≡ value
-    value_is is name default value other has (inl g) = value_given is name value g
-    value_is is name default value other has (inr none) = ap text (is.lacks name other none.0 ∙ has) ∙ sym none.1
+    value_is is name default value other has given_is = go (given_value given name) refl given_is
+      where
+        go : (o : Option Text) → given_value given name ≡ o → unwrap_or o default ≡ value → value_met name (subcommand_of command_line words) ≡ value
+        go None none same = ap text (is.lacks name other none ∙ has) ∙ same
+        go (Some v) gives same = value_given is name v gives ∙ same
 
     pub flag_is : IsTaken → (name : Text) (b : Bool) → bytes_eq aside name ≡ false → default_value name options ≡ Some (codes "false") → HasFlag given name b
         → is_flag_met name (subcommand_of command_line words) ≡ b

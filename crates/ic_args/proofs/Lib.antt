@@ -1,10 +1,8 @@
 pub mod WordsLaws
 pub mod WordsExact
-pub mod Numbers
 pub mod OneValue
 pub mod Walks
 pub mod Options
-pub mod Spelt
 pub mod Asked
 pub mod OptionLines
 pub mod OptionNumbers

@@ -1,55 +1,20 @@
 -- Options that are written one after the other, in any order: what they leave, whichever command has them.
-use Rattle.std.proofs.Common.{◌≡◌, List, [], ◌∷◌, ◌++◌, Bool, true, false, cond, Option, None, Some, fold, refl, sym, ◌∙◌, ap, subst, append-nil, append_assoc}
-use Rattle.std.specs.List.{AllByRecursion}
-use Rattle.std.specs.Option.{option_map_or}
+use Rattle.std.proofs.Common.{◌≡◌, List, [], ◌∷◌, ◌++◌, Bool, true, false, cond, Some, fold, refl, sym, ◌∙◌, ap, subst, append-nil, append_assoc}
 use Rattle.std.specs.Str.{bytes_eq}
 use Rattle.clap.specs.Words.{Rule, Row, Text}
 use Rattle.clap.specs.Simple.{Shape}
-use Rattle.clap.specs.Kinds.{value_kinds}
-use Rattle.clap.specs.Lexer.{long_of}
-use Rattle.clap.specs.Walk.{Held, arg_by_id, arg_by_long, default_rows, has_row, more_values, reading_by, settled, with_default}
+use Rattle.clap.specs.Walk.{Held, default_rows, has_row, more_values, reading_by, settled, with_default}
 use Rattle.clap.specs.Faults.{settle_fault}
-use Rattle.clap.specs.declared.builder.value_parser.ValueParser.{ValueParser}
 use Rattle.clap.specs.declared.parser.matches.ValueSource.TheVariants.{DefaultValue}
-use Rattle.ic_args.specs.Lines.{AreOnce, AreWrittenBy, Given, IsWritten}
-use Rattle.ic_args.proofs.OneValue.{at_end, one_value}
-use Rattle.ic_args.proofs.Steps.{Leads, at, dashes, leads_more, leads_none, reads_one, row_with}
-use Rattle.ic_args.proofs.LineRows.{AreFresh, AreRowsOf, IsRowOf, found_in, found_more, fresh_after, row_after}
-
--- the argument has a value that isn't settled yet
-abbrev pub is_held : Text → Held → Bool
-is_held id h = option_map_or (λ (q : Text × List Text). bytes_eq q.0 id) h.pending false
+use Rattle.ic_args.specs.Lines.{AreOnce, AreWrittenBy, Given}
+use Rattle.ic_args.proofs.OneValue.{at_end}
+use Rattle.ic_args.proofs.Steps.{Leads, ReadsGiven, at, is_held, leads_more, leads_none}
+use Rattle.ic_args.proofs.LineRows.{AreFresh, AreRowsOf, found_in, found_more, fresh_after, row_after}
 
 module _ (base : Shape) (c : List Rule) (aside : Text) where
-  -- one more option is read, and this is its row
-  pub record ReadsGiven (g : Given) (words : List Text) (h : Held) : Type 0 where
-    pub after : Held
-    pub row : Row
-    pub leads : Leads base c words (at base c h) (at base c after)
-    pub settles : settle_fault c false after ≡ []
-    pub rows : (settled c after).rows ≡ (settled c h).rows ++ row ∷ []
-    pub of : IsRowOf g row
-    pub apart : is_held aside after ≡ false
-
-  -- an option of the level, which takes one value
-  module _ (id : Text) (default : Option Text) (parser : ValueParser) (required : Bool)
-      (by_long : arg_by_long c id ≡ Some (one_value id id default parser required))
-      (by_id : arg_by_id c id ≡ Some (one_value id id default parser required))
-      (same : bytes_eq id id ≡ true)
-      (one_word : (v : Text) → (bytes_eq (45 ∷ 45 ∷ id ++ 61 ∷ v) dashes ≡ false) × (long_of (45 ∷ 45 ∷ id ++ 61 ∷ v) ≡ Some (id, Some v)))
-      (two_words : (bytes_eq (45 ∷ 45 ∷ id) dashes ≡ false) × (long_of (45 ∷ 45 ∷ id) ≡ Some (id, None)))
-      (other : bytes_eq id aside ≡ false) where
-    pub given_as : (g : Given) → g.name ≡ id → (words : List Text) → IsWritten g words → (h : Held) → settle_fault c false h ≡ []
-        → has_row g.name (settled c h).rows ≡ false → value_kinds false parser g.value ≡ [] → ReadsGiven g words h
-    given_as g is words written h settles none accepted =
-        let there : IsWritten (record { name = id; value = g.value }) words = subst (λ (n : Text). IsWritten (record { name = n; value = g.value }) words) is written in
-        let one = reads_one base c id default parser required by_long by_id same one_word two_words words g.value h there settles
-        (ap (λ (n : Text). has_row n (settled c h).rows) (sym is) ∙ none) accepted in
-        record { after = one.after; row = row_with id g.value parser; leads = one.leads; settles = one.read.settles; rows = one.read.rows; of = (sym is, refl, refl); apart = one.aside aside other }
-
-  module _ (IsOption : Given → Type 0) (Writes : Given → List Text → Type 0)
-      (reads : (g : Given) → IsOption g → (words : List Text) → Writes g words → (h : Held) → settle_fault c false h ≡ []
-      → has_row g.name (settled c h).rows ≡ false → ReadsGiven g words h) where
+  module _ (Writes : Given → List Text → Type 0)
+      (reads : (g : Given) (words : List Text) → Writes g words → (h : Held) → settle_fault c false h ≡ []
+      → has_row g.name (settled c h).rows ≡ false → ReadsGiven base c aside g words h) where
     pub record ReadsAll (gs : List Given) (words : List Text) (h : Held) : Type 0 where
       pub after : Held
       pub more : List Row
@@ -59,9 +24,9 @@ module _ (base : Shape) (c : List Rule) (aside : Text) where
       pub of : AreRowsOf gs more
       pub apart : is_held aside after ≡ false
 
-    pub all_read : (gs : List Given) → AllByRecursion IsOption gs → AreOnce gs → (words : List Text) → AreWrittenBy Writes gs words → (h : Held) → settle_fault c false h ≡ []
+    pub all_read : (gs : List Given) → AreOnce gs → (words : List Text) → AreWrittenBy Writes gs words → (h : Held) → settle_fault c false h ≡ []
         → AreFresh (settled c h).rows gs → is_held aside h ≡ false → ReadsAll gs words h
-    all_read [] sorts once words written h settles fresh apart = record {
+    all_read [] once words written h settles fresh apart = record {
       after = h;
       more = [];
       leads = subst (λ (ws : List Text). Leads base c ws (at base c h) (at base c h)) (sym written) (leads_none base c (at base c h));
@@ -70,11 +35,11 @@ module _ (base : Shape) (c : List Rule) (aside : Text) where
       of = tt;
       apart = apart;
     }
-    all_read (g ∷ gs) sorts once words written h settles fresh apart =
-        let one = reads g sorts.0 written.0 written.3 h settles fresh.0 in
+    all_read (g ∷ gs) once words written h settles fresh apart =
+        let one = reads g written.0 written.3 h settles fresh.0 in
         let next : AreFresh (settled c one.after).rows gs =
         subst (λ (rs : List Row). AreFresh rs gs) (sym one.rows) (fresh_after (settled c h).rows one.row g gs one.of.0 fresh.1 once.0) in
-        let all = all_read gs sorts.1 once.1 written.1 written.4 one.after one.settles next one.apart in
+        let all = all_read gs once.1 written.1 written.4 one.after one.settles next one.apart in
         record {
           after = all.after;
           more = one.row ∷ all.more;

@@ -1,93 +1,78 @@
 -- The numbers of words without a mistake are those that their options spell.
-use Rattle.std.proofs.Common.{◌≡◌, ℕ, List, [], ◌∷◌, ◌++◌, Bool, true, false, not, cond, None, Option, Some, codes, fold, map, refl, sym, ◌∙◌, ap, subst, true≢false, unwrap_or}
+use Rattle.std.proofs.Common.{◌≡◌, ℕ, List, [], ◌∷◌, ◌++◌, Bool, true, false, not, cond, None, Option, Some, codes, fold, map, slice_get, refl, sym, ◌∙◌, ap, subst, true≢false, ◌⊎◌, inl, inr}
+use Rattle.std.specs.Prelude.{option_and_then}
+use Rattle.std.specs.List.{AllByRecursion}
 use Rattle.std.specs.Str.{bytes_eq}
+use Rattle.std.specs.Str.Parse.{digits_value, without_leading_plus}
 use Rattle.std.proofs.lemmas.Slice.Eq.{bytes_eq-Decides}
 use Rattle.clap.specs.Words.{Rule, Row, Shape, Text, fault_of, subcommand_of}
-use Rattle.clap.specs.Walk.{has_row, nothing_held, rows_after, with_default}
-use Rattle.clap.specs.Faults.{level_fault}
-use Rattle.clap.specs.declared.builder.value_parser.ValueParser.{ValueParser}
-use Rattle.ic_args.specs.Words.{BeginsWith, Choice, Entry, Kind, Tail, a_flag, a_number, an_option, attend_entry, batch_entry, command_line, is_given, many_words, most_rounds, most_seconds, most_steps, no_words, one_word, reduce_entry, serve_entry, trace_entry}
-use Rattle.ic_args.proofs.Arguments.{none_first, one_fits, same_id, several_fits}
-use Rattle.ic_args.proofs.Known.{known_attend, known_batch, known_reduce, known_serve, known_trace}
-use Rattle.ic_args.proofs.Entries.{after_options, apart_other_way, apart_parts, are_apart, built_choice, choice_named, differ, differ_parts, name_of, reader, rules_of, tail_name}
-use Rattle.ic_args.proofs.EntryLines.{IsKnown, leaf}
-use Rattle.ic_args.proofs.Flags.{flag_fits}
-use Rattle.ic_args.proofs.OneValue.{default_there}
-use Rattle.ic_args.proofs.Options.{AllFit, Fits, help_fits, option_fits, option_if, row_stays_there}
-use Rattle.ic_args.proofs.Spelt.{IsSpelt, in_range, spelt_words}
-use Rattle.ic_args.proofs.Steps.{level}
+use Rattle.clap.specs.Values.{Accepts, refused_kind}
+use Rattle.clap.specs.ValueTests.{accepts}
+use Rattle.clap.proofs.ValueTestLemmas.{accepts-Accepts}
+use Rattle.clap.specs.Walk.{has_row, nothing_held, settled, walk, with_default}
+use Rattle.clap.specs.declared.builder.value_parser.ValueParser.TheVariants as vp
+use Rattle.ic_args.specs.Words.{BeginsWith, Choice, Entry, IsNumberOf, IsNumberOr, Tail, a_flag, a_number, an_option, choice_named, command_line, name_of, is_given, many_words, no_words, one_word, value_met}
+use Rattle.ic_args.specs.Lines.{IsWithin}
+use Rattle.ic_args.specs.inner.Asking.{IsReadFrom, IsReadOr}
+use Rattle.ic_args.proofs.Entries.{after_options, apart_parts, are_apart, both_true, built_choice, choice_apart, choice_sound, default_of, differ, differ_parts, is_name, kind_fits, rules_of, tail_name}
+use Rattle.ic_args.proofs.LineRows.{apart_other_way}
+use Rattle.ic_args.proofs.EntryLines.{IsKnown, defaults_are, leaf, tail_plain}
+use Rattle.ic_args.proofs.LineEnds.{text}
+use Rattle.ic_args.proofs.OneValue.{fails}
+use Rattle.ic_args.proofs.Options.{Good, Typed, found_good, rows_good}
+use Rattle.ic_args.proofs.OptionLines.{found_all}
 use Rattle.ic_args.proofs.WordsExact.{level_by, met_by}
 
--- ---- the other arguments leave the rows of an option as they are
+-- what the parser accepts is a number in the range
+pub within : (least most : ℕ) (v : Text) → accepts false (vp.Unsigned least most) v ≡ true → IsWithin least most v
+within least most v e =
+    let is : Accepts false (vp.Unsigned least most) v = accepts-Accepts false (vp.Unsigned least most) v e in
+    (digits_value 10 (without_leading_plus v), (is.0, refl), is.2, is.3)
 
-module _ (name : Text) (kind : Kind) (more : List Rule) (after : AllFit name (reader kind) more) where
-  choice_fits : (x : Choice) → bytes_eq (name_of x) name ≡ false → Fits name (reader kind) (built_choice x)
-  choice_fits (a_flag n) other = flag_fits name (reader kind) n other
-  choice_fits (an_option n k default needed) other = option_fits name (reader kind) n default (reader k) needed (λ same. absurd (true≢false (sym same ∙ other)))
+passes : (b : Bool) (least most : ℕ) → cond b [] (refused_kind (vp.Unsigned least most) ∷ []) ≡ [] → b ≡ true
+passes true least most e = refl
+passes false least most e = absurd (fails _ _ e)
 
-  others_fit : (options : List Choice) → differ name options ≡ true → AllFit name (reader kind) (map built_choice options ++ more)
-  others_fit [] apart = after
-  others_fit (x ∷ xs) apart = let parts = differ_parts name x xs apart in (choice_fits x parts.0, others_fit xs parts.1)
+-- ---- the arguments of a command, where one of its options has this name and this kind
 
-  all_fit : (aside : Text) (options : List Choice) → are_apart options aside ≡ true → (default : Option Text) (needed : Bool)
-      → choice_named name options ≡ Some (an_option name kind default needed) → AllFit name (reader kind) (map built_choice options ++ more)
-  all_fit aside [] apart default needed is = cc
-  all_fit aside (x ∷ xs) apart default needed is = go (all_fit aside xs parts.2 default needed) (bytes_eq (name_of x) name) refl is
-    where
-      parts : (differ (name_of x) xs ≡ true) × (bytes_eq (name_of x) aside ≡ false) × (are_apart xs aside ≡ true)
-      parts = apart_parts x xs aside apart
+module _ (name : Text) (least most : ℕ) (default : Option Text) (needed : Bool) where
+  abbrev x : Choice
+  x = an_option name (a_number least most) default needed
 
-      go : (choice_named name xs ≡ Some (an_option name kind default needed) → AllFit name (reader kind) (map built_choice xs ++ more)) → (b : Bool) → bytes_eq (name_of x) name ≡ b
-          → cond b (Some x) (choice_named name xs) ≡ Some (an_option name kind default needed) → AllFit name (reader kind) (built_choice x ∷ (map built_choice xs ++ more))
-      go rest true same is =
-          let own : x ≡ an_option name kind default needed = cc in (
-            subst (λ (y : Choice). Fits name (reader kind) (built_choice y)) (sym own) (option_fits name (reader kind) name default (reader kind) needed (λ e. refl)),
-            others_fit xs (ap (λ (t : Text). differ t xs) (sym ((bytes_eq-Decides (name_of x) name).0 same)) ∙ parts.0),
-          )
-      go rest false other is = (choice_fits x other, rest is)
+  abbrev IsTyped : Rule → Type 0
+  IsTyped a = Typed name (vp.Unsigned least most) default needed a
 
-  -- an option with a default has a row at the end
-  default_row : (options : List Choice) (v : Text) (needed : Bool) → choice_named name options ≡ Some (an_option name kind (Some v) needed) → (rows : List Row)
-      → has_row name (fold with_default rows (map built_choice options ++ more)) ≡ true
-  default_row [] v needed is rows = cc
-  default_row (x ∷ xs) v needed is rows = go (default_row xs v needed) (bytes_eq (name_of x) name) is
-    where
-      go : (choice_named name xs ≡ Some (an_option name kind (Some v) needed) → (later : List Row) → has_row name (fold with_default later (map built_choice xs ++ more)) ≡ true)
-          → (b : Bool) → cond b (Some x) (choice_named name xs) ≡ Some (an_option name kind (Some v) needed)
-          → has_row name (fold with_default (with_default rows (built_choice x)) (map built_choice xs ++ more)) ≡ true
-      go rest true is =
-          let same : x ≡ an_option name kind (Some v) needed = cc in
-          row_stays_there name (reader kind) (map built_choice xs ++ more) (with_default rows (built_choice x))
-          (ap (λ (y : Choice). has_row name (with_default rows (built_choice y))) same ∙ default_there name (reader kind) name name v (reader kind) needed rows (same_id name) refl)
-      go rest false is = rest is (with_default rows (built_choice x))
+  other_typed : (y : Choice) → bytes_eq (name_of y) name ≡ false → IsTyped (built_choice y)
+  other_typed (a_flag n) other = (refl, λ same. absurd (true≢false (sym same ∙ other)))
+  other_typed (an_option n kind v must) other = (refl, λ same. absurd (true≢false (sym same ∙ other)))
 
-tail_fits : (name : Text) (q : ValueParser) (tail : Tail) → bytes_eq (tail_name tail) name ≡ false → AllFit name q (after_options tail)
-tail_fits name q no_words other = (help_fits name q, tt)
-tail_fits name q (one_word id needed) other = (one_fits name q id other needed, (help_fits name q, tt))
-tail_fits name q (many_words id needed) other = (several_fits name q id other (cond needed 1 0) needed, (help_fits name q, tt))
+  tail_typed : (tail : Tail) → bytes_eq (tail_name tail) name ≡ false → bytes_eq (codes "help") name ≡ false → AllByRecursion IsTyped (after_options tail)
+  tail_typed no_words other help = ((refl, λ same. absurd (true≢false (sym same ∙ help))), tt)
+  tail_typed (one_word id must) other help = ((refl, λ same. absurd (true≢false (sym same ∙ other))), ((refl, λ same. absurd (true≢false (sym same ∙ help))), tt))
+  tail_typed (many_words id must) other help = ((refl, λ same. absurd (true≢false (sym same ∙ other))), ((refl, λ same. absurd (true≢false (sym same ∙ help))), tt))
 
--- what stands after the options has another name than each
-tail_apart : (aside : Text) (options : List Choice) → are_apart options aside ≡ true → (name : Text) (x : Choice) → name_of x ≡ name → choice_named name options ≡ Some x → bytes_eq aside name ≡ false
-tail_apart aside [] apart name x named is = cc
-tail_apart aside (y ∷ ys) apart name x named is = go (tail_apart aside ys (apart_parts y ys aside apart).2 name x named) (bytes_eq (name_of y) name) is
-  where
-    go : (choice_named name ys ≡ Some x → bytes_eq aside name ≡ false) → (b : Bool) → cond b (Some y) (choice_named name ys) ≡ Some x → bytes_eq aside name ≡ false
-    go rest true is =
-        let same : y ≡ x = cc in
-        apart_other_way name aside (ap (λ (t : Text). bytes_eq t aside) (sym named ∙ ap name_of (sym same)) ∙ (apart_parts y ys aside apart).1)
-    go rest false is = rest is
+  module _ (more : List Rule) (after : AllByRecursion IsTyped more) where
+    others_typed : (options : List Choice) → differ name options ≡ true → AllByRecursion IsTyped (map built_choice options ++ more)
+    others_typed [] apart = after
+    others_typed (y ∷ ys) apart = let parts = differ_parts name y ys apart in (other_typed y parts.0, others_typed ys parts.1)
 
--- an option that is given has a row
-row_of_given : (id name : Text) (rows : List Row) → is_given id (Some (name, rows)) ≡ true → has_row id rows ≡ true
-row_of_given id name rows given = go (has_row id rows) refl
-  where
-    go : (b : Bool) → has_row id rows ≡ b → b ≡ true
-    go true e = refl
-    go false e = absurd (true≢false (sym given ∙ ap (λ (o : Option Text). not (bytes_eq (unwrap_or o []) [])) (none_first id rows e)))
+    all_typed : (aside : Text) (options : List Choice) → are_apart options aside ≡ true → choice_named name options ≡ Some x → AllByRecursion IsTyped (map built_choice options ++ more)
+    all_typed aside [] apart is = cc
+    all_typed aside (y ∷ ys) apart is = go (bytes_eq (name_of y) name) refl (all_typed aside ys parts.2) is
+      where
+        parts : (differ (name_of y) ys ≡ true) × (bytes_eq (name_of y) aside ≡ false) × (are_apart ys aside ≡ true)
+        parts = apart_parts y ys aside apart
 
--- the numbers of options that are given
-abbrev pub IsSpeltIf : Text → (least most : ℕ) → List Text → Type 0
-IsSpeltIf option least most words = is_given option (subcommand_of command_line words) ≡ true → IsSpelt option least most words
+        go : (b : Bool) → bytes_eq (name_of y) name ≡ b → (choice_named name ys ≡ Some x → AllByRecursion IsTyped (map built_choice ys ++ more))
+            → cond b (Some y) (choice_named name ys) ≡ Some x → AllByRecursion IsTyped (built_choice y ∷ (map built_choice ys ++ more))
+        go true same rest is =
+            let own : y ≡ x = cc in (
+              subst (λ (z : Choice). IsTyped (built_choice z)) (sym own) (refl, λ e. refl),
+              others_typed ys (ap (λ (t : Text). differ t ys) (sym ((bytes_eq-Decides (name_of y) name).0 same)) ∙ parts.0),
+            )
+        go false other rest is = (other_typed y other, rest is)
+
+-- ---- words of a command
 
 module _ (entry : Entry) (known : IsKnown entry) (words : List Text) (none : fault_of command_line words ≡ []) (begins : BeginsWith entry.name words) where
   abbrev c : List Rule
@@ -97,60 +82,67 @@ module _ (entry : Entry) (known : IsKnown entry) (words : List Text) (none : fau
   base = leaf entry.name
 
   abbrev rows : List Row
-  rows = rows_after c [] begins.0
+  rows = (settled c (walk c [] nothing_held begins.0).held).rows
 
-  free : level_fault (level base c) [] nothing_held begins.0 false [] ≡ []
-  free = level_by entry.name base c known.command begins.0 (ap (fault_of command_line) (sym begins.1) ∙ none)
+  abbrev met : Option (Text × List Row)
+  met = subcommand_of command_line words
 
-  met : subcommand_of command_line words ≡ Some (entry.name, rows)
-  met = ap (subcommand_of command_line) begins.1 ∙ met_by entry.name base c known.command begins.0
+  rows_met : met ≡ Some (entry.name, fold with_default rows c)
+  rows_met = ap (subcommand_of command_line) begins.1 ∙ met_by entry.name base c known.command begins.0
 
   module _ (name : Text) (least most : ℕ) (default : Option Text) (needed : Bool)
-      (is : choice_named name entry.options ≡ Some (an_option name (a_number least most) default needed)) where
-    after : AllFit name (reader (a_number least most)) (after_options entry.tail)
-    after = tail_fits name (reader (a_number least most)) entry.tail (tail_apart (tail_name entry.tail) entry.options known.apart name _ refl is)
+      (is : choice_named name entry.options ≡ Some (an_option name (a_number least most) default needed)) (help : bytes_eq (codes "help") name ≡ false) where
+    aside : bytes_eq (tail_name entry.tail) name ≡ false
+    aside = apart_other_way name (tail_name entry.tail) (choice_apart entry.options (tail_name entry.tail) known.apart name _ is)
 
-    fits : AllFit name (reader (a_number least most)) c
-    fits = all_fit name (a_number least most) (after_options entry.tail) after (tail_name entry.tail) entry.options known.apart default needed is
+    good : AllByRecursion (Good name (vp.Unsigned least most) default needed) rows
+    good = rows_good name (vp.Unsigned least most) default needed base c
+        (all_typed name least most default needed (after_options entry.tail) (tail_typed name least most default needed entry.tail aside help) (tail_name entry.tail) entry.options known.apart is)
+        begins.0 (level_by entry.name base c known.command begins.0 (ap (fault_of command_line) (sym begins.1) ∙ none))
 
-    there : has_row name rows ≡ true → IsSpelt name least most words
-    there has = spelt_words (reader (a_number least most)) least most (in_range least most) name entry.name rows words met
-        (option_if name (reader (a_number least most)) base c fits begins.0 free has)
+    -- its text is its default, or a number in the range
+    spelt : (value_met name met ≡ text default) ⊎ IsWithin least most (value_met name met)
+    spelt = go (has_row name rows) refl
+      where
+        go : (b : Bool) → has_row name rows ≡ b → (value_met name met ≡ text default) ⊎ IsWithin least most (value_met name met)
+        go true has =
+            let found = found_good name (vp.Unsigned least most) default needed rows good has in
+            let first : value_met name met ≡ found.2.0 =
+            ap (value_met name) rows_met
+            ∙ ap (λ (o : Option Row). text (option_and_then (λ (r : Row). slice_get r.values 0) o)) (found_all c name rows found.0 found.1)
+            ∙ ap (λ (vs : List Text). text (slice_get vs 0)) found.2.2 in
+            inr (subst (IsWithin least most) (sym first) (within least most found.2.0 (passes _ least most found.2.3)))
+        go false lacks = inl (ap (value_met name) rows_met
+            ∙ ap text (defaults_are (after_options entry.tail) name (tail_plain entry.tail name) (tail_name entry.tail) entry.options known.apart rows lacks ∙ ap (option_and_then default_of) is))
 
-    pub spelt_if : IsSpeltIf name least most words
-    spelt_if given = there (row_of_given name entry.name rows (sym (ap (is_given name) met) ∙ given))
+    -- the number that is read is the option's
+    is_number : (result : ℕ) → IsReadFrom name least most met result → IsWithin least most (value_met name met) → IsNumberOf name least most words result
+    is_number result read number =
+        subst (λ (n : ℕ). IsNumberOf name least most words n) (sym (read number.0 number.1 number.2 number.3)) (number.1, number.2, number.3)
 
-  pub spelt : (name : Text) (least most : ℕ) (v : Text) → choice_named name entry.options ≡ Some (an_option name (a_number least most) (Some v) false) → IsSpelt name least most words
-  spelt name least most v is =
-      there name least most (Some v) false is (default_row name (a_number least most) (after_options entry.tail) (after name least most (Some v) false is) entry.options v false is _)
+  -- an option that has a default
+  pub number : (name : Text) (least most : ℕ) (v : Text) → choice_named name entry.options ≡ Some (an_option name (a_number least most) (Some v) false) → bytes_eq (codes "help") name ≡ false
+      → (result : ℕ) → IsReadFrom name least most met result → IsNumberOf name least most words result
+  number name least most v is help result read = is_number name least most (Some v) false is help result read (go (spelt name least most (Some v) false is help))
+    where
+      accepted : accepts false (vp.Unsigned least most) v ≡ true
+      accepted =
+          let sound = choice_sound entry.options known.sound name (an_option name (a_number least most) (Some v) false) is in
+          (both_true (kind_fits (a_number least most)) _ (both_true (is_name name) _ sound).1).1
 
--- ---- the numbers of each command
+      go : (value_met name met ≡ v) ⊎ IsWithin least most (value_met name met) → IsWithin least most (value_met name met)
+      go (inl same) = subst (IsWithin least most) (sym same) (within least most v accepted)
+      go (inr number) = number
 
-pub serve_numbers : (words : List Text) → fault_of command_line words ≡ [] → BeginsWith (codes "serve") words
-    → IsSpelt (codes "workers") 1 64 words × IsSpelt (codes "every") 1 1000000 words
-serve_numbers words none begins = (let of = spelt serve_entry known_serve words none begins in
-    (of (codes "workers") 1 64 (codes "2") refl, of (codes "every") 1 1000000 (codes "100") refl))
+  -- one that has none, where it is given
+  pub number_given : (name : Text) (least most : ℕ) → choice_named name entry.options ≡ Some (an_option name (a_number least most) None false) → bytes_eq (codes "help") name ≡ false
+      → (result : ℕ) → IsReadFrom name least most met result → is_given name met ≡ true → IsNumberOf name least most words result
+  number_given name least most is help result read given = is_number name least most None false is help result read (go (spelt name least most None false is help))
+    where
+      go : (value_met name met ≡ []) ⊎ IsWithin least most (value_met name met) → IsWithin least most (value_met name met)
+      go (inl same) = absurd (true≢false (sym given ∙ ap (λ (t : Text). not (bytes_eq t [])) same))
+      go (inr number) = number
 
-pub attend_numbers : (words : List Text) → fault_of command_line words ≡ [] → BeginsWith (codes "attend") words
-    → IsSpelt (codes "runners") 0 64 words × IsSpelt (codes "turns") 0 1000000 words × IsSpelt (codes "workers") 1 64 words
-attend_numbers words none begins = (let of = spelt attend_entry known_attend words none begins in
-    (of (codes "runners") 0 64 (codes "2") refl, of (codes "turns") 0 1000000 (codes "0") refl, of (codes "workers") 1 64 (codes "2") refl))
-
-pub batch_numbers : (words : List Text) → fault_of command_line words ≡ [] → BeginsWith (codes "batch") words
-    → IsSpelt (codes "rounds") 0 most_rounds words × IsSpelt (codes "every") 1 1000000 words × IsSpelt (codes "workers") 1 64 words
-batch_numbers words none begins = (let of = spelt batch_entry known_batch words none begins in
-    (of (codes "rounds") 0 most_rounds (codes "4611686018427387904") refl, of (codes "every") 1 1000000 (codes "100") refl, of (codes "workers") 1 64 (codes "2") refl))
-
-pub trace_numbers : (words : List Text) → fault_of command_line words ≡ [] → BeginsWith (codes "trace") words → IsSpelt (codes "rounds") 0 most_rounds words
-trace_numbers words none begins = spelt trace_entry known_trace words none begins (codes "rounds") 0 most_rounds (codes "1000000") refl
-
-pub reduce_numbers : (words : List Text) → fault_of command_line words ≡ [] → BeginsWith (codes "reduce") words
-    → IsSpeltIf (codes "rounds") 0 most_rounds words × IsSpeltIf (codes "workers") 1 64 words
-    × IsSpeltIf (codes "steps") 0 most_steps words × IsSpeltIf (codes "nodes") 0 most_steps words × IsSpeltIf (codes "seconds") 1 most_seconds words
-reduce_numbers words none begins = (let of = spelt_if reduce_entry known_reduce words none begins in (
-  of (codes "rounds") 0 most_rounds None false refl,
-  of (codes "workers") 1 64 None false refl,
-  of (codes "steps") 0 most_steps None false refl,
-  of (codes "nodes") 0 most_steps None false refl,
-  of (codes "seconds") 1 most_seconds None false refl,
-))
+  pub number_if : (name : Text) (least most default : ℕ) → choice_named name entry.options ≡ Some (an_option name (a_number least most) None false) → bytes_eq (codes "help") name ≡ false
+      → (result : ℕ) → IsReadOr name least most default met result → IsNumberOr name least most default words result
+  number_if name least most default is help result read = ((λ given. number_given name least most is help result (read.0 given) given), read.1)

@@ -1,11 +1,11 @@
 -- Each well-formed line of `reduce` is taken, with its values.
-use Rattle.std.proofs.Common.{◌≡◌, true≢false, unwrap_or, inl, inr, ℕ, List, [], ◌∷◌, Bool, true, false, not, ◌||◌, ◌&&◌, Option, None, Some, codes, refl, sym, ◌∙◌, ap, ap₂, subst, arith}
+use Rattle.std.proofs.Common.{◌≡◌, true≢false, unwrap_or, ℕ, List, [], ◌∷◌, Bool, true, false, not, ◌||◌, ◌&&◌, Option, None, Some, codes, refl, sym, ◌∙◌, ap, ap₂, subst, arith}
 use Rattle.std.specs.Prelude.{is_some}
 use Rattle.std.specs.Str.{bytes_eq}
 use Rattle.clap.specs.Words.{Row, Text, subcommand_of}
 use Rattle.clap.specs.Kinds.{or_else}
 use Rattle.ic_args.specs.Words.{IsDecimal, IsNumberOf, IsNumberOr, NamesReduce, asks_in_place, asks_kept, asks_rounds, clashes, command_line, file_met, is_flag_met, is_figures, is_given, is_limits, mistakes_of, most_rounds, most_steps, reduce_entry, value_if_met}
-use Rattle.ic_args.specs.Lines.{AreInPlace, AreOfRounds, AreUnkept, Given, Gives, HasFlag, HasNone, HasNumber, HasValue, IsReduceLine}
+use Rattle.ic_args.specs.Lines.{AreInPlace, AreOfRounds, AreUnkept, Given, Gives, given_value, HasFlag, HasNone, HasNumber, HasValue, IsNumberIn, IsReduceLine}
 use Rattle.ic_args.proofs.Known.{known_reduce}
 use Rattle.ic_args.proofs.Entries.{default_value}
 use Rattle.ic_args.proofs.EntryLines.{IsTaken, file_is, file_rest, flag_is, taken, value_given}
@@ -59,11 +59,13 @@ module _ (words : List Text) (gs : List Given) (path : Option Text) (line : IsRe
 
   number_is : (name : Text) (least most default s result : ℕ) → bytes_eq (codes "file") name ≡ false → default_value name reduce_entry.options ≡ None → HasNumber gs name default s
       → IsNumberOr name least most default words result → result ≡ s
-  number_is name least most default s result other has (inl given) names =
-      let there = names.0 (given_is name given.0 s given.1 given.2) in
-      let decimal : IsDecimal given.0 result = subst (λ (t : Text). IsDecimal t result) (value_given reduce_entry known_reduce words gs line.rest is_taken name given.0 given.1) there.0 in
-      decimal.1 ∙ sym given.2.1
-  number_is name least most default s result other has (inr none) names = names.1 (none_is name (none_met name other has none.0)) ∙ sym none.1
+  number_is name least most default s result other has number names = go (given_value gs name) refl number
+    where
+      go : (o : Option Text) → given_value gs name ≡ o → IsNumberIn o default s → result ≡ s
+      go None none same = names.1 (none_is name (none_met name other has none)) ∙ sym same
+      go (Some v) gives is =
+          let there = names.0 (given_is name v s gives is) in
+          (subst (λ (t : Text). IsDecimal t result) (value_given reduce_entry known_reduce words gs line.rest is_taken name v gives) there.0).1 ∙ sym is.1
 
   flag_met : (name : Text) (p : Bool) → bytes_eq (codes "file") name ≡ false → default_value name reduce_entry.options ≡ Some (codes "false") → HasFlag gs name p → is_flag_met name met ≡ p
   flag_met = flag_is reduce_entry known_reduce words gs line.rest is_taken
@@ -71,8 +73,11 @@ module _ (words : List Text) (gs : List Given) (path : Option Text) (line : IsRe
   -- the word of an option that has one where none is given
   word_is : (name default v : Text) → bytes_eq (codes "file") name ≡ false → default_value name reduce_entry.options ≡ None → HasValue gs name default v
       → unwrap_or (value_if_met name met) default ≡ v
-  word_is name default v other has (inl gives) = ap (λ (o : Option Text). unwrap_or o default) (is_taken.gives name v gives)
-  word_is name default v other has (inr none) = ap (λ (o : Option Text). unwrap_or o default) (none_met name other has none.0) ∙ sym none.1
+  word_is name default v other has given = go (given_value gs name) refl given
+    where
+      go : (o : Option Text) → given_value gs name ≡ o → unwrap_or o default ≡ v → unwrap_or (value_if_met name met) default ≡ v
+      go None none same = ap (λ (o : Option Text). unwrap_or o default) (none_met name other has none) ∙ same
+      go (Some w) gives same = ap (λ (o : Option Text). unwrap_or o default) (is_taken.gives name w gives) ∙ same
 
   -- ---- both ways
 

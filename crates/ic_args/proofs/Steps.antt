@@ -1,9 +1,9 @@
 -- Options that are written one after the other, word by word.
-use Rattle.std.proofs.Common.{◌≡◌, List, [], ◌∷◌, ◌++◌, Bool, true, false, ◌&&◌, cond, ne_eqb, Option, None, Some, fold, refl, sym, ◌∙◌, ap, ap₂, append-nil, append_assoc, inl, inr, subst}
+use Rattle.std.proofs.Common.{◌≡◌, List, [], ◌∷◌, ◌++◌, Bool, true, false, ◌&&◌, cond, ne_eqb, Option, None, Some, fold, refl, sym, ◌∙◌, ap, ap₂, append_assoc, inl, inr, subst}
 use Rattle.std.specs.Prelude.{option_and_then}
 use Rattle.std.specs.Option.{option_map_or}
 use Rattle.std.specs.Str.{bytes_eq}
-use Rattle.clap.specs.Walk.{Held, Row, Rule, Text, Walk, after_flag, after_step, arg_by_id, arg_by_long, has_row, idle, long_met, long_or_other, option, reacted, settled, trailing, used, used_by_id, walked, with_values, more_values}
+use Rattle.clap.specs.Walk.{Held, Row, Rule, Step, Text, Waiting, Walk, after_flag, after_step, arg_by_id, arg_by_long, has_row, idle, long_met, long_or_other, next, option, reacted, settled, trailing, used_by_id, walked}
 use Rattle.clap.specs.Lexer.{long_of, long_of_rest, short_of, short_of_rest, strip_byte}
 use Rattle.clap.specs.Values.{reading_of}
 use Rattle.clap.specs.Simple.{Shape}
@@ -11,9 +11,9 @@ use Rattle.clap.specs.Kinds.{Kinds, or_else, value_kinds}
 use Rattle.clap.specs.Faults.{flag_word_fault, long_fault, settle_fault, step_fault, turn_fault, use_fault, walk_fault}
 use Rattle.clap.specs.declared.error.ErrorKind.TheVariants as kind
 use Rattle.clap.specs.declared.builder.value_parser.ValueParser.{ValueParser}
-use Rattle.clap.specs.declared.parser.matches.ValueSource.TheVariants.{CommandLine}
-use Rattle.ic_args.specs.Lines.{HasNoHyphen, IsWritten}
-use Rattle.ic_args.proofs.OneValue.{at_end, one_value}
+use Rattle.ic_args.specs.Lines.{Given, HasNoHyphen, IsWritten}
+use Rattle.ic_args.proofs.LineRows.{IsRowOf}
+use Rattle.ic_args.proofs.OneValue.{one_value, set_grown, used_row}
 
 abbrev pub dashes : Text
 dashes = 45 ∷ 45 ∷ []
@@ -32,9 +32,14 @@ pub no_short : (v : Text) → HasNoHyphen v → short_of v ≡ None
 no_short [] plain = refl
 no_short (x ∷ xs) plain = ap (λ b. option_and_then short_of_rest (cond b (Some xs) None)) (ne_eqb x 45 plain)
 
--- the row of an option with one value
-abbrev pub row_with : Text → Text → ValueParser → Row
-row_with id v parser = record { id = id; values = v ∷ []; count = None; source = Some CommandLine; reading = reading_of parser }
+-- the parser reads the option's name from its word
+pub record IsSpelled (name : Text) : Type 0 where
+  pub joined : (v : Text) → (bytes_eq (45 ∷ 45 ∷ name ++ 61 ∷ v) dashes ≡ false) × (long_of (45 ∷ 45 ∷ name ++ 61 ∷ v) ≡ Some (name, Some v))
+  pub alone : (bytes_eq (45 ∷ 45 ∷ name) dashes ≡ false) × (long_of (45 ∷ 45 ∷ name) ≡ Some (name, None))
+
+-- the argument has a value that isn't settled yet
+abbrev pub is_held : Text → Held → Bool
+is_held id h = option_map_or (λ (q : Text × List Text). bytes_eq q.0 id) h.pending false
 
 module _ (base : Shape) (c : List Rule) where
   abbrev pub level : Shape
@@ -70,6 +75,44 @@ module _ (base : Shape) (c : List Rule) where
       let same = append_assoc a b rest in
       (ap (walk_fault level [] u) same ∙ there.0 ∙ after.0, ap (fold (walked c []) u) same ∙ there.1 ∙ after.1)
 
+  -- ---- a word `--name` or `--name=value`, after which this is held and waited for
+
+  module _ (word name : Text) (text : Option Text) (a : Rule) (h g : Held) (w : Waiting) where
+    abbrev long_turn : Bool → Option (Text × Option Text) → Kinds
+    long_turn b l =
+        let met = cond b (h, trailing 1) (long_or_other c idle word l h) in
+        or_else (cond b [] (flag_word_fault c false l word h)) (step_fault level 1 met.0 met.1)
+
+    abbrev long_walk : Bool → Option (Text × Option Text) → Walk
+    long_walk b l =
+        let met = cond b (h, trailing 1) (long_or_other c idle word l h) in
+        after_step c word (at h) met.0 met.1
+
+    abbrev met_by : Option Rule → Held × Step
+    met_by o = after_flag c idle word (long_met c o text h).0 (long_met c o text h).1
+
+    abbrev there : Walk
+    there = record { held = g; waiting = w; position = 1; is_trailing = false; stopped = None }
+
+    pub long_leads : bytes_eq word dashes ≡ false → long_of word ≡ Some (name, text) → arg_by_long c name ≡ Some a → met_by (Some a) ≡ (g, next w)
+        → long_fault c false (Some a) text h ≡ [] → Leads (word ∷ []) (at h) there
+    unfolding walked
+    long_leads other long by_long meets free = one_turn word (at h) there
+        (ap₂ long_turn other long ∙ ap (λ (o : Option Rule). or_else (long_fault c false o text h) (step_fault level 1 (met_by o).0 (met_by o).1)) by_long
+        ∙ ap₂ (λ (k : Kinds) (m : Held × Step). or_else k (step_fault level 1 m.0 m.1)) free meets)
+        (ap₂ long_walk other long ∙ ap (λ (o : Option Rule). after_step c word (at h) (met_by o).0 (met_by o).1) by_long
+        ∙ ap (λ (m : Held × Step). after_step c word (at h) m.0 m.1) meets)
+
+  -- one more option is read, and this is its row
+  pub record ReadsGiven (aside : Text) (g : Given) (words : List Text) (h : Held) : Type 0 where
+    pub after : Held
+    pub row : Row
+    pub leads : Leads words (at h) (at after)
+    pub settles : settle_fault c false after ≡ []
+    pub rows : (settled c after).rows ≡ (settled c h).rows ++ row ∷ []
+    pub of : IsRowOf g row
+    pub apart : is_held aside after ≡ false
+
   -- ---- one option of the level, which takes one value
 
   module _ (id : Text) (default : Option Text) (parser : ValueParser) (required : Bool)
@@ -79,61 +122,8 @@ module _ (base : Shape) (c : List Rule) where
     abbrev a : Rule
     a = one_value id id default parser required
 
-    -- its rows grow by one
-    grown : (v : Text) (rows : List Row) → has_row id rows ≡ false → used a (v ∷ []) rows ≡ rows ++ row_with id v parser ∷ []
-    grown v rows none =
-        ap (with_values id (reading_of parser) CommandLine (v ∷ [])) (at_end id (λ r. []) [] rows none ∙ append-nil rows)
-        ∙ at_end id (more_values CommandLine (v ∷ [])) (row_with id v parser ∷ []) rows none
-
     no_fault : (v : Text) (rows : List Row) → has_row id rows ≡ false → value_kinds false parser v ≡ [] → use_fault false a (v ∷ []) rows ≡ []
     no_fault v rows none accepted = ap₂ (λ b (k : Kinds). or_else (cond (b && true) (kind.ArgumentConflict ∷ []) []) (or_else k [])) none accepted
-
-    -- the option was read, and nothing is wrong with it
-    pub record IsRead (v : Text) (h g : Held) : Type 0 where
-      pub settles : settle_fault c false g ≡ []
-      pub rows : (settled c g).rows ≡ (settled c h).rows ++ row_with id v parser ∷ []
-
-    -- ---- `--name=value`
-
-    abbrev long_turn : Text → Held → Bool → Option (Text × Option Text) → Kinds
-    long_turn word h b l =
-        let met = cond b (h, trailing 1) (long_or_other c idle word l h) in
-        or_else (cond b [] (flag_word_fault c false l word h)) (step_fault level 1 met.0 met.1)
-
-    abbrev met_turn : Text → Held → Option Text → Option Rule → Kinds
-    met_turn word h v o =
-        let met = after_flag c idle word (long_met c o v h).0 (long_met c o v h).1 in
-        or_else (long_fault c false o v h) (step_fault level 1 met.0 met.1)
-
-    abbrev long_walk : Text → Held → Bool → Option (Text × Option Text) → Walk
-    long_walk word h b l =
-        let met = cond b (h, trailing 1) (long_or_other c idle word l h) in
-        after_step c word (at h) met.0 met.1
-
-    abbrev met_walk : Text → Held → Option Text → Option Rule → Walk
-    met_walk word h v o =
-        let met = after_flag c idle word (long_met c o v h).0 (long_met c o v h).1 in
-        after_step c word (at h) met.0 met.1
-
-    module _ (word v : Text) (h : Held) (other : bytes_eq word dashes ≡ false) (long : long_of word ≡ Some (id, Some v))
-        (settles : settle_fault c false h ≡ []) (none : has_row id (settled c h).rows ≡ false) (accepted : value_kinds false parser v ≡ []) where
-      reacts : or_else (settle_fault c false h) (use_fault false a (v ∷ []) (settled c h).rows) ≡ []
-      reacts = ap₂ or_else settles (no_fault v (settled c h).rows none accepted)
-
-      turn_one : turn_fault level [] (at h) word ≡ []
-      turn_one = ap₂ (long_turn word h) other long ∙ ap (met_turn word h (Some v)) by_long ∙ ap (λ (k : Kinds). or_else k []) reacts
-
-      walked_one : walked c [] (at h) word ≡ at (reacted c a (v ∷ []) h)
-      unfolding walked
-      walked_one = ap₂ (long_walk word h) other long ∙ ap (met_walk word h (Some v)) by_long
-
-      pub one_word : Leads (word ∷ []) (at h) (at (reacted c a (v ∷ []) h)) × IsRead v h (reacted c a (v ∷ []) h)
-      one_word = (
-        one_turn word (at h) (at (reacted c a (v ∷ []) h)) turn_one walked_one,
-        record { settles = refl; rows = grown v (settled c h).rows none },
-      )
-
-    -- ---- `--name`, and the value as a word of its own
 
     abbrev waiting : Held → Held
     waiting h = record (settled c h) { pending = Some (id, []) }
@@ -141,50 +131,43 @@ module _ (base : Shape) (c : List Rule) where
     abbrev valued : Text → Held → Held
     valued v h = record (settled c h) { pending = Some (id, v ∷ []) }
 
-    module _ (word v : Text) (h : Held) (other : bytes_eq word dashes ≡ false) (long : long_of word ≡ Some (id, None)) (bare : HasNoHyphen v)
-        (settles : settle_fault c false h ≡ []) (none : has_row id (settled c h).rows ≡ false) (accepted : value_kinds false parser v ≡ []) where
-      turn_name : turn_fault level [] (at h) word ≡ []
-      turn_name = ap₂ (long_turn word h) other long ∙ ap (met_turn word h None) by_long ∙ ap (λ (k : Kinds). or_else k []) settles
+    turn_value : (v : Text) (h : Held) → HasNoHyphen v → turn_fault level [] (waits_at id (waiting h)) v ≡ []
+    turn_value v h bare = rw (no_dashes v bare, no_long v bare, no_short v bare) refl
 
-      walked_name : walked c [] (at h) word ≡ waits_at id (waiting h)
-      unfolding walked
-      walked_name = ap₂ (long_walk word h) other long ∙ ap (met_walk word h None) by_long
+    walked_value : (v : Text) (h : Held) → HasNoHyphen v → walked c [] (waits_at id (waiting h)) v ≡ at (valued v h)
+    unfolding walked
+    walked_value v h bare = rw (no_dashes v bare, no_long v bare, no_short v bare, by_id, same) refl
 
-      turn_value : turn_fault level [] (waits_at id (waiting h)) v ≡ []
-      turn_value = rw (no_dashes v bare, no_long v bare, no_short v bare) refl
-
-      walked_value : walked c [] (waits_at id (waiting h)) v ≡ at (valued v h)
-      unfolding walked
-      walked_value = rw (no_dashes v bare, no_long v bare, no_short v bare, by_id, same) refl
-
-      pub two_words : Leads (word ∷ v ∷ []) (at h) (at (valued v h)) × IsRead v h (valued v h)
-      two_words = (
-        leads_more (word ∷ []) (v ∷ []) (at h) (waits_at id (waiting h)) (at (valued v h))
-            (one_turn word (at h) (waits_at id (waiting h)) turn_name walked_name)
-            (one_turn v (waits_at id (waiting h)) (at (valued v h)) turn_value walked_value),
-        record {
-          settles = ap (λ (o : Option Rule). option_map_or (λ (x : Rule). use_fault false x (v ∷ []) (settled c h).rows) o []) by_id ∙ no_fault v (settled c h).rows none accepted;
-          rows = ap (λ (o : Option Rule). used_by_id o (v ∷ []) (settled c h).rows) by_id ∙ grown v (settled c h).rows none;
-        },
-      )
-
-    -- ---- the option, as it may be written
-
-    -- one more option is read, and this is its row
-    pub record ReadsOne (words : List Text) (v : Text) (h : Held) : Type 0 where
-      pub after : Held
-      pub leads : Leads words (at h) (at after)
-      pub read : IsRead v h after
-      pub aside : (other : Text) → bytes_eq id other ≡ false → option_map_or (λ (q : Text × List Text). bytes_eq q.0 other) after.pending false ≡ false
-
-    module _ (one_word_is : (v : Text) → (bytes_eq (45 ∷ 45 ∷ id ++ 61 ∷ v) dashes ≡ false) × (long_of (45 ∷ 45 ∷ id ++ 61 ∷ v) ≡ Some (id, Some v)))
-        (two_words_are : (bytes_eq (45 ∷ 45 ∷ id) dashes ≡ false) × (long_of (45 ∷ 45 ∷ id) ≡ Some (id, None))) where
-      pub reads_one : (words : List Text) (v : Text) (h : Held) → IsWritten (record { name = id; value = v }) words → settle_fault c false h ≡ []
-          → has_row id (settled c h).rows ≡ false → value_kinds false parser v ≡ [] → ReadsOne words v h
-      reads_one words v h (inl alone) settles none accepted =
-          let is = one_word_is v in
-          let r = one_word (45 ∷ 45 ∷ id ++ 61 ∷ v) v h is.0 is.1 settles none accepted in
-          record { after = reacted c a (v ∷ []) h; leads = subst (λ (ws : List Text). Leads ws (at h) (at (reacted c a (v ∷ []) h))) (sym alone) r.0; read = r.1; aside = λ other e. refl }
-      reads_one words v h (inr parted) settles none accepted =
-          let r = two_words (45 ∷ 45 ∷ id) v h two_words_are.0 two_words_are.1 parted.1 settles none accepted in
-          record { after = valued v h; leads = subst (λ (ws : List Text). Leads ws (at h) (at (valued v h))) (sym parted.0) r.0; read = r.1; aside = λ other e. e }
+    module _ (spelled : IsSpelled id) (aside : Text) (other : bytes_eq id aside ≡ false) where
+      pub given_as : (g : Given) → g.name ≡ id → (words : List Text) → IsWritten g words → (h : Held) → settle_fault c false h ≡ []
+          → has_row g.name (settled c h).rows ≡ false → value_kinds false parser g.value ≡ [] → ReadsGiven aside g words h
+      given_as g is words (inl joined) h settles none accepted =
+          let v = g.value in
+          let fresh = ap (λ (n : Text). has_row n (settled c h).rows) (sym is) ∙ none in
+          let one = spelled.joined v in
+          let leads = long_leads (45 ∷ 45 ∷ id ++ 61 ∷ v) id (Some v) a h (reacted c a (v ∷ []) h) idle one.0 one.1 by_long refl
+          (ap₂ or_else settles (no_fault v (settled c h).rows fresh accepted)) in
+          record {
+            after = reacted c a (v ∷ []) h;
+            row = used_row id (reading_of parser) (v ∷ []);
+            leads = subst (λ (ws : List Text). Leads ws (at h) (at (reacted c a (v ∷ []) h))) (sym (joined ∙ ap (λ (n : Text). (45 ∷ 45 ∷ n ++ 61 ∷ v) ∷ []) is)) leads;
+            settles = refl;
+            rows = set_grown id (reading_of parser) (v ∷ []) (settled c h).rows fresh;
+            of = (sym is, refl, refl);
+            apart = refl;
+          }
+      given_as g is words (inr parted) h settles none accepted =
+          let v = g.value in
+          let fresh = ap (λ (n : Text). has_row n (settled c h).rows) (sym is) ∙ none in
+          let named = long_leads (45 ∷ 45 ∷ id) id None a h (waiting h) (option id) spelled.alone.0 spelled.alone.1 by_long refl settles in
+          let value = one_turn v (waits_at id (waiting h)) (at (valued v h)) (turn_value v h parted.1) (walked_value v h parted.1) in
+          record {
+            after = valued v h;
+            row = used_row id (reading_of parser) (v ∷ []);
+            leads = subst (λ (ws : List Text). Leads ws (at h) (at (valued v h))) (sym (parted.0 ∙ ap (λ (n : Text). (45 ∷ 45 ∷ n) ∷ v ∷ []) is))
+                (leads_more ((45 ∷ 45 ∷ id) ∷ []) (v ∷ []) (at h) (waits_at id (waiting h)) (at (valued v h)) named value);
+            settles = ap (λ (o : Option Rule). option_map_or (λ (x : Rule). use_fault false x (v ∷ []) (settled c h).rows) o []) by_id ∙ no_fault v (settled c h).rows fresh accepted;
+            rows = ap (λ (o : Option Rule). used_by_id o (v ∷ []) (settled c h).rows) by_id ∙ set_grown id (reading_of parser) (v ∷ []) (settled c h).rows fresh;
+            of = (sym is, refl, refl);
+            apart = other;
+          }

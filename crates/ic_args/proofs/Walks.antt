@@ -1,37 +1,36 @@
 -- A walk over words without a mistake, where each use of an option leaves good rows.
-use Rattle.std.proofs.Common.{◌≡◌, ℕ, zero, suc, List, [], ◌∷◌, Bool, true, false, ◌&&◌, cond, Option, None, Some, length, fold, refl, sym, subst}
+use Rattle.std.proofs.Common.{◌≡◌, ℕ, zero, suc, List, [], ◌∷◌, Bool, true, false, ◌&&◌, cond, Option, None, Some, length, fold, refl}
 use Rattle.std.specs.Prelude.{find, is_some, slice_get}
+use Rattle.std.specs.List.{AllByRecursion}
 use Rattle.std.specs.Option.{option_map_or}
 use Rattle.std.specs.Str.{bytes_eq, chars}
-use Rattle.clap.specs.Walk.{Held, Outcome, Row, Rule, Step, Text, Waiting, Walk, after_flag, after_step, arg_by_id, arg_by_index, arg_by_long, arg_by_short, attached_value, bundle_met, bundle_step, done, flag_met, idle, is_pending, long_met, long_or_other, next, option, option_met, option_word, plain, plain_word, positional, reacted, refused, settled, settled_rows, short_met, short_or_plain, short_word, subcommand, takes_several, takes_values, to_positional, trailing, used, used_by_id, value, waits, walked, walked_from, word_met}
+use Rattle.clap.specs.Walk.{Held, Outcome, Row, Rule, Step, Text, Waiting, Walk, after_flag, after_step, arg_by_id, arg_by_index, arg_by_long, arg_by_short, attached_value, bundle_met, bundle_step, done, flag_met, idle, is_pending, long_met, long_or_other, next, option, option_met, option_word, plain, plain_word, positional, reacted, refused, settled, settled_rows, short_met, short_or_plain, subcommand, takes_several, takes_values, to_positional, trailing, used, used_by_id, value, waits, walked, walked_from, word_met}
 use Rattle.clap.specs.Lexer.{long_of, short_of}
 use Rattle.clap.specs.Simple.{Shape}
 use Rattle.clap.specs.Kinds.{Kinds, or_else}
 use Rattle.clap.specs.Faults.{bundle_fault, bundle_step_fault, flag_word_fault, flags_fault, long_fault, option_fault, positional_fault, react_fault, settle_fault, short_fault, step_fault, stray_fault, turn_fault, use_fault, walk_fault, word_fault}
 use Rattle.clap.specs.declared.error.ErrorKind.TheVariants as kind
-use Rattle.ic_args.proofs.OneValue.{Each, both_empty, fails}
+use Rattle.ic_args.proofs.OneValue.{both_empty, fails}
+use Rattle.ic_args.proofs.Steps.{level}
 
 abbrev Passes : (Row → Type 0) → Rule → Type 0
-Passes Good a = (values : List Text) (rows : List Row) → use_fault false a values rows ≡ [] → Each Good rows → Each Good (used a values rows)
+Passes Good a = (values : List Text) (rows : List Row) → use_fault false a values rows ≡ [] → AllByRecursion Good rows → AllByRecursion Good (used a values rows)
 
 module _ (base : Shape) (c : List Rule) (Good : Row → Type 0) (sound : (p : Rule → Bool) (a : Rule) → find p c ≡ Some a → Passes Good a) where
-  abbrev level : Shape
-  level = record base { rules = c; args_override_self = false }
-
   abbrev Holds : Held → Type 0
-  Holds h = Each Good h.rows
+  Holds h = AllByRecursion Good h.rows
 
   abbrev Sound : Option Rule → Type 0
   Sound o = (a : Rule) → o ≡ Some a → Passes Good a
 
   by_id : (o : Option Rule) → Sound o → (values : List Text) (rows : List Row) → option_map_or (λ a. use_fault false a values rows) o [] ≡ []
-      → Each Good rows → Each Good (used_by_id o values rows)
+      → AllByRecursion Good rows → AllByRecursion Good (used_by_id o values rows)
   by_id None s values rows e good = good
   by_id (Some a) s values rows e good = s a refl values rows e good
 
   settled_by : (pending : Option (Text × List Text)) (rows : List Row)
       → option_map_or (λ (p : Text × List Text). option_map_or (λ a. use_fault false a p.1 rows) (arg_by_id c p.0) []) pending [] ≡ []
-      → Each Good rows → Each Good (settled_rows c pending rows)
+      → AllByRecursion Good rows → AllByRecursion Good (settled_rows c pending rows)
   settled_by None rows e good = good
   settled_by (Some p) rows e good = by_id (arg_by_id c p.0) (λ a is. sound _ a is) p.1 rows e good
 
@@ -61,10 +60,10 @@ module _ (base : Shape) (c : List Rule) (Good : Row → Type 0) (sound : (p : Ru
       go true e = option_good a v h (s a refl) e good
       go false e = flag_good a v h (s a refl) e good
 
-  short_good : (o : Option Rule) (rest : Text) (h : Held) (on : Held → Held × Outcome) (fault : Held → Kinds) → Sound o
+  one_short_good : (o : Option Rule) (rest : Text) (h : Held) (on : Held → Held × Outcome) (fault : Held → Kinds) → Sound o
       → ((g : Held) → fault g ≡ [] → Holds g → Holds (on g).0) → short_fault c false o rest h fault ≡ [] → Holds h → Holds (short_met c o rest h on).0
-  short_good None rest h on fault s further e good = absurd (fails _ _ e)
-  short_good (Some a) rest h on fault s further e good = go (takes_values a) e
+  one_short_good None rest h on fault s further e good = absurd (fails _ _ e)
+  one_short_good (Some a) rest h on fault s further e good = go (takes_values a) e
     where
       go : (b : Bool) → cond b (option_fault c false a (attached_value rest) h) (or_else (react_fault c false a [] h) (fault (reacted c a [] h))) ≡ []
           → Holds (cond b (option_met c a (attached_value rest) h) (on (reacted c a [] h))).0
@@ -81,7 +80,7 @@ module _ (base : Shape) (c : List Rule) (Good : Row → Type 0) (sound : (p : Ru
       → bundle_step_fault c false o flags skip h (flags_fault c false k) ≡ [] → Holds h → Holds (bundle_step c o flags skip so_far h (bundle_met c k)).0
   bundle_step_good k further None flags skip so_far h e good = good
   bundle_step_good k further (Some x) flags zero so_far h e good =
-      short_good (arg_by_short c x) _ h _ _ (λ a is. sound _ a is) (λ g f held. further _ 0 done g f held) e good
+      one_short_good (arg_by_short c x) _ h _ _ (λ a is. sound _ a is) (λ g f held. further _ 0 done g f held) e good
   bundle_step_good k further (Some x) flags (suc skip) so_far h e good = further _ skip so_far h e good
 
   bundle_good : (k : ℕ) → BundlePasses k
@@ -91,35 +90,30 @@ module _ (base : Shape) (c : List Rule) (Good : Row → Type 0) (sound : (p : Ru
 
   -- ---- a word
 
-  option_rows : (o : Option Rule) (id word : Text) (h : Held) → (option_word o id word h).0.rows ≡ h.rows
-  option_rows None id word h = refl
-  option_rows (Some a) id word h = refl
+  plain_good : (waiting : Waiting) (word : Text) (h : Held) → Holds h → Holds (plain_word c waiting word h).0
+  plain_good idle word h good = good
+  plain_good (option id) word h good = go (arg_by_id c id)
+    where
+      go : (o : Option Rule) → Holds (option_word o id word h).0
+      go None = good
+      go (Some a) = good
+  plain_good positional word h good = good
 
-  plain_rows : (waiting : Waiting) (word : Text) (h : Held) → (plain_word c waiting word h).0.rows ≡ h.rows
-  plain_rows idle word h = refl
-  plain_rows (option id) word h = option_rows (arg_by_id c id) id word h
-  plain_rows positional word h = refl
+  after_good : (waiting : Waiting) (word : Text) (h : Held) (o : Outcome) → Holds h → Holds (after_flag c waiting word h o).0
+  after_good waiting word h done good = good
+  after_good waiting word h (waits id) good = good
+  after_good waiting word h plain good = plain_good waiting word h good
+  after_good waiting word h refused good = plain_good waiting word h good
 
-  flag_rows : (waiting : Waiting) (word : Text) (h : Held) (o : Outcome) → (after_flag c waiting word h o).0.rows ≡ h.rows
-  flag_rows waiting word h done = refl
-  flag_rows waiting word h (waits id) = refl
-  flag_rows waiting word h plain = plain_rows waiting word h
-  flag_rows waiting word h refused = plain_rows waiting word h
-
-  short_word_good : (waiting : Waiting) (word flags : Text) (h : Held) → bundle_fault c false flags h ≡ [] → Holds h → Holds (short_word c waiting word flags h).0
-  short_word_good waiting word flags h e good =
-      subst (Each Good) (sym (flag_rows waiting word _ _)) (bundle_good (length flags) flags h.skip plain (record h { skip = 0 }) e good)
-
-  short_or_plain_good : (waiting : Waiting) (word : Text) (o : Option Text) (h : Held) → option_map_or (λ flags. bundle_fault c false flags h) o [] ≡ [] → Holds h
+  short_good : (waiting : Waiting) (word : Text) (o : Option Text) (h : Held) → option_map_or (λ flags. bundle_fault c false flags h) o [] ≡ [] → Holds h
       → Holds (short_or_plain c waiting word o h).0
-  short_or_plain_good waiting word None h e good = subst (Each Good) (sym (plain_rows waiting word h)) good
-  short_or_plain_good waiting word (Some flags) h e good = short_word_good waiting word flags h e good
+  short_good waiting word None h e good = plain_good waiting word h good
+  short_good waiting word (Some flags) h e good = after_good waiting word _ _ (bundle_good (length flags) flags h.skip plain (record h { skip = 0 }) e good)
 
   flag_word_good : (waiting : Waiting) (word : Text) (long : Option (Text × Option Text)) (h : Held) → flag_word_fault c false long word h ≡ [] → Holds h
       → Holds (long_or_other c waiting word long h).0
-  flag_word_good waiting word None h e good = short_or_plain_good waiting word (short_of word) h e good
-  flag_word_good waiting word (Some p) h e good =
-      subst (Each Good) (sym (flag_rows waiting word _ _)) (long_good (arg_by_long c p.0) p.1 h (λ a is. sound _ a is) e good)
+  flag_word_good waiting word None h e good = short_good waiting word (short_of word) h e good
+  flag_word_good waiting word (Some p) h e good = after_good waiting word _ _ (long_good (arg_by_long c p.0) p.1 h (λ a is. sound _ a is) e good)
 
   other_good : (waiting : Waiting) (position : ℕ) (word : Text) (h : Held) (dashes : Bool)
       → cond dashes [] (flag_word_fault c false (long_of word) word h) ≡ [] → Holds h
@@ -127,7 +121,7 @@ module _ (base : Shape) (c : List Rule) (Good : Row → Type 0) (sound : (p : Ru
   other_good waiting position word h true e good = good
   other_good waiting position word h false e good = flag_word_good waiting word (long_of word) h e good
 
-  met_good : (is_trailing : Bool) (waiting : Waiting) (position : ℕ) (word : Text) (h : Held) → word_fault level [] is_trailing waiting word h ≡ [] → Holds h
+  met_good : (is_trailing : Bool) (waiting : Waiting) (position : ℕ) (word : Text) (h : Held) → word_fault (level base c) [] is_trailing waiting word h ≡ [] → Holds h
       → Holds (word_met c [] is_trailing waiting position word h).0
   met_good true waiting position word h e good = good
   met_good false idle position word h e good = other_good idle position word h (bytes_eq word (45 ∷ 45 ∷ [])) e good
@@ -138,12 +132,12 @@ module _ (base : Shape) (c : List Rule) (Good : Row → Type 0) (sound : (p : Ru
   positional_good true h e good = good
   positional_good false h e good = settled_good h e good
 
-  value_good : (o : Option Rule) (word : Text) (w : Walk) (h : Held) → option_map_or (λ a. positional_fault c false a h) o (stray_fault level) ≡ [] → Holds h
+  value_good : (o : Option Rule) (word : Text) (w : Walk) (h : Held) → option_map_or (λ a. positional_fault c false a h) o (stray_fault (level base c)) ≡ [] → Holds h
       → Holds (to_positional c o word w h).held
   value_good None word w h e good = good
   value_good (Some a) word w h e good = positional_good (is_pending a h.pending && takes_several a) h e good
 
-  step_good : (word : Text) (w : Walk) (h : Held) (step : Step) → step_fault level w.position h step ≡ [] → Holds h → Holds (after_step c word w h step).held
+  step_good : (word : Text) (w : Walk) (h : Held) (step : Step) → step_fault (level base c) w.position h step ≡ [] → Holds h → Holds (after_step c word w h step).held
   step_good word w h (next waiting) e good = good
   step_good word w h (trailing position) e good = good
   step_good word w h (subcommand name) e good = good
@@ -151,20 +145,20 @@ module _ (base : Shape) (c : List Rule) (Good : Row → Type 0) (sound : (p : Ru
 
   -- ---- the words
 
-  turn_good : (w : Walk) (word : Text) → turn_fault level [] w word ≡ [] → Holds w.held → Holds (walked c [] w word).held
+  turn_good : (w : Walk) (word : Text) → turn_fault (level base c) [] w word ≡ [] → Holds w.held → Holds (walked c [] w word).held
   unfolding walked
   turn_good w word e good = go w.stopped e
     where
       go : (o : Option (Text × List Text))
-          → cond (is_some o) [] (or_else (word_fault level [] w.is_trailing w.waiting word w.held)
-          (step_fault level w.position (word_met c [] w.is_trailing w.waiting w.position word w.held).0 (word_met c [] w.is_trailing w.waiting w.position word w.held).1)) ≡ []
+          → cond (is_some o) [] (or_else (word_fault (level base c) [] w.is_trailing w.waiting word w.held)
+          (step_fault (level base c) w.position (word_met c [] w.is_trailing w.waiting w.position word w.held).0 (word_met c [] w.is_trailing w.waiting w.position word w.held).1)) ≡ []
           → Holds (walked_from c [] o w word).held
       go (Some p) e = good
       go None e =
           let parts = both_empty _ _ e in
           step_good word w _ _ parts.1 (met_good w.is_trailing w.waiting w.position word w.held parts.0 good)
 
-  pub walk_good : (words : List Text) (w : Walk) → walk_fault level [] w words ≡ [] → Holds w.held → Holds (fold (walked c []) w words).held
+  pub walk_good : (words : List Text) (w : Walk) → walk_fault (level base c) [] w words ≡ [] → Holds w.held → Holds (fold (walked c []) w words).held
   unfolding walk_fault
   walk_good [] w e good = good
   walk_good (word ∷ rest) w e good =

@@ -1,5 +1,5 @@
 -- The words in which the parser finds no mistake: the first of them names a command.
-use Rattle.std.proofs.Common.{◌≡◌, ℕ, List, [], ◌∷◌, ◌++◌, Bool, true, false, cond, ◌&&◌, ◌||◌, Option, None, Some, length, slice_get, drop, fold, map, find, is_some, option_map, append-nil, append_assoc, codes, refl, sym, ◌∙◌, ap, ap₂, true≢false, ◌⊎◌, inl, inr}
+use Rattle.std.proofs.Common.{◌≡◌, ℕ, List, [], ◌∷◌, ◌++◌, Bool, true, false, cond, ◌&&◌, ◌||◌, Option, None, Some, length, slice_get, drop, fold, map, find, is_some, option_map, append-nil, append_assoc, codes, refl, sym, ◌∙◌, ap, ap₂}
 use Rattle.std.specs.Option.{option_map_or}
 use Rattle.std.specs.Str.{bytes_eq, chars}
 use Rattle.std.proofs.lemmas.Slice.Eq.{bytes_eq-Decides}
@@ -12,14 +12,11 @@ use Rattle.clap.specs.Kinds.{or_else}
 use Rattle.clap.specs.Faults.{bundle_fault, bundle_step_fault, check_fault, defaults_fault, entered_fault, flag_word_fault, flags_fault, level_fault, long_fault, other_fault, settle_fault, short_fault, step_fault, turn_fault, walk_fault}
 use Rattle.clap.specs.declared.error.ErrorKind.TheVariants as kind
 use Rattle.clap.proofs.OnLiterals.{clap_on_literals}
-use Rattle.std.specs.List.{AllByRecursion}
+use Rattle.std.specs.List.{list_any}
 use Rattle.ic_args.specs.Words.{command_line, commands, BeginsWith}
-use Rattle.ic_args.specs.inner.Asking.{IsIn, IsMet}
+use Rattle.ic_args.specs.inner.Asking.{IsMet, is_command}
+use Rattle.ic_args.proofs.OneValue.{both_empty}
 use Rattle.ic_args.proofs.Steps.{level}
-
-both_empty : (a b : Kinds) → or_else a b ≡ [] → (a ≡ []) × (b ≡ [])
-both_empty [] b e = (refl, e)
-both_empty (k ∷ ks) b e = cc
 
 -- what asks for help, and for the version
 abbrev pub help : Rule
@@ -44,34 +41,21 @@ names_below = names_of_all commands
 
 -- ---- a name among names
 
-pub named_in : (name : Text) (names : List Text) → IsIn name names → find (answers_to name) (names_of_all names) ≡ Some (name, [])
-named_in name [] is = absurd is
-named_in name (one ∷ more) is = go (named_in name more) (bytes_eq one name) refl is
+name_if : (name : Text) (names : List Text)
+    → find (answers_to name) (names_of_all names) ≡ cond (list_any (λ (one : Text). bytes_eq one name) names) (Some (name, [])) None
+name_if name [] = refl
+name_if name (one ∷ more) = go (bytes_eq one name) refl (name_if name more)
   where
-    go : (IsIn name more → find (answers_to name) (names_of_all more) ≡ Some (name, [])) → (b : Bool) → bytes_eq one name ≡ b → (name ≡ one) ⊎ IsIn name more
-        → cond (b || false) (Some (one, [])) (find (answers_to name) (names_of_all more)) ≡ Some (name, [])
-    go rest true same is = ap (λ (n : Text). Some (n, [])) ((bytes_eq-Decides one name).0 same)
-    go rest false other (inl is) = absurd (true≢false (sym ((bytes_eq-Decides one name).1 (sym is)) ∙ other))
-    go rest false other (inr there) = rest there
+    go : (b : Bool) → bytes_eq one name ≡ b → find (answers_to name) (names_of_all more) ≡ cond (list_any (λ (n : Text). bytes_eq n name) more) (Some (name, [])) None
+        → cond (b || false) (Some (one, [])) (find (answers_to name) (names_of_all more)) ≡ cond (b || list_any (λ (n : Text). bytes_eq n name) more) (Some (name, [])) None
+    go true same rest = ap (λ (n : Text). Some (n, [])) ((bytes_eq-Decides one name).0 same)
+    go false other rest = rest
 
-none_in : (word : Text) (names : List Text) → AllByRecursion (λ name. bytes_eq name word ≡ false) names → find (answers_to word) (names_of_all names) ≡ None
-none_in word [] others = refl
-none_in word (one ∷ more) others =
-    ap (λ (b : Bool). cond (b || false) (Some (one, [])) (find (answers_to word) (names_of_all more))) others.0 ∙ none_in word more others.1
+name_found : (name : Text) (b : Bool) → is_command name ≡ b → find (answers_to name) names_below ≡ cond b (Some (name, [])) None
+name_found name b is = name_if name commands ∙ ap (λ (t : Bool). cond t (Some (name, [])) None) is
 
--- a text is one of these, or none
-in_or_none : (v : Text) (names : List Text) → IsIn v names ⊎ AllByRecursion (λ name. bytes_eq name v ≡ false) names
-in_or_none v [] = inr tt
-in_or_none v (name ∷ names) = go (bytes_eq name v) refl (in_or_none v names)
-  where
-    go : (b : Bool) → bytes_eq name v ≡ b → IsIn v names ⊎ AllByRecursion (λ other. bytes_eq other v ≡ false) names
-        → ((v ≡ name) ⊎ IsIn v names) ⊎ (((bytes_eq name v) ≡ false) × AllByRecursion (λ other. bytes_eq other v ≡ false) names)
-    go true is rest = inl (inl (sym ((bytes_eq-Decides name v).0 is)))
-    go false is (inl there) = inl (inr there)
-    go false is (inr none) = inr (is, none)
-
-met_name : (name : Text) → IsIn name commands → subcommand_met names_below idle name ≡ Some name
-met_name name is = ap (option_map (λ (s : Text × List Text). s.0)) (named_in name commands is)
+met_name : (name : Text) → is_command name ≡ true → subcommand_met names_below idle name ≡ Some name
+met_name name is = ap (option_map (λ (s : Text × List Text). s.0)) (name_found name true is)
 
 -- ---- words of which the first is no command
 
@@ -175,28 +159,28 @@ unfolding walk_fault walked
 no_fault_after name words [] = refl
 no_fault_after name words (v ∷ vs) = no_fault_after name (words ++ v ∷ []) vs
 
-first_walked : (name : Text) → IsIn name commands → walked rules names_below (walk_from nothing_held) name ≡ stopped_at name []
+first_walked : (name : Text) → is_command name ≡ true → walked rules names_below (walk_from nothing_held) name ≡ stopped_at name []
 unfolding walked
 first_walked name is =
     ap (λ (o : Option Text). after_step rules name (walk_from nothing_held) (subcommand_or_other rules o idle 1 name nothing_held).0 (subcommand_or_other rules o idle 1 name nothing_held).1) (met_name name is)
 
 -- where a command's name is the first word, the others are its own
-pub stands : (name : Text) → IsIn name commands → (words : List Text) → walk rules names_below nothing_held (name ∷ words) ≡ stopped_at name words
+pub stands : (name : Text) → is_command name ≡ true → (words : List Text) → walk rules names_below nothing_held (name ∷ words) ≡ stopped_at name words
 stands name is words = ap (λ (w : Walk). fold (walked rules names_below) w words) (first_walked name is) ∙ stopped_with name [] words
 
-pub stops : (name : Text) → IsIn name commands → (words : List Text) → (walk rules names_below nothing_held (name ∷ words)).stopped ≡ Some (name, words)
+pub stops : (name : Text) → is_command name ≡ true → (words : List Text) → (walk rules names_below nothing_held (name ∷ words)).stopped ≡ Some (name, words)
 stops name is words = ap (λ (w : Walk). w.stopped) (stands name is words)
 
 help_or_not : (b : Bool) → cond (b && false) (kind.DisplayHelp ∷ kind.InvalidSubcommand ∷ []) [] ≡ []
 help_or_not true = refl
 help_or_not false = refl
 
-first_free : (name : Text) → IsIn name commands → turn_fault top names_below (walk_from nothing_held) name ≡ []
+first_free : (name : Text) → is_command name ≡ true → turn_fault top names_below (walk_from nothing_held) name ≡ []
 first_free name is =
     ap (λ (o : Option Text). or_else (other_fault top o name nothing_held) (step_fault top 1 (subcommand_or_other rules o idle 1 name nothing_held).0 (subcommand_or_other rules o idle 1 name nothing_held).1)) (met_name name is)
     ∙ ap (λ (k : Kinds). or_else k []) (help_or_not (bytes_eq name (codes "help")))
 
-walk_free : (name : Text) → IsIn name commands → (words : List Text) → walk_fault top names_below (walk_from nothing_held) (name ∷ words) ≡ []
+walk_free : (name : Text) → is_command name ≡ true → (words : List Text) → walk_fault top names_below (walk_from nothing_held) (name ∷ words) ≡ []
 unfolding walk_fault
 walk_free name is words =
     ap₂ or_else (first_free name is) (ap (λ (w : Walk). walk_fault top names_below w words) (first_walked name is) ∙ no_fault_after name [] words)
@@ -217,7 +201,7 @@ top_fault words w =
 
 -- a command of the program, with its arguments as they are built
 pub record IsCommand (name : Text) (base : Shape) (c : List Rule) : Type 0 where
-  pub is : IsIn name commands
+  pub is : is_command name ≡ true
   pub enters : (rest : List Text) → entered_fault (built command_line) (Some (name, rest)) ≡ level_fault (level base c) [] nothing_held rest false []
   pub meets : (rest : List Text) → entered (built command_line) (Some (name, rest)) ≡ Some (name, rows_after c [] rest)
 
@@ -249,23 +233,24 @@ none_alone : fault_of command_line [] ≡ [] → ⊥
 unfolding clap_on_literals
 none_alone e = cc
 
-another_word : (v : Text) (vs : List Text) → AllByRecursion (λ name. bytes_eq name v ≡ false) commands → fault_of command_line (v ∷ vs) ≡ [] → ⊥
-another_word v vs others e =
-    let none : subcommand_met names_below idle v ≡ None = ap (option_map (λ (s : Text × List Text). s.0)) (none_in v commands others) in
+another_word : (v : Text) (vs : List Text) → is_command v ≡ false → fault_of command_line (v ∷ vs) ≡ [] → ⊥
+another_word v vs other e =
+    let none : subcommand_met names_below idle v ≡ None = ap (option_map (λ (s : Text × List Text). s.0)) (name_found v false other) in
     let alone = top_words v vs none (both_empty _ _ e).0 in
     dashes_alone (ap (fault_of command_line) (sym alone) ∙ e)
 
 -- the words begin with one of the commands
 abbrev pub IsCalled : Text → List Text → Type 0
-IsCalled name words = IsIn name commands × BeginsWith name words
+IsCalled name words = (is_command name ≡ true) × BeginsWith name words
 
 -- words without a mistake name one of the commands
 pub one_command : (words : List Text) → fault_of command_line words ≡ [] → (name : Text) × IsCalled name words
 one_command [] e = absurd (none_alone e)
-one_command (v ∷ vs) e = elim (in_or_none v commands) [
-  | inl there ↦ (v, (there, (vs, refl)))
-  | inr none ↦ absurd (another_word v vs none e)
-]
+one_command (v ∷ vs) e = go (is_command v) refl
+  where
+    go : (b : Bool) → is_command v ≡ b → (name : Text) × IsCalled name (v ∷ vs)
+    go true is = (v, (is, (vs, refl)))
+    go false other = absurd (another_word v vs other e)
 
 -- ---- the command that is met
 
@@ -286,8 +271,8 @@ name_of_shape None words = refl
 name_of_shape (Some s) words = refl
 
 -- a command is met where its name stands first
-pub first_met : (name : Text) (words : List Text) → IsIn name commands → IsMet name (subcommand_of command_line (name ∷ words))
+pub first_met : (name : Text) (words : List Text) → is_command name ≡ true → IsMet name (subcommand_of command_line (name ∷ words))
 first_met name words is =
     ap (λ (s : Option (Text × List Text)). name_met (entered (built command_line) s)) (stops name is words)
     ∙ name_of_shape (find (λ (s : Shape). answers_to name (label_of s)) (built command_line).subs) words
-    ∙ ap (option_map (λ (l : Text × List Text). l.0)) (find_map label_of (answers_to name) (built command_line).subs ∙ named_in name commands is)
+    ∙ ap (option_map (λ (l : Text × List Text). l.0)) (find_map label_of (answers_to name) (built command_line).subs ∙ name_found name true is)

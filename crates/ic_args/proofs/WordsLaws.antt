@@ -1,5 +1,5 @@
 -- What the parser's contract says of the program's words.
-use Rattle.std.proofs.Common.{◌≡◌, ◌≢◌, ℕ, List, [], ◌∷◌, Bool, true, false, not, ◌&&◌, ◌||◌, cond, Option, None, Some, codes, map, refl, sym, ◌∙◌, ap, ap₂, subst, inl, inr}
+use Rattle.std.proofs.Common.{◌≡◌, ◌≢◌, ℕ, List, [], ◌∷◌, Bool, true, false, not, ◌&&◌, cond, Option, None, Some, codes, map, refl, sym, ◌∙◌, ap, subst, inl, inr}
 use Rattle.std.specs.Prelude.{find, option_map, unwrap_or}
 use Rattle.std.specs.Option.{option_map_or}
 use Rattle.std.specs.Borrow.{Bor}
@@ -15,8 +15,8 @@ use Rattle.clap.specs.declared.parser.matches.Found.{Found}
 use Rattle.clap.proofs.WalkLemmas.{first_value-rows, raw_values-rows}
 use Rattle.std.specs.Str.{bytes_eq}
 use Rattle.clap.specs.Kinds.{or_else}
-use Rattle.ic_args.specs.Words.{BeginsWith, commands, asks_in_place, asks_kept, asks_rounds, clashes, command_line, has_help, is_format, is_given, figures_met, is_figures, is_limits, limits_met, own_faults, own_mistakes, reduce_faults, value_if_met, value_met, values_met, is_report_format}
-use Rattle.ic_args.specs.inner.Asking.{IsIn, IsMet, TellsReport}
+use Rattle.ic_args.specs.Words.{BeginsWith, asks_in_place, asks_kept, asks_rounds, clashes, command_line, has_help, is_format, is_given, figures_met, is_figures, is_limits, limits_met, own_faults, own_mistakes, reduce_faults, value_if_met, value_met, values_met, is_report_format}
+use Rattle.ic_args.specs.inner.Asking.{IsMet, TellsReport, is_command}
 use Rattle.ic_args.proofs.WordsExact.{IsCalled, first_met}
 
 command_line_simple : is_simple_and_free command_line ≡ true
@@ -94,7 +94,7 @@ pub rows_met : (app : App) (words : List Text) (m : ArgMatches) → app ≡ comm
 rows_met app words m is matches = (matches (ap is_simple is ∙ simple)).1 ∙ ap (λ a. subcommand_of a words) is
 
 -- where one command alone was written, that is met
-pub alone_met : (one other : Text) (words : List Text) → IsIn other commands → IsMet one (subcommand_of command_line words) → words ≡ other ∷ [] → one ≡ other
+pub alone_met : (one other : Text) (words : List Text) → is_command other ≡ true → IsMet one (subcommand_of command_line words) → words ≡ other ∷ [] → one ≡ other
 alone_met one other words is met alone = one_met one other (subcommand_of command_line words) met (ap command_of alone ∙ first_met other [] is)
 
 -- ---- mistakes of a command's own
@@ -142,22 +142,15 @@ place_of met = place_by (clashes met) (asks_kept met) (is_figures (figures_met m
 
 pub in_place_free : (met : Option (Text × List Row)) → asks_rounds met ≡ false → clashes met ≡ false → asks_kept met ≡ false → is_given (codes "seconds") met ≡ false
     → are_known met ≡ true → reduce_faults met ≡ []
-in_place_free met alone apart unkept waits known =
-    ap (λ (r : Bool). faults_by r (asks_in_place met) (is_given (codes "rounds") met) (place_of met)) alone
-    ∙ ap (λ (c : Bool). place_by c (asks_kept met) (is_figures (figures_met met)) (is_given (codes "seconds") met) (are_known met)) apart
-    ∙ ap₂ (λ (k w : Bool). place_by false k (is_figures (figures_met met)) w (are_known met)) unkept waits
-    ∙ ap (λ (k : Bool). place_by false false (is_figures (figures_met met)) false k) known
+in_place_free met alone apart unkept waits known = rw (alone, apart, unkept, waits, known) refl
 
 -- one that is kept has a format that there is
 pub kept_free : (met : Option (Text × List Row)) → asks_rounds met ≡ false → clashes met ≡ false → asks_kept met ≡ true → is_figures (figures_met met) ≡ true
     → reduce_faults met ≡ []
-kept_free met alone apart kept shown =
-    ap (λ (r : Bool). faults_by r (asks_in_place met) (is_given (codes "rounds") met) (place_of met)) alone
-    ∙ ap (λ (c : Bool). place_by c (asks_kept met) (is_figures (figures_met met)) (is_given (codes "seconds") met) (are_known met)) apart
-    ∙ ap₂ (λ (k f : Bool). place_by false k f (is_given (codes "seconds") met) (are_known met)) kept shown
+kept_free met alone apart kept shown = rw (alone, apart, kept, shown) refl
 
 pub rounds_free : (met : Option (Text × List Row)) → is_given (codes "rounds") met ≡ true → asks_in_place met ≡ false → reduce_faults met ≡ []
-rounds_free met given alone = ap₂ (λ (r p : Bool). faults_by (r || is_given (codes "workers") met) p r (place_of met)) given alone
+rounds_free met given alone = rw (given, alone) refl
 
 -- a kind of mistake that asks for nothing
 abbrev pub IsMistake : ErrorKind → Type 0

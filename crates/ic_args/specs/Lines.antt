@@ -1,8 +1,9 @@
 -- To be believed: the lines of words that are well formed, in words of their own.
 use Rattle.std.specs.Prelude.{◌≡◌, ◌≢◌, ◌⊎◌, ◌<◌, ◌≤◌, ◌^◌, ℕ, Bool, true, false, List, [], ◌∷◌, ◌++◌, codes, length, Option, None, Some}
+use Rattle.std.specs.Prelude.{bytes_eq, find, option_map, unwrap_or}
 use Rattle.std.specs.List.{AllByRecursion}
 use Rattle.clap.specs.Words.{Text}
-use Rattle.ic_args.specs.Words.{Choice, Entry, IsDecimal, Kind, a_flag, a_number, a_text, an_option, most_steps}
+use Rattle.ic_args.specs.Words.{Choice, Entry, IsDecimal, Kind, a_flag, a_number, a_text, an_option, choice_named, most_steps}
 use Rattle.ic_args.specs.Words.{attend_entry, batch_entry, check_entry, create_entry, dump_entry, inspect_entry, reduce_entry, serve_entry, trace_entry}
 
 -- an option, and the value that it is given
@@ -46,16 +47,16 @@ Takes a_text value = Unit {0}
 Takes (a_number least most) value = IsWithin least most value
 
 -- how an option is given; a flag is one word, and its value is that it is given
-abbrev pub IsGivenAs : Choice → Given → List Text → Type 0
-IsGivenAs (a_flag name) given words =
-    (given.name ≡ name) × (given.value ≡ codes "true") × (words ≡ (45 ∷ 45 ∷ given.name) ∷ [])
-IsGivenAs (an_option name kind default needed) given words =
-    (given.name ≡ name) × Takes kind given.value × IsWritten given words
+abbrev pub IsGivenAs : Option Choice → Given → List Text → Type 0
+IsGivenAs None given words = ⊥
+IsGivenAs (Some (a_flag name)) given words =
+    (given.value ≡ codes "true") × (words ≡ (45 ∷ 45 ∷ given.name) ∷ [])
+IsGivenAs (Some (an_option name kind default needed)) given words =
+    Takes kind given.value × IsWritten given words
 
 -- it is one of these options
 abbrev pub IsOneOf : List Choice → Given → List Text → Type 0
-IsOneOf [] given words = ⊥
-IsOneOf (choice ∷ more) given words = IsGivenAs choice given words ⊎ IsOneOf more given words
+IsOneOf options given words = IsGivenAs (choice_named given.name options) given words
 
 -- one of the words of limits
 abbrev pub IsLimitsText : Text → Type 0
@@ -73,36 +74,41 @@ IsFormatText text = (text ≡ codes "tsv") ⊎ (text ≡ codes "svg") ⊎ (text 
 abbrev pub IsReportText : Text → Type 0
 IsReportText text = (text ≡ codes "text") ⊎ (text ≡ codes "json")
 
--- no option has the name of one after it
-abbrev pub AreOnce : List Given → Type 0
-AreOnce [] = Unit {0}
-AreOnce (given ∷ more) = AllByRecursion (λ other. given.name ≢ other.name) more × AreOnce more
+-- the value that the option of this name is given, if it is given
+abbrev pub given_value : List Given → Text → Option Text
+given_value given name =
+    option_map (λ option. option.value) (find (λ option. bytes_eq option.name name) given)
 
 -- the option of this name is given this value
 abbrev pub Gives : List Given → Text → Text → Type 0
-Gives [] name value = ⊥
-Gives (given ∷ more) name value =
-    ((given.name ≡ name) × (given.value ≡ value)) ⊎ Gives more name value
-
--- an option has this value: the one that it is given, or its default where none is given
-abbrev pub HasValue : List Given → (name default value : Text) → Type 0
-HasValue given name default value = Gives given name value
-    ⊎ (AllByRecursion (λ other. other.name ≢ name) given × (value ≡ default))
+Gives given name value = given_value given name ≡ Some value
 
 -- no option of this name is given
 abbrev pub HasNone : List Given → Text → Type 0
-HasNone given name = AllByRecursion (λ other. other.name ≢ name) given
+HasNone given name = given_value given name ≡ None
+
+-- an option has this value: the one that it is given, or its default where none is given
+abbrev pub HasValue : List Given → (name default value : Text) → Type 0
+HasValue given name default value = unwrap_or (given_value given name) default ≡ value
 
 -- whether a flag is given
 abbrev pub HasFlag : List Given → Text → Bool → Type 0
 HasFlag given name true = Gives given name (codes "true")
 HasFlag given name false = HasNone given name
 
+-- the number of a text, or the default where there is none
+abbrev pub IsNumberIn : Option Text → (default number : ℕ) → Type 0
+IsNumberIn None default number = number ≡ default
+IsNumberIn (Some text) default number = IsDecimal text number
+
 -- an option's number: that which it is given, or its default where none is given
 abbrev pub HasNumber : List Given → (name : Text) (default number : ℕ) → Type 0
-HasNumber given name default number =
-    ((text : Text) × Gives given name text × IsDecimal text number)
-    ⊎ (HasNone given name × (number ≡ default))
+HasNumber given name default number = IsNumberIn (given_value given name) default number
+
+-- no option has the name of one after it
+abbrev pub AreOnce : List Given → Type 0
+AreOnce [] = Unit {0}
+AreOnce (given ∷ more) = HasNone more given.name × AreOnce more
 
 -- a command, after it options that it has, in any order, each once, and then these words
 pub record IsLine (entry : Entry) (words : List Text) (given : List Given) (rest : List Text)

@@ -7,7 +7,7 @@ use Rattle.std.specs.Prelude.{codes, string_bytes, Option, Some, None, is_some, 
 use Rattle.std.specs.declared.alloc.Global.{Global}
 use Rattle.std.specs.Str.Parse.{IsNumeral, digits_value, without_leading_plus}
 use Rattle.clap.specs.Words.{App, IsAmong, Kinds, Row, Rule, Shape, Text, all_of, first_of, new_app}
-use Rattle.clap.specs.Words.{fault_of, new_rule, one_of, subcommand_of, with_rule, with_subcommand}
+use Rattle.clap.specs.Words.{fault_of, new_rule, subcommand_of, with_rule, with_subcommand}
 use Rattle.clap.specs.Kinds.{or_else}
 use Rattle.clap.specs.Lexer.{usize_max}
 use Rattle.clap.specs.Walk.{is_empty}
@@ -61,6 +61,14 @@ pub data Kind : Type 0 where
 pub data Choice : Type 0 where
   a_flag : (name : Text) → Choice
   an_option : (name : Text) (kind : Kind) (default : Option Text) (needed : Bool) → Choice
+
+abbrev pub name_of : Choice → Text
+name_of (a_flag name) = name
+name_of (an_option name kind default needed) = name
+
+-- the option of this name, if there is one
+abbrev pub choice_named : Text → List Choice → Option Choice
+choice_named name options = find (λ option. bytes_eq (name_of option) name) options
 
 -- what stands after the options: nothing, one word, or several; and whether there has to be one
 pub data Tail : Type 0 where
@@ -469,10 +477,6 @@ GivesVersion answer =
 -- the values of an argument of a command that is met, none where it has none
 abbrev pub values_met : Text → Option (Text × List Row) → List Text
 values_met argument met = unwrap_or (option_and_then (λ p. all_of argument p.1) met) []
-
--- the text that the parser reads as the number of an option of a command that is met, or none
-abbrev pub number_met : Text → Option (Text × List Row) → Text
-number_met option met = unwrap_or (option_and_then (λ p. one_of option p.1) met) []
 
 -- the text is this number in decimal digits, before which a plus may stand
 abbrev pub IsDecimal : Text → ℕ → Type 0

@@ -5,7 +5,7 @@ ghost use Rattle.ic_args.specs.Help.{help_by, help_of, named_help};
 ghost use Rattle.ic_args.specs.Words.{has_help};
 
 /// The help of the program.
-const PROGRAM: &str = "\
+pub(crate) const PROGRAM: &str = "\
 A job server for the interaction calculus
 
 Usage: icserve <COMMAND>
@@ -42,7 +42,7 @@ Example, two and two:
 ";
 
 /// The help of `settle`.
-const SETTLE: &str = "\
+pub(crate) const SETTLE: &str = "\
 Settles a configuration and prints it: names that only join two terms are removed
 
 Usage: icserve settle [FILE]
@@ -59,7 +59,7 @@ Example:
 ";
 
 /// The help of `once`.
-const ONCE: &str = "\
+pub(crate) const ONCE: &str = "\
 Makes one round of a system and prints the configuration
 
 Usage: icserve once [FILE]
@@ -76,7 +76,7 @@ Example:
 ";
 
 /// The help of `create`.
-const CREATE: &str = "\
+pub(crate) const CREATE: &str = "\
 Makes the file F an empty disk
 
 Usage: icserve create [OPTIONS] --disk <F>
@@ -93,7 +93,7 @@ Example:
 ";
 
 /// The help of `serve`.
-const SERVE: &str = "\
+pub(crate) const SERVE: &str = "\
 Serves the lines of standard input over the disk in the file F
 
 Usage: icserve serve [OPTIONS] --disk <F>
@@ -135,7 +135,7 @@ Example:
 ";
 
 /// The help of `attend`.
-const ATTEND: &str = "\
+pub(crate) const ATTEND: &str = "\
 Gives the commands of scripts to the disk in the file F, one client to a script
 
 Usage: icserve attend [OPTIONS] --disk <F> [SCRIPT]...
@@ -159,7 +159,7 @@ Example:
 ";
 
 /// The help of `reduce`.
-const REDUCE: &str = "\
+pub(crate) const REDUCE: &str = "\
 Reduces a system until no step is possible, and prints the configuration
 
 Usage: icserve reduce [OPTIONS] [FILE]
@@ -218,7 +218,7 @@ Example:
 ";
 
 /// The help of `trace`.
-const TRACE: &str = "\
+pub(crate) const TRACE: &str = "\
 Tells what the rounds of a system do, until no step is possible
 
 Usage: icserve trace [OPTIONS] [FILE]
@@ -242,7 +242,7 @@ Example:
 ";
 
 /// The help of `draw`.
-const DRAW: &str = "\
+pub(crate) const DRAW: &str = "\
 Draws the net of a configuration as a graph in Graphviz's DOT
 
 Usage: icserve draw [FILE]
@@ -262,7 +262,7 @@ Example:
 ";
 
 /// The help of `expand`.
-const EXPAND: &str = "\
+pub(crate) const EXPAND: &str = "\
 Writes a text with comments, long names, copy and erase as one that the other commands read
 
 Usage: icserve expand [FILE]
@@ -283,7 +283,7 @@ Example:
 ";
 
 /// The help of `dump`.
-const DUMP: &str = "\
+pub(crate) const DUMP: &str = "\
 Prints jobs of the disk in the file F, as lines that submit them
 
 Usage: icserve dump --disk <F> [NAME]...
@@ -304,7 +304,7 @@ Example:
 ";
 
 /// The help of `inspect`.
-const INSPECT: &str = "\
+pub(crate) const INSPECT: &str = "\
 Tells what the file F holds, which a server may have open
 
 Usage: icserve inspect [OPTIONS] --disk <F>
@@ -323,7 +323,7 @@ Example:
 ";
 
 /// The help of `check`.
-const CHECK: &str = "\
+pub(crate) const CHECK: &str = "\
 Prints the faults of texts with their places, and warns of what is mostly a mistake
 
 Usage: icserve check [OPTIONS] <FILE>...
@@ -351,7 +351,7 @@ Example:
 ";
 
 /// The help of `batch`.
-const BATCH: &str = "\
+pub(crate) const BATCH: &str = "\
 Brings the jobs that the lines submit to their ends, over the disk in the file F
 
 Usage: icserve batch [OPTIONS] --disk <F> <LINES>
@@ -375,7 +375,7 @@ Example:
 ";
 
 /// The help of `help`.
-const HELP: &str = "\
+pub(crate) const HELP: &str = "\
 Shows the help of a command, or of the program
 
 Usage: icserve help [WORD]

@@ -55,6 +55,7 @@ pub fn answers_go_by_mistakes(text: &String)
 {}
 
 /// The words that are taken with no value: a command alone, and a `--` after it.
+#[tactic(auto, unfolding(clap::proofs::OnLiterals::clap_on_literals))]
 pub fn commands_are_taken()
     ensures texts { map (λ word. mistakes_of (text_word word ∷ [])) text_words
         ≡ map (λ word. []) text_words }
@@ -65,6 +66,7 @@ pub fn commands_are_taken()
 {}
 
 /// The words that ask for help, at each command too, and those that ask for the version.
+#[tactic(auto, unfolding(clap::proofs::OnLiterals::clap_on_literals))]
 pub fn help_and_version_are_asked()
     ensures help { mistakes_of (codes "--help" ∷ []) ≡ DisplayHelp ∷ [] }
     ensures short { mistakes_of (codes "-h" ∷ []) ≡ DisplayHelp ∷ [] }
@@ -209,6 +211,7 @@ pub fn attend_lines_are_taken(disk: &String, paths: &Vec<String>)
 /// with no other option but `--partial`, is taken too, and names its rounds, its workers, or 2, and whether
 /// it has that flag. Both name the FILE that they are given, or standard input. Both kinds of options in one
 /// line are a mistake, and so are workers without rounds, and limits and formats that there aren't.
+#[tactic(auto, unfolding(clap::proofs::OnLiterals::clap_on_literals))]
 pub fn reduce_lines_are_taken(path: &Option<String>)
     ensures taken { (words : List Text) (given : List Given) (file : Option Text) (s n : ℕ)
         (p t q : Bool) (l w : Text) → IsReduceLine words given file → AreInPlace given s n p t q l w
@@ -243,6 +246,7 @@ pub fn reduce_lines_are_taken(path: &Option<String>)
 
 /// What a line of `reduce` that keeps what it reaches may have, by examples. To keep and to go on in one line are a mistake,
 /// and so are limits, a FILE where it goes on, options of rounds, and seconds without a file.
+#[tactic(auto, unfolding(clap::proofs::OnLiterals::clap_on_literals))]
 pub fn kept_lines_are_taken()
     ensures taken { map (λ more. mistakes_of (codes "reduce" ∷ codes "--keep=f" ∷ more))
         ([] ∷ (codes "text" ∷ []) ∷ (codes "--seconds=86400" ∷ codes "--steps=9" ∷ codes "--stats" ∷ [])
@@ -266,6 +270,7 @@ pub fn kept_lines_are_taken()
 /// A well-formed line of `trace` is taken, in whatever order its options stand, and names the number
 /// and the format that it is given, or 1,000,000 and tsv, and the FILE that it is given, or standard
 /// input. Another format is a mistake.
+#[tactic(auto, unfolding(clap::proofs::OnLiterals::clap_on_literals))]
 pub fn trace_lines_are_taken(path: &Option<String>)
     ensures taken { (words : List Text) (most shown : Text) (file : Option Text)
         → IsTraceLine words most shown file → mistakes_of words ≡ [] }
@@ -289,6 +294,7 @@ pub fn dump_lines_are_taken(disk: &String, jobs: &Vec<String>)
 
 /// A well-formed line of `inspect` is taken, in whatever order its options stand, and names the file that it
 /// is given, and the format, or text. Another format is a mistake.
+#[tactic(auto, unfolding(clap::proofs::OnLiterals::clap_on_literals))]
 pub fn inspect_lines_are_taken(disk: &String)
     ensures taken { (words : List Text) (path shown : Text) → IsInspectLine words path shown
         → mistakes_of words ≡ [] }
@@ -302,6 +308,7 @@ pub fn inspect_lines_are_taken(disk: &String)
 /// A well-formed line of `check` is taken, in whatever order its options stand, and names the files that it is given,
 /// in their order, the format, or text, and whether it has the flag. With no file it is refused, and another format is
 /// a mistake.
+#[tactic(auto, unfolding(clap::proofs::OnLiterals::clap_on_literals))]
 pub fn check_lines_are_taken(files: &Vec<String>)
     ensures taken { (words : List Text) (shown : Text) (paths : List Text) (scripted : Bool)
         → IsCheckLine words shown paths scripted → mistakes_of words ≡ [] }
@@ -318,6 +325,7 @@ pub fn check_lines_are_taken(files: &Vec<String>)
 /// A well-formed line of `batch` is taken, in whatever order its options stand, and names the disk's
 /// file, the numbers and the file of lines that it is given. Where an option isn't given it names the
 /// default: 2^62 rounds, 100 rounds between two keeps, 2 workers. With no file of lines it is refused.
+#[tactic(auto, unfolding(clap::proofs::OnLiterals::clap_on_literals))]
 pub fn batch_lines_are_taken(disk: &String, lines: &String)
     ensures taken { (words : List Text) (path r k n file : Text)
         → IsBatchLine words path r k n file → mistakes_of words ≡ [] }

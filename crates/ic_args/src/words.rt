@@ -3,12 +3,11 @@
 ghost use Rattle.std.specs.Prelude.{◌≡◌, ◌≤◌, ℕ, true, false, map, option_map, None, Ok, IfOk, IfSome, IfNone, codes, [], ◌∷◌, string_bytes};
 ghost use Rattle.clap.specs.Words.{kind_of, subcommand_rows_of};
 ghost use Rattle.ic_args.specs.Words.{AnswersWords, GivesHelp, GivesTask, GivesVersion, Names, file_met, has_help, value_if_met};
-ghost use Rattle.ic_args.specs.Words.{commands};
 ghost use Rattle.ic_args.specs.Words.{is_report_format, is_text_word, most_rounds, most_steps, report_word, text_word};
 ghost use Rattle.ic_args.specs.Words.{asks_kept, clashes, kept_met, most_seconds};
 ghost use Rattle.ic_args.specs.Words.{asks_in_place, asks_rounds, is_limits, limits_met, limits_word, is_flag_met, is_given, mistakes_of, reduce_faults, value_met, values_met};
 ghost use Rattle.ic_args.specs.Words.{figures_met, figures_word, is_figures};
-ghost use Rattle.ic_args.specs.inner.Asking.{AnswersRefused, Asks, IsCommandMet, IsIn, IsMet, IsReadFrom, IsReadOr};
+ghost use Rattle.ic_args.specs.inner.Asking.{AnswersRefused, Asks, IsCommandMet, IsMet, IsReadFrom, IsReadOr, is_command};
 
 use crate::commands::command;
 use crate::help::{has_help, help_by, help_of};
@@ -376,7 +375,7 @@ fn task_of(alloc: Global, matches: &ArgMatches) -> Result<Task, WordsFault>
 
 /// What the command of this name, which was met, is asked for.
 fn task_named(alloc: Global, name: &str, matches: &ArgMatches) -> Result<Task, WordsFault>
-    requires known { IsIn name.now commands }
+    requires known { is_command name.now ≡ true }
     requires met { IsMet name.now (subcommand_rows_of matches.now) }
     ensures { Asks (subcommand_rows_of matches.now) result }
 {
@@ -388,7 +387,7 @@ fn task_named(alloc: Global, name: &str, matches: &ArgMatches) -> Result<Task, W
 
 /// What the command of this name is asked for, which was met and isn't one of those.
 fn other_task(alloc: Global, name: &str, matches: &ArgMatches) -> Result<Task, WordsFault>
-    requires known { IsIn name.now commands }
+    requires known { is_command name.now ≡ true }
     requires other { is_text_word name.now ≡ false }
     requires met { IsMet name.now (subcommand_rows_of matches.now) }
     ensures { Asks (subcommand_rows_of matches.now) result }
@@ -920,14 +919,10 @@ fn number_of(matches: &ArgMatches, option: &str, least: u64, most: u64) -> u64
     ensures most { result ≤ most }
     ensures value { IsReadFrom option.now least most (subcommand_rows_of matches.now) result }
 {
-    match matches.subcommand() {
-        Some((_, met)) => met
-            .get_one::<u64>(option)
-            .unwrap_or(least)
-            .max(least)
-            .min(most),
-        None => least,
-    }
+    u64::from_str_radix(value_of(matches, option), 10)
+        .unwrap_or(least)
+        .max(least)
+        .min(most)
 }
 
 /// The same of a number of 32 bits.

@@ -1,12 +1,13 @@
 -- What a task is read from: the command that the parser met, with its rows.
-use Rattle.std.specs.Prelude.{◌≡◌, ◌≢◌, ◌≤◌, ◌⊎◌, ℕ, List, [], ◌∷◌, Option, Some, Result, Ok, Err, is_some, codes, map, option_map, string_bytes, true, false}
+use Rattle.std.specs.Prelude.{◌≡◌, ◌≢◌, ◌≤◌, ◌⊎◌, ℕ, List, [], Option, Some, Result, Ok, Err, is_some, codes, map, option_map, string_bytes, Bool, bytes_eq, true, false}
+use Rattle.std.specs.List.{list_any}
 use Rattle.clap.specs.Words.{Row, Text}
 use Rattle.clap.specs.declared.error.ErrorKind.{ErrorKind}
 use Rattle.clap.specs.declared.error.ErrorKind.TheVariants.{DisplayHelp, DisplayVersion, OutOfMemory}
 use Rattle.ic_args.specs.Help.{help_by, help_of}
 use Rattle.ic_args.specs.Words.{IsDecimal, asks_in_place, asks_kept, asks_rounds, clashes, kept_met, most_seconds, format_word, is_flag_met, figures_met, figures_word, limits_met, limits_word, is_format, is_given, most_rounds, most_steps, is_report_format, report_word}
 use Rattle.ic_args.specs.Words.{commands, file_met, has_help, text_word, value_if_met}
-use Rattle.ic_args.specs.Words.{number_met, reduce_faults, value_met, values_met, version_line}
+use Rattle.ic_args.specs.Words.{reduce_faults, value_met, values_met, version_line}
 use Rattle.ic_args.specs.declared.words.Task.{Task}
 use Rattle.ic_args.specs.declared.words.Task.TheVariants.{Create, Serve, Attend, Reduce, ReduceKept, ReduceByRounds}
 use Rattle.ic_args.specs.declared.words.Task.TheVariants.{Trace, Dump, Inspect, Check, Batch, Help, Version}
@@ -16,7 +17,7 @@ use Rattle.ic_args.specs.declared.words.WordsFault.TheVariants.{Words, Memory}
 
 -- where the option's text is a number in the range, this is it
 abbrev pub IsReadFrom : (option : Text) (least most : ℕ) → Option (Text × List Row) → ℕ → Type 0
-IsReadFrom option least most met number = (n : ℕ) → IsDecimal (number_met option met) n
+IsReadFrom option least most met number = (n : ℕ) → IsDecimal (value_met option met) n
     → least ≤ n → n ≤ most → number ≡ n
 
 -- the same, or this is the default where the option has no value
@@ -29,14 +30,13 @@ IsReadOr option least most default met number =
 abbrev pub IsMet : Text → Option (Text × List Row) → Type 0
 IsMet name met = option_map (λ p. p.0) met ≡ Some name
 
--- it is one of these
-abbrev pub IsIn : Text → List Text → Type 0
-IsIn name [] = ⊥
-IsIn name (one ∷ more) = (name ≡ one) ⊎ IsIn name more
+-- one of the program's commands has this name
+abbrev pub is_command : Text → Bool
+is_command name = list_any (λ command. bytes_eq command name) commands
 
 -- one of the program's commands was met
 abbrev pub IsCommandMet : Option (Text × List Row) → Type 0
-IsCommandMet met = (name : Text) × IsIn name commands × IsMet name met
+IsCommandMet met = (name : Text) × (is_command name ≡ true) × IsMet name met
 
 -- the command of this name was met, and these are its files
 abbrev pub AsksText : Text → Option (Text × List Row) → Option Text → Type 0

@@ -1,7 +1,6 @@
 use Rattle.std.proofs.Common.{◌∙◌, List, [], ◌∷◌, ap, ap₂, codes, inr, refl, subst}
 use Rattle.clap.specs.Kinds.{or_else}
 use Rattle.clap.specs.Words.{Text}
-use Rattle.clap.proofs.OnLiterals.{clap_on_literals}
 use Rattle.ic_args.specs.Words.{IsDecimal, batch_entry}
 use Rattle.ic_args.specs.Lines.{IsBatchLine}
 use Rattle.ic_args.proofs.Arguments.{plain_word}
@@ -34,7 +33,3 @@ returns-clause-named c = λ words path r k n file rounds every workers line name
       names.workers.2,
       names.lines ∙ ap text is.first,
     )
-
-pub returns-clause-none : goal.returns-clause-none
-unfolding clap_on_literals
-returns-clause-none c = refl

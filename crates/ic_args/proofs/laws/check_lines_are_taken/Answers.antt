@@ -1,7 +1,6 @@
 use Rattle.std.proofs.Common.{true, ◌∙◌, List, Bool, ap, ap₂, inl, codes, refl, sym}
 use Rattle.clap.specs.Kinds.{or_else}
 use Rattle.clap.specs.Words.{Text}
-use Rattle.clap.proofs.OnLiterals.{clap_on_literals}
 use Rattle.ic_args.specs.Words.{check_entry, is_report_format}
 use Rattle.ic_args.specs.Lines.{IsCheckLine}
 use Rattle.ic_args.proofs.EntryLines.{IsTaken, flag_is, taken, value_is, values_are}
@@ -26,11 +25,3 @@ returns-clause-named c = λ words shown paths format scripted script line names.
       sym names.2 ∙ value_is check_entry known_check words line.given paths is (codes "format") (codes "text") shown refl refl line.format,
       names.3 ∙ flag_is check_entry known_check words line.given paths is (codes "script") scripted refl refl line.script,
     )
-
-pub returns-clause-none : goal.returns-clause-none
-unfolding clap_on_literals
-returns-clause-none c = refl
-
-pub returns-clause-other : goal.returns-clause-other
-unfolding clap_on_literals
-returns-clause-other c = refl

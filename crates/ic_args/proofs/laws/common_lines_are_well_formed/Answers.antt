@@ -1,147 +1,104 @@
-use Rattle.std.proofs.Common.{◌≡◌, ◌≢◌, List, Bool, true, not, ◌&&◌, [], ◌∷◌, ◌++◌, codes, inl, inr, refl, arith}
-use Rattle.std.specs.List.{AllByRecursion, list_all}
-use Rattle.std.specs.Str.{bytes_eq}
+use Rattle.std.proofs.Common.{◌≡◌, ℕ, List, Bool, true, false, [], ◌∷◌, ◌++◌, codes, map, inl, inr, refl, subst, arith}
+use Rattle.std.specs.List.{AllByRecursion}
 use Rattle.clap.specs.Words.{Text}
+use Rattle.clap.specs.ValueTests.{accepts}
+use Rattle.clap.specs.declared.builder.value_parser.ValueParser.TheVariants as vp
 use Rattle.ic_args.specs.Words.{Choice, Entry, IsDecimal, most_rounds, most_steps}
-use Rattle.ic_args.specs.Lines.{AreOnce, AreWrittenBy, Given, HasNone, IsLine, IsOneOf, IsWithin}
-use Rattle.ic_args.proofs.Entries.{apart_other_way, both_true, not_true}
-use Rattle.ic_args.proofs.LineRows.{named_apart}
+use Rattle.ic_args.specs.Words.{attend_entry, batch_entry, check_entry, create_entry, dump_entry, inspect_entry, reduce_entry, serve_entry, trace_entry}
+use Rattle.ic_args.specs.Lines.{AreInPlace, AreOnce, AreUnkept, AreWrittenBy, Given, HasFlag, HasNone, HasNumber, HasValue, IsFiguresText, IsLimitsText, IsLine, IsOneOf}
+use Rattle.ic_args.proofs.OptionNumbers.{within}
 use Rattle.ic_args.proofs.laws.common_lines_are_well_formed.Goals as goal
 
--- an option with its value
-abbrev given_as : Text → Text → Given
-given_as option text = record { name = option; value = text }
+-- ---- the options of an example, as they are written: `--name=value`, `--name value`, and `--name`
 
-is_ten : IsDecimal (codes "10") 10
-is_ten = ((omega (arith), (omega (arith), (omega (arith), tt))), refl)
+data Part : Type 0 where
+  joined : (name value : Text) → Part
+  parted : (name value : Text) → Part
+  alone : (name : Text) → Part
 
-is_three : IsDecimal (codes "3") 3
-is_three = ((omega (arith), (omega (arith), tt)), refl)
+abbrev given_of : Part → Given
+given_of (joined name value) = record { name = name; value = value }
+given_of (parted name value) = record { name = name; value = value }
+given_of (alone name) = record { name = name; value = codes "true" }
 
-is_nine : IsDecimal (codes "9") 9
-is_nine = ((omega (arith), (omega (arith), tt)), refl)
+abbrev words_of : Part → List Text
+words_of (joined name value) = (45 ∷ 45 ∷ name ++ 61 ∷ value) ∷ []
+words_of (parted name value) = (45 ∷ 45 ∷ name) ∷ value ∷ []
+words_of (alone name) = (45 ∷ 45 ∷ name) ∷ []
 
-four : IsWithin 1 64 (codes "4")
-four = (4, ((omega (arith), (omega (arith), tt)), refl), omega (arith), omega (arith))
+abbrev all_words : List Part → List Text
+all_words [] = []
+all_words (p ∷ ps) = words_of p ++ all_words ps
 
-three : IsWithin 1 64 (codes "3")
-three = (3, is_three, omega (arith), omega (arith))
+abbrev IsPart : List Choice → Part → Type 0
+IsPart options p = IsOneOf options (given_of p) (words_of p)
 
-seven : IsWithin 1 1000000 (codes "7")
-seven = (7, ((omega (arith), (omega (arith), tt)), refl), omega (arith), omega (arith))
+all_parts : (options : List Choice) (ps : List Part) → AllByRecursion (IsPart options) ps → AreWrittenBy (IsOneOf options) (map given_of ps) (all_words ps)
+all_parts options [] are = refl
+all_parts options (p ∷ ps) are = (words_of p, all_words ps, refl, are.0, all_parts options ps are.1)
 
-nine : IsWithin 0 1000000 (codes "9")
-nine = (9, is_nine, omega (arith), omega (arith))
+line_of : (entry : Entry) (ps : List Part) (rest : List Text) → AllByRecursion (IsPart entry.options) ps → AreOnce (map given_of ps)
+    → IsLine entry (entry.name ∷ (all_words ps ++ rest)) (map given_of ps) rest
+line_of entry ps rest are once = record { front = all_words ps; begins = refl; written = all_parts entry.options ps are; once = once }
 
-ten : IsWithin 0 most_rounds (codes "10")
-ten = (10, is_ten, omega (arith), omega (arith))
+-- ---- numbers
 
-ten_steps : IsWithin 0 most_steps (codes "10")
-ten_steps = (10, is_ten, omega (arith), omega (arith))
+decimal : (v : Text) (n : ℕ) → accepts false (vp.Unsigned n n) v ≡ true → IsDecimal v n
+decimal v n is =
+    let one = within n n v is in
+    let same : one.0 ≡ n = omega (arith, one.2, one.3) in
+    subst (λ (m : ℕ). IsDecimal v m) same one.1
 
-nine_places : IsWithin 0 most_steps (codes "9")
-nine_places = (9, is_nine, omega (arith), omega (arith))
+-- ---- reducing in place
 
--- ---- lines, option by option
+unkept : (gs : List Given) → HasNone gs (codes "keep") → HasNone gs (codes "resume") → HasNone gs (codes "seconds") → AreUnkept gs
+unkept gs keep resume seconds = record { no_keep = keep; no_resume = resume; no_seconds = seconds }
 
--- options that are written so
-record AreParts (options : List Choice) (gs : List Given) (front : List Text) : Type 0 where
-  written : AreWrittenBy (IsOneOf options) gs front
+in_place : (gs : List Given) (s n : ℕ) (p t q : Bool) (l w : Text) → HasNone gs (codes "rounds") → HasNone gs (codes "workers") → AreUnkept gs
+    → HasNumber gs (codes "steps") most_steps s → HasNumber gs (codes "nodes") 134217728 n → HasFlag gs (codes "partial") p → HasFlag gs (codes "stats") t
+    → HasFlag gs (codes "quiet-answer") q → HasValue gs (codes "limits") (codes "wide") l → IsLimitsText l → HasValue gs (codes "format") (codes "lines") w → IsFiguresText w
+    → AreInPlace gs s n p t q l w
+in_place gs s n p t q l w rounds workers kept steps nodes partial stats quiet limits known_limits format known_format = record {
+  no_rounds = rounds;
+  no_workers = workers;
+  unkept = kept;
+  steps = steps;
+  nodes = nodes;
+  partial = partial;
+  stats = stats;
+  limits = limits;
+  known_limits = known_limits;
+  format = format;
+  known_format = known_format;
+  quiet = quiet;
+}
 
-end : {options : List Choice} → AreParts options [] []
-end = record { written = refl }
-
-more : {options : List Choice} {gs : List Given} {rest : List Text} (g : Given) (first : List Text) → IsOneOf options g first → AreParts options gs rest
-    → AreParts options (g ∷ gs) (first ++ rest)
-more {options} {gs} {rest} g first is others = record { written = (first, rest, refl, is, others.written) }
-
--- no option has this name
-abbrev other_names : List Given → Text → Bool
-other_names gs name = list_all (λ (g : Given). not (bytes_eq g.name name)) gs
-
-none : (gs : List Given) (name : Text) → other_names gs name ≡ true → HasNone gs name
-none [] name all = tt
-none (g ∷ gs) name all = let parts = both_true (not (bytes_eq g.name name)) (other_names gs name) all in (named_apart g g.name name refl (not_true _ parts.0), none gs name parts.1)
-
-abbrev are_once : List Given → Bool
-are_once [] = true
-are_once (g ∷ gs) = other_names gs g.name && are_once gs
-
-once : (gs : List Given) → are_once gs ≡ true → AreOnce gs
-once [] all = tt
-once (g ∷ gs) all = (let parts = both_true (other_names gs g.name) (are_once gs) all in (no_other gs parts.0, once gs parts.1))
-  where
-    no_other : (others : List Given) → other_names others g.name ≡ true → AllByRecursion (λ (other : Given). g.name ≢ other.name) others
-    no_other [] all = tt
-    no_other (x ∷ xs) all =
-        let parts = both_true (not (bytes_eq x.name g.name)) (other_names xs g.name) all in
-        (named_apart g g.name x.name refl (apart_other_way x.name g.name (not_true _ parts.0)), no_other xs parts.1)
-
-line_of : {entry : Entry} {words : List Text} {gs : List Given} {rest : List Text} {front : List Text} → AreParts entry.options gs front → words ≡ entry.name ∷ (front ++ rest)
-    → are_once gs ≡ true → IsLine entry words gs rest
-line_of {entry} {words} {gs} {rest} {front} parts begins apart = record { front = front; begins = begins; written = parts.written; once = once gs apart }
+-- ---- the examples
 
 pub returns-clause-create : goal.returns-clause-create
 returns-clause-create c = λ path plain.
-    let gs : List Given = given_as (codes "disk") path ∷ [] in record {
-      given = gs;
-      line = line_of (more (given_as (codes "disk") path) (codes "--disk" ∷ path ∷ []) (inl (refl, tt, inr (refl, plain)))
-          (end)) refl refl;
-      disk = inl (refl, refl);
-      overwrites = none gs (codes "overwrite") refl;
-    }
+    let ps : List Part = parted (codes "disk") path ∷ [] in
+    record { given = map given_of ps; line = line_of create_entry ps [] ((tt, inr (refl, plain)), tt) (refl, tt); disk = refl; overwrites = refl }
 
 pub returns-clause-overwrite : goal.returns-clause-overwrite
 returns-clause-overwrite c = λ path plain.
-    let gs : List Given = given_as (codes "disk") path ∷ given_as (codes "overwrite") (codes "true") ∷ [] in record {
-      given = gs;
-      line = line_of (more (given_as (codes "disk") path) (codes "--disk" ∷ path ∷ []) (inl (refl, tt, inr (refl, plain)))
-          (more (given_as (codes "overwrite") (codes "true")) (codes "--overwrite" ∷ []) (inr (inl (refl, refl, refl)))
-          (end))) refl refl;
-      disk = inl (refl, refl);
-      overwrites = inr (inl (refl, refl));
-    }
+    let ps : List Part = parted (codes "disk") path ∷ alone (codes "overwrite") ∷ [] in
+    record { given = map given_of ps; line = line_of create_entry ps [] ((tt, inr (refl, plain)), ((refl, refl), tt)) (refl, (refl, tt)); disk = refl; overwrites = refl }
 
 pub returns-clause-serve : goal.returns-clause-serve
 returns-clause-serve c = λ path plain.
-    let gs : List Given = given_as (codes "disk") path ∷ [] in record {
-      given = gs;
-      line = line_of (more (given_as (codes "disk") path) (codes "--disk" ∷ path ∷ []) (inl (refl, tt, inr (refl, plain)))
-          (end)) refl refl;
-      disk = inl (refl, refl);
-      workers = inr (none gs (codes "workers") refl, refl);
-      every = inr (none gs (codes "every") refl, refl);
-      explain = none gs (codes "explain") refl;
-    }
+    let ps : List Part = parted (codes "disk") path ∷ [] in
+    record { given = map given_of ps; line = line_of serve_entry ps [] ((tt, inr (refl, plain)), tt) (refl, tt); disk = refl; workers = refl; every = refl; explain = refl }
 
 pub returns-clause-served : goal.returns-clause-served
 returns-clause-served c = λ path plain.
-    let gs : List Given = given_as (codes "workers") (codes "4") ∷ given_as (codes "explain") (codes "true") ∷ given_as (codes "every") (codes "7") ∷ given_as (codes "disk") path ∷ [] in record {
-      given = gs;
-      line = line_of (more (given_as (codes "workers") (codes "4")) (codes "--workers=4" ∷ []) (inr (inl (refl, four, inl refl)))
-          (more (given_as (codes "explain") (codes "true")) (codes "--explain" ∷ []) (inr (inr (inr (inl (refl, refl, refl)))))
-          (more (given_as (codes "every") (codes "7")) (codes "--every" ∷ codes "7" ∷ []) (inr (inr (inl (refl, seven, inr (refl, λ same. cc)))))
-          (more (given_as (codes "disk") path) (codes "--disk" ∷ path ∷ []) (inl (refl, tt, inr (refl, plain)))
-          (end))))) refl refl;
-      disk = inr (inr (inr (inl (refl, refl))));
-      workers = inl (inl (refl, refl));
-      every = inl (inr (inr (inl (refl, refl))));
-      explain = inr (inl (refl, refl));
-    }
+    let ps : List Part = joined (codes "workers") (codes "4") ∷ alone (codes "explain") ∷ parted (codes "every") (codes "7") ∷ parted (codes "disk") path ∷ [] in
+    record { given = map given_of ps; line = line_of serve_entry ps [] ((within 1 64 (codes "4") refl, inl refl), ((refl, refl), ((within 1 1000000 (codes "7") refl, inr (refl, λ same. cc)), ((tt, inr (refl, plain)), tt)))) (refl, (refl, (refl, (refl, tt)))); disk = refl; workers = refl; every = refl; explain = refl }
 
 pub returns-clause-attend : goal.returns-clause-attend
 returns-clause-attend c = λ path script plain other.
-    let gs : List Given = given_as (codes "disk") path ∷ given_as (codes "turns") (codes "9") ∷ [] in record {
-      given = gs;
-      line = line_of (more (given_as (codes "disk") path) (codes "--disk" ∷ path ∷ []) (inl (refl, tt, inr (refl, plain)))
-          (more (given_as (codes "turns") (codes "9")) (codes "--turns=9" ∷ []) (inr (inr (inl (refl, nine, inl refl))))
-          (end))) refl refl;
-      disk = inl (refl, refl);
-      runners = inr (none gs (codes "runners") refl, refl);
-      turns = inl (inr (inl (refl, refl)));
-      workers = inr (none gs (codes "workers") refl, refl);
-      plain = ((other, tt), omega arith);
-    }
+    let ps : List Part = parted (codes "disk") path ∷ joined (codes "turns") (codes "9") ∷ [] in
+    record { given = map given_of ps; line = line_of attend_entry ps (script ∷ []) ((tt, inr (refl, plain)), ((within 0 1000000 (codes "9") refl, inl refl), tt)) (refl, (refl, tt)); disk = refl; runners = refl; turns = refl; workers = refl; plain = ((other, tt), omega arith) }
 
 pub returns-clause-settle : goal.returns-clause-settle
 returns-clause-settle c = λ path plain. ((path ∷ []), refl, (refl, plain))
@@ -151,205 +108,80 @@ returns-clause-once c = ((codes "-" ∷ []), refl, inr refl)
 
 pub returns-clause-batch : goal.returns-clause-batch
 returns-clause-batch c = λ path file plain other.
-    let gs : List Given = given_as (codes "disk") path ∷ given_as (codes "rounds") (codes "10") ∷ [] in record {
-      given = gs;
-      line = line_of (more (given_as (codes "disk") path) (codes "--disk" ∷ path ∷ []) (inl (refl, tt, inr (refl, plain)))
-          (more (given_as (codes "rounds") (codes "10")) (codes "--rounds=10" ∷ []) (inr (inl (refl, ten, inl refl)))
-          (end))) refl refl;
-      disk = inl (refl, refl);
-      rounds = inl (inr (inl (refl, refl)));
-      every = inr (none gs (codes "every") refl, refl);
-      workers = inr (none gs (codes "workers") refl, refl);
-      plain = other;
-    }
+    let ps : List Part = parted (codes "disk") path ∷ joined (codes "rounds") (codes "10") ∷ [] in
+    record { given = map given_of ps; line = line_of batch_entry ps (file ∷ []) ((tt, inr (refl, plain)), ((within 0 most_rounds (codes "10") refl, inl refl), tt)) (refl, (refl, tt)); disk = refl; rounds = refl; every = refl; workers = refl; plain = other }
 
 pub returns-clause-reduce : goal.returns-clause-reduce
 returns-clause-reduce c =
-    let gs : List Given = [] in (
-      record {
-        line = line_of end refl refl;
-        rest = [];
-        last = inl refl;
-      },
-      record {
-        no_rounds = none gs (codes "rounds") refl;
-        no_workers = none gs (codes "workers") refl;
-        unkept = record { no_keep = none gs (codes "keep") refl; no_resume = none gs (codes "resume") refl; no_seconds = none gs (codes "seconds") refl };
-        steps = inr (none gs (codes "steps") refl, refl);
-        nodes = inr (none gs (codes "nodes") refl, refl);
-        partial = none gs (codes "partial") refl;
-        stats = none gs (codes "stats") refl;
-        limits = inr (none gs (codes "limits") refl, refl);
-        known_limits = inr refl;
-        format = inr (none gs (codes "format") refl, refl);
-        known_format = inl refl;
-        quiet = none gs (codes "quiet-answer") refl;
-      },
+    let ps : List Part = [] in (
+      record { line = line_of reduce_entry ps [] tt tt; rest = []; last = inl refl },
+      in_place (map given_of ps) 4611686018427387903 134217728 false false false (codes "wide") (codes "lines") refl refl (unkept (map given_of ps) refl refl refl) refl refl refl refl refl refl (inr refl) refl (inl refl),
     )
 
 pub returns-clause-reduced : goal.returns-clause-reduced
 returns-clause-reduced c = λ path plain.
-    let gs : List Given = given_as (codes "stats") (codes "true") ∷ given_as (codes "nodes") (codes "9") ∷ given_as (codes "steps") (codes "10") ∷ [] in (
-      gs,
-      record {
-        line = line_of (more (given_as (codes "stats") (codes "true")) (codes "--stats" ∷ []) (inr (inr (inr (inr (inr (inr (inr (inr (inr (inr (inl (refl, refl, refl))))))))))))
-            (more (given_as (codes "nodes") (codes "9")) (codes "--nodes=9" ∷ []) (inr (inr (inr (inl (refl, nine_places, inl refl)))))
-            (more (given_as (codes "steps") (codes "10")) (codes "--steps" ∷ codes "10" ∷ []) (inr (inr (inl (refl, ten_steps, inr (refl, λ same. cc)))))
-            (end)))) refl refl;
-        rest = path ∷ [];
-        last = (refl, plain);
-      },
-      record {
-        no_rounds = none gs (codes "rounds") refl;
-        no_workers = none gs (codes "workers") refl;
-        unkept = record { no_keep = none gs (codes "keep") refl; no_resume = none gs (codes "resume") refl; no_seconds = none gs (codes "seconds") refl };
-        steps = inl (codes "10", inr (inr (inl (refl, refl))), is_ten);
-        nodes = inl (codes "9", inr (inl (refl, refl)), is_nine);
-        partial = none gs (codes "partial") refl;
-        stats = inl (refl, refl);
-        limits = inr (none gs (codes "limits") refl, refl);
-        known_limits = inr refl;
-        format = inr (none gs (codes "format") refl, refl);
-        known_format = inl refl;
-        quiet = none gs (codes "quiet-answer") refl;
-      },
+    let ps : List Part = alone (codes "stats") ∷ joined (codes "nodes") (codes "9") ∷ parted (codes "steps") (codes "10") ∷ [] in (
+      map given_of ps,
+      record { line = line_of reduce_entry ps (path ∷ []) ((refl, refl), ((within 0 most_steps (codes "9") refl, inl refl), ((within 0 most_steps (codes "10") refl, inr (refl, λ same. cc)), tt))) (refl, (refl, (refl, tt))); rest = (path ∷ []); last = (refl, plain) },
+      in_place (map given_of ps) 10 9 false true false (codes "wide") (codes "lines") refl refl (unkept (map given_of ps) refl refl refl) (decimal (codes "10") 10 refl) (decimal (codes "9") 9 refl) refl refl refl refl (inr refl) refl (inl refl),
     )
 
 pub returns-clause-limited : goal.returns-clause-limited
 returns-clause-limited c =
-    let gs : List Given = given_as (codes "limits") (codes "served") ∷ [] in (
-      gs,
-      record {
-        line = line_of (more (given_as (codes "limits") (codes "served")) (codes "--limits" ∷ codes "served" ∷ []) (inr (inr (inr (inr (inl (refl, tt, inr (refl, λ same. cc)))))))
-            (end)) refl refl;
-        rest = [];
-        last = inl refl;
-      },
-      record {
-        no_rounds = none gs (codes "rounds") refl;
-        no_workers = none gs (codes "workers") refl;
-        unkept = record { no_keep = none gs (codes "keep") refl; no_resume = none gs (codes "resume") refl; no_seconds = none gs (codes "seconds") refl };
-        steps = inr (none gs (codes "steps") refl, refl);
-        nodes = inr (none gs (codes "nodes") refl, refl);
-        partial = none gs (codes "partial") refl;
-        stats = none gs (codes "stats") refl;
-        limits = inl (inl (refl, refl));
-        known_limits = inl refl;
-        format = inr (none gs (codes "format") refl, refl);
-        known_format = inl refl;
-        quiet = none gs (codes "quiet-answer") refl;
-      },
+    let ps : List Part = parted (codes "limits") (codes "served") ∷ [] in (
+      map given_of ps,
+      record { line = line_of reduce_entry ps [] ((tt, inr (refl, λ same. cc)), tt) (refl, tt); rest = []; last = inl refl },
+      in_place (map given_of ps) 4611686018427387903 134217728 false false false (codes "served") (codes "lines") refl refl (unkept (map given_of ps) refl refl refl) refl refl refl refl refl refl (inl refl) refl (inl refl),
     )
 
 pub returns-clause-figures : goal.returns-clause-figures
 returns-clause-figures c =
-    let gs : List Given = given_as (codes "stats") (codes "true") ∷ given_as (codes "format") (codes "json") ∷ given_as (codes "quiet-answer") (codes "true") ∷ [] in (
-      gs,
-      record {
-        line = line_of (more (given_as (codes "stats") (codes "true")) (codes "--stats" ∷ []) (inr (inr (inr (inr (inr (inr (inr (inr (inr (inr (inl (refl, refl, refl))))))))))))
-            (more (given_as (codes "format") (codes "json")) (codes "--format=json" ∷ []) (inr (inr (inr (inr (inr (inl (refl, tt, inl refl)))))))
-            (more (given_as (codes "quiet-answer") (codes "true")) (codes "--quiet-answer" ∷ []) (inr (inr (inr (inr (inr (inr (inr (inr (inr (inr (inr (inl (refl, refl, refl)))))))))))))
-            (end)))) refl refl;
-        rest = [];
-        last = inl refl;
-      },
-      record {
-        no_rounds = none gs (codes "rounds") refl;
-        no_workers = none gs (codes "workers") refl;
-        unkept = record { no_keep = none gs (codes "keep") refl; no_resume = none gs (codes "resume") refl; no_seconds = none gs (codes "seconds") refl };
-        steps = inr (none gs (codes "steps") refl, refl);
-        nodes = inr (none gs (codes "nodes") refl, refl);
-        partial = none gs (codes "partial") refl;
-        stats = inl (refl, refl);
-        limits = inr (none gs (codes "limits") refl, refl);
-        known_limits = inr refl;
-        format = inl (inr (inl (refl, refl)));
-        known_format = inr refl;
-        quiet = inr (inr (inl (refl, refl)));
-      },
+    let ps : List Part = alone (codes "stats") ∷ joined (codes "format") (codes "json") ∷ alone (codes "quiet-answer") ∷ [] in (
+      map given_of ps,
+      record { line = line_of reduce_entry ps [] ((refl, refl), ((tt, inl refl), ((refl, refl), tt))) (refl, (refl, (refl, tt))); rest = []; last = inl refl },
+      in_place (map given_of ps) 4611686018427387903 134217728 false true true (codes "wide") (codes "json") refl refl (unkept (map given_of ps) refl refl refl) refl refl refl refl refl refl (inr refl) refl (inr refl),
     )
 
 pub returns-clause-by_rounds : goal.returns-clause-by_rounds
 returns-clause-by_rounds c =
-    let gs : List Given = given_as (codes "workers") (codes "3") ∷ given_as (codes "rounds") (codes "10") ∷ [] in (
-      gs,
+    let ps : List Part = joined (codes "workers") (codes "3") ∷ parted (codes "rounds") (codes "10") ∷ [] in (
+      map given_of ps,
+      record { line = line_of reduce_entry ps [] ((within 1 64 (codes "3") refl, inl refl), ((within 0 most_rounds (codes "10") refl, inr (refl, λ same. cc)), tt)) (refl, (refl, tt)); rest = []; last = inl refl },
       record {
-        line = line_of (more (given_as (codes "workers") (codes "3")) (codes "--workers=3" ∷ []) (inr (inl (refl, three, inl refl)))
-            (more (given_as (codes "rounds") (codes "10")) (codes "--rounds" ∷ codes "10" ∷ []) (inl (refl, ten, inr (refl, λ same. cc)))
-            (end))) refl refl;
-        rest = [];
-        last = inl refl;
-      },
-      record {
-        rounds = (codes "10", inr (inl (refl, refl)), is_ten);
-        workers = inl (codes "3", inl (refl, refl), is_three);
-        partial = none gs (codes "partial") refl;
-        unkept = record { no_keep = none gs (codes "keep") refl; no_resume = none gs (codes "resume") refl; no_seconds = none gs (codes "seconds") refl };
-        no_steps = none gs (codes "steps") refl;
-        no_nodes = none gs (codes "nodes") refl;
-        no_stats = none gs (codes "stats") refl;
-        no_limits = none gs (codes "limits") refl;
-        no_format = none gs (codes "format") refl;
-        no_quiet = none gs (codes "quiet-answer") refl;
+        rounds = (codes "10", refl, decimal (codes "10") 10 refl);
+        workers = decimal (codes "3") 3 refl;
+        partial = refl;
+        unkept = unkept (map given_of ps) refl refl refl;
+        no_steps = refl;
+        no_nodes = refl;
+        no_stats = refl;
+        no_limits = refl;
+        no_format = refl;
+        no_quiet = refl;
       },
     )
 
 pub returns-clause-trace : goal.returns-clause-trace
 returns-clause-trace c = λ path plain.
-    let gs : List Given = given_as (codes "format") (codes "svg") ∷ [] in record {
-      given = gs;
-      line = line_of (more (given_as (codes "format") (codes "svg")) (codes "--format" ∷ codes "svg" ∷ []) (inr (inl (refl, tt, inr (refl, λ same. cc))))
-          (end)) refl refl;
-      rest = path ∷ [];
-      last = (refl, plain);
-      rounds = inr (none gs (codes "rounds") refl, refl);
-      format = inl (inl (refl, refl));
-      known = inr (inl refl);
-    }
+    let ps : List Part = parted (codes "format") (codes "svg") ∷ [] in
+    record { given = map given_of ps; line = line_of trace_entry ps (path ∷ []) ((tt, inr (refl, λ same. cc)), tt) (refl, tt); rest = path ∷ []; last = (refl, plain); rounds = refl; format = refl; known = inr (inl refl) }
 
 pub returns-clause-dump : goal.returns-clause-dump
 returns-clause-dump c = λ path name plain other.
-    let gs : List Given = given_as (codes "disk") path ∷ [] in record {
-      given = gs;
-      line = line_of (more (given_as (codes "disk") path) (codes "--disk" ∷ path ∷ []) (inl (refl, tt, inr (refl, plain)))
-          (end)) refl refl;
-      disk = inl (refl, refl);
-      plain = ((other, tt), omega arith);
-    }
+    let ps : List Part = parted (codes "disk") path ∷ [] in
+    record { given = map given_of ps; line = line_of dump_entry ps (name ∷ []) ((tt, inr (refl, plain)), tt) (refl, tt); disk = refl; plain = ((other, tt), omega arith) }
 
 pub returns-clause-inspect : goal.returns-clause-inspect
 returns-clause-inspect c = λ path plain.
-    let gs : List Given = given_as (codes "disk") path ∷ [] in record {
-      given = gs;
-      line = line_of (more (given_as (codes "disk") path) (codes "--disk" ∷ path ∷ []) (inl (refl, tt, inr (refl, plain)))
-          (end)) refl refl;
-      disk = inl (refl, refl);
-      format = inr (none gs (codes "format") refl, refl);
-      known = inl refl;
-    }
+    let ps : List Part = parted (codes "disk") path ∷ [] in
+    record { given = map given_of ps; line = line_of inspect_entry ps [] ((tt, inr (refl, plain)), tt) (refl, tt); disk = refl; format = refl; known = inl refl }
 
 pub returns-clause-check : goal.returns-clause-check
 returns-clause-check c = λ path next plain also.
-    let gs : List Given = given_as (codes "format") (codes "json") ∷ [] in record {
-      given = gs;
-      line = line_of (more (given_as (codes "format") (codes "json")) (codes "--format=json" ∷ []) (inl (refl, tt, inl refl))
-          (end)) refl refl;
-      format = inl (inl (refl, refl));
-      known = inr refl;
-      script = none gs (codes "script") refl;
-      some = λ same. cc;
-      plain = ((plain, (also, tt)), omega arith);
-    }
+    let ps : List Part = joined (codes "format") (codes "json") ∷ [] in
+    record { given = map given_of ps; line = line_of check_entry ps (path ∷ next ∷ []) ((tt, inl refl), tt) (refl, tt); format = refl; known = inr refl; script = refl; some = λ same. cc; plain = ((plain, (also, tt)), omega arith) }
 
 pub returns-clause-scripts_checked : goal.returns-clause-scripts_checked
 returns-clause-scripts_checked c = λ path plain.
-    let gs : List Given = given_as (codes "script") (codes "true") ∷ [] in record {
-      given = gs;
-      line = line_of (more (given_as (codes "script") (codes "true")) (codes "--script" ∷ []) (inr (inl (refl, refl, refl)))
-          (end)) refl refl;
-      format = inr (none gs (codes "format") refl, refl);
-      known = inl refl;
-      script = inl (refl, refl);
-      some = λ same. cc;
-      plain = ((plain, tt), omega arith);
-    }
+    let ps : List Part = alone (codes "script") ∷ [] in
+    record { given = map given_of ps; line = line_of check_entry ps (path ∷ []) ((refl, refl), tt) (refl, tt); format = refl; known = inl refl; script = refl; some = λ same. cc; plain = ((plain, tt), omega arith) }

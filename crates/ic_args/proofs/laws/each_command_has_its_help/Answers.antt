@@ -3,51 +3,6 @@ use Rattle.ic_args.specs.Help.{program_help}
 use Rattle.ic_args.proofs.HelpLemmas.{no_help_named}
 use Rattle.ic_args.proofs.laws.each_command_has_its_help.Goals as goal
 
-pub returns-clause-settle : goal.returns-clause-settle
-returns-clause-settle c = λ words. refl
-
-pub returns-clause-once : goal.returns-clause-once
-returns-clause-once c = λ words. refl
-
-pub returns-clause-create : goal.returns-clause-create
-returns-clause-create c = λ words. refl
-
-pub returns-clause-serve : goal.returns-clause-serve
-returns-clause-serve c = λ words. refl
-
-pub returns-clause-attend : goal.returns-clause-attend
-returns-clause-attend c = λ words. refl
-
-pub returns-clause-reduce : goal.returns-clause-reduce
-returns-clause-reduce c = λ words. refl
-
-pub returns-clause-trace : goal.returns-clause-trace
-returns-clause-trace c = λ words. refl
-
-pub returns-clause-draw : goal.returns-clause-draw
-returns-clause-draw c = λ words. refl
-
-pub returns-clause-dump : goal.returns-clause-dump
-returns-clause-dump c = λ words. refl
-
-pub returns-clause-inspect : goal.returns-clause-inspect
-returns-clause-inspect c = λ words. refl
-
-pub returns-clause-check : goal.returns-clause-check
-returns-clause-check c = λ words. refl
-
-pub returns-clause-batch : goal.returns-clause-batch
-returns-clause-batch c = λ words. refl
-
-pub returns-clause-expand : goal.returns-clause-expand
-returns-clause-expand c = λ words. refl
-
-pub returns-clause-help : goal.returns-clause-help
-returns-clause-help c = λ words. refl
-
-pub returns-clause-language : goal.returns-clause-language
-returns-clause-language c = λ words. refl
-
 pub returns-clause-program : goal.returns-clause-program
 returns-clause-program c = λ word words others. ap (λ o. unwrap_or o program_help) (no_help_named word others)
 

@@ -1,7 +1,6 @@
 use Rattle.std.proofs.Common.{true, ◌∙◌, List, [], ap, ap₂, inr, codes, refl, sym, true≢false}
 use Rattle.clap.specs.Kinds.{or_else}
 use Rattle.clap.specs.Words.{Text}
-use Rattle.clap.proofs.OnLiterals.{clap_on_literals}
 use Rattle.ic_args.specs.Words.{inspect_entry, is_report_format}
 use Rattle.ic_args.specs.Lines.{IsInspectLine}
 use Rattle.ic_args.proofs.EntryLines.{IsTaken, taken, value_given, value_is}
@@ -26,7 +25,3 @@ returns-clause-named c = λ words path shown format line names.
       names.1 ∙ value_given inspect_entry known_inspect words line.given [] is (codes "disk") path line.disk,
       sym names.2 ∙ value_is inspect_entry known_inspect words line.given [] is (codes "format") (codes "text") shown refl refl line.format,
     )
-
-pub returns-clause-other : goal.returns-clause-other
-unfolding clap_on_literals
-returns-clause-other c = refl

@@ -1,5 +1,3 @@
-use Rattle.std.proofs.Common.{refl}
-use Rattle.clap.proofs.OnLiterals.{clap_on_literals}
 use Rattle.ic_args.specs.Words.{figures_word, limits_word}
 use Rattle.ic_args.proofs.ReduceLines.{in_place_named, in_place_taken, rounds_named, rounds_taken}
 use Rattle.ic_args.proofs.laws.reduce_lines_are_taken.Goals as goal
@@ -17,15 +15,3 @@ returns-clause-rounds c = λ words given file most threads p line of. rounds_tak
 pub returns-clause-rounds_named : goal.returns-clause-rounds_named
 returns-clause-rounds_named c = λ words given file most threads rounds workers p partial line of names.
     rounds_named words given file line most threads rounds workers p partial of names.2 names.3 names.4 _ names.0.1
-
-pub returns-clause-both : goal.returns-clause-both
-unfolding clap_on_literals
-returns-clause-both c = refl
-
-pub returns-clause-other : goal.returns-clause-other
-unfolding clap_on_literals
-returns-clause-other c = refl
-
-pub returns-clause-no_rounds : goal.returns-clause-no_rounds
-unfolding clap_on_literals
-returns-clause-no_rounds c = refl

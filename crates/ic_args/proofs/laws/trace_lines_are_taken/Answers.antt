@@ -1,7 +1,6 @@
 use Rattle.std.proofs.Common.{true, ◌∙◌, List, Option, ap, ap₂, codes, refl, subst, sym, true≢false}
 use Rattle.clap.specs.Kinds.{or_else}
 use Rattle.clap.specs.Words.{Text}
-use Rattle.clap.proofs.OnLiterals.{clap_on_literals}
 use Rattle.ic_args.specs.Words.{IsDecimal, is_format, trace_entry}
 use Rattle.ic_args.specs.Lines.{IsTraceLine}
 use Rattle.ic_args.proofs.EntryLines.{IsTaken, file_is, file_rest, taken, value_is}
@@ -29,7 +28,3 @@ returns-clause-named c = λ words most shown file rounds format line names.
       sym names.2 ∙ value (codes "format") (codes "tsv") shown refl refl line.format,
       names.0.1 ∙ file_is words line.rest file line.last is.first,
     )
-
-pub returns-clause-other : goal.returns-clause-other
-unfolding clap_on_literals
-returns-clause-other c = refl

@@ -1,17 +1,18 @@
-use Rattle.std.proofs.Common.{rules, arith, ◌≡◌, ◌<◌, ◌^◌, ◌∙◌, List, Some, sym, ap, option_map, unwrap_or}
-use Rattle.std.specs.Borrow.{Bor}
-use Rattle.std.specs.Str.Parse.{ParsesUnsigned, ExplainsUnsignedError, HasUnsignedDigitsIfOk}
-use Rattle.clap.specs.Words.{Row, Text, found_of, rows_of, subcommand_rows_of}
-use Rattle.clap.specs.declared.parser.matches.ArgMatches.{ArgMatches}
-use Rattle.ic_args.proofs.Numbers.{number_read}
+use Rattle.std.proofs.Common.{◌≡◌, ◌<◌, ◌^◌, ◌∙◌, ℕ, Result, Ok, Err, rules, arith, sym, subst}
+use Rattle.std.specs.Result.{result_unwrap_or}
+use Rattle.std.specs.Str.Parse.{ParsesUnsigned}
+use Rattle.clap.specs.Words.{Text}
+use Rattle.ic_args.specs.Words.{IsDecimal}
 use Rattle.ic_args.proofs.words.number_of.Goals as goal
 
-pub returns-in-Some-clause-value : goal.returns-in-Some-clause-value
-returns-in-Some-clause-value c = λ n is at_least at_most.
-    let rows : Some (rows_of (found_of c.in-Some.met.now)) ≡ option_map (λ (p : Text × List Row). p.1) (subcommand_rows_of c.args.matches.now) =
-    ap (option_map (λ (p : Bor Text × Bor ArgMatches). rows_of (found_of p.1.now))) (sym c.in-Some.is) ∙ c.subcommand.ensures.rows in
+-- a decimal number of 64 bits is read as itself
+decimal_read : {E : Type 0} (text : Text) (n default : ℕ) (r : Result ℕ E) → ParsesUnsigned 64 10 text r → IsDecimal text n → n < 2 ^ 64 → result_unwrap_or r default ≡ n
+decimal_read text n default (Ok v) reads is fits = reads.1 ∙ sym is.1
+decimal_read text n default (Err e) reads is fits = absurd (reads (is.0, subst (λ (m : ℕ). m < 2 ^ 64) is.1 fits))
+
+pub returns-clause-value : goal.returns-clause-value
+returns-clause-value c = λ n is at_least at_most.
     let fits : n < 2 ^ 64 = omega (arith, c.ranges.most.fits, at_most) in
-    let read = number_read 64 _ (λ bs r. ParsesUnsigned 64 10 bs r × ExplainsUnsignedError 10 bs r × HasUnsignedDigitsIfOk bs r)
-    (λ t x gives. gives.0) c.args.option.now n _ (found_of c.in-Some.met.now) c.get_one.result rows c.get_one.ensures.value is fits in
-    let value : c.unwrap_or.result ≡ n = c.unwrap_or.ensures ∙ ap (λ o. unwrap_or o c.args.least) read in
+    let decimal : IsDecimal c.value_of.result.now n = subst (λ (t : Text). IsDecimal t n) (sym c.value_of.ensures) is in
+    let value : c.unwrap_or.result ≡ n = c.unwrap_or.ensures ∙ decimal_read c.value_of.result.now n c.args.least c.from_str_radix.result c.from_str_radix.ensures.value decimal fits in
     search (rules, value, at_least, at_most)
