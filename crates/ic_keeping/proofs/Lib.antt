@@ -2,5 +2,6 @@ pub mod Quiet
 pub mod WayLemmas
 pub mod Orders
 pub mod Resuming
+pub mod Refusing
 pub mod GoingLemmas
 pub mod LivesLemmas

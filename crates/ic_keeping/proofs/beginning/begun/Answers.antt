@@ -30,6 +30,9 @@ returns-clause-read c =
           way = subst (λ (d : Configuration). IsOnWay s d 0 by) (sym config)
               (begun_on_way s by c.what_is_reached_is_one_net.ensures.itself c.systems_are_sound.ensures.names (c.in_ok-by_rule.ensures.long ∙ ap length rules) c.in_ok-by_rule.ensures.none);
           quiet = λ ended. cc;
+          whole = c.into_parts-words.ensures.flat.whole;
+          equations = c.into_parts-words.result.2;
+          counted = c.into_parts-words.ensures.flat.counted;
         };
         config = config;
         none = refl;
