@@ -1,4 +1,5 @@
 pub mod Quiet
+pub mod LowNames
 pub mod WayLemmas
 pub mod Orders
 pub mod Resuming

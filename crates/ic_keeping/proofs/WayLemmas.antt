@@ -29,6 +29,7 @@ use Rattle.ic_text.specs.declared.limits.Limits.TheVariants.{Wide}
 use Rattle.ic_round.specs.Rounds.{IsQuiet}
 use Rattle.ic_state.specs.State.{Kept}
 use Rattle.ic_keeping.specs.Way.{AreSums, EndsWithin, IsAnswer, IsOnWay, IsReachedFrom, IsSound, IsStateOf}
+use Rattle.ic_keeping.proofs.LowNames.{TellingLaws, low_words}
 use Rattle.ic_keeping.proofs.Quiet.{QuietLaws, quiet_too}
 
 -- what laws of names say that this one builds on
@@ -202,8 +203,8 @@ module _ (naming : NamingLaws) (laws : ReachingLaws) (s t : SystemParts) (sound 
       names = laws.names s.rules.rules s.config middle.config from.was.way.fired from.was.way.reached;
     }
 
-    pub reached_from : QuietLaws → (new.ended ≡ true → end ≡ Quiet) → IsWhole new.words → (n : ℕ) → length (forest new.words) ≡ new.terms + 2 * n → IsReachedFrom s first new
-    reached_from quiet_laws ended whole n counted = record {
+    pub reached_from : QuietLaws → TellingLaws → (new.ended ≡ true → end ≡ Quiet) → IsWhole new.words → (n : ℕ) → length (forest new.words) ≡ new.terms + 2 * n → IsReachedFrom s first new
+    reached_from quiet_laws telling ended whole n counted = record {
       was = from.was;
       is = record {
         reads = subst (λ (text : List ℕ). ReadsSystemWithin Wide text (Ok s)) (sym same_text) is.reads;
@@ -215,6 +216,7 @@ module _ (naming : NamingLaws) (laws : ReachingLaws) (s t : SystemParts) (sound 
           counted = all_counted;
           counts = all_counts;
         };
+        low = λ few. low_words telling answer new.words new.terms n counted new_written few;
         quiet = λ has_ended. kept_quiet naming laws s t sound (configuration_of k.words k.terms is.next) is.way.fired is.way.reached rules interface equations names bounds answer end j places left more r
             low new.words new.terms new_written quiet_laws (answer_quiet (ended has_ended));
         whole = whole;

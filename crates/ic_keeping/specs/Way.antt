@@ -2,6 +2,7 @@
 use Rattle.std.specs.Prelude.{◌≡◌, ◌⊎◌, ℕ, ◌+◌, ◌*◌, ◌<◌, ◌≤◌, Bool, List, true, false, Ok, IsTrue, length, slice_index_or}
 use Rattle.ic_term.specs.Configuration.{Configuration}
 use Rattle.ic_term.specs.Symbol.{is_over}
+use Rattle.ic_term.specs.declared.limits.TheConstants.{MAX_WIDE_NODES}
 use Rattle.ic_rules.specs.Rule.{Rule}
 use Rattle.ic_rules.specs.RuleSet.{IsRuleSet}
 use Rattle.ic_rules.specs.System.{SystemParts}
@@ -38,11 +39,13 @@ pub record IsOnWay (s : SystemParts) (c : Configuration) (interactions : ℕ) (b
 
 -- What is kept is a state of a reduction of this system: its text is read as the system, and its words write a
 -- configuration that is reached from there by the interactions that it tells. Each of its agents has its arguments, and each
--- of its equations two sides. If it has ended, no step is possible.
+-- of its equations two sides. If it isn't too large to be read, its names may stand in a text. If it has ended, no step is
+-- possible.
 pub record IsStateOf (s : SystemParts) (k : Kept) : Type 0 where
   pub reads : ReadsSystemWithin Wide k.text (Ok s)
   pub next : ℕ
   pub way : IsOnWay s (configuration_of k.words k.terms next) k.interactions k.by_rule
+  pub low : length k.words ≤ MAX_WIDE_NODES → next ≤ MAX_NAME + 1
   pub quiet : k.ended ≡ true → IsQuiet s.rules.rules (configuration_of k.words k.terms next)
   pub whole : IsWhole k.words
   pub equations : ℕ

@@ -142,6 +142,9 @@ fn run_piece<C: Clock, V: Watch>(
     ic_term::laws::next_is_one_above_the_greatest_name();
     ic_confluence::laws::same_nets_take_the_same_steps();
     ic_round::laws::quiet_is_no_step();
+    ic_naming::laws::names_are_told_apart();
+    ic_naming::laws::renamed_words_write_renamed_terms();
+    ic_naming::laws::renumbered_words_write_the_renumbered_configuration();
     let begun = clock.millis();
     let words = replace(&mut state.words, Vec::new(alloc));
     let system = system_of(alloc, rules, words, state.terms)?;

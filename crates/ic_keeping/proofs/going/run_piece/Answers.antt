@@ -12,6 +12,7 @@ use Rattle.ic_flat.specs.Words.{forest, is_word_over, IsWhole}
 use Rattle.ic_in_place.specs.declared.running.End.{End}
 use Rattle.ic_state.specs.State.{kept_by}
 use Rattle.ic_keeping.specs.Way.{IsAnswer}
+use Rattle.ic_keeping.proofs.LowNames.{TellingLaws}
 use Rattle.ic_keeping.proofs.Quiet.{QuietLaws}
 use Rattle.ic_keeping.proofs.WayLemmas.{NamingLaws, ReachingLaws, answer_of, counts_stay, reached_from}
 use Rattle.ic_keeping.proofs.going.run_piece.Goals as goal
@@ -42,9 +43,14 @@ returns-clause-further g c s first sound rules from =
     let equations = c.in_ok-system.ensures.equations ∙ ap (λ (ws : List Word). (configuration_of ws old.terms 0).equations) words in
     let piece = c.in_ok-piece.ensures in
     let quiet_laws : QuietLaws = record { test = c.quiet_is_no_step.ensures; same = c.same_nets_take_the_same_steps.ensures.quiet; renumbered = c.a_renumbered_net_is_the_same_net.ensures.same } in
+    let telling : TellingLaws = record {
+      words = c.renumbered_words_write_the_renumbered_configuration.ensures.words;
+      names = c.renamed_words_write_renamed_terms.ensures.names;
+      low = c.names_are_told_apart.ensures.low;
+    } in
     reached_from naming laws s t sound (kept_by old) (kept_by c.take_in.new.state) from.is (c.in_ok-system.ensures.rules ∙ rules) interface equations c.in_ok-system.ensures.names c.in_ok-system.ensures.low
     c.args.bounds answer.0 reduced.end reduced.interactions reduced.places reduced.left reduced.by_rule.items answer.1 answer.2 reduced.words.items reduced.terms answer.4.written
-    piece.text piece.words piece.terms piece.interactions piece.by_rule first from quiet_laws piece.ended.0
+    piece.text piece.words piece.terms piece.interactions piece.by_rule first from quiet_laws telling piece.ended.0
     (whole c.take_in.new.state.words.items reduced.words.items piece.words answer.4.whole) reduced.equations
     (ap (λ (ws : List Word). length (forest ws)) piece.words ∙ answer.4.counted ∙ omega (arith, piece.terms))
 
