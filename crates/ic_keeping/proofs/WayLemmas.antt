@@ -1,6 +1,6 @@
 -- A reduction goes on: what was reached, and what is reached from there.
-use Rattle.std.proofs.Common.{◌≡◌, ℕ, ◌+◌, ◌<◌, ◌≤◌, ◌==◌, List, [], ◌∷◌, ◌++◌, true, false, Ok, length, max, count_by, refl, sym, ap, subst, ◌∙◌, arith}
-use Rattle.std.proofs.lemmas.List.{length-append}
+use Rattle.std.proofs.Common.{◌≡◌, ℕ, ◌+◌, ◌*◌, ◌<◌, ◌≤◌, ◌==◌, List, [], ◌∷◌, ◌++◌, true, false, Ok, length, max, count_by, refl, sym, ap, subst, ◌∙◌, arith}
+use Rattle.std.proofs.lemmas.List.{ext_get_or, length-append}
 use Rattle.std.proofs.lemmas.List.Sums.{sum_by-append}
 use Rattle.std.specs.Prelude.{◌↔◌, Bool, IsTrue, slice_index_or}
 use Rattle.std.specs.Cmp.{unsigned_Decides}
@@ -13,6 +13,7 @@ use Rattle.ic_rules.specs.Rule.{Rule}
 use Rattle.ic_rules.specs.System.{SystemParts}
 use Rattle.ic_flat.specs.declared.word.Word.{Word}
 use Rattle.ic_flat.specs.Flat.{configuration_of}
+use Rattle.ic_flat.specs.Words.{forest, IsWhole}
 use Rattle.ic_round.specs.Naming.{HasNames}
 use Rattle.ic_reaching.specs.OneNet.{OneNet}
 use Rattle.ic_reaching.specs.Reaching.{Reaches}
@@ -27,7 +28,8 @@ use Rattle.ic_text.specs.SystemText.{ReadsSystemWithin}
 use Rattle.ic_text.specs.declared.limits.Limits.TheVariants.{Wide}
 use Rattle.ic_round.specs.Rounds.{IsQuiet}
 use Rattle.ic_state.specs.State.{Kept}
-use Rattle.ic_keeping.specs.Way.{AreSums, EndsWithin, IsAnswer, IsOnWay, IsSound, IsStateOf}
+use Rattle.ic_keeping.specs.Way.{AreSums, EndsWithin, IsAnswer, IsOnWay, IsReachedFrom, IsSound, IsStateOf}
+use Rattle.ic_keeping.proofs.LowNames.{TellingLaws, low_words}
 use Rattle.ic_keeping.proofs.Quiet.{QuietLaws, quiet_too}
 
 -- what laws of names say that this one builds on
@@ -70,31 +72,31 @@ counts_add rules fired also some more sums first second adds = record {
       ∙ sym (count_by-append (λ j. j == i) fired also);
 }
 
+-- where no interaction was made the counts stay
+pub counts_stay : (rules : ℕ) (fired some more sums : List ℕ) → length fired ≡ 0 → AreCounts rules fired more → AreSums some more sums → sums ≡ some
+counts_stay rules [] some more sums none counts adds = ext_get_or 0 sums some adds.all (λ i inside.
+    omega (arith, adds.each i (omega (arith, inside, adds.all)), counts.each i (omega (arith, inside, adds.all, adds.long, counts.all))))
+counts_stay rules (x ∷ fired) some more sums none counts adds = absurd (omega (arith, none))
+
 same_parts : (c d : Configuration) → c.interface ≡ d.interface → c.equations ≡ d.equations → c.next ≡ d.next → c ≡ d
 same_parts c d one two three = λ i. record { interface = one i; equations = two i; next = three i }
 
-module _ (naming : NamingLaws) (laws : ReachingLaws) (s t : SystemParts) (sound : IsSound s) (c : Configuration) (n : ℕ) (by : List ℕ) (way : IsOnWay s c n by)
+module _ (naming : NamingLaws) (laws : ReachingLaws) (s t : SystemParts) (sound : IsSound s) (c : Configuration) (before : List ℕ) (was : Reaches s.rules.rules s.config c before)
     (rules : t.rules ≡ s.rules) (interface : t.config.interface ≡ c.interface) (equations : t.config.equations ≡ c.equations) (names : HasNames t.config) where
   begun_as : record c { next = t.config.next } ≡ t.config
   begun_as = same_parts (record c { next = t.config.next }) t.config (sym interface) (sym equations) refl
 
-  begun : Reaches s.rules.rules s.config t.config way.fired
-  begun = laws.net s.rules.rules s.config c t.config way.fired way.reached
+  begun : Reaches s.rules.rules s.config t.config before
+  begun = laws.net s.rules.rules s.config c t.config before was
       (subst (λ (e : Configuration). OneNet c e) begun_as
-      (naming.next c t.config.next (laws.names s.rules.rules s.config c way.fired way.reached) (subst (λ (e : Configuration). HasNames e) (sym begun_as) names)))
+      (naming.next c t.config.next (laws.names s.rules.rules s.config c before was) (subst (λ (e : Configuration). HasNames e) (sym begun_as) names)))
 
-  module _ (bounds : Bounds) (answer : Configuration) (end : End) (j places left : ℕ) (more sums : List ℕ) (r : IsReachedBy t bounds answer end j places left more) (adds : AreSums by more sums) where
+  module _ (bounds : Bounds) (answer : Configuration) (end : End) (j places left : ℕ) (more : List ℕ) (r : IsReachedBy t bounds answer end j places left more) where
     onward : Reaches s.rules.rules t.config answer r.reached.fired
     onward = subst (λ (rs : Rules). Reaches rs.rules t.config answer r.reached.fired) rules r.reached.reached
 
-    pub further : IsOnWay s answer (n + j) sums
-    further = record {
-      fired = way.fired ++ r.reached.fired;
-      reached = laws.reached s.rules s.config t.config answer way.fired r.reached.fired sound.rules sound.over sound.names begun onward;
-      counted = omega (arith, way.counted, r.reached.counted, length-append way.fired r.reached.fired);
-      counts = counts_add (length s.rules.rules) way.fired r.reached.fired by more sums way.counts
-          (subst (λ (rs : Rules). AreCounts (length rs.rules) r.reached.fired more) rules r.counts) adds;
-    }
+    pub further : Reaches s.rules.rules s.config answer (before ++ r.reached.fired)
+    further = laws.reached s.rules s.config t.config answer before r.reached.fired sound.rules sound.over sound.names begun onward
 
     -- and so is its net with its names numbered anew, from some number on
     module _ (low : t.config.next ≤ MAX_NAME + 1) (words : List Word) (terms : ℕ) (written : configuration_of words terms (MAX_NAME + 1) ≡ renumbered answer) where
@@ -106,25 +108,20 @@ module _ (naming : NamingLaws) (laws : ReachingLaws) (s t : SystemParts) (sound 
 
       free_low : (x : ℕ) → occurrences x (configuration_names answer) ≡ 1 → x ≤ MAX_NAME
       free_low x once =
-          let first = (laws.free s.rules s.config answer further.fired sound.rules sound.over sound.names further.reached x).1 once in
-          let begins = (laws.free s.rules s.config t.config way.fired sound.rules sound.over sound.names begun x).0 first in
+          let first = (laws.free s.rules s.config answer (before ++ r.reached.fired) sound.rules sound.over sound.names further x).1 once in
+          let begins = (laws.free s.rules s.config t.config before sound.rules sound.over sound.names begun x).0 first in
           let below = occurring (λ (m : ℕ). m < t.config.next) x (configuration_names t.config) names.below (omega (arith, begins)) in
           omega (arith, below, low)
 
-      pub kept_on_way : IsOnWay s (kept above) (n + j) sums
-      kept_on_way = record {
-        fired = further.fired;
-        reached = laws.net s.rules.rules s.config answer (kept above) further.fired further.reached
-            (naming.net answer (kept above) (laws.names s.rules.rules s.config answer further.fired further.reached) (laws.above (configuration_names (kept 0))) free_low
-            (ap (λ (e : Configuration). e.interface) written) (ap (λ (e : Configuration). e.equations) written));
-        counted = further.counted;
-        counts = further.counts;
-      }
+      pub kept_reached : Reaches s.rules.rules s.config (kept above) (before ++ r.reached.fired)
+      kept_reached = laws.net s.rules.rules s.config answer (kept above) (before ++ r.reached.fired) further
+          (naming.net answer (kept above) (laws.names s.rules.rules s.config answer (before ++ r.reached.fired) further) (laws.above (configuration_names (kept 0))) free_low
+          (ap (λ (e : Configuration). e.interface) written) (ap (λ (e : Configuration). e.equations) written))
 
       pub kept_quiet : QuietLaws → IsQuiet s.rules.rules answer → IsQuiet s.rules.rules (kept above)
       kept_quiet quiet_laws quiet = subst (λ (e : Configuration). IsQuiet s.rules.rules (record e { next = above })) (sym written)
-          (quiet_too quiet_laws s.rules answer (laws.names s.rules.rules s.config answer further.fired further.reached) sound.rules
-          (laws.over s.rules s.config answer further.fired sound.rules sound.over sound.names further.reached) free_low quiet above)
+          (quiet_too quiet_laws s.rules answer (laws.names s.rules.rules s.config answer (before ++ r.reached.fired) further) sound.rules
+          (laws.over s.rules s.config answer (before ++ r.reached.fired) sound.rules sound.over sound.names further) free_low quiet above)
 
 -- a piece within some bounds has ended so, and these are the bounds of the run
 ends_within : (rs : List Rule) (piece most : Bounds) (c : Configuration) (j entries n : ℕ) (end : End) → EndsBy rs piece c j end → (end ≡ Nodes → most.nodes < entries)
@@ -142,15 +139,29 @@ module _ (naming : NamingLaws) (laws : ReachingLaws) (s t : SystemParts) (sound 
     (r : IsReachedBy t bounds answer end j places left more) (together : IsPutTogether answer) (words : List Word) (terms : ℕ)
     (written : configuration_of words terms (MAX_NAME + 1) ≡ renumbered answer)
     (same_text : new.text ≡ k.text) (same_words : new.words ≡ words) (same_terms : new.terms ≡ terms) (sum : new.interactions ≡ k.interactions + j) (adds : AreSums k.by_rule more new.by_rule) where
+  abbrev fired : List ℕ
+  fired = is.way.fired ++ r.reached.fired
+
   new_written : configuration_of new.words new.terms (MAX_NAME + 1) ≡ renumbered answer
   new_written =
       ap (λ (ws : List Word). configuration_of ws new.terms (MAX_NAME + 1)) same_words
       ∙ ap (λ (n : ℕ). configuration_of words n (MAX_NAME + 1)) same_terms
       ∙ written
 
+  all_counted : new.interactions ≡ length fired
+  all_counted = omega (arith, sum, is.way.counted, r.reached.counted, length-append is.way.fired r.reached.fired)
+
+  all_counts : AreCounts (length s.rules.rules) fired new.by_rule
+  all_counts = counts_add (length s.rules.rules) is.way.fired r.reached.fired k.by_rule more new.by_rule is.way.counts
+      (subst (λ (rs : Rules). AreCounts (length rs.rules) r.reached.fired more) rules r.counts) adds
+
   on_way : IsOnWay s answer new.interactions new.by_rule
-  on_way = subst (λ (n : ℕ). IsOnWay s answer n new.by_rule) (sym sum)
-      (further naming laws s t sound (configuration_of k.words k.terms is.next) k.interactions k.by_rule is.way rules interface equations names bounds answer end j places left more new.by_rule r adds)
+  on_way = record {
+    fired = fired;
+    reached = further naming laws s t sound (configuration_of k.words k.terms is.next) is.way.fired is.way.reached rules interface equations names bounds answer end j places left more r;
+    counted = all_counted;
+    counts = all_counts;
+  }
 
   ended_by : EndsBy s.rules.rules bounds answer j end
   ended_by = subst (λ (rs : Rules). EndsBy rs.rules bounds answer j end) rules r.reached.ended
@@ -171,21 +182,64 @@ module _ (naming : NamingLaws) (laws : ReachingLaws) (s t : SystemParts) (sound 
     together = together;
     ends = r.ends;
     written = new_written;
+    piece = record { from = t; most = bounds; made = j; by_rule = more; rules = rules; nodes = sym nodes; reached = r };
   }
 
   answer_quiet : end ≡ Quiet → IsQuiet s.rules.rules answer
   answer_quiet ended = (subst (λ (e : End). EndsBy s.rules.rules bounds answer j e) ended ended_by).0
 
-  pub state_of : QuietLaws → (new.ended ≡ true → end ≡ Quiet) → IsStateOf s new
-  state_of quiet_laws ended = record {
-    reads = subst (λ (text : List ℕ). ReadsSystemWithin Wide text (Ok s)) (sym same_text) is.reads;
-    next = one_above (configuration_names (configuration_of new.words new.terms 0));
-    way = subst (λ (n : ℕ). IsOnWay s (configuration_of new.words new.terms (one_above (configuration_names (configuration_of new.words new.terms 0)))) n new.by_rule) (sym sum)
-        (kept_on_way naming laws s t sound (configuration_of k.words k.terms is.next) k.interactions k.by_rule is.way rules interface equations names bounds answer end j places left more new.by_rule r adds
-        low new.words new.terms new_written);
-    quiet = λ has_ended. kept_quiet naming laws s t sound (configuration_of k.words k.terms is.next) k.interactions k.by_rule is.way rules interface equations names bounds answer end j places left more new.by_rule r adds
-        low new.words new.terms new_written quiet_laws (answer_quiet (ended has_ended));
-  }
+  abbrev new_next : ℕ
+  new_next = one_above (configuration_names (configuration_of new.words new.terms 0))
+
+  -- from an earlier state, too
+  module _ (first : Kept) (from : IsReachedFrom s first k) where
+    abbrev middle : SystemParts
+    middle = record { rules = s.rules; config = configuration_of first.words first.terms from.was.next }
+
+    middle_sound : IsSound middle
+    middle_sound = record {
+      rules = sound.rules;
+      over = laws.over s.rules s.config middle.config from.was.way.fired sound.rules sound.over sound.names from.was.way.reached;
+      names = laws.names s.rules.rules s.config middle.config from.was.way.fired from.was.way.reached;
+    }
+
+    pub reached_from : QuietLaws → TellingLaws → (new.ended ≡ true → end ≡ Quiet) → IsWhole new.words → (n : ℕ) → length (forest new.words) ≡ new.terms + 2 * n → IsReachedFrom s first new
+    reached_from quiet_laws telling ended whole n counted = record {
+      was = from.was;
+      is = record {
+        reads = subst (λ (text : List ℕ). ReadsSystemWithin Wide text (Ok s)) (sym same_text) is.reads;
+        next = new_next;
+        way = record {
+          fired = fired;
+          reached = kept_reached naming laws s t sound (configuration_of k.words k.terms is.next) is.way.fired is.way.reached rules interface equations names bounds answer end j places left more r
+              low new.words new.terms new_written;
+          counted = all_counted;
+          counts = all_counts;
+        };
+        low = λ few. low_words telling answer new.words new.terms n counted new_written few;
+        quiet = λ has_ended. kept_quiet naming laws s t sound (configuration_of k.words k.terms is.next) is.way.fired is.way.reached rules interface equations names bounds answer end j places left more r
+            low new.words new.terms new_written quiet_laws (answer_quiet (ended has_ended));
+        whole = whole;
+        equations = n;
+        counted = counted;
+      };
+      more = from.more ++ r.reached.fired;
+      reached = kept_reached naming laws middle t middle_sound (configuration_of k.words k.terms from.is.next) from.more from.reached rules interface equations names bounds answer end j places left more r
+          low new.words new.terms new_written;
+      counted = omega (arith, sum, from.counted, r.reached.counted, length-append from.more r.reached.fired);
+    }
+
+-- a state is reached from itself
+pub itself_reached : ((rs : List Rule) (c : Configuration) → HasNames c → Reaches rs c c []) → ((rs : List Rule) (c d : Configuration) (fired : List ℕ) → Reaches rs c d fired → HasNames d)
+    → (s : SystemParts) (k : Kept) → IsStateOf s k → IsReachedFrom s k k
+itself_reached itself names s k is = record {
+  was = is;
+  is = is;
+  more = [];
+  reached = itself s.rules.rules (configuration_of k.words k.terms is.next)
+      (names s.rules.rules s.config (configuration_of k.words k.terms is.next) is.way.fired is.way.reached);
+  counted = omega arith;
+}
 
 -- A text from which no interaction was made.
 pub begun_on_way : (s : SystemParts) (by : List ℕ) → ((rs : List Rule) (c : Configuration) → HasNames c → Reaches rs c c []) → HasNames s.config → length by ≡ length s.rules.rules

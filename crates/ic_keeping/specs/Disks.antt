@@ -1,13 +1,9 @@
 -- The two disks that are handed out where a reduction is resumed (this project's choice).
-use Rattle.std.specs.Prelude.{◌⊎◌, Result, Ok, Err}
+use Rattle.std.specs.Prelude.{Result, Ok, Err}
 use Rattle.ic_kept.specs.declared.keeper.Keeper.{Keeper}
 use Rattle.ic_kept.specs.Keeper.{newest_of, other_of}
+use Rattle.ic_kept.specs.Opening.{InSomeOrder}
 use Rattle.ic_keeping.specs.declared.beginning.ResumeFault.{ResumeFault}
-
--- a relation from two disks to two others, in either order
-abbrev pub InSomeOrder : {D : Type 0} → (D → D → Type 0) → (first second one other : D) → Type 0
-InSomeOrder R first second one other =
-    (R first one × R second other) ⊎ (R first other × R second one)
 
 -- a relation of the disks from before to those that the keeper has, or that come back with a fault
 abbrev pub Relates : {D T : Type 0} → (D → D → Type 0)

@@ -1,11 +1,13 @@
 -- How far a reduction that is kept has come (this project's choice).
-use Rattle.std.specs.Prelude.{◌≡◌, ◌⊎◌, ℕ, ◌+◌, ◌<◌, ◌≤◌, List, true, false, Ok, IsTrue, length, slice_index_or}
+use Rattle.std.specs.Prelude.{◌≡◌, ◌⊎◌, ℕ, ◌+◌, ◌*◌, ◌<◌, ◌≤◌, Bool, List, true, false, Ok, IsTrue, length, slice_index_or}
 use Rattle.ic_term.specs.Configuration.{Configuration}
 use Rattle.ic_term.specs.Symbol.{is_over}
+use Rattle.ic_term.specs.declared.limits.TheConstants.{MAX_WIDE_NODES}
 use Rattle.ic_rules.specs.Rule.{Rule}
 use Rattle.ic_rules.specs.RuleSet.{IsRuleSet}
 use Rattle.ic_rules.specs.System.{SystemParts}
 use Rattle.ic_flat.specs.Flat.{configuration_of}
+use Rattle.ic_flat.specs.Words.{forest, IsWhole}
 use Rattle.ic_text.specs.SystemText.{ReadsSystemWithin}
 use Rattle.ic_text.specs.declared.limits.Limits.TheVariants.{Wide}
 use Rattle.ic_text.specs.declared.limits.TheConstants.{MAX_NAME}
@@ -17,7 +19,7 @@ use Rattle.ic_in_place.specs.declared.running.Bounds.{Bounds}
 use Rattle.ic_in_place.specs.declared.running.End.{End}
 use Rattle.ic_in_place.specs.declared.running.End.TheVariants.{Quiet, Steps, Nodes, Limit, Memory}
 use Rattle.ic_in_place.specs.Counting.{AreCounts}
-use Rattle.ic_in_place.specs.Reducing.{CanInteract, HasEnds, IsPutTogether}
+use Rattle.ic_in_place.specs.Reducing.{CanInteract, HasEnds, IsPutTogether, IsReachedBy}
 use Rattle.ic_state.specs.State.{Kept, IsKept, state_bytes}
 
 -- each of these counts is the sum of two others
@@ -36,12 +38,27 @@ pub record IsOnWay (s : SystemParts) (c : Configuration) (interactions : ℕ) (b
   pub counts : AreCounts (length s.rules.rules) fired by_rule
 
 -- What is kept is a state of a reduction of this system: its text is read as the system, and its words write a
--- configuration that is reached from there by the interactions that it tells. If it has ended, no step is possible.
+-- configuration that is reached from there by the interactions that it tells. Each of its agents has its arguments, and each
+-- of its equations two sides. If it isn't too large to be read, its names may stand in a text. If it has ended, no step is
+-- possible.
 pub record IsStateOf (s : SystemParts) (k : Kept) : Type 0 where
   pub reads : ReadsSystemWithin Wide k.text (Ok s)
   pub next : ℕ
   pub way : IsOnWay s (configuration_of k.words k.terms next) k.interactions k.by_rule
+  pub low : length k.words ≤ MAX_WIDE_NODES → next ≤ MAX_NAME + 1
   pub quiet : k.ended ≡ true → IsQuiet s.rules.rules (configuration_of k.words k.terms next)
+  pub whole : IsWhole k.words
+  pub equations : ℕ
+  pub counted : length (forest k.words) ≡ k.terms + 2 * equations
+
+-- A state of a reduction is reached from another one of it, by so many more interactions as it tells.
+pub record IsReachedFrom (s : SystemParts) (before after : Kept) : Type 0 where
+  pub was : IsStateOf s before
+  pub is : IsStateOf s after
+  pub more : List ℕ
+  pub reached : Reaches s.rules.rules (configuration_of before.words before.terms was.next)
+      (configuration_of after.words after.terms is.next) more
+  pub counted : after.interactions ≡ before.interactions + length more
 
 -- the state with which the reduction of a system begins: the configuration of the text, and no interactions
 pub record IsBegun (s : SystemParts) (k : Kept) : Type 0 where
@@ -68,6 +85,18 @@ EndsWithin rs bounds c interactions entries Nodes =
 EndsWithin rs bounds c interactions entries Limit = interactions < bounds.steps
 EndsWithin rs bounds c interactions entries Memory = Unit {0}
 
+-- The last piece of a run is a reduction in place: of a system with the same rules, with the same bound on places and
+-- equations, and with an end and counts as they are told of the run.
+pub record IsLastPiece (s : SystemParts) (bounds : Bounds) (answer : Configuration) (end : End)
+    (places left : ℕ) : Type 0 where
+  pub from : SystemParts
+  pub most : Bounds
+  pub made : ℕ
+  pub by_rule : List ℕ
+  pub rules : from.rules ≡ s.rules
+  pub nodes : most.nodes ≡ bounds.nodes
+  pub reached : IsReachedBy from most answer end made places left by_rule
+
 -- What a run ends with: the words of an answer with its names numbered anew, which is reached from the system's
 -- configuration by the interactions that are told. This is why it ended. Where no interaction is possible, or as many were
 -- made as may be, so many of its equations are no circles.
@@ -80,6 +109,7 @@ pub record IsAnswer (s : SystemParts) (bounds : Bounds) (end : End) (places left
   pub together : IsPutTogether answer
   pub ends : (end ≡ Quiet) ⊎ (end ≡ Steps) → HasEnds answer left
   pub written : configuration_of k.words k.terms (MAX_NAME + 1) ≡ renumbered answer
+  pub piece : IsLastPiece s bounds answer end places left
 
 -- the bytes of a state of the reduction of this system
 abbrev pub IsFormOf : SystemParts → List ℕ → Type 0
@@ -90,12 +120,15 @@ abbrev pub IsFormFrom : SystemParts → (least : ℕ) → List ℕ → Type 0
 IsFormFrom s least bytes =
     (k : Kept) × IsKept k × IsStateOf s k × (least ≤ k.interactions) × (bytes ≡ state_bytes k)
 
--- A state goes further than so many interactions: it has more of them, or as many and has ended.
-abbrev pub GoesFurther : (interactions : ℕ) → Kept → Type 0
-GoesFurther interactions k =
-    (interactions < k.interactions) ⊎ ((interactions ≡ k.interactions) × (k.ended ≡ true))
+-- A state goes further than so many interactions, after which the reduction had ended or not: it has more of them, or as many
+-- and has ended where that hadn't.
+abbrev pub GoesFurther : (interactions : ℕ) → (ended : Bool) → Kept → Type 0
+GoesFurther interactions ended k =
+    (interactions < k.interactions)
+    ⊎ ((interactions ≡ k.interactions) × (ended ≡ false) × (k.ended ≡ true))
 
--- One state was kept, and this state of the reduction is kept after it, which goes further. These are their bytes.
+-- One state was kept, and this state of the reduction is kept after it. It is reached from there, and goes further. These are
+-- their bytes.
 pub record IsKeptAfter (s : SystemParts) (old new : List ℕ) : Type 0 where
   pub before : Kept
   pub after : Kept
@@ -103,10 +136,11 @@ pub record IsKeptAfter (s : SystemParts) (old new : List ℕ) : Type 0 where
   pub new_is : new ≡ state_bytes after
   pub was_kept : IsKept before
   pub is_kept : IsKept after
-  pub state : IsStateOf s after
-  pub further : GoesFurther before.interactions after
+  pub from : IsReachedFrom s before after
+  pub further : GoesFurther before.interactions before.ended after
 
--- What is kept goes as far as this state: it has as many interactions, and has ended where this has.
+-- What is kept goes as far as this state: it has as many interactions, of each rule too, and has ended where this has.
 pub record IsAsFar (kept k : Kept) : Type 0 where
   pub interactions : kept.interactions ≡ k.interactions
+  pub by_rule : kept.by_rule ≡ k.by_rule
   pub ended : k.ended ≡ true → kept.ended ≡ true

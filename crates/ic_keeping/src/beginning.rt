@@ -1,13 +1,18 @@
 //! The state that a reduction begins with, in two files, and the one with which it goes on.
 
-ghost use Rattle.std.specs.Prelude.{◌≡◌, ◌≢◌, ◌⊎◌, ◌≤◌, ℕ, List, [], Ok, Err, IfOk, IfErr, IfSome, IsTrue, IsErrOf, OnOk, length, slice_index_or};
+ghost use Rattle.std.specs.Prelude.{◌≡◌, ◌≢◌, ◌⊎◌, ◌≤◌, ℕ, List, [], false, Ok, Err, IfOk, IfErr, IfSome, IsTrue, IsErrOf, OnOk, length, slice_index_or};
+ghost use Rattle.std.specs.List.{AllByRecursion};
+ghost use Rattle.ic_disk.specs.Images.{Within};
+ghost use Rattle.ic_disk.specs.Time.{OneMore};
 ghost use Rattle.ic_frames.specs.declared.faults.OpenCause.{OpenCause};
 ghost use Rattle.ic_kept.specs.Course.{HoldOne};
 ghost use Rattle.ic_kept.specs.Held.{Hold};
-ghost use Rattle.ic_kept.specs.Keeper.{Keeps, KeepsModel};
+ghost use Rattle.ic_kept.specs.Keeper.{is_broken, Keeps, KeepsModel};
 ghost use Rattle.ic_kept.specs.Opening.{OnlyReads};
+ghost use Rattle.ic_kept.specs.Sheet.{IsNewest, IsShut};
 ghost use Rattle.ic_rules.specs.System.{SystemParts};
 ghost use Rattle.ic_state.specs.State.{IsKept, Kept, kept_by, state_bytes};
+ghost use Rattle.ic_state.specs.Words.{IsKeptWord};
 ghost use Rattle.ic_text.specs.SystemText.{ReadsSystemWithin};
 ghost use Rattle.ic_keeping.specs.Disks.{Relates};
 ghost use Rattle.ic_keeping.specs.Way.{IsBegun, IsFormOf, IsStateOf};
@@ -63,6 +68,9 @@ pub fn begin<D: Disk>(
     first: &mut D,
     second: &mut D,
 ) -> Result<(), KeepingFault>
+    ensures keeps_first { D.keeps first.new ≡ D.keeps first.old }
+    ensures keeps_second { D.keeps second.new ≡ D.keeps second.old }
+
     // A file that holds something is refused, and then nothing is written. Nor is anything at any other answer.
     ensures empty { IsTrue (D.keeps first.old) → IsTrue (D.keeps second.old)
         → OnOk result ((D.content first.old ≡ []) × (D.content second.old ≡ [])) }
@@ -80,7 +88,26 @@ pub fn begin<D: Disk>(
         → IsErrOf result KeepingFault.NotEmpty
         → ¬ ((D.content first.old ≡ []) × (D.content second.old ≡ [])) }
 
-    // At Ok a crash leaves files that hold a state of the reduction.
+    // There is no other refusal: where a call has failed, where a word of the state has no number, or where memory runs out.
+    // After these two the disks are as they were.
+    ensures refused { IfErr result (λ fault. (fault ≡ KeepingFault.NotEmpty)
+        ⊎ (fault ≡ KeepingFault.Device) ⊎ (fault ≡ KeepingFault.Limit)
+        ⊎ (fault ≡ KeepingFault.Memory)) }
+    ensures device { IsErrOf result KeepingFault.Device
+        → OneMore (D.failures first.old) (D.failures first.new)
+        ⊎ OneMore (D.failures second.old) (D.failures second.new) }
+    ensures limit { IsErrOf result KeepingFault.Limit
+        → ¬ AllByRecursion IsKeptWord state.now.words.items }
+    ensures untouched { IsErrOf result KeepingFault.Limit ⊎ IsErrOf result KeepingFault.Memory
+        → (first.new ≡ first.old) × (second.new ≡ second.old) }
+
+    // At Ok a crash leaves the state in the first file, with the number 1, and the second is shut.
+    ensures sound { OnOk result (IsKept (kept_by state.now)) }
+    ensures newest { IsTrue (D.keeps first.old) → OnOk result
+        (Within (D.image first.new) (IsNewest 1 (state_bytes (kept_by state.now)))) }
+    ensures shut { IsTrue (D.keeps second.old) → OnOk result (Within (D.image second.new) IsShut) }
+
+    // So a crash leaves files that hold a state of the reduction.
     ensures kept { (s : SystemParts) → IsStateOf s (kept_by state.now)
         → IsTrue (D.keeps first.old) → IsTrue (D.keeps second.old)
         → OnOk result ((one other : List ℕ) → D.image first.new one → D.image second.new other
@@ -98,7 +125,8 @@ pub fn begin<D: Disk>(
 pub(crate) fn bytes_of(alloc: Global, state: &State) -> Result<Vec<u8>, KeepingFault>
     ensures bytes { IfOk result (λ bytes. bytes.items ≡ state_bytes (kept_by state.now)) }
     ensures sound { OnOk result (IsKept (kept_by state.now)) }
-    ensures refused { IfErr result (λ fault. fault ≢ KeepingFault.NotEmpty) }
+    ensures refused { IfErr result (λ fault. (fault ≡ KeepingFault.Memory)
+        ⊎ ((fault ≡ KeepingFault.Limit) × ¬ AllByRecursion IsKeptWord state.now.words.items)) }
 {
     match encode(alloc, state) {
         Ok(bytes) => Ok(bytes),
@@ -130,6 +158,7 @@ pub fn resume<D: Disk>(
     ensures kept { IsTrue (D.keeps first) → IsTrue (D.keeps second)
         → IfOk result (λ found. KeepsModel D.keeps found.0
         × Keeps D.image (state_bytes (kept_by found.1)) found.0) }
+    ensures ready { IfOk result (λ found. is_broken found.0 ≡ false) }
 
     // Where a state of a reduction was kept, the answer is one of that reduction, unless a call fails or memory runs out.
     ensures state { (s : SystemParts) → IsTrue (D.keeps first) → IsTrue (D.keeps second)
@@ -140,6 +169,9 @@ pub fn resume<D: Disk>(
         → IfErr result (λ fault. (fault.cause ≡ KeepingFault.Open OpenCause.Device)
         ⊎ (fault.cause ≡ KeepingFault.Open OpenCause.Memory)
         ⊎ (fault.cause ≡ KeepingFault.Memory)) }
+    ensures device { IfErr result (λ fault. fault.cause ≡ KeepingFault.Open OpenCause.Device
+        → OneMore (D.failures first) (D.failures fault.first)
+        ⊎ OneMore (D.failures second) (D.failures fault.second)) }
 
     // Whatever it answers, a crash at any moment leaves what was there.
     ensures reads { IsTrue (D.keeps first) → IsTrue (D.keeps second)
@@ -180,6 +212,8 @@ fn state_of(alloc: Global, bytes: &[u8]) -> Result<State, KeepingFault>
     ensures sound { IfOk result (λ state. IsKept (kept_by state)) }
     ensures refused { IfErr result (λ fault. (fault ≡ KeepingFault.Memory)
         ⊎ ((kept : Kept) → IsKept kept → bytes.now ≢ state_bytes kept)) }
+    ensures unopened { IfErr result (λ fault. (cause : OpenCause)
+        → fault ≢ KeepingFault.Open cause) }
 {
     match decode(alloc, bytes) {
         Ok(state) => Ok(state),

@@ -1,6 +1,6 @@
 //! A reduction that goes on from a state, and is kept after each piece that has gone further.
 
-ghost use Rattle.std.specs.Prelude.{◌≡◌, ◌≢◌, ◌⊎◌, ◌+◌, ◌*◌, ◌≤◌, List, [], Ok, Err, IfOk, IsNone, IsTrue, OnOk, OnErr, length, max, true, false, if◌then◌else◌};
+ghost use Rattle.std.specs.Prelude.{◌≡◌, ◌≢◌, ◌⊎◌, ◌↔◌, ◌<◌, ◌+◌, ◌*◌, ◌≤◌, List, [], Ok, Err, IfOk, IfErr, IsNone, IsTrue, OnOk, OnErr, length, max, true, false, if◌then◌else◌};
 ghost use Rattle.std.specs.Arc.{arc_value};
 ghost use Rattle.ic_rules.specs.System.{SystemParts};
 ghost use Rattle.std.specs.List.{list_all};
@@ -16,13 +16,14 @@ ghost use Rattle.ic_kept.specs.Keeper.{Keeps, KeepsModel};
 ghost use Rattle.ic_state.specs.State.{IsKept, Kept, kept_by, state_bytes};
 ghost use Rattle.ic_streams.specs.Streams.{line_of};
 ghost use Rattle.ic_text.specs.SystemText.{ReadsSystemWithin};
-ghost use Rattle.ic_keeping.specs.Way.{AreSums, GoesFurther, IsAnswer, IsAsFar, IsKeptAfter, IsSound, IsStateOf};
+ghost use Rattle.ic_keeping.specs.Life.{IsTold, KeepFails, StopsARun};
+ghost use Rattle.ic_keeping.specs.Way.{AreSums, GoesFurther, IsAnswer, IsAsFar, IsKeptAfter, IsReachedFrom, IsSound, IsStateOf};
 
 use crate::beginning::bytes_of;
 use crate::counts::add_all;
 use crate::fault::KeepingFault;
 use crate::pace::{Clock, Pace, Timed};
-use crate::systems::{system_of, systems_are_sound};
+use crate::systems::{states_are_reached, system_of, systems_are_sound};
 use ic_disk::Disk;
 use ic_in_place::{Asked, Bounds, End, Reduced, Watch, is_written, reduce_in_place, stuck_text};
 use ic_kept::Keeper;
@@ -59,6 +60,10 @@ fn rules_of(alloc: Global, text: &[u8]) -> Result<Arc<RuleSet>, KeepingFault>
         → IfOk result (λ rules. arc_value rules ≡ s.rules) }
     ensures sound { (s : SystemParts) → ReadsSystemWithin Limits.Wide text.now (Ok s)
         → OnOk result (IsSound s) }
+    ensures refused { (s : SystemParts) → ReadsSystemWithin Limits.Wide text.now (Ok s)
+        → IfErr result (λ fault. fault ≡ KeepingFault.Memory) }
+    ensures unkept { IfErr result (λ fault. (cause : KeepFault)
+        → fault ≢ KeepingFault.Keep cause) }
 {
     ic_text::laws::one_system_reading();
     match find_wide_system(alloc, Limits::Wide, text) {
@@ -71,7 +76,10 @@ fn rules_of(alloc: Global, text: &[u8]) -> Result<Arc<RuleSet>, KeepingFault>
 }
 
 /// Why a text that was kept isn't read.
-fn unread(fault: TextFault) -> KeepingFault {
+fn unread(fault: TextFault) -> KeepingFault
+    ensures memory { (result ≡ KeepingFault.Memory) ⊎ (fault ≢ TextFault.Memory) }
+    ensures unkept { (cause : KeepFault) → result ≢ KeepingFault.Keep cause }
+{
     match fault {
         TextFault::Memory => KeepingFault::Memory,
         _ => KeepingFault::Unsound,
@@ -99,13 +107,18 @@ fn run_piece<C: Clock, V: Watch>(
     clock: &C,
     watch: &V,
 ) -> Result<Piece, KeepingFault>
-    ensures goes_on { (s : SystemParts) → IsSound s → arc_value rules.now ≡ s.rules
-        → IsStateOf s (kept_by state.old) → OnOk result (IsStateOf s (kept_by state.new)) }
+    ensures further { (s : SystemParts) (first : Kept) → IsSound s → arc_value rules.now ≡ s.rules
+        → IsReachedFrom s first (kept_by state.old)
+        → OnOk result (IsReachedFrom s first (kept_by state.new)) }
     ensures answer { (s : SystemParts) (most : Bounds) → IsSound s → arc_value rules.now ≡ s.rules
         → IsStateOf s (kept_by state.old) → most.nodes ≡ bounds.nodes
         → state.old.interactions + bounds.steps ≤ max most.steps state.old.interactions
         → IfOk result (λ piece. (piece.end ≡ End.Steps → most.steps ≤ state.new.interactions)
         → IsAnswer s most piece.end piece.places piece.left (kept_by state.new)) }
+    ensures stays { OnOk result (state.old.interactions ≡ state.new.interactions
+        → state.new.by_rule.items ≡ state.old.by_rule.items) }
+    ensures ended { IfOk result (λ piece.
+        (state.new.ended ≡ true) ↔ (piece.end ≡ End.Quiet)) }
     ensures later { OnOk result (state.old.interactions ≤ state.new.interactions) }
     ensures within { OnOk result
         (state.new.interactions ≤ state.old.interactions + bounds.steps) }
@@ -115,6 +128,11 @@ fn run_piece<C: Clock, V: Watch>(
         state.new.words.items)) }
     ensures counted { IfOk result (λ piece. length (forest state.new.words.items)
         ≡ state.new.terms + 2 * piece.equations) }
+    ensures refused { (s : SystemParts) → IsSound s → arc_value rules.now ≡ s.rules
+        → IsStateOf s (kept_by state.old)
+        → IfErr result (λ fault. (fault ≡ KeepingFault.Memory) ⊎ (fault ≡ KeepingFault.Limit)) }
+    ensures unkept { IfErr result (λ fault. (cause : KeepFault)
+        → fault ≢ KeepingFault.Keep cause) }
 {
     ic_in_place::laws::a_renumbered_net_is_the_same_net();
     ic_reaching::laws::a_name_step_leads_to_one_net();
@@ -124,6 +142,9 @@ fn run_piece<C: Clock, V: Watch>(
     ic_term::laws::next_is_one_above_the_greatest_name();
     ic_confluence::laws::same_nets_take_the_same_steps();
     ic_round::laws::quiet_is_no_step();
+    ic_naming::laws::names_are_told_apart();
+    ic_naming::laws::renamed_words_write_renamed_terms();
+    ic_naming::laws::renumbered_words_write_the_renumbered_configuration();
     let begun = clock.millis();
     let words = replace(&mut state.words, Vec::new(alloc));
     let system = system_of(alloc, rules, words, state.terms)?;
@@ -148,12 +169,13 @@ fn take_in(
         (state.new.interactions ≡ state.old.interactions + reduced.interactions) }
     ensures by_rule { OnOk result
         (AreSums state.old.by_rule.items reduced.by_rule.items state.new.by_rule.items) }
-    ensures ended { OnOk result (state.new.ended ≡ true → reduced.end ≡ End.Quiet) }
+    ensures ended { OnOk result ((state.new.ended ≡ true) ↔ (reduced.end ≡ End.Quiet)) }
     ensures millis { OnOk result (state.old.millis ≤ state.new.millis) }
     ensures end { IfOk result (λ piece. piece.end ≡ reduced.end) }
     ensures places { IfOk result (λ piece. piece.places ≡ reduced.places) }
     ensures left { IfOk result (λ piece. piece.left ≡ reduced.left) }
     ensures equations { IfOk result (λ piece. piece.equations ≡ reduced.equations) }
+    ensures refused { IfErr result (λ fault. fault ≡ KeepingFault.Limit) }
 {
     let sum = state.interactions.checked_add(reduced.interactions);
     state.interactions = sum.ok_or(KeepingFault::Limit)?;
@@ -173,7 +195,7 @@ fn take_in(
 
 /// Whether no interaction is possible.
 fn is_quiet(end: End) -> bool
-    ensures { result ≡ true → end ≡ End.Quiet }
+    ensures { (result ≡ true) ↔ (end ≡ End.Quiet) }
 {
     match end {
         End::Quiet => true,
@@ -191,36 +213,41 @@ fn ends_run(end: End, interactions: u64, most: u64) -> bool
     }
 }
 
-/// Keeps a state, if it goes further than what was reached before: so many interactions, and it had ended or not.
+/// Keeps a state, if it goes further than what was kept before: so many interactions, and it had ended or not. Tells whether
+/// what is kept now has ended.
 fn keep_further<D: Disk>(
     alloc: Global,
     state: &State,
     interactions: u64,
     ended: bool,
     keeper: &mut Keeper<D>,
-) -> Result<(), KeepingFault>
+) -> Result<bool, KeepingFault>
     requires { interactions ≤ state.now.interactions }
-    ensures kept { OnOk result ((GoesFurther interactions (kept_by state.now)
-        × IsKept (kept_by state.now)
+    ensures kept { IfOk result (λ now_ended.
+        (GoesFurther interactions ended (kept_by state.now) × IsKept (kept_by state.now)
         × IsKeep D.keeps D.image D.clock D.left (state_bytes (kept_by state.now)) (Ok tt)
-        keeper.old keeper.new)
+        keeper.old keeper.new × (now_ended ≡ state.now.ended))
         ⊎ ((interactions ≡ state.now.interactions) × (state.now.ended ≡ true → ended ≡ true)
-        × (keeper.new ≡ keeper.old))) }
-    ensures refused { OnErr result ((keeper.new ≡ keeper.old) ⊎ ((fault : KeepFault)
-        × GoesFurther interactions (kept_by state.now) × IsKept (kept_by state.now)
+        × (now_ended ≡ ended) × (keeper.new ≡ keeper.old))) }
+    ensures crash { OnErr result ((keeper.new ≡ keeper.old) ⊎ ((fault : KeepFault)
+        × GoesFurther interactions ended (kept_by state.now) × IsKept (kept_by state.now)
         × IsKeep D.keeps D.image D.clock D.left (state_bytes (kept_by state.now)) (Err fault)
         keeper.old keeper.new)) }
+    ensures refused { IfErr result (λ fault. StopsARun fault) }
+    ensures failed { IfErr result (λ fault. (cause : KeepFault)
+        → fault ≡ KeepingFault.Keep cause → KeepFails cause keeper.new) }
 {
     if goes_further(state, interactions, ended) {
-        return keep_state(alloc, state, keeper);
+        keep_state(alloc, state, keeper)?;
+        return Ok(state.ended);
     }
-    Ok(())
+    Ok(ended)
 }
 
-/// Whether a state goes further than what was reached before.
+/// Whether a state goes further than what was kept before.
 fn goes_further(state: &State, interactions: u64, ended: bool) -> bool
     requires { interactions ≤ state.now.interactions }
-    ensures further { result ≡ true → GoesFurther interactions (kept_by state.now) }
+    ensures further { result ≡ true → GoesFurther interactions ended (kept_by state.now) }
     ensures as_far { result ≡ false → (interactions ≡ state.now.interactions)
         × (state.now.ended ≡ true → ended ≡ true) }
 {
@@ -242,10 +269,13 @@ fn keep_state<D: Disk>(
     ensures keeps { OnOk result (IsKeep D.keeps D.image D.clock D.left
         (state_bytes (kept_by state.now)) (Ok tt) keeper.old keeper.new) }
     ensures sound { OnOk result (IsKept (kept_by state.now)) }
-    ensures refused { OnErr result ((keeper.new ≡ keeper.old) ⊎ ((fault : KeepFault)
+    ensures crash { OnErr result ((keeper.new ≡ keeper.old) ⊎ ((fault : KeepFault)
         × IsKept (kept_by state.now)
         × IsKeep D.keeps D.image D.clock D.left (state_bytes (kept_by state.now)) (Err fault)
         keeper.old keeper.new)) }
+    ensures refused { IfErr result (λ fault. StopsARun fault) }
+    ensures failed { IfErr result (λ fault. (cause : KeepFault)
+        → fault ≡ KeepingFault.Keep cause → KeepFails cause keeper.new) }
 {
     let bytes = bytes_of(alloc, state)?;
     match keeper.keep(&bytes) {
@@ -266,9 +296,10 @@ fn line_of(
     requires over { IsTrue (list_all (is_word_over symbols.now) state.now.words.items) }
     requires counted { length (forest state.now.words.items)
         ≡ state.now.terms + 2 * run.equations }
-    ensures { IfOk result (λ line. line.items ≡ if is_written asked run.end
+    ensures line { IfOk result (λ line. line.items ≡ if is_written asked run.end
         then line_of symbols.now (configuration_of state.now.words.items state.now.terms 0)
         else []) }
+    ensures refused { IfErr result (λ fault. fault ≡ KeepingFault.Memory) }
 {
     let mut line = Vec::new(alloc);
     if is_written(asked, run.end) {
@@ -301,6 +332,7 @@ fn stuck_of(
         → IfOk result (λ stuck. option_map (λ text. text.items) stuck
         ≡ stuck_text symbols.now (configuration_of state.now.words.items state.now.terms 0)) }
     ensures unstuck { run.end ≢ End.Quiet → IfOk result (λ stuck. IsNone stuck) }
+    ensures refused { IfErr result (λ fault. fault ≡ KeepingFault.Memory) }
 {
     match run.end {
         End::Quiet => {
@@ -338,6 +370,7 @@ fn tell(
         → IfOk result (λ told. option_map (λ text. text.items) told.stuck
         ≡ stuck_text symbols.now (configuration_of state.now.words.items state.now.terms 0)) }
     ensures unstuck { run.end ≢ End.Quiet → IfOk result (λ told. IsNone told.stuck) }
+    ensures refused { IfErr result (λ fault. fault ≡ KeepingFault.Memory) }
 {
     let line = line_of(alloc, symbols, state, run, asked)?;
     let stuck = stuck_of(alloc, symbols, state, run)?;
@@ -361,38 +394,40 @@ pub fn go_on<D: Disk, C: Clock, V: Watch>(
     ensures answer { (s : SystemParts) → IsStateOf s (kept_by state)
         → IfOk result (λ ended.
         IsAnswer s bounds ended.end ended.places ended.left (kept_by ended.state)) }
-    ensures state { (s : SystemParts) → IsStateOf s (kept_by state)
-        → IfOk result (λ ended. IsStateOf s (kept_by ended.state)) }
+    // It goes on from the state that it is given.
+    ensures from { (s : SystemParts) → IsStateOf s (kept_by state)
+        → IfOk result (λ ended. IsReachedFrom s (kept_by state) (kept_by ended.state)) }
     ensures later { IfOk result (λ ended. state.interactions ≤ ended.state.interactions) }
     ensures within { IfOk result (λ ended.
         ended.state.interactions ≤ max bounds.steps state.interactions) }
     ensures millis { IfOk result (λ ended. state.millis ≤ ended.state.millis) }
-    ensures line { (s : SystemParts) → IsStateOf s (kept_by state)
-        → IfOk result (λ ended. ended.line.items ≡ if is_written asked ended.end
-        then line_of s.rules.symbols
-        (configuration_of ended.state.words.items ended.state.terms 0) else []) }
-    // With it come the rules of that system, and at a quiet end the first equation of two agents, which is stuck.
-    ensures rules { (s : SystemParts) → IsStateOf s (kept_by state)
-        → IfOk result (λ ended. arc_value ended.rules ≡ s.rules) }
-    ensures stuck { (s : SystemParts) → IsStateOf s (kept_by state)
-        → IfOk result (λ ended. ended.end ≡ End.Quiet
-        → option_map (λ text. text.items) ended.stuck ≡ stuck_text s.rules.symbols
-        (configuration_of ended.state.words.items ended.state.terms 0)) }
+    // What was reached is told to have ended exactly at a quiet end.
+    ensures ended { IfOk result (λ ended. (ended.state.ended ≡ true) ↔ (ended.end ≡ End.Quiet)) }
+    ensures told { (s : SystemParts) → IsStateOf s (kept_by state)
+        → IfOk result (λ ended. IsTold s asked ended) }
     ensures unstuck { IfOk result (λ ended. ended.end ≢ End.Quiet → IsNone ended.stuck) }
-    // At Ok a state is kept that goes as far.
+    // At Ok a state is kept that goes as far, and from which the answer is reached.
     ensures kept { (s : SystemParts) → IsStateOf s (kept_by state) → IsKept (kept_by state)
         → KeepsModel D.keeps keeper.old → Keeps D.image (state_bytes (kept_by state)) keeper.old
-        → IfOk result (λ ended. (k : Kept) × IsKept k × IsStateOf s k
-        × IsAsFar k (kept_by ended.state) × KeepsModel D.keeps keeper.new
-        × Keeps D.image (state_bytes k) keeper.new) }
+        → IfOk result (λ ended. (k : Kept) × IsKept k
+        × IsReachedFrom s k (kept_by ended.state) × IsAsFar k (kept_by ended.state)
+        × KeepsModel D.keeps keeper.new × Keeps D.image (state_bytes k) keeper.new) }
     // It keeps states of this reduction, each of which goes further than the one before it, and no others.
     ensures way { (s : SystemParts) → IsStateOf s (kept_by state) → IsKept (kept_by state)
         → Way D.keeps D.image D.clock D.left (IsKeptAfter s) (state_bytes (kept_by state))
         keeper.old keeper.new }
+    // From a state of a reduction it fails only where memory runs out, at a limit, or where a keep is refused: a disk has
+    // failed, or there were as many keeps as are counted.
+    ensures refused { (s : SystemParts) → IsStateOf s (kept_by state)
+        → IfErr result (λ fault. StopsARun fault) }
+    ensures failed { IfErr result (λ fault. (cause : KeepFault)
+        → fault ≡ KeepingFault.Keep cause → KeepFails cause keeper.new) }
 {
+    states_are_reached();
     let rules = rules_of(alloc, &state.text)?;
     let mut state = state;
     let mut pace = pace;
+    let mut kept_ended = state.ended;
     for _ in 0..u64::MAX {
         let left = bounds.steps.saturating_sub(state.interactions);
         let piece = Bounds {
@@ -400,9 +435,8 @@ pub fn go_on<D: Disk, C: Clock, V: Watch>(
             nodes: bounds.nodes,
         };
         let before = state.interactions;
-        let had_ended = state.ended;
         let run = run_piece(alloc, &rules, &mut state, piece, clock, watch)?;
-        keep_further(alloc, &state, before, had_ended, keeper)?;
+        let now_ended = keep_further(alloc, &state, before, kept_ended, keeper)?;
         if ends_run(run.end, state.interactions, bounds.steps) {
             let told = tell(alloc, rules.symbols(), &state, run, asked)?;
             return Ok(Ended {
@@ -415,6 +449,7 @@ pub fn go_on<D: Disk, C: Clock, V: Watch>(
                 stuck: told.stuck,
             });
         }
+        kept_ended = now_ended;
         pace = pace.after(run.millis);
     }
     Err(KeepingFault::Limit)

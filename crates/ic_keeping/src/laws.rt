@@ -1,28 +1,35 @@
 //! Laws of reductions that are kept.
 
-ghost use Rattle.std.specs.Prelude.{◌≡◌, ◌⊎◌, List, [], ℕ, length, if◌then◌else◌};
+ghost use Rattle.std.specs.Prelude.{◌≡◌, ◌⊎◌, ◌+◌, ◌<◌, ◌≤◌, List, [], ℕ, true, false, Ok, IsTrue, length, if◌then◌else◌};
+ghost use Rattle.ic_disk.specs.Images.{Within};
+ghost use Rattle.ic_disk.specs.Time.{LeftSince};
 ghost use Rattle.ic_term.specs.Configuration.{Configuration};
 ghost use Rattle.ic_round.specs.Rounds.{IsQuiet};
 ghost use Rattle.ic_confluence.specs.Kinds.{Kind, Chain};
 ghost use Rattle.ic_reaching.specs.OneNet.{OneNet, SameButNext};
-ghost use Rattle.ic_reaching.specs.Reaching.{rules_fired};
+ghost use Rattle.ic_reaching.specs.Reaching.{Reaches, rules_fired};
 ghost use Rattle.ic_by_rounds.specs.Stuck.{stuck_text};
 ghost use Rattle.ic_flat.specs.Flat.{configuration_of};
 ghost use Rattle.ic_naming.specs.Naming.{renumbered};
 ghost use Rattle.ic_streams.specs.Streams.{line_of};
 ghost use Rattle.ic_in_place.specs.declared.running.Bounds.{Bounds};
 ghost use Rattle.ic_in_place.specs.declared.running.End.{End};
-ghost use Rattle.ic_in_place.specs.declared.running.End.TheVariants.{Quiet};
+ghost use Rattle.ic_in_place.specs.declared.running.End.TheVariants.{Limit, Nodes, Quiet, Steps};
 ghost use Rattle.ic_in_place.specs.declared.stream.Asked.{Asked};
 ghost use Rattle.ic_in_place.specs.Reductions.{is_written, line_reached};
 ghost use Rattle.ic_in_place.specs.Counting.{AreCounts};
+ghost use Rattle.ic_in_place.specs.Reducing.{CanInteract, HasEnds, IsReachedBy};
 ghost use Rattle.ic_kept.specs.Course.{HoldOne, HoldOneOf, LeftOnWay, Way};
 ghost use Rattle.ic_kept.specs.Held.{Hold};
 ghost use Rattle.ic_kept.specs.Keeper.{Keeps, KeepsModel};
-ghost use Rattle.ic_kept.specs.Lives.{Lives};
+ghost use Rattle.ic_kept.specs.Lives.{AreOpened, Lives};
+ghost use Rattle.ic_kept.specs.Opening.{OnlyReads};
+ghost use Rattle.ic_kept.specs.Sheet.{IsNewest, IsShut};
 ghost use Rattle.ic_rules.specs.System.{SystemParts};
 ghost use Rattle.ic_state.specs.State.{Kept, IsKept, state_bytes};
-ghost use Rattle.ic_keeping.specs.Way.{GoesFurther, IsAnswer, IsFormFrom, IsFormOf, IsKeptAfter, IsStateOf};
+ghost use Rattle.ic_text.specs.SystemText.{ReadsSystemWithin};
+ghost use Rattle.ic_text.specs.declared.limits.Limits.TheVariants.{Wide};
+ghost use Rattle.ic_keeping.specs.Way.{IsAnswer, IsBegun, IsFormFrom, IsFormOf, IsKeptAfter, IsReachedFrom, IsStateOf};
 
 use ic_disk::Disk;
 use ic_kept::Keeper;
@@ -78,12 +85,100 @@ pub fn any_lives_leave_a_state_of_the_reduction<D: Disk>(first: &D, second: &D)
     ic_state::laws::each_state_has_its_own_bytes();
 }
 
-/// A state that is kept after another one has no fewer interactions, and more unless it has ended. What is kept of a reduction
-/// is what is read back as one of its states.
+/// Disks are found after lives of a reduction as it begins, and after each more life: one that was stopped as it opened them,
+/// or one that opened them and went on. It is no matter which of them is called the first.
+pub fn lives_go_on<D: Disk>(first: &D, second: &D)
+    // The first file has the state with which it begins, with the number 1, and the second is shut.
+    ensures begun { (s : SystemParts) (begun : Kept) → IsTrue (D.keeps first.now)
+        → IsTrue (D.keeps second.now)
+        → Within (D.image first.now) (IsNewest 1 (state_bytes begun))
+        → Within (D.image second.now) IsShut
+        → Lives D.keeps D.content D.image D.clock D.left (IsKeptAfter s) (state_bytes begun)
+        (state_bytes begun) (state_bytes begun) first.now second.now }
+    // The disks were only read, and each of the two that are found has an image that was left since then.
+    ensures opening { (s : SystemParts) (begun : Kept) (kept coming : List ℕ)
+        (one_then other_then one_now other_now : D)
+        → Lives D.keeps D.content D.image D.clock D.left (IsKeptAfter s) (state_bytes begun)
+        kept coming first.now second.now
+        → OnlyReads D.content D.image D.clock D.left first.now one_then
+        → OnlyReads D.content D.image D.clock D.left second.now other_then
+        → IsTrue (D.keeps one_now) → IsTrue (D.keeps other_now)
+        → Within (D.image one_now) (LeftSince (D.left one_then) (D.clock first.now))
+        → Within (D.image other_now) (LeftSince (D.left other_then) (D.clock second.now))
+        → Lives D.keeps D.content D.image D.clock D.left (IsKeptAfter s) (state_bytes begun)
+        kept coming one_now other_now }
+    // The images that are found are what a stop on the way has left.
+    ensures more { (s : SystemParts) (begun found : Kept) (kept coming last next : List ℕ)
+        (one_now other_now : D) (k n : Keeper D)
+        → Lives D.keeps D.content D.image D.clock D.left (IsKeptAfter s) (state_bytes begun)
+        kept coming first.now second.now
+        → AreOpened D.keeps D.content D.image D.clock D.left (state_bytes found)
+        first.now second.now k
+        → (way : Way D.keeps D.image D.clock D.left (IsKeptAfter s) (state_bytes found) k n)
+        → IsTrue (D.keeps one_now) → IsTrue (D.keeps other_now)
+        → ((one other : List ℕ) → D.image one_now one → D.image other_now other
+        → LeftOnWay D.keeps D.image D.clock D.left way last next one other)
+        → Lives D.keeps D.content D.image D.clock D.left (IsKeptAfter s) (state_bytes begun)
+        last next one_now other_now }
+    ensures turned { (s : SystemParts) (begun : Kept) (kept coming : List ℕ)
+        → Lives D.keeps D.content D.image D.clock D.left (IsKeptAfter s) (state_bytes begun)
+        kept coming first.now second.now
+        → Lives D.keeps D.content D.image D.clock D.left (IsKeptAfter s) (state_bytes begun)
+        kept coming second.now first.now }
+{
+    let _ = first;
+    let _ = second;
+}
+
+/// What a state of a reduction says: its text is read as the system, and its interactions lead there. One that has begun is
+/// the system's configuration, and of one that has ended no step is possible.
+pub fn what_a_kept_state_says()
+    ensures reads { (s : SystemParts) (k : Kept) → IsStateOf s k
+        → ReadsSystemWithin Wide k.text (Ok s) }
+    ensures way { (s : SystemParts) (k : Kept) → IsStateOf s k → (next : ℕ) × (fired : List ℕ)
+        × Reaches s.rules.rules s.config (configuration_of k.words k.terms next) fired
+        × (k.interactions ≡ length fired) × AreCounts (length s.rules.rules) fired k.by_rule }
+    ensures begun { (s : SystemParts) (k : Kept) → IsBegun s k → IsStateOf s k
+        × (configuration_of k.words k.terms s.config.next ≡ s.config)
+        × (k.interactions ≡ 0) × (k.ended ≡ false) × (k.millis ≡ 0) }
+    ensures ended { (s : SystemParts) (k : Kept) → IsStateOf s k → k.ended ≡ true
+        → (next : ℕ) × IsQuiet s.rules.rules (configuration_of k.words k.terms next) }
+{}
+
+/// What the end of a run says that was kept: why there are no more interactions, and which of its equations are told.
+pub fn what_a_kept_end_says()
+    ensures quiet { (s : SystemParts) (bounds : Bounds) (places left : ℕ) (k : Kept)
+        → (is : IsAnswer s bounds Quiet places left k)
+        → IsQuiet s.rules.rules is.answer × HasEnds is.answer left }
+    ensures steps { (s : SystemParts) (bounds : Bounds) (places left : ℕ) (k : Kept)
+        → (is : IsAnswer s bounds Steps places left k)
+        → (bounds.steps ≤ k.interactions) × CanInteract s.rules.rules is.answer
+        × HasEnds is.answer left }
+    ensures nodes { (s : SystemParts) (bounds : Bounds) (places left : ℕ) (k : Kept)
+        → IsAnswer s bounds Nodes places left k
+        → (bounds.nodes < places + left) × (k.interactions < bounds.steps) }
+    ensures limit { (s : SystemParts) (bounds : Bounds) (places left : ℕ) (k : Kept)
+        → IsAnswer s bounds Limit places left k → k.interactions < bounds.steps }
+    // What is told of places and equations is that of a reduction in place.
+    ensures piece { (s : SystemParts) (bounds : Bounds) (end : End) (places left : ℕ) (k : Kept)
+        → (is : IsAnswer s bounds end places left k)
+        → (from : SystemParts) × (most : Bounds) × (made : ℕ) × (by_rule : List ℕ)
+        × (from.rules ≡ s.rules) × (most.nodes ≡ bounds.nodes)
+        × IsReachedBy from most is.answer end made places left by_rule }
+{}
+
+/// A state that is kept after another one is reached from there. It has more interactions, or as many and has ended where the
+/// other hadn't. What is kept of a reduction is what is read back as one of its states.
 pub fn kept_states_go_on()
     ensures after { (s : SystemParts) (k next : Kept) → IsKept k → IsKept next
         → IsKeptAfter s (state_bytes k) (state_bytes next)
-        → IsStateOf s next × GoesFurther k.interactions next }
+        → IsReachedFrom s k next × ((k.interactions < next.interactions)
+        ⊎ ((k.interactions ≡ next.interactions) × (k.ended ≡ false) × (next.ended ≡ true))) }
+    ensures reached { (s : SystemParts) (k next : Kept) → IsReachedFrom s k next
+        → IsStateOf s k × IsStateOf s next × (one : ℕ) × (other : ℕ) × (more : List ℕ)
+        × Reaches s.rules.rules (configuration_of k.words k.terms one)
+        (configuration_of next.words next.terms other) more
+        × (next.interactions ≡ k.interactions + length more) }
     ensures of { (s : SystemParts) (least : ℕ) (one other : List ℕ)
         → HoldOne (IsFormFrom s least) one other → HoldOne (IsFormOf s) one other }
 {

@@ -1,11 +1,14 @@
 //! One life of a reduction that is kept: from the state that two files hold until it ends.
 
-ghost use Rattle.std.specs.Prelude.{◌≡◌, ◌⊎◌, ◌≤◌, List, ℕ, IfOk, IfErr, IsTrue};
-ghost use Rattle.ic_kept.specs.Course.{Way};
-ghost use Rattle.ic_kept.specs.Lives.{AreOpened, Lives};
+ghost use Rattle.std.specs.Prelude.{◌≡◌, ◌⊎◌, ◌≤◌, List, ℕ, IfOk, IfErr, max};
+ghost use Rattle.ic_frames.specs.declared.faults.OpenCause.{OpenCause};
+ghost use Rattle.ic_kept.specs.Keeper.{Keeps, KeepsModel, newest_of, other_of};
+ghost use Rattle.ic_kept.specs.Opening.{InSomeOrder, OnlyReads};
 ghost use Rattle.ic_rules.specs.System.{SystemParts};
 ghost use Rattle.ic_state.specs.State.{IsKept, Kept, kept_by, state_bytes};
-ghost use Rattle.ic_keeping.specs.Way.{IsAnswer, IsKeptAfter, IsStateOf};
+ghost use Rattle.ic_keeping.specs.declared.fault.KeepingFault.{KeepingFault};
+ghost use Rattle.ic_keeping.specs.Life.{HasLived, IsLife, IsTold, StopsARun};
+ghost use Rattle.ic_keeping.specs.Way.{IsAnswer, IsAsFar, IsReachedFrom};
 
 use crate::beginning::{ResumeFault, resume};
 use crate::going::{Ended, go_on};
@@ -28,22 +31,39 @@ pub fn live<D: Disk, C: Clock, V: Watch>(
 ) -> Result<(Ended, Keeper<D>), ResumeFault<D>>
     // After any lives of the reduction of a system, each stopped at any moment, it answers that system, and the interactions
     // are those of all lives.
-    ensures answer { (s : SystemParts) (begun : Kept) (kept coming : List ℕ) → IsKept begun
-        → IsStateOf s begun
-        → Lives D.keeps D.content D.image D.clock D.left (IsKeptAfter s) (state_bytes begun)
-        kept coming first second
+    ensures answer { (s : SystemParts) (begun : Kept) (kept coming : List ℕ)
+        → HasLived D.keeps D.content D.image D.clock D.left s begun kept coming first second
         → IfOk result (λ lived.
         IsAnswer s bounds lived.0.end lived.0.places lived.0.left (kept_by lived.0.state)) }
-    // This is one more of these lives: it has opened the two disks, and gone on.
-    ensures life { (s : SystemParts) (begun : Kept) (kept coming : List ℕ) → IsKept begun
-        → IsStateOf s begun
-        → Lives D.keeps D.content D.image D.clock D.left (IsKeptAfter s) (state_bytes begun)
-        kept coming first second
+    ensures told { (s : SystemParts) (begun : Kept) (kept coming : List ℕ)
+        → HasLived D.keeps D.content D.image D.clock D.left s begun kept coming first second
+        → IfOk result (λ lived. IsTold s asked lived.0) }
+    // A state is kept then that goes as far, and from which the answer is reached.
+    ensures kept { (s : SystemParts) (begun : Kept) (kept coming : List ℕ)
+        → HasLived D.keeps D.content D.image D.clock D.left s begun kept coming first second
+        → IfOk result (λ lived. (k : Kept) × IsKept k
+        × IsReachedFrom s k (kept_by lived.0.state) × IsAsFar k (kept_by lived.0.state)
+        × KeepsModel D.keeps lived.1 × Keeps D.image (state_bytes k) lived.1) }
+    // This is one more of these lives: it has opened the two disks, and gone on from the state that it found.
+    ensures life { (s : SystemParts) (begun : Kept) (kept coming : List ℕ)
+        → HasLived D.keeps D.content D.image D.clock D.left s begun kept coming first second
         → IfOk result (λ lived. (found : Kept) × (k : Keeper D)
-        × AreOpened D.keeps D.content D.image D.clock D.left (state_bytes found) first second k
-        × Way D.keeps D.image D.clock D.left (IsKeptAfter s) (state_bytes found) k lived.1
+        × IsLife D.keeps D.content D.image D.clock D.left s found first second k lived.1
         × (begun.interactions ≤ found.interactions)
-        × (found.interactions ≤ lived.0.state.interactions)) }
+        × IsReachedFrom s found (kept_by lived.0.state)
+        × (lived.0.state.interactions ≤ max bounds.steps found.interactions)) }
+    // So it is where it stops by a fault: it has only read the two disks, or opened them and gone on. It hands them back.
+    ensures stopped { (s : SystemParts) (begun : Kept) (kept coming : List ℕ)
+        → HasLived D.keeps D.content D.image D.clock D.left s begun kept coming first second
+        → IfErr result (λ fault. InSomeOrder (OnlyReads D.content D.image D.clock D.left)
+        first second fault.first fault.second ⊎ ((found : Kept) × (k n : Keeper D)
+        × IsLife D.keeps D.content D.image D.clock D.left s found first second k n
+        × (fault.first ≡ newest_of n) × (fault.second ≡ other_of n))) }
+    // There is no other fault: a call has failed or memory ran out as it read the disks, or it has stopped as a run does.
+    ensures refused { (s : SystemParts) (begun : Kept) (kept coming : List ℕ)
+        → HasLived D.keeps D.content D.image D.clock D.left s begun kept coming first second
+        → IfErr result (λ fault. (fault.cause ≡ KeepingFault.Open OpenCause.Device)
+        ⊎ (fault.cause ≡ KeepingFault.Open OpenCause.Memory) ⊎ StopsARun fault.cause) }
 {
     ic_kept::laws::one_state_is_held();
     ic_state::laws::each_state_has_its_own_bytes();

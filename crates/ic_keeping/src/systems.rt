@@ -1,10 +1,16 @@
 //! The systems that a reduction leads through: one set of rules, with a configuration after another.
 
-ghost use Rattle.std.specs.Prelude.{◌≡◌, ◌+◌, ◌≤◌, IfOk};
+ghost use Rattle.std.specs.Prelude.{◌≡◌, ◌≢◌, ◌⊎◌, ◌+◌, ◌*◌, ◌≤◌, ℕ, IfOk, IfErr, IfSome, IsNone, IsSome, IsTrue, length};
 ghost use Rattle.std.specs.Arc.{arc_value};
+ghost use Rattle.ic_term.specs.Configuration.{configuration_names, occurrences};
+ghost use Rattle.ic_term.specs.Symbol.{is_over};
 ghost use Rattle.ic_flat.specs.Flat.{configuration_of};
-ghost use Rattle.ic_keeping.specs.Way.{IsSound};
+ghost use Rattle.ic_frames.specs.declared.faults.KeepFault.{KeepFault};
+ghost use Rattle.ic_flat.specs.Words.{forest, IsWhole};
+ghost use Rattle.ic_keeping.specs.Way.{IsReachedFrom, IsSound, IsStateOf};
 ghost use Rattle.ic_round.specs.Naming.{HasNames};
+ghost use Rattle.ic_rules.specs.System.{SystemParts};
+ghost use Rattle.ic_state.specs.State.{Kept};
 ghost use Rattle.ic_text.specs.declared.limits.TheConstants.{MAX_NAME};
 
 use crate::fault::KeepingFault;
@@ -29,6 +35,14 @@ pub(crate) fn system_of(
         ≡ (configuration_of words.items terms 0).equations) }
     ensures low { IfOk result (λ system. system.config.next ≤ MAX_NAME + 1) }
     ensures names { IfOk result (λ system. HasNames system.config) }
+    // Words that write a configuration over the symbols are refused only for their size, or where memory runs out.
+    ensures refused { (equations : ℕ) → IsWhole words.items
+        → length (forest words.items) ≡ terms + 2 * equations
+        → ((n : ℕ) → occurrences n (configuration_names (configuration_of words.items terms 0)) ≤ 2)
+        → IsTrue (is_over (arc_value rules.now).symbols (configuration_of words.items terms 0))
+        → IfErr result (λ fault. (fault ≡ KeepingFault.Memory) ⊎ (fault ≡ KeepingFault.Limit)) }
+    ensures unkept { IfErr result (λ fault. (cause : KeepFault)
+        → fault ≢ KeepingFault.Keep cause) }
 {
     let config = config_of(alloc, words, terms)?;
     if config.next() > MAX_NAME + 1 {
@@ -46,18 +60,46 @@ fn config_of(alloc: Global, words: Vec<Word>, terms: u64) -> Result<WideFlat, Ke
         ≡ (configuration_of words.items terms 0).interface) }
     ensures equations { IfOk result (λ config. config.equations
         ≡ (configuration_of words.items terms 0).equations) }
+    ensures refused { (equations : ℕ) → IsWhole words.items
+        → length (forest words.items) ≡ terms + 2 * equations
+        → ((n : ℕ) → occurrences n (configuration_names (configuration_of words.items terms 0)) ≤ 2)
+        → IfErr result (λ fault. (fault ≡ KeepingFault.Memory) ⊎ (fault ≡ KeepingFault.Limit)) }
+    ensures unkept { IfErr result (λ fault. (cause : KeepFault)
+        → fault ≢ KeepingFault.Keep cause) }
 {
-    let all = terms_in(&words).ok_or(KeepingFault::Unsound)?;
+    ic_term::laws::third_occurrence_is_the_first();
     let terms = terms as usize;
+    match equations_in(&words, terms) {
+        None => Err(KeepingFault::Unsound),
+        Some(equations) => match WideFlat::new(alloc, words, terms, equations) {
+            Ok(config) => Ok(config),
+            Err(ConfigFault::Limit) => Err(KeepingFault::Limit),
+            Err(ConfigFault::Name(_)) => Err(KeepingFault::Unsound),
+            Err(ConfigFault::Memory) => Err(KeepingFault::Memory),
+        },
+    }
+}
+
+/// How many equations words write after so many terms, if each of their agents has its arguments, and each equation two sides.
+fn equations_in(words: &[Word], terms: usize) -> Option<usize>
+    ensures whole { IsSome result → IsWhole words.now }
+    ensures counted { IfSome result (λ equations.
+        length (forest words.now) ≡ terms + 2 * equations) }
+    ensures none { IsNone result → IsWhole words.now
+        → (equations : ℕ) → length (forest words.now) ≢ terms + 2 * equations }
+{
+    let all = terms_in(words)?;
     if all < terms || (all - terms) % 2 != 0 {
-        return Err(KeepingFault::Unsound);
+        return None;
     }
-    match WideFlat::new(alloc, words, terms, (all - terms) / 2) {
-        Ok(config) => Ok(config),
-        Err(ConfigFault::Limit) => Err(KeepingFault::Limit),
-        Err(ConfigFault::Name(_)) => Err(KeepingFault::Unsound),
-        Err(ConfigFault::Memory) => Err(KeepingFault::Memory),
-    }
+    Some((all - terms) / 2)
+}
+
+/// Each state of a reduction is reached from itself, by no interactions.
+pub(crate) fn states_are_reached()
+    ensures { (s : SystemParts) (k : Kept) → IsStateOf s k → IsReachedFrom s k k }
+{
+    ic_reaching::laws::what_is_reached_is_one_net();
 }
 
 /// Systems keep what their rules and their configurations do.

@@ -5,8 +5,8 @@ use Rattle.ic_disk.specs.Images.{Within}
 use Rattle.ic_disk.specs.Time.{LeftSince}
 use Rattle.ic_kept.specs.declared.keeper.Keeper.{Keeper}
 use Rattle.ic_kept.specs.Held.{Hold}
-use Rattle.ic_kept.specs.Keeper.{Keeps, KeepsModel}
-use Rattle.ic_kept.specs.Opening.{OnlyReads}
+use Rattle.ic_kept.specs.Keeper.{newest_of, other_of, Keeps, KeepsModel}
+use Rattle.ic_kept.specs.Opening.{InSomeOrder, OnlyReads}
 use Rattle.ic_kept.specs.Course.{Way, LeftOnWay}
 
 module _ {D : Type 0} (keeps_model : D → Bool) (content : D → List ℕ)
@@ -23,11 +23,14 @@ module _ {D : Type 0} (keeps_model : D → Bool) (content : D → List ℕ)
     pub keeps_too : IsTrue (keeps_model second)
     pub images : (one other : List ℕ) → image first one → image second other → files one other
 
-  -- Two disks are opened, and this state is found on them.
+  -- Two disks are opened, and this state is found on them. The keeper has these two, in one order or the other, and they
+  -- were only read.
   pub record AreOpened (state : List ℕ) (first second : D) (k : Keeper D) : Type 0 where
     pub held : Hold state (content first) (content second)
     pub model : KeepsModel keeps_model k
     pub keeps : Keeps image state k
+    pub reads : InSomeOrder (OnlyReads content image clock left) first second
+        (newest_of k) (other_of k)
 
   -- These disks are found after some lives, which began with files that hold a first state. One state was kept last, and
   -- the other one was coming, if one was.

@@ -13,10 +13,14 @@ pub record OnlyReads {D : Type 0} (content : D → List ℕ) (image : D → List
   pub images : Within (image new) (image old)
   pub leaves : LeavesOnly clock left old new (image old)
 
+-- a relation from two disks to two others, in either order
+abbrev pub InSomeOrder : {D : Type 0} → (D → D → Type 0) → (first second one other : D) → Type 0
+InSomeOrder R first second one other =
+    (R first one × R second other) ⊎ (R first other × R second one)
+
 -- a relation of the disks from before to those that are handed out, whichever of them is the newest, or back
 abbrev pub Relates : {D T : Type 0} → (D → D → Type 0)
     → Result (Keeper D × T) (OpenFault D) → (first second : D) → Type 0
 Relates R (Ok opened) first second =
-    (R first (newest_of opened.0) × R second (other_of opened.0))
-    ⊎ (R first (other_of opened.0) × R second (newest_of opened.0))
+    InSomeOrder R first second (newest_of opened.0) (other_of opened.0)
 Relates R (Err fault) first second = R first fault.first × R second fault.second

@@ -85,8 +85,8 @@ pub fn a_stop_leaves_the_last_state_or_the_next<D: Disk>(keeper: &Keeper<D>)
     let _ = keeper;
 }
 
-/// Each moment is one at which a stop may come: before, between and after keeps, and all that since its beginning a keep has
-/// left on the disk that it writes.
+/// Each moment is one at which a stop may come: before, between and after keeps, also where the last one is refused, and all
+/// that since its beginning a keep has left on the disk that it writes.
 pub fn a_stop_may_come_at_each_moment<D: Disk>(keeper: &Keeper<D>)
     ensures between { (after : (old new : List ℕ) → Bool) (first last : List ℕ) (end : Keeper D)
         → (course : Course D.keeps D.image D.clock D.left (λ old new. IsTrue (after old new))
@@ -124,6 +124,17 @@ pub fn a_stop_may_come_at_each_moment<D: Disk>(keeper: &Keeper<D>)
         → LeftOnWay D.keeps D.image D.clock D.left
         (last_refused first last next keeper.now mid end fault course comes keep)
         last next one other }
+    ensures earlier_refused { (after : (old new : List ℕ) → Bool) (first last next : List ℕ)
+        (mid end : Keeper D) (fault : KeepFault)
+        → (course : Course D.keeps D.image D.clock D.left (λ old new. IsTrue (after old new))
+        first keeper.now last mid)
+        → (comes : IsTrue (after last next))
+        → (keep : IsKeep D.keeps D.image D.clock D.left next (Err fault) mid end)
+        → (kept coming one other : List ℕ)
+        → LeftInCourse D.keeps D.image D.clock D.left course kept coming one other
+        → LeftOnWay D.keeps D.image D.clock D.left
+        (last_refused first last next keeper.now mid end fault course comes keep)
+        kept coming one other }
 {
     let _ = keeper;
 }

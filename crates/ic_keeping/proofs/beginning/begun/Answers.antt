@@ -9,6 +9,7 @@ use Rattle.ic_text.specs.lemmas.PlacedWithin.{placed-within}
 use Rattle.ic_text.specs.SystemSource.{IsSystemPhrase, system_words}
 use Rattle.ic_text.specs.Words.{written_system}
 use Rattle.ic_keeping.specs.Way.{IsOnWay}
+use Rattle.ic_keeping.proofs.LowNames.{low_begun}
 use Rattle.ic_keeping.proofs.WayLemmas.{begun_on_way}
 use Rattle.ic_keeping.proofs.beginning.begun.Goals as goal
 
@@ -29,7 +30,11 @@ returns-clause-read c =
           next = s.config.next;
           way = subst (λ (d : Configuration). IsOnWay s d 0 by) (sym config)
               (begun_on_way s by c.what_is_reached_is_one_net.ensures.itself c.systems_are_sound.ensures.names (c.in_ok-by_rule.ensures.long ∙ ap length rules) c.in_ok-by_rule.ensures.none);
+          low = λ few. low_begun c.args.text.now s c.in_ok-system.ensures.read c.in_ok-system.ensures.spelled;
           quiet = λ ended. cc;
+          whole = c.into_parts-words.ensures.flat.whole;
+          equations = c.into_parts-words.result.2;
+          counted = c.into_parts-words.ensures.flat.counted;
         };
         config = config;
         none = refl;

@@ -1,112 +1,130 @@
-use Rattle.std.proofs.Common.{List, ℕ, Ok, refl, sym, subst, arith}
+use Rattle.std.proofs.Common.{◌≡◌, List, [], ℕ, Ok, Vec, Global, if◌then◌else◌, refl, sym, ap, subst, arith, ◌∙◌}
+use Rattle.std.proofs.lemmas.Result.{err_from_is_err_and}
+use Rattle.std.specs.Option.{option_map}
+use Rattle.ic_by_rounds.specs.Stuck.{stuck_text}
+use Rattle.ic_flat.specs.Flat.{configuration_of}
+use Rattle.ic_in_place.specs.declared.running.End.TheVariants.{Quiet}
+use Rattle.ic_in_place.specs.Reductions.{is_written}
 use Rattle.ic_kept.specs.lemmas.CourseLaws.{kept_after}
 use Rattle.ic_text.specs.SystemText.{ReadsSystemWithin}
 use Rattle.ic_text.specs.declared.limits.Limits.TheVariants.{Wide}
+use Rattle.ic_rules.specs.RuleSet.{Rules}
 use Rattle.ic_state.specs.State.{kept_by, state_bytes}
-use Rattle.ic_keeping.specs.Way.{IsKeptAfter, IsStateOf}
+use Rattle.ic_streams.specs.Streams.{line_of}
+use Rattle.ic_term.specs.Symbol.{Symbol}
+use Rattle.ic_keeping.specs.Way.{IsKeptAfter}
 use Rattle.ic_keeping.proofs.GoingLemmas.{begins, keeps_on, way_of, way_refused}
+use Rattle.ic_keeping.proofs.Refusing.{of_two}
 use Rattle.ic_keeping.proofs.going.go_on.Goals as goal
 
 pub returns-in_err-rules-clause-way : goal.returns-in_err-rules-clause-way
 returns-in_err-rules-clause-way g c s is is_kept =
     let disk = g.D.Disk in
     let first = kept_by c.args.state in
-    way_of disk.keeps disk.image disk.clock disk.left s first c.args.keeper.now first c.args.keeper.now (begins disk.keeps disk.image disk.clock disk.left s first c.args.keeper.now is_kept is)
+    way_of disk.keeps disk.image disk.clock disk.left s first c.args.keeper.now first first.ended c.args.keeper.now
+    (begins disk.keeps disk.image disk.clock disk.left s first c.args.keeper.now is_kept (c.states_are_reached.ensures s first is))
 
 pub loop-init : goal.loop-init
 loop-init g c = record {
   least = omega arith;
   most = omega arith;
   millis = omega arith;
-  state = λ s is. is;
-  kept = λ s is is_kept. begins g.D.Disk.keeps g.D.Disk.image g.D.Disk.clock g.D.Disk.left s (kept_by c.args.state) c.args.keeper.now is_kept is;
+  from = λ s is. c.states_are_reached.ensures s (kept_by c.args.state) is;
+  kept = λ s is is_kept. begins g.D.Disk.keeps g.D.Disk.image g.D.Disk.clock g.D.Disk.left s (kept_by c.args.state) c.args.keeper.now is_kept (c.states_are_reached.ensures s (kept_by c.args.state) is);
 }
 
 pub returns-in_err-run-clause-way : goal.returns-in_err-run-clause-way
 returns-in_err-run-clause-way g c s is is_kept =
     let disk = g.D.Disk in
-    way_of disk.keeps disk.image disk.clock disk.left s (kept_by c.args.state) c.args.keeper.now (kept_by c.loop.state) c.loop.keeper (c.loop.invariant.kept s is is_kept)
+    way_of disk.keeps disk.image disk.clock disk.left s (kept_by c.args.state) c.args.keeper.now (kept_by c.loop.state) c.loop.kept_ended c.loop.keeper (c.loop.invariant.kept s is is_kept)
 
-pub returns-in_err-keep_further-clause-way : goal.returns-in_err-keep_further-clause-way
-returns-in_err-keep_further-clause-way g c s is is_kept =
-    let disk = g.D.Disk in
-    let first = kept_by c.args.state in
-    let old = kept_by c.loop.state in
+pub returns-in_err-run-clause-refused : goal.returns-in_err-run-clause-refused
+returns-in_err-run-clause-refused g c s is =
     let reads = subst (λ (text : List ℕ). ReadsSystemWithin Wide text (Ok s)) (sym c.deref.ensures.value) is.reads in
     let sound = c.in_ok-rules.ensures.sound s reads in
     let rules = c.in_ok-rules.ensures.rules s reads in
+    let e = err_from_is_err_and c.from_residual-in_err-run.result c.from_residual-in_err-run.ensures.1 in
+    rw (e.1, e.2) (of_two c.in_err-run.field-0.0 (c.in_err-run.ensures.refused s sound rules (c.loop.invariant.from s is).is))
+
+pub returns-in_err-now_ended-clause-way : goal.returns-in_err-now_ended-clause-way
+returns-in_err-now_ended-clause-way g c s is is_kept =
+    let disk = g.D.Disk in
+    let first = kept_by c.args.state in
+    let old = kept_by c.loop.state in
     let new = kept_by c.run_piece.new.state in
-    let is_new : IsStateOf s new = c.in_ok-run.ensures.goes_on s sound rules (c.loop.invariant.state s is) in
+    let reads = subst (λ (text : List ℕ). ReadsSystemWithin Wide text (Ok s)) (sym c.deref.ensures.value) is.reads in
+    let sound = c.in_ok-rules.ensures.sound s reads in
+    let rules = c.in_ok-rules.ensures.rules s reads in
     let has = c.loop.invariant.kept s is is_kept in
-    way_refused disk.keeps disk.image disk.clock disk.left s first c.args.keeper.now old new c.loop.keeper c.keep_further.new.keeper has is_new c.in_err-keep_further.ensures.refused
+    let onward = c.in_ok-run.ensures.further s has.kept sound rules has.onward in
+    way_refused disk.keeps disk.image disk.clock disk.left s first c.args.keeper.now old new c.loop.kept_ended c.loop.keeper c.keep_further.new.keeper has onward c.in_err-now_ended.ensures.crash
 
 pub returns-in_err-told-clause-way : goal.returns-in_err-told-clause-way
 returns-in_err-told-clause-way g c s is is_kept =
     let disk = g.D.Disk in
     let first = kept_by c.args.state in
     let old = kept_by c.loop.state in
+    let new = kept_by c.run_piece.new.state in
     let reads = subst (λ (text : List ℕ). ReadsSystemWithin Wide text (Ok s)) (sym c.deref.ensures.value) is.reads in
     let sound = c.in_ok-rules.ensures.sound s reads in
     let rules = c.in_ok-rules.ensures.rules s reads in
-    let new = kept_by c.run_piece.new.state in
-    let is_new : IsStateOf s new = c.in_ok-run.ensures.goes_on s sound rules (c.loop.invariant.state s is) in
     let has = c.loop.invariant.kept s is is_kept in
-    let now = keeps_on disk.keeps disk.image disk.clock disk.left s first c.args.keeper.now old new c.loop.keeper c.keep_further.new.keeper has is_new c.in_ok-keep_further.ensures.kept in
-    way_of disk.keeps disk.image disk.clock disk.left s first c.args.keeper.now new c.keep_further.new.keeper now
+    let onward = c.in_ok-run.ensures.further s has.kept sound rules has.onward in
+    let now = keeps_on disk.keeps disk.image disk.clock disk.left s first c.args.keeper.now old new c.loop.kept_ended c.in_ok-now_ended.now_ended c.loop.keeper c.keep_further.new.keeper
+    has onward (c.states_are_reached.ensures s new onward.is) c.in_ok-run.ensures.stays c.in_ok-now_ended.ensures.kept in
+    way_of disk.keeps disk.image disk.clock disk.left s first c.args.keeper.now new c.in_ok-now_ended.now_ended c.keep_further.new.keeper now
 
 pub returns-then-ends_run-clause-way : goal.returns-then-ends_run-clause-way
 returns-then-ends_run-clause-way g c s is is_kept =
     let disk = g.D.Disk in
     let first = kept_by c.args.state in
     let old = kept_by c.loop.state in
+    let new = kept_by c.run_piece.new.state in
     let reads = subst (λ (text : List ℕ). ReadsSystemWithin Wide text (Ok s)) (sym c.deref.ensures.value) is.reads in
     let sound = c.in_ok-rules.ensures.sound s reads in
     let rules = c.in_ok-rules.ensures.rules s reads in
-    let new = kept_by c.run_piece.new.state in
-    let is_new : IsStateOf s new = c.in_ok-run.ensures.goes_on s sound rules (c.loop.invariant.state s is) in
     let has = c.loop.invariant.kept s is is_kept in
-    let now = keeps_on disk.keeps disk.image disk.clock disk.left s first c.args.keeper.now old new c.loop.keeper c.keep_further.new.keeper has is_new c.in_ok-keep_further.ensures.kept in
-    way_of disk.keeps disk.image disk.clock disk.left s first c.args.keeper.now new c.keep_further.new.keeper now
+    let onward = c.in_ok-run.ensures.further s has.kept sound rules has.onward in
+    let now = keeps_on disk.keeps disk.image disk.clock disk.left s first c.args.keeper.now old new c.loop.kept_ended c.in_ok-now_ended.now_ended c.loop.keeper c.keep_further.new.keeper
+    has onward (c.states_are_reached.ensures s new onward.is) c.in_ok-run.ensures.stays c.in_ok-now_ended.ensures.kept in
+    way_of disk.keeps disk.image disk.clock disk.left s first c.args.keeper.now new c.in_ok-now_ended.now_ended c.keep_further.new.keeper now
 
 pub returns-then-ends_run-clause-kept : goal.returns-then-ends_run-clause-kept
 returns-then-ends_run-clause-kept g c s is is_kept model keeps =
     let disk = g.D.Disk in
     let first = kept_by c.args.state in
     let old = kept_by c.loop.state in
+    let new = kept_by c.run_piece.new.state in
     let reads = subst (λ (text : List ℕ). ReadsSystemWithin Wide text (Ok s)) (sym c.deref.ensures.value) is.reads in
     let sound = c.in_ok-rules.ensures.sound s reads in
     let rules = c.in_ok-rules.ensures.rules s reads in
-    let new = kept_by c.run_piece.new.state in
-    let is_new : IsStateOf s new = c.in_ok-run.ensures.goes_on s sound rules (c.loop.invariant.state s is) in
     let has = c.loop.invariant.kept s is is_kept in
-    let now = keeps_on disk.keeps disk.image disk.clock disk.left s first c.args.keeper.now old new c.loop.keeper c.keep_further.new.keeper has is_new c.in_ok-keep_further.ensures.kept in
+    let onward = c.in_ok-run.ensures.further s has.kept sound rules has.onward in
+    let now = keeps_on disk.keeps disk.image disk.clock disk.left s first c.args.keeper.now old new c.loop.kept_ended c.in_ok-now_ended.now_ended c.loop.keeper c.keep_further.new.keeper
+    has onward (c.states_are_reached.ensures s new onward.is) c.in_ok-run.ensures.stays c.in_ok-now_ended.ensures.kept in
     let after = kept_after disk.keeps disk.image disk.clock disk.left (IsKeptAfter s) c.args.keeper.now c.keep_further.new.keeper (state_bytes first) (state_bytes now.kept) model keeps now.course in
-    (now.kept, now.is_kept, now.state, now.as_far, after.0, after.1)
+    (now.kept, now.is_kept, now.onward, now.as_far, after.0, after.1)
 
 pub returns-then-ends_run-clause-answer : goal.returns-then-ends_run-clause-answer
 returns-then-ends_run-clause-answer g c s is =
-    let disk = g.D.Disk in
     let first = kept_by c.args.state in
     let old = kept_by c.loop.state in
+    let new = kept_by c.run_piece.new.state in
     let reads = subst (λ (text : List ℕ). ReadsSystemWithin Wide text (Ok s)) (sym c.deref.ensures.value) is.reads in
     let sound = c.in_ok-rules.ensures.sound s reads in
     let rules = c.in_ok-rules.ensures.rules s reads in
-    let new = kept_by c.run_piece.new.state in
-    let is_new : IsStateOf s new = c.in_ok-run.ensures.goes_on s sound rules (c.loop.invariant.state s is) in
-    c.in_ok-run.ensures.answer s c.args.bounds sound rules (c.loop.invariant.state s is) refl
+    c.in_ok-run.ensures.answer s c.args.bounds sound rules (c.loop.invariant.from s is).is refl
     (omega (arith, c.min.ensures, c.saturating_sub-left.ensures)) (c.ends_run.ensures c.if-ends_run.true)
 
-pub returns-then-ends_run-clause-state : goal.returns-then-ends_run-clause-state
-returns-then-ends_run-clause-state g c s is =
-    let disk = g.D.Disk in
+pub returns-then-ends_run-clause-from : goal.returns-then-ends_run-clause-from
+returns-then-ends_run-clause-from g c s is =
     let first = kept_by c.args.state in
     let old = kept_by c.loop.state in
+    let new = kept_by c.run_piece.new.state in
     let reads = subst (λ (text : List ℕ). ReadsSystemWithin Wide text (Ok s)) (sym c.deref.ensures.value) is.reads in
     let sound = c.in_ok-rules.ensures.sound s reads in
     let rules = c.in_ok-rules.ensures.rules s reads in
-    let new = kept_by c.run_piece.new.state in
-    let is_new : IsStateOf s new = c.in_ok-run.ensures.goes_on s sound rules (c.loop.invariant.state s is) in
-    is_new
+    c.in_ok-run.ensures.further s first sound rules (c.loop.invariant.from s is)
 
 pub returns-then-ends_run-clause-later : goal.returns-then-ends_run-clause-later
 returns-then-ends_run-clause-later g c =
@@ -120,40 +138,49 @@ pub returns-then-ends_run-clause-millis : goal.returns-then-ends_run-clause-mill
 returns-then-ends_run-clause-millis g c =
     omega (arith, c.loop.invariant.millis, c.in_ok-run.ensures.millis)
 
-pub returns-then-ends_run-clause-rules : goal.returns-then-ends_run-clause-rules
-returns-then-ends_run-clause-rules g c s is =
+pub returns-then-ends_run-clause-told : goal.returns-then-ends_run-clause-told
+returns-then-ends_run-clause-told g c s is =
     let reads = subst (λ (text : List ℕ). ReadsSystemWithin Wide text (Ok s)) (sym c.deref.ensures.value) is.reads in
-    c.in_ok-rules.ensures.rules s reads
+    let rules = c.in_ok-rules.ensures.rules s reads in
+    let symbols : c.symbols.result.now ≡ s.rules.symbols = c.symbols.ensures.symbols ∙ ap (λ (r : Rules). r.symbols) (c.deref-then-ends_run.ensures ∙ rules) in
+    let reached = configuration_of c.run_piece.new.state.words.items c.run_piece.new.state.terms 0 in
+    record {
+      rules = rules;
+      line = subst (λ (ss : List Symbol). c.in_ok-told.told.line.items ≡ if is_written c.args.asked c.in_ok-run.run'.end then line_of ss reached else []) symbols c.in_ok-told.ensures.line;
+      stuck = subst (λ (ss : List Symbol). c.in_ok-run.run'.end ≡ Quiet → option_map (λ (text : Vec ℕ Global). text.items) c.in_ok-told.told.stuck ≡ stuck_text ss reached) symbols
+          c.in_ok-told.ensures.stuck;
+      unstuck = c.in_ok-told.ensures.unstuck;
+    }
 
 pub loop-preserved : goal.loop-preserved
 loop-preserved g c = record {
   least = omega (arith, c.loop.invariant.least, c.in_ok-run.ensures.later);
   most = omega (arith, c.loop.invariant.most, c.in_ok-run.ensures.within, c.min.ensures, c.saturating_sub-left.ensures);
   millis = omega (arith, c.loop.invariant.millis, c.in_ok-run.ensures.millis);
-  state = λ s is.
-      let disk = g.D.Disk in
+  from = λ s is.
       let first = kept_by c.args.state in
       let old = kept_by c.loop.state in
+      let new = kept_by c.run_piece.new.state in
       let reads = subst (λ (text : List ℕ). ReadsSystemWithin Wide text (Ok s)) (sym c.deref.ensures.value) is.reads in
       let sound = c.in_ok-rules.ensures.sound s reads in
       let rules = c.in_ok-rules.ensures.rules s reads in
-      let new = kept_by c.run_piece.new.state in
-      let is_new : IsStateOf s new = c.in_ok-run.ensures.goes_on s sound rules (c.loop.invariant.state s is) in
-      is_new;
+      c.in_ok-run.ensures.further s first sound rules (c.loop.invariant.from s is);
   kept = λ s is is_kept.
       let disk = g.D.Disk in
       let first = kept_by c.args.state in
       let old = kept_by c.loop.state in
+      let new = kept_by c.run_piece.new.state in
       let reads = subst (λ (text : List ℕ). ReadsSystemWithin Wide text (Ok s)) (sym c.deref.ensures.value) is.reads in
       let sound = c.in_ok-rules.ensures.sound s reads in
       let rules = c.in_ok-rules.ensures.rules s reads in
-      let new = kept_by c.run_piece.new.state in
-      let is_new : IsStateOf s new = c.in_ok-run.ensures.goes_on s sound rules (c.loop.invariant.state s is) in
       let has = c.loop.invariant.kept s is is_kept in
-      keeps_on disk.keeps disk.image disk.clock disk.left s first c.args.keeper.now old new c.loop.keeper c.keep_further.new.keeper has is_new c.in_ok-keep_further.ensures.kept;
+      let onward = c.in_ok-run.ensures.further s has.kept sound rules has.onward in
+      let now = keeps_on disk.keeps disk.image disk.clock disk.left s first c.args.keeper.now old new c.loop.kept_ended c.in_ok-now_ended.now_ended c.loop.keeper c.keep_further.new.keeper
+      has onward (c.states_are_reached.ensures s new onward.is) c.in_ok-run.ensures.stays c.in_ok-now_ended.ensures.kept in
+      now;
 }
 
 pub returns-clause-way : goal.returns-clause-way
 returns-clause-way g c s is is_kept =
     let disk = g.D.Disk in
-    way_of disk.keeps disk.image disk.clock disk.left s (kept_by c.args.state) c.args.keeper.now (kept_by c.loop.state) c.loop.keeper (c.loop.invariant.kept s is is_kept)
+    way_of disk.keeps disk.image disk.clock disk.left s (kept_by c.args.state) c.args.keeper.now (kept_by c.loop.state) c.loop.kept_ended c.loop.keeper (c.loop.invariant.kept s is is_kept)

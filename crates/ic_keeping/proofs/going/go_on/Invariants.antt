@@ -1,17 +1,17 @@
 use Rattle.std.proofs.Common.{◌≤◌, max}
 use Rattle.ic_rules.specs.System.{SystemParts}
 use Rattle.ic_state.specs.State.{IsKept, kept_by}
-use Rattle.ic_keeping.specs.Way.{IsStateOf}
+use Rattle.ic_keeping.specs.Way.{IsReachedFrom, IsStateOf}
 use Rattle.ic_keeping.proofs.GoingLemmas.{HasKept}
 use Rattle.ic_keeping.proofs.going.go_on.Given as goal
 
--- the state is one of the reduction, and what is kept goes as far
+-- the state is reached from the one that was given, and what is kept goes as far
 abbrev pub invariant-loop : goal.invariant-loop
 invariant-loop g l = record {
   least : l.fn.state.interactions ≤ l.state.interactions;
   most : l.state.interactions ≤ max l.fn.bounds.steps l.fn.state.interactions;
   millis : l.fn.state.millis ≤ l.state.millis;
-  state : (s : SystemParts) → IsStateOf s (kept_by l.fn.state) → IsStateOf s (kept_by l.state);
+  from : (s : SystemParts) → IsStateOf s (kept_by l.fn.state) → IsReachedFrom s (kept_by l.fn.state) (kept_by l.state);
   kept : (s : SystemParts) → IsStateOf s (kept_by l.fn.state) → IsKept (kept_by l.fn.state)
-      → HasKept g.D.Disk.keeps g.D.Disk.image g.D.Disk.clock g.D.Disk.left s (kept_by l.fn.state) l.fn.keeper (kept_by l.state) l.keeper;
+      → HasKept g.D.Disk.keeps g.D.Disk.image g.D.Disk.clock g.D.Disk.left s (kept_by l.fn.state) l.fn.keeper (kept_by l.state) l.kept_ended l.keeper;
 }

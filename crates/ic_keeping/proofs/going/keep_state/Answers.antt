@@ -1,5 +1,8 @@
-use Rattle.std.proofs.Common.{◌∙◌, ℕ, List, Ok, subst}
+use Rattle.std.proofs.Common.{◌≡◌, ◌∙◌, ℕ, List, Ok, subst}
+use Rattle.ic_frames.specs.declared.faults.KeepFault.{KeepFault}
 use Rattle.ic_kept.specs.Keeping.{CrashInKeeping}
+use Rattle.ic_keeping.specs.Life.{KeepFails}
+use Rattle.ic_keeping.proofs.Refusing.{keep_fails}
 use Rattle.ic_keeping.proofs.going.keep_state.Goals as goal
 
 pub returns-in-Ok-clause-keeps : goal.returns-in-Ok-clause-keeps
@@ -10,3 +13,9 @@ returns-in-Ok-clause-keeps g c =
           (c.deref.ensures.value ∙ c.in_ok-bytes.ensures.bytes) c.in-Ok.ensures.crash;
       model = c.in-Ok.ensures.model;
     }
+
+pub returns-clause-failed : goal.returns-clause-failed
+returns-clause-failed g c cause same =
+    let one : c.in-Err.fault ≡ cause = cc (same) in
+    subst (λ (fault : KeepFault). KeepFails fault c.keep.new.self) one
+    (keep_fails c.in-Err.fault c.args.keeper.now c.keep.new.self c.in-Err.ensures.fault)

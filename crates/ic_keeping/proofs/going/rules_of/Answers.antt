@@ -1,4 +1,4 @@
-use Rattle.std.proofs.Common.{◌≡◌, Ok, subst}
+use Rattle.std.proofs.Common.{◌≡◌, ⊎_elim, Ok, Err, subst}
 use Rattle.ic_rules.specs.System.{SystemParts}
 use Rattle.ic_text.specs.declared.limits.Limits.TheVariants.{Wide}
 use Rattle.ic_keeping.specs.Way.{IsSound}
@@ -9,3 +9,11 @@ returns-in-Ok-clause-sound c s reads =
     let one = c.one_system_reading.ensures.answer Wide c.args.text.now (Ok c.in-Ok.system) (Ok s) c.in-Ok.ensures.read reads in
     let same : c.in-Ok.system ≡ s = cc (one) in
     subst (λ (t : SystemParts). IsSound t) same c.systems_are_sound.ensures
+
+pub returns-in-Err-clause-refused : goal.returns-in-Err-clause-refused
+returns-in-Err-clause-refused c s reads = ⊎_elim
+    (λ memory. memory)
+    (λ other.
+    let one = c.one_system_reading.ensures.answer Wide c.args.text.now (Err c.in-Err.misread.fault) (Ok s) (c.in-Err.ensures.refused other) reads in
+    cc (one))
+    c.unread.ensures.memory

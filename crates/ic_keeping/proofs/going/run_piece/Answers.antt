@@ -1,20 +1,27 @@
-use Rattle.std.proofs.Common.{◌≡◌, ◌∙◌, ℕ, List, length, sym, ap, subst, arith}
+use Rattle.std.proofs.Common.{◌≡◌, ◌∙◌, ℕ, ◌+◌, ◌*◌, ◌≤◌, List, length, sym, ap, subst, arith}
+use Rattle.std.proofs.lemmas.Result.{err_from_is_err_and}
 use Rattle.std.specs.Prelude.{IsTrue}
 use Rattle.std.specs.Arc.{arc_value}
 use Rattle.std.specs.List.{list_all}
 use Rattle.ic_rules.specs.RuleSet.{Rules}
+use Rattle.ic_term.specs.Configuration.{configuration_names, occurrences}
+use Rattle.ic_term.specs.Symbol.{is_over}
 use Rattle.ic_flat.specs.declared.word.Word.{Word}
 use Rattle.ic_flat.specs.Flat.{configuration_of}
 use Rattle.ic_flat.specs.Words.{forest, is_word_over, IsWhole}
 use Rattle.ic_in_place.specs.declared.running.End.{End}
 use Rattle.ic_state.specs.State.{kept_by}
 use Rattle.ic_keeping.specs.Way.{IsAnswer}
+use Rattle.ic_keeping.proofs.LowNames.{TellingLaws}
 use Rattle.ic_keeping.proofs.Quiet.{QuietLaws}
-use Rattle.ic_keeping.proofs.WayLemmas.{NamingLaws, ReachingLaws, answer_of, state_of}
+use Rattle.ic_keeping.proofs.WayLemmas.{NamingLaws, ReachingLaws, answer_of, counts_stay, reached_from}
 use Rattle.ic_keeping.proofs.going.run_piece.Goals as goal
 
-pub returns-clause-goes_on : goal.returns-clause-goes_on
-returns-clause-goes_on g c s sound rules is =
+whole : (words made : List Word) → words ≡ made → IsWhole made → IsWhole words
+whole words made same is = subst (λ (ws : List Word). IsWhole ws) (sym same) is
+
+pub returns-clause-further : goal.returns-clause-further
+returns-clause-further g c s first sound rules from =
     let naming : NamingLaws = record {
       next = c.a_name_step_leads_to_one_net.ensures.next;
       net = c.a_renumbered_net_is_the_same_net.ensures.net;
@@ -36,9 +43,38 @@ returns-clause-goes_on g c s sound rules is =
     let equations = c.in_ok-system.ensures.equations ∙ ap (λ (ws : List Word). (configuration_of ws old.terms 0).equations) words in
     let piece = c.in_ok-piece.ensures in
     let quiet_laws : QuietLaws = record { test = c.quiet_is_no_step.ensures; same = c.same_nets_take_the_same_steps.ensures.quiet; renumbered = c.a_renumbered_net_is_the_same_net.ensures.same } in
-    state_of naming laws s t sound (kept_by old) (kept_by c.take_in.new.state) is (c.in_ok-system.ensures.rules ∙ rules) interface equations c.in_ok-system.ensures.names c.in_ok-system.ensures.low
+    let telling : TellingLaws = record {
+      words = c.renumbered_words_write_the_renumbered_configuration.ensures.words;
+      names = c.renamed_words_write_renamed_terms.ensures.names;
+      low = c.names_are_told_apart.ensures.low;
+    } in
+    reached_from naming laws s t sound (kept_by old) (kept_by c.take_in.new.state) from.is (c.in_ok-system.ensures.rules ∙ rules) interface equations c.in_ok-system.ensures.names c.in_ok-system.ensures.low
     c.args.bounds answer.0 reduced.end reduced.interactions reduced.places reduced.left reduced.by_rule.items answer.1 answer.2 reduced.words.items reduced.terms answer.4.written
-    piece.text piece.words piece.terms piece.interactions piece.by_rule quiet_laws piece.ended
+    piece.text piece.words piece.terms piece.interactions piece.by_rule first from quiet_laws telling piece.ended.0
+    (whole c.take_in.new.state.words.items reduced.words.items piece.words answer.4.whole) reduced.equations
+    (ap (λ (ws : List Word). length (forest ws)) piece.words ∙ answer.4.counted ∙ omega (arith, piece.terms))
+
+pub returns-clause-stays : goal.returns-clause-stays
+returns-clause-stays g c same =
+    let piece = c.in_ok-piece.ensures in
+    let reached = c.in_ok-reduced.ensures.1 in
+    counts_stay _ reached.reached.fired c.args.state.now.by_rule.items c.in_ok-reduced.reduced.by_rule.items c.take_in.new.state.by_rule.items
+    (omega (arith, same, piece.interactions, reached.reached.counted)) reached.counts piece.by_rule
+
+pub returns-in_err-system-clause-refused : goal.returns-in_err-system-clause-refused
+returns-in_err-system-clause-refused g c s sound rules is =
+    let old = c.args.state.now in
+    let words : c.replace-words.result.items ≡ old.words.items = ap (λ ws. ws.items) c.replace-words.ensures.value in
+    let there = configuration_of old.words.items old.terms is.next in
+    let names = c.what_is_reached_is_one_net.ensures.names s.rules.rules s.config there is.way.fired is.way.reached in
+    let over = c.what_is_reached_is_one_net.ensures.over s.rules s.config there is.way.fired sound.rules sound.over sound.names is.way.reached in
+    let e = err_from_is_err_and c.from_residual.result c.from_residual.ensures.1 in
+    rw (e.1, e.2) (c.in_err-system.ensures.refused is.equations
+    (whole c.replace-words.result.items old.words.items words is.whole)
+    (subst (λ (ws : List Word). length (forest ws) ≡ old.terms + 2 * is.equations) (sym words) is.counted)
+    (subst (λ (ws : List Word). (n : ℕ) → occurrences n (configuration_names (configuration_of ws old.terms 0)) ≤ 2) (sym words) names.twice)
+    (subst (λ (ws : List Word). IsTrue (is_over (arc_value c.args.rules.now).symbols (configuration_of ws old.terms 0))) (sym words)
+    (subst (λ (rs : Rules). IsTrue (is_over rs.symbols there)) (sym rules) over)))
 
 pub returns-clause-answer : goal.returns-clause-answer
 returns-clause-answer g c s most sound rules is nodes few = λ steps.
@@ -73,7 +109,7 @@ pub returns-clause-within : goal.returns-clause-within
 returns-clause-within g c = omega (arith, c.in_ok-piece.ensures.interactions, c.in_ok-reduced.ensures.1.reached.within)
 
 pub returns-clause-whole : goal.returns-clause-whole
-returns-clause-whole g c = subst (λ (ws : List Word). IsWhole ws) (sym c.in_ok-piece.ensures.words) c.in_ok-reduced.ensures.4.whole
+returns-clause-whole g c = whole c.take_in.new.state.words.items c.in_ok-reduced.reduced.words.items c.in_ok-piece.ensures.words c.in_ok-reduced.ensures.4.whole
 
 pub returns-clause-over : goal.returns-clause-over
 returns-clause-over g c = subst (λ (ws : List Word). IsTrue (list_all (is_word_over (arc_value c.args.rules.now).symbols) ws)) (sym c.in_ok-piece.ensures.words)

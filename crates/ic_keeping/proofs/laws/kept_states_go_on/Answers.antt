@@ -1,16 +1,19 @@
 use Rattle.std.proofs.Common.{◌≡◌, sym, subst}
 use Rattle.ic_state.specs.State.{Kept}
-use Rattle.ic_keeping.specs.Way.{GoesFurther, IsStateOf}
+use Rattle.ic_keeping.specs.Way.{GoesFurther, IsReachedFrom}
 use Rattle.ic_keeping.proofs.laws.kept_states_go_on.Goals as goal
 
 pub returns-clause-after : goal.returns-clause-after
 returns-clause-after c = λ s k next k_kept next_kept is.
     let one : k ≡ is.before = c.each_state_has_its_own_bytes.ensures k is.before k_kept is.was_kept is.old_is in
     let other : next ≡ is.after = c.each_state_has_its_own_bytes.ensures next is.after next_kept is.is_kept is.new_is in (
-      subst (λ (x : Kept). IsStateOf s x) (sym other) is.state,
-      subst (λ (x : Kept). GoesFurther x.interactions next) (sym one) (subst (λ (x : Kept). GoesFurther is.before.interactions x) (sym other) is.further),
+      subst (λ (x : Kept). IsReachedFrom s x next) (sym one) (subst (λ (x : Kept). IsReachedFrom s is.before x) (sym other) is.from),
+      subst (λ (x : Kept). GoesFurther x.interactions x.ended next) (sym one) (subst (λ (x : Kept). GoesFurther is.before.interactions is.before.ended x) (sym other) is.further),
     )
 
 pub returns-clause-of : goal.returns-clause-of
 returns-clause-of c s least one other held =
     (held.0, (held.1.0, held.1.1, held.1.2, held.1.4), held.2)
+
+pub returns-clause-reached : goal.returns-clause-reached
+returns-clause-reached c = λ s k next is. (is.was, is.is, is.was.next, is.is.next, is.more, is.reached, is.counted)

@@ -18,3 +18,6 @@ returns-clause-midst g c = λ after first last next mid end course comes keep t 
 pub returns-clause-refused : goal.returns-clause-refused
 returns-clause-refused g c = λ after first last next mid end fault course comes keep t one other there since left.
     inr (record { kept_is = refl; coming_is = refl; spared = there; written = (t, since, left) })
+
+pub returns-clause-earlier_refused : goal.returns-clause-earlier_refused
+returns-clause-earlier_refused g c = λ after first last next mid end fault course comes keep kept coming one other there. inl there

@@ -1,0 +1,18 @@
+use Rattle.std.proofs.Common.{inl, inr, refl}
+use Rattle.ic_keeping.proofs.laws.what_a_kept_end_says.Goals as goal
+
+pub returns-clause-quiet : goal.returns-clause-quiet
+returns-clause-quiet c = λ s bounds places left k is. (is.ended, is.ends (inl refl))
+
+pub returns-clause-steps : goal.returns-clause-steps
+returns-clause-steps c = λ s bounds places left k is. (is.ended.1, is.ended.0, is.ends (inr refl))
+
+pub returns-clause-nodes : goal.returns-clause-nodes
+returns-clause-nodes c = λ s bounds places left k is. is.ended
+
+pub returns-clause-limit : goal.returns-clause-limit
+returns-clause-limit c = λ s bounds places left k is. is.ended
+
+pub returns-clause-piece : goal.returns-clause-piece
+returns-clause-piece c = λ s bounds end places left k is.
+    (is.piece.from, is.piece.most, is.piece.made, is.piece.by_rule, is.piece.rules, is.piece.nodes, is.piece.reached)

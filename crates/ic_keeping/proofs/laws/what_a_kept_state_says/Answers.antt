@@ -1,0 +1,13 @@
+use Rattle.ic_keeping.proofs.laws.what_a_kept_state_says.Goals as goal
+
+pub returns-clause-reads : goal.returns-clause-reads
+returns-clause-reads c = λ s k is. is.reads
+
+pub returns-clause-way : goal.returns-clause-way
+returns-clause-way c = λ s k is. (is.next, is.way.fired, is.way.reached, is.way.counted, is.way.counts)
+
+pub returns-clause-begun : goal.returns-clause-begun
+returns-clause-begun c = λ s k is. (is.state, is.config, is.none, is.goes_on, is.millis)
+
+pub returns-clause-ended : goal.returns-clause-ended
+returns-clause-ended c = λ s k is ended. (is.next, is.quiet ended)

@@ -1,0 +1,65 @@
+-- One life of a reduction that is kept, what it tells, and why it stops (this project's choice).
+use Rattle.std.specs.Prelude.{◌≡◌, ◌≢◌, ◌⊎◌, ℕ, ◌-◌, ◌^◌, Bool, true, List, [], IsNone, if◌then◌else◌}
+use Rattle.std.specs.Arc.{arc_value}
+use Rattle.std.specs.Option.{option_map}
+use Rattle.ic_by_rounds.specs.Stuck.{stuck_text}
+use Rattle.ic_flat.specs.Flat.{configuration_of}
+use Rattle.ic_frames.specs.declared.faults.KeepFault.{KeepFault}
+use Rattle.ic_frames.specs.declared.faults.KeepFault.TheVariants.{Broken, Worn, Device}
+use Rattle.ic_in_place.specs.declared.running.End.TheVariants.{Quiet}
+use Rattle.ic_in_place.specs.declared.stream.Asked.{Asked}
+use Rattle.ic_in_place.specs.Reductions.{is_written}
+use Rattle.ic_kept.specs.declared.keeper.Keeper.{Keeper}
+use Rattle.ic_kept.specs.Course.{Way}
+use Rattle.ic_kept.specs.Keeper.{is_broken, number_of}
+use Rattle.ic_kept.specs.Lives.{AreOpened, Lives}
+use Rattle.ic_rules.specs.System.{SystemParts}
+use Rattle.ic_state.specs.State.{Kept, IsKept, state_bytes}
+use Rattle.ic_streams.specs.Streams.{line_of}
+use Rattle.ic_keeping.specs.declared.fault.KeepingFault.{KeepingFault}
+use Rattle.ic_keeping.specs.declared.fault.KeepingFault.TheVariants.{Keep, Limit, Memory}
+use Rattle.ic_keeping.specs.declared.going.Ended.{Ended}
+use Rattle.ic_keeping.specs.Way.{IsKeptAfter, IsStateOf}
+
+-- What is told of a run's end: the rules of the system, and the line of what was reached, where it is asked for. At a quiet
+-- end it is told which equation of two agents is the first, by their symbols: no rule has them.
+pub record IsTold (s : SystemParts) (asked : Asked) (ended : Ended) : Type 0 where
+  pub rules : arc_value ended.rules ≡ s.rules
+  pub line : ended.line.items ≡ if is_written asked ended.end
+      then line_of s.rules.symbols
+      (configuration_of ended.state.words.items ended.state.terms 0) else []
+  pub stuck : ended.end ≡ Quiet
+      → option_map (λ text. text.items) ended.stuck
+      ≡ stuck_text s.rules.symbols
+      (configuration_of ended.state.words.items ended.state.terms 0)
+  pub unstuck : ended.end ≢ Quiet → IsNone ended.stuck
+
+-- a run from a state of its reduction stops by these faults only
+abbrev pub StopsARun : KeepingFault → Type 0
+StopsARun fault = (fault ≡ Memory) ⊎ (fault ≡ Limit) ⊎ ((cause : KeepFault) × (fault ≡ Keep cause))
+
+-- what a keep that was refused says of its keeper
+abbrev pub KeepFails : {D : Type 0} → KeepFault → Keeper D → Type 0
+KeepFails Broken k = is_broken k ≡ true
+KeepFails Worn k = number_of k ≡ 2 ^ 64 - 1
+KeepFails Device k = is_broken k ≡ true
+
+module _ {D : Type 0} (keeps_model : D → Bool) (content : D → List ℕ)
+    (image : D → List ℕ → Type 0) (clock : D → ℕ) (left : D → ℕ → List ℕ → Type 0) where
+  -- These disks are found after some lives of the reduction of this system, which began with files that hold this state. One
+  -- state was kept last, and the other one was coming, if one was.
+  pub record HasLived (s : SystemParts) (begun : Kept) (kept coming : List ℕ) (first second : D)
+      : Type 0 where
+    pub is_kept : IsKept begun
+    pub state : IsStateOf s begun
+    pub lives : Lives keeps_model content image clock left (IsKeptAfter s) (state_bytes begun)
+        kept coming first second
+
+  -- One life of the reduction of this system: two disks were opened, this state was found on them, and a keeper went on from
+  -- there.
+  pub record IsLife (s : SystemParts) (found : Kept) (first second : D) (k n : Keeper D)
+      : Type 0 where
+    pub is_kept : IsKept found
+    pub state : IsStateOf s found
+    pub opened : AreOpened keeps_model content image clock left (state_bytes found) first second k
+    pub way : Way keeps_model image clock left (IsKeptAfter s) (state_bytes found) k n
