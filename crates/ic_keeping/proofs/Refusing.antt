@@ -1,26 +1,65 @@
 -- Why a run stops, and what a keep that was refused says.
-use Rattle.std.proofs.Common.{◌≡◌, ◌⊎◌, inl, inr, ℕ, Bool, true, false, List, Err, None, refl, sym, ap, subst, ◌∙◌}
+use Rattle.std.proofs.Common.{◌≡◌, ◌≢◌, ◌⊎◌, inl, inr, ℕ, Bool, true, false, List, Result, Ok, Err, None, refl, sym, ap, subst, ◌∙◌}
 use Rattle.std.specs.Prelude.{IsTrue}
 use Rattle.ic_frames.specs.declared.faults.KeepFault.{KeepFault}
 use Rattle.ic_frames.specs.declared.faults.KeepFault.TheVariants.{Broken, Worn, Device}
 use Rattle.ic_frames.specs.declared.faults.OpenCause.TheVariants as opening
 use Rattle.ic_kept.specs.declared.keeper.Keeper.{Keeper}
+use Rattle.ic_kept.specs.Keeper.{is_broken, newest_of, number_of, other_of}
 use Rattle.ic_kept.specs.Keeping.{FaultLeaves}
+use Rattle.ic_kept.specs.Opening.{InSomeOrder}
 use Rattle.ic_term.specs.Configuration.{Configuration, configuration_names, restored_if, third_occurrence, unless_third}
 use Rattle.ic_term.specs.declared.config.ConfigFault.TheVariants.{Name}
 use Rattle.ic_term.specs.Symbol.{Symbol, is_over}
 use Rattle.ic_term.specs.Tree.{Tree, Pair}
 use Rattle.ic_keeping.specs.declared.fault.KeepingFault.{KeepingFault}
-use Rattle.ic_keeping.specs.declared.fault.KeepingFault.TheVariants.{Limit, Memory, Open}
+use Rattle.ic_frames.specs.declared.faults.OpenCause.{OpenCause}
+use Rattle.ic_keeping.specs.declared.fault.KeepingFault.TheVariants.{Keep, Limit, Memory, NotEmpty, Open, Unsound}
+use Rattle.ic_keeping.specs.declared.fault.KeepingFault.TheVariants as keeping
 use Rattle.ic_keeping.specs.Life.{KeepFails, StopsARun}
 
+not_true : (b : Bool) → (b ≡ true → ⊥) → b ≡ false
+not_true true other = absurd (other refl)
+not_true false other = refl
+
+device_is_not_broken : ◌≢◌ {A = Result (Unit {0}) KeepFault} (Err Device) (Err Broken)
+device_is_not_broken = λ same. cc
+
+ok_is_not_broken : ◌≢◌ {A = Result (Unit {0}) KeepFault} (Ok tt) (Err Broken)
+ok_is_not_broken = λ same. cc
+
 -- what a refused keep leaves says why
-pub keep_fails : {D : Type 0} (cause : KeepFault) (old new : Keeper D) → FaultLeaves {T = Unit {0}} (Err cause) old new → KeepFails cause new
-keep_fails {D} Broken old new leaves =
-    subst (λ (k : Keeper D). KeepFails Broken k) (sym (leaves.refused refl (λ is. cc))) (leaves.broken.0 refl)
+pub keep_fails : {D : Type 0} (cause : KeepFault) (old new : Keeper D) → FaultLeaves {T = Unit {0}} (Err cause) old new → KeepFails cause old new
+keep_fails {D} Broken old new leaves = (leaves.broken.0 refl, leaves.refused refl (λ is. cc))
 keep_fails {D} Worn old new leaves =
-    subst (λ (k : Keeper D). KeepFails Worn k) (sym (leaves.refused refl (λ is. cc))) (leaves.worn.0 refl).1
-keep_fails Device old new leaves = leaves.breaks refl
+    let worn = leaves.worn.0 refl in
+    let same : new ≡ old = leaves.refused refl (λ is. cc) in
+    (worn.0, ap (λ (k : Keeper D). is_broken k) same ∙ worn.0, ap (λ (k : Keeper D). number_of k) same ∙ worn.1)
+keep_fails Device old new leaves = (not_true (is_broken old) (λ broken. device_is_not_broken (leaves.broken.1 broken)), leaves.breaks refl)
+
+-- and one that was answered
+pub keep_ready : {D : Type 0} (old new : Keeper D) → FaultLeaves {T = Unit {0}} (Ok tt) old new → (is_broken old ≡ false) × (is_broken new ≡ false)
+keep_ready old new leaves = (not_true (is_broken old) (λ broken. ok_is_not_broken (leaves.broken.1 broken)), leaves.ready)
+
+-- keeps that were answered, if there were any
+abbrev pub WereReady : {D : Type 0} (old new : Keeper D) → Type 0
+WereReady old new = (new ≡ old) ⊎ ((is_broken old ≡ false) × (is_broken new ≡ false))
+
+pub ready_on : {D : Type 0} (start old new : Keeper D) → WereReady start old → WereReady old new → WereReady start new
+ready_on start old new (inl none) (inl same) = inl (same ∙ none)
+ready_on {D} start old new (inl none) (inr both) = inr (subst (λ (k : Keeper D). is_broken k ≡ false) none both.0, both.1)
+ready_on {D} start old new (inr before) (inl same) = inr (before.0, subst (λ (k : Keeper D). is_broken k ≡ false) (sym same) before.1)
+ready_on start old new (inr before) (inr both) = inr (before.0, both.1)
+
+fails_after : {D : Type 0} (cause : KeepFault) (start old new : Keeper D) → is_broken start ≡ false → is_broken old ≡ false → KeepFails cause old new → KeepFails cause start new
+fails_after Broken start old new ready now fails = let e : false ≡ true = sym now ∙ fails.0 in cc
+fails_after Worn start old new ready now fails = (ready, fails.1, fails.2)
+fails_after Device start old new ready now fails = (ready, fails.1)
+
+-- a keep that was refused after them
+pub fails_on : {D : Type 0} (cause : KeepFault) (start old new : Keeper D) → WereReady start old → KeepFails cause old new → KeepFails cause start new
+fails_on {D} cause start old new (inl none) fails = subst (λ (k : Keeper D). KeepFails cause k new) none fails
+fails_on cause start old new (inr both) fails = fails_after cause start old new both.0 both.1 fails
 
 -- names that occur twice at most aren't refused
 pub no_third : (within : Bool) (c : Configuration) (n : ℕ) → third_occurrence (configuration_names c) ≡ None → Err (Name n) ≡ restored_if within c → ⊥
@@ -37,6 +76,42 @@ over_parts ss c d interface equations over =
 pub of_two : (fault : KeepingFault) → (fault ≡ Memory) ⊎ (fault ≡ Limit) → StopsARun fault
 of_two fault (inl memory) = inl memory
 of_two fault (inr limit) = inr (inl limit)
+
+-- and not where it can't open its disks
+pub run_unopened : (fault : KeepingFault) → StopsARun fault → (cause : OpenCause) → fault ≡ Open cause → ⊥
+run_unopened fault (inl memory) cause same = let e : Memory ≡ Open cause = sym memory ∙ same in cc
+run_unopened fault (inr (inl limit)) cause same = let e : Limit ≡ Open cause = sym limit ∙ same in cc
+run_unopened fault (inr (inr refused)) cause same = let e : Keep refused.0 ≡ Open cause = sym refused.1 ∙ same in cc
+
+-- nor for what stands in them, nor for a call or a file as a reduction begins
+pub run_sound : StopsARun Unsound → ⊥
+run_sound (inl memory) = cc (memory)
+run_sound (inr (inl limit)) = cc (limit)
+run_sound (inr (inr refused)) = let e : Unsound ≡ Keep refused.0 = refused.1 in cc
+
+pub run_begun : StopsARun NotEmpty → ⊥
+run_begun (inl memory) = cc (memory)
+run_begun (inr (inl limit)) = cc (limit)
+run_begun (inr (inr refused)) = let e : NotEmpty ≡ Keep refused.0 = refused.1 in cc
+
+pub run_no_call : StopsARun keeping.Device → ⊥
+run_no_call (inl memory) = cc (memory)
+run_no_call (inr (inl limit)) = cc (limit)
+run_no_call (inr (inr refused)) = let e : keeping.Device ≡ Keep refused.0 = refused.1 in cc
+
+pub not_unsound : (fault : KeepingFault) → (fault ≡ Memory) ⊎ (fault ≡ Limit) → fault ≡ Unsound → ⊥
+not_unsound fault (inl memory) same = let e : Memory ≡ Unsound = sym memory ∙ same in cc
+not_unsound fault (inr limit) same = let e : Limit ≡ Unsound = sym limit ∙ same in cc
+
+pub run_not_unsound : (fault : KeepingFault) → StopsARun fault → fault ≡ Unsound → ⊥
+run_not_unsound fault stops same = run_sound (subst (λ (f : KeepingFault). StopsARun f) same stops)
+
+-- the disks of a keeper that was left as it was are those that were opened
+pub as_read : {D : Type 0} (R : D → D → Type 0) (first second one other : D) (k n : Keeper D) → one ≡ newest_of n → other ≡ other_of n → n ≡ k
+    → InSomeOrder R first second (newest_of k) (other_of k) → InSomeOrder R first second one other
+as_read {D} R first second one other k n is is_too stayed reads =
+    subst (λ (x : D). InSomeOrder R first second x other) (sym (is ∙ ap (λ (j : Keeper D). newest_of j) stayed))
+    (subst (λ (y : D). InSomeOrder R first second (newest_of k) y) (sym (is_too ∙ ap (λ (j : Keeper D). other_of j) stayed)) reads)
 
 -- and a life, too, where it can't open its disks
 pub as_a_life : (fault : KeepingFault) → (fault ≡ Open opening.Device) ⊎ (fault ≡ Open opening.Memory) ⊎ (fault ≡ Memory)

@@ -28,6 +28,7 @@ use Rattle.ic_text.specs.SystemText.{ReadsSystemWithin}
 use Rattle.ic_text.specs.declared.limits.Limits.TheVariants.{Wide}
 use Rattle.ic_round.specs.Rounds.{IsQuiet}
 use Rattle.ic_state.specs.State.{Kept}
+use Rattle.ic_keeping.specs.inner.Pieces.{IsWritten}
 use Rattle.ic_keeping.specs.Way.{AreSums, EndsWithin, IsAnswer, IsOnWay, IsReachedFrom, IsSound, IsStateOf}
 use Rattle.ic_keeping.proofs.LowNames.{TellingLaws, low_words}
 use Rattle.ic_keeping.proofs.Quiet.{QuietLaws, quiet_too}
@@ -203,8 +204,8 @@ module _ (naming : NamingLaws) (laws : ReachingLaws) (s t : SystemParts) (sound 
       names = laws.names s.rules.rules s.config middle.config from.was.way.fired from.was.way.reached;
     }
 
-    pub reached_from : QuietLaws → TellingLaws → (new.ended ≡ true → end ≡ Quiet) → IsWhole new.words → (n : ℕ) → length (forest new.words) ≡ new.terms + 2 * n → IsReachedFrom s first new
-    reached_from quiet_laws telling ended whole n counted = record {
+    pub reached_from : QuietLaws → TellingLaws → k.millis ≤ new.millis → (new.ended ≡ true → end ≡ Quiet) → IsWhole new.words → (n : ℕ) → length (forest new.words) ≡ new.terms + 2 * n → IsReachedFrom s first new
+    reached_from quiet_laws telling later ended whole n counted = record {
       was = from.was;
       is = record {
         reads = subst (λ (text : List ℕ). ReadsSystemWithin Wide text (Ok s)) (sym same_text) is.reads;
@@ -227,6 +228,8 @@ module _ (naming : NamingLaws) (laws : ReachingLaws) (s t : SystemParts) (sound 
       reached = kept_reached naming laws middle t middle_sound (configuration_of k.words k.terms from.is.next) from.more from.reached rules interface equations names bounds answer end j places left more r
           low new.words new.terms new_written;
       counted = omega (arith, sum, from.counted, r.reached.counted, length-append from.more r.reached.fired);
+      text = same_text ∙ from.text;
+      millis = omega (arith, from.millis, later);
     }
 
 -- a state is reached from itself
@@ -239,6 +242,8 @@ itself_reached itself names s k is = record {
   reached = itself s.rules.rules (configuration_of k.words k.terms is.next)
       (names s.rules.rules s.config (configuration_of k.words k.terms is.next) is.way.fired is.way.reached);
   counted = omega arith;
+  text = refl;
+  millis = omega arith;
 }
 
 -- A text from which no interaction was made.
@@ -253,3 +258,20 @@ begun_on_way s by itself names long none = record {
 
 pub names_of : (c : Configuration) → IsWide c → HasNames c
 names_of c is = record { below = is.below; twice = is.twice }
+
+-- what a piece has reached from a system is written by its words
+pub reached_written : (naming : NamingLaws) (laws : ReachingLaws) → ((rs : List Rule) (c : Configuration) → HasNames c → Reaches rs c c []) → (t : SystemParts) → IsSound t
+    → (bounds : Bounds) (answer : Configuration) (end : End) (j places left : ℕ) (more : List ℕ) → IsReachedBy t bounds answer end j places left more → t.config.next ≤ MAX_NAME + 1
+    → (words : List Word) (terms : ℕ) → configuration_of words terms (MAX_NAME + 1) ≡ renumbered answer → IsWhole words → (n : ℕ) → length (forest words) ≡ terms + 2 * n
+    → IsWritten t.rules.symbols words terms
+reached_written naming laws itself t sound bounds answer end j places left more r low words terms written whole n counted =
+    let reached = kept_reached naming laws t t sound t.config [] (itself t.rules.rules t.config sound.names) refl refl refl sound.names bounds answer end j places left more r
+    low words terms written in
+    let now = configuration_of words terms (one_above (configuration_names (configuration_of words terms 0))) in
+    record {
+      whole = whole;
+      equations = n;
+      counted = counted;
+      twice = (laws.names t.rules.rules t.config now _ reached).twice;
+      over = laws.over t.rules t.config now _ sound.rules sound.over sound.names reached;
+    }

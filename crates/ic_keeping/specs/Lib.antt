@@ -1,3 +1,4 @@
 pub mod Way
 pub mod Disks
 pub mod Life
+pub mod inner

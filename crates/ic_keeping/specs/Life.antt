@@ -1,11 +1,12 @@
 -- One life of a reduction that is kept, what it tells, and why it stops (this project's choice).
-use Rattle.std.specs.Prelude.{◌≡◌, ◌≢◌, ◌⊎◌, ℕ, ◌-◌, ◌^◌, Bool, true, List, [], IsNone, if◌then◌else◌}
+use Rattle.std.specs.Prelude.{◌≡◌, ◌≢◌, ◌⊎◌, ℕ, ◌-◌, ◌^◌, Bool, true, false, List, [], IsNone, if◌then◌else◌}
 use Rattle.std.specs.Arc.{arc_value}
 use Rattle.std.specs.Option.{option_map}
 use Rattle.ic_by_rounds.specs.Stuck.{stuck_text}
 use Rattle.ic_flat.specs.Flat.{configuration_of}
 use Rattle.ic_frames.specs.declared.faults.KeepFault.{KeepFault}
 use Rattle.ic_frames.specs.declared.faults.KeepFault.TheVariants.{Broken, Worn, Device}
+use Rattle.ic_frames.specs.declared.faults.OpenCause.TheVariants as opening
 use Rattle.ic_in_place.specs.declared.running.End.TheVariants.{Quiet}
 use Rattle.ic_in_place.specs.declared.stream.Asked.{Asked}
 use Rattle.ic_in_place.specs.Reductions.{is_written}
@@ -17,7 +18,7 @@ use Rattle.ic_rules.specs.System.{SystemParts}
 use Rattle.ic_state.specs.State.{Kept, IsKept, state_bytes}
 use Rattle.ic_streams.specs.Streams.{line_of}
 use Rattle.ic_keeping.specs.declared.fault.KeepingFault.{KeepingFault}
-use Rattle.ic_keeping.specs.declared.fault.KeepingFault.TheVariants.{Keep, Limit, Memory}
+use Rattle.ic_keeping.specs.declared.fault.KeepingFault.TheVariants.{Keep, Limit, Memory, Open}
 use Rattle.ic_keeping.specs.declared.going.Ended.{Ended}
 use Rattle.ic_keeping.specs.Way.{IsKeptAfter, IsStateOf}
 
@@ -38,11 +39,18 @@ pub record IsTold (s : SystemParts) (asked : Asked) (ended : Ended) : Type 0 whe
 abbrev pub StopsARun : KeepingFault → Type 0
 StopsARun fault = (fault ≡ Memory) ⊎ (fault ≡ Limit) ⊎ ((cause : KeepFault) × (fault ≡ Keep cause))
 
--- what a keep that was refused says of its keeper
-abbrev pub KeepFails : {D : Type 0} → KeepFault → Keeper D → Type 0
-KeepFails Broken k = is_broken k ≡ true
-KeepFails Worn k = number_of k ≡ 2 ^ 64 - 1
-KeepFails Device k = is_broken k ≡ true
+-- an opening of two files that hold a state of a reduction is refused by these faults only
+abbrev pub StopsAnOpening : KeepingFault → Type 0
+StopsAnOpening fault =
+    (fault ≡ Open opening.Device) ⊎ (fault ≡ Open opening.Memory) ⊎ (fault ≡ Memory)
+
+-- What a keep that was refused says of its keeper, before the first of the keeps that it came after, and now: it was broken,
+-- it has the last number, or it wasn't broken and is.
+abbrev pub KeepFails : {D : Type 0} → KeepFault → (old new : Keeper D) → Type 0
+KeepFails Broken old new = (is_broken old ≡ true) × (new ≡ old)
+KeepFails Worn old new =
+    (is_broken old ≡ false) × (is_broken new ≡ false) × (number_of new ≡ 2 ^ 64 - 1)
+KeepFails Device old new = (is_broken old ≡ false) × (is_broken new ≡ true)
 
 module _ {D : Type 0} (keeps_model : D → Bool) (content : D → List ℕ)
     (image : D → List ℕ → Type 0) (clock : D → ℕ) (left : D → ℕ → List ℕ → Type 0) where

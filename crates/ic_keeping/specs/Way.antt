@@ -51,7 +51,8 @@ pub record IsStateOf (s : SystemParts) (k : Kept) : Type 0 where
   pub equations : ℕ
   pub counted : length (forest k.words) ≡ k.terms + 2 * equations
 
--- A state of a reduction is reached from another one of it, by so many more interactions as it tells.
+-- A state of a reduction is reached from another one of it, by so many more interactions as it tells, and in more time. It
+-- has the same text.
 pub record IsReachedFrom (s : SystemParts) (before after : Kept) : Type 0 where
   pub was : IsStateOf s before
   pub is : IsStateOf s after
@@ -59,6 +60,8 @@ pub record IsReachedFrom (s : SystemParts) (before after : Kept) : Type 0 where
   pub reached : Reaches s.rules.rules (configuration_of before.words before.terms was.next)
       (configuration_of after.words after.terms is.next) more
   pub counted : after.interactions ≡ before.interactions + length more
+  pub text : after.text ≡ before.text
+  pub millis : before.millis ≤ after.millis
 
 -- the state with which the reduction of a system begins: the configuration of the text, and no interactions
 pub record IsBegun (s : SystemParts) (k : Kept) : Type 0 where

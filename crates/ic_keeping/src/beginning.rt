@@ -6,7 +6,7 @@ ghost use Rattle.ic_disk.specs.Images.{Within};
 ghost use Rattle.ic_disk.specs.Time.{OneMore};
 ghost use Rattle.ic_frames.specs.declared.faults.OpenCause.{OpenCause};
 ghost use Rattle.ic_kept.specs.Course.{HoldOne};
-ghost use Rattle.ic_kept.specs.Held.{Hold};
+ghost use Rattle.ic_kept.specs.Held.{Answers, Hold};
 ghost use Rattle.ic_kept.specs.Keeper.{is_broken, Keeps, KeepsModel};
 ghost use Rattle.ic_kept.specs.Opening.{OnlyReads};
 ghost use Rattle.ic_kept.specs.Sheet.{IsNewest, IsShut};
@@ -173,6 +173,14 @@ pub fn resume<D: Disk>(
         → OneMore (D.failures first) (D.failures fault.first)
         ⊎ OneMore (D.failures second) (D.failures fault.second)) }
 
+    // What it says of the files is pinned, and there is no other refusal than these three.
+    ensures named { IsTrue (D.keeps first) → IsTrue (D.keeps second)
+        → IfErr result (λ fault. (cause : OpenCause) → fault.cause ≡ KeepingFault.Open cause
+        → Answers cause (D.content first) (D.content second)) }
+    ensures only { IfErr result (λ fault. ((cause : OpenCause)
+        × (fault.cause ≡ KeepingFault.Open cause))
+        ⊎ (fault.cause ≡ KeepingFault.Unsound) ⊎ (fault.cause ≡ KeepingFault.Memory)) }
+
     // Whatever it answers, a crash at any moment leaves what was there.
     ensures reads { IsTrue (D.keeps first) → IsTrue (D.keeps second)
         → Relates (OnlyReads D.content D.image D.clock D.left) result first second }
@@ -214,6 +222,8 @@ fn state_of(alloc: Global, bytes: &[u8]) -> Result<State, KeepingFault>
         ⊎ ((kept : Kept) → IsKept kept → bytes.now ≢ state_bytes kept)) }
     ensures unopened { IfErr result (λ fault. (cause : OpenCause)
         → fault ≢ KeepingFault.Open cause) }
+    ensures only { IfErr result (λ fault. (fault ≡ KeepingFault.Unsound)
+        ⊎ (fault ≡ KeepingFault.Memory)) }
 {
     match decode(alloc, bytes) {
         Ok(state) => Ok(state),

@@ -9,13 +9,15 @@ ghost use Rattle.ic_by_rounds.specs.Stuck.{stuck_text};
 ghost use Rattle.ic_flat.specs.Flat.{configuration_of};
 ghost use Rattle.ic_flat.specs.Words.{forest, is_word_over, IsWhole};
 ghost use Rattle.ic_frames.specs.declared.faults.KeepFault.{KeepFault};
+ghost use Rattle.ic_frames.specs.declared.faults.OpenCause.{OpenCause};
 ghost use Rattle.ic_in_place.specs.declared.running.Bounds.{Bounds};
 ghost use Rattle.ic_in_place.specs.Reductions.{is_written};
 ghost use Rattle.ic_kept.specs.Course.{IsKeep, Way};
-ghost use Rattle.ic_kept.specs.Keeper.{Keeps, KeepsModel};
+ghost use Rattle.ic_kept.specs.Keeper.{is_broken, Keeps, KeepsModel};
 ghost use Rattle.ic_state.specs.State.{IsKept, Kept, kept_by, state_bytes};
 ghost use Rattle.ic_streams.specs.Streams.{line_of};
 ghost use Rattle.ic_text.specs.SystemText.{ReadsSystemWithin};
+ghost use Rattle.ic_keeping.specs.inner.Pieces.{IsWritten};
 ghost use Rattle.ic_keeping.specs.Life.{IsTold, KeepFails, StopsARun};
 ghost use Rattle.ic_keeping.specs.Way.{AreSums, GoesFurther, IsAnswer, IsAsFar, IsKeptAfter, IsReachedFrom, IsSound, IsStateOf};
 
@@ -64,6 +66,8 @@ fn rules_of(alloc: Global, text: &[u8]) -> Result<Arc<RuleSet>, KeepingFault>
         → IfErr result (λ fault. fault ≡ KeepingFault.Memory) }
     ensures unkept { IfErr result (λ fault. (cause : KeepFault)
         → fault ≢ KeepingFault.Keep cause) }
+    ensures unopened { IfErr result (λ fault. (cause : OpenCause)
+        → fault ≢ KeepingFault.Open cause) }
 {
     ic_text::laws::one_system_reading();
     match find_wide_system(alloc, Limits::Wide, text) {
@@ -79,6 +83,7 @@ fn rules_of(alloc: Global, text: &[u8]) -> Result<Arc<RuleSet>, KeepingFault>
 fn unread(fault: TextFault) -> KeepingFault
     ensures memory { (result ≡ KeepingFault.Memory) ⊎ (fault ≢ TextFault.Memory) }
     ensures unkept { (cause : KeepFault) → result ≢ KeepingFault.Keep cause }
+    ensures unopened { (cause : OpenCause) → result ≢ KeepingFault.Open cause }
 {
     match fault {
         TextFault::Memory => KeepingFault::Memory,
@@ -131,8 +136,15 @@ fn run_piece<C: Clock, V: Watch>(
     ensures refused { (s : SystemParts) → IsSound s → arc_value rules.now ≡ s.rules
         → IsStateOf s (kept_by state.old)
         → IfErr result (λ fault. (fault ≡ KeepingFault.Memory) ⊎ (fault ≡ KeepingFault.Limit)) }
+    // What a piece has reached is never unsound at the next one.
+    ensures written { OnOk result (IsWritten (arc_value rules.now).symbols
+        state.new.words.items state.new.terms) }
+    ensures sound { IsWritten (arc_value rules.now).symbols state.old.words.items state.old.terms
+        → IfErr result (λ fault. fault ≢ KeepingFault.Unsound) }
     ensures unkept { IfErr result (λ fault. (cause : KeepFault)
         → fault ≢ KeepingFault.Keep cause) }
+    ensures unopened { IfErr result (λ fault. (cause : OpenCause)
+        → fault ≢ KeepingFault.Open cause) }
 {
     ic_in_place::laws::a_renumbered_net_is_the_same_net();
     ic_reaching::laws::a_name_step_leads_to_one_net();
@@ -148,6 +160,7 @@ fn run_piece<C: Clock, V: Watch>(
     let begun = clock.millis();
     let words = replace(&mut state.words, Vec::new(alloc));
     let system = system_of(alloc, rules, words, state.terms)?;
+    systems_are_sound(&system);
     let timed = Timed::new(clock, watch, state.interactions);
     let reduced = reduce_in_place(alloc, &system, bounds, &timed)?;
     let all = clock.millis().saturating_sub(begun);
@@ -229,13 +242,15 @@ fn keep_further<D: Disk>(
         keeper.old keeper.new × (now_ended ≡ state.now.ended))
         ⊎ ((interactions ≡ state.now.interactions) × (state.now.ended ≡ true → ended ≡ true)
         × (now_ended ≡ ended) × (keeper.new ≡ keeper.old))) }
+    ensures ready { OnOk result ((keeper.new ≡ keeper.old)
+        ⊎ ((is_broken keeper.old ≡ false) × (is_broken keeper.new ≡ false))) }
     ensures crash { OnErr result ((keeper.new ≡ keeper.old) ⊎ ((fault : KeepFault)
         × GoesFurther interactions ended (kept_by state.now) × IsKept (kept_by state.now)
         × IsKeep D.keeps D.image D.clock D.left (state_bytes (kept_by state.now)) (Err fault)
         keeper.old keeper.new)) }
     ensures refused { IfErr result (λ fault. StopsARun fault) }
     ensures failed { IfErr result (λ fault. (cause : KeepFault)
-        → fault ≡ KeepingFault.Keep cause → KeepFails cause keeper.new) }
+        → fault ≡ KeepingFault.Keep cause → KeepFails cause keeper.old keeper.new) }
 {
     if goes_further(state, interactions, ended) {
         keep_state(alloc, state, keeper)?;
@@ -269,13 +284,14 @@ fn keep_state<D: Disk>(
     ensures keeps { OnOk result (IsKeep D.keeps D.image D.clock D.left
         (state_bytes (kept_by state.now)) (Ok tt) keeper.old keeper.new) }
     ensures sound { OnOk result (IsKept (kept_by state.now)) }
+    ensures ready { OnOk result ((is_broken keeper.old ≡ false) × (is_broken keeper.new ≡ false)) }
     ensures crash { OnErr result ((keeper.new ≡ keeper.old) ⊎ ((fault : KeepFault)
         × IsKept (kept_by state.now)
         × IsKeep D.keeps D.image D.clock D.left (state_bytes (kept_by state.now)) (Err fault)
         keeper.old keeper.new)) }
     ensures refused { IfErr result (λ fault. StopsARun fault) }
     ensures failed { IfErr result (λ fault. (cause : KeepFault)
-        → fault ≡ KeepingFault.Keep cause → KeepFails cause keeper.new) }
+        → fault ≡ KeepingFault.Keep cause → KeepFails cause keeper.old keeper.new) }
 {
     let bytes = bytes_of(alloc, state)?;
     match keeper.keep(&bytes) {
@@ -416,12 +432,16 @@ pub fn go_on<D: Disk, C: Clock, V: Watch>(
     ensures way { (s : SystemParts) → IsStateOf s (kept_by state) → IsKept (kept_by state)
         → Way D.keeps D.image D.clock D.left (IsKeptAfter s) (state_bytes (kept_by state))
         keeper.old keeper.new }
+    // Before anything was kept it may find that the state is none of a reduction, and not after.
+    ensures unsound { IfErr result (λ fault. fault ≡ KeepingFault.Unsound → keeper.new ≡ keeper.old) }
     // From a state of a reduction it fails only where memory runs out, at a limit, or where a keep is refused: a disk has
     // failed, or there were as many keeps as are counted.
     ensures refused { (s : SystemParts) → IsStateOf s (kept_by state)
         → IfErr result (λ fault. StopsARun fault) }
     ensures failed { IfErr result (λ fault. (cause : KeepFault)
-        → fault ≡ KeepingFault.Keep cause → KeepFails cause keeper.new) }
+        → fault ≡ KeepingFault.Keep cause → KeepFails cause keeper.old keeper.new) }
+    ensures unopened { IfErr result (λ fault. (cause : OpenCause)
+        → fault ≢ KeepingFault.Open cause) }
 {
     states_are_reached();
     let rules = rules_of(alloc, &state.text)?;

@@ -1,15 +1,21 @@
 //! Laws of reductions that are kept.
 
-ghost use Rattle.std.specs.Prelude.{◌≡◌, ◌⊎◌, ◌+◌, ◌<◌, ◌≤◌, List, [], ℕ, true, false, Ok, IsTrue, length, if◌then◌else◌};
+ghost use Rattle.std.specs.Prelude.{◌≡◌, ◌≢◌, ◌⊎◌, ◌+◌, ◌*◌, ◌-◌, ◌^◌, ◌<◌, ◌≤◌, List, [], ℕ, true, false, Ok, IsNone, IsTrue, length, if◌then◌else◌};
+ghost use Rattle.std.specs.Arc.{arc_value};
+ghost use Rattle.std.specs.Option.{option_map};
 ghost use Rattle.ic_disk.specs.Images.{Within};
 ghost use Rattle.ic_disk.specs.Time.{LeftSince};
 ghost use Rattle.ic_term.specs.Configuration.{Configuration};
+ghost use Rattle.ic_term.specs.declared.limits.TheConstants.{MAX_WIDE_NODES};
 ghost use Rattle.ic_round.specs.Rounds.{IsQuiet};
 ghost use Rattle.ic_confluence.specs.Kinds.{Kind, Chain};
 ghost use Rattle.ic_reaching.specs.OneNet.{OneNet, SameButNext};
 ghost use Rattle.ic_reaching.specs.Reaching.{Reaches, rules_fired};
 ghost use Rattle.ic_by_rounds.specs.Stuck.{stuck_text};
 ghost use Rattle.ic_flat.specs.Flat.{configuration_of};
+ghost use Rattle.ic_flat.specs.Words.{forest, IsWhole};
+ghost use Rattle.ic_frames.specs.declared.faults.KeepFault.TheVariants as keep;
+ghost use Rattle.ic_frames.specs.declared.faults.OpenCause.{OpenCause};
 ghost use Rattle.ic_naming.specs.Naming.{renumbered};
 ghost use Rattle.ic_streams.specs.Streams.{line_of};
 ghost use Rattle.ic_in_place.specs.declared.running.Bounds.{Bounds};
@@ -18,18 +24,22 @@ ghost use Rattle.ic_in_place.specs.declared.running.End.TheVariants.{Limit, Node
 ghost use Rattle.ic_in_place.specs.declared.stream.Asked.{Asked};
 ghost use Rattle.ic_in_place.specs.Reductions.{is_written, line_reached};
 ghost use Rattle.ic_in_place.specs.Counting.{AreCounts};
-ghost use Rattle.ic_in_place.specs.Reducing.{CanInteract, HasEnds, IsReachedBy};
+ghost use Rattle.ic_in_place.specs.Reducing.{CanInteract, HasEnds, IsPutTogether, IsReachedBy};
 ghost use Rattle.ic_kept.specs.Course.{HoldOne, HoldOneOf, LeftOnWay, Way};
 ghost use Rattle.ic_kept.specs.Held.{Hold};
-ghost use Rattle.ic_kept.specs.Keeper.{Keeps, KeepsModel};
-ghost use Rattle.ic_kept.specs.Lives.{AreOpened, Lives};
-ghost use Rattle.ic_kept.specs.Opening.{OnlyReads};
+ghost use Rattle.ic_kept.specs.Keeper.{is_broken, Keeps, KeepsModel, number_of};
+ghost use Rattle.ic_kept.specs.Lives.{IsFound, Lives};
+ghost use Rattle.ic_kept.specs.Opening.{InSomeOrder, OnlyReads};
 ghost use Rattle.ic_kept.specs.Sheet.{IsNewest, IsShut};
 ghost use Rattle.ic_rules.specs.System.{SystemParts};
 ghost use Rattle.ic_state.specs.State.{Kept, IsKept, state_bytes};
 ghost use Rattle.ic_text.specs.SystemText.{ReadsSystemWithin};
 ghost use Rattle.ic_text.specs.declared.limits.Limits.TheVariants.{Wide};
-ghost use Rattle.ic_keeping.specs.Way.{IsAnswer, IsBegun, IsFormFrom, IsFormOf, IsKeptAfter, IsReachedFrom, IsStateOf};
+ghost use Rattle.ic_text.specs.declared.limits.TheConstants.{MAX_NAME};
+ghost use Rattle.ic_keeping.specs.declared.fault.KeepingFault.TheVariants as keeping;
+ghost use Rattle.ic_keeping.specs.declared.going.Ended.{Ended};
+ghost use Rattle.ic_keeping.specs.Life.{HasLived, IsLife, IsTold, KeepFails, StopsARun};
+ghost use Rattle.ic_keeping.specs.Way.{IsAnswer, IsAsFar, IsBegun, IsFormFrom, IsFormOf, IsKeptAfter, IsReachedFrom, IsStateOf};
 
 use ic_disk::Disk;
 use ic_kept::Keeper;
@@ -89,42 +99,49 @@ pub fn any_lives_leave_a_state_of_the_reduction<D: Disk>(first: &D, second: &D)
 /// or one that opened them and went on. It is no matter which of them is called the first.
 pub fn lives_go_on<D: Disk>(first: &D, second: &D)
     // The first file has the state with which it begins, with the number 1, and the second is shut.
-    ensures begun { (s : SystemParts) (begun : Kept) → IsTrue (D.keeps first.now)
-        → IsTrue (D.keeps second.now)
+    ensures begun { (s : SystemParts) (begun : Kept) → IsKept begun → IsStateOf s begun
+        → IsTrue (D.keeps first.now) → IsTrue (D.keeps second.now)
         → Within (D.image first.now) (IsNewest 1 (state_bytes begun))
         → Within (D.image second.now) IsShut
-        → Lives D.keeps D.content D.image D.clock D.left (IsKeptAfter s) (state_bytes begun)
+        → HasLived D.keeps D.content D.image D.clock D.left s begun
         (state_bytes begun) (state_bytes begun) first.now second.now }
     // The disks were only read, and each of the two that are found has an image that was left since then.
     ensures opening { (s : SystemParts) (begun : Kept) (kept coming : List ℕ)
         (one_then other_then one_now other_now : D)
-        → Lives D.keeps D.content D.image D.clock D.left (IsKeptAfter s) (state_bytes begun)
-        kept coming first.now second.now
+        → HasLived D.keeps D.content D.image D.clock D.left s begun kept coming first.now second.now
         → OnlyReads D.content D.image D.clock D.left first.now one_then
         → OnlyReads D.content D.image D.clock D.left second.now other_then
         → IsTrue (D.keeps one_now) → IsTrue (D.keeps other_now)
         → Within (D.image one_now) (LeftSince (D.left one_then) (D.clock first.now))
         → Within (D.image other_now) (LeftSince (D.left other_then) (D.clock second.now))
-        → Lives D.keeps D.content D.image D.clock D.left (IsKeptAfter s) (state_bytes begun)
-        kept coming one_now other_now }
-    // The images that are found are what a stop on the way has left.
+        → HasLived D.keeps D.content D.image D.clock D.left s begun kept coming one_now other_now }
+    // So it is in whichever order an opening has handed them out, or back.
+    ensures opened { (s : SystemParts) (begun : Kept) (kept coming : List ℕ) (one_now other_now : D)
+        → HasLived D.keeps D.content D.image D.clock D.left s begun kept coming first.now second.now
+        → InSomeOrder (λ old now. (read : D)
+        × OnlyReads D.content D.image D.clock D.left old read
+        × IsFound D.keeps D.content D.image D.clock D.left old read now)
+        first.now second.now one_now other_now
+        → HasLived D.keeps D.content D.image D.clock D.left s begun kept coming one_now other_now }
+    // The images that are found are what a stop on the way of a life has left.
     ensures more { (s : SystemParts) (begun found : Kept) (kept coming last next : List ℕ)
         (one_now other_now : D) (k n : Keeper D)
-        → Lives D.keeps D.content D.image D.clock D.left (IsKeptAfter s) (state_bytes begun)
-        kept coming first.now second.now
-        → AreOpened D.keeps D.content D.image D.clock D.left (state_bytes found)
-        first.now second.now k
-        → (way : Way D.keeps D.image D.clock D.left (IsKeptAfter s) (state_bytes found) k n)
+        → HasLived D.keeps D.content D.image D.clock D.left s begun kept coming first.now second.now
+        → (life : IsLife D.keeps D.content D.image D.clock D.left s found
+        first.now second.now k n)
         → IsTrue (D.keeps one_now) → IsTrue (D.keeps other_now)
         → ((one other : List ℕ) → D.image one_now one → D.image other_now other
-        → LeftOnWay D.keeps D.image D.clock D.left way last next one other)
-        → Lives D.keeps D.content D.image D.clock D.left (IsKeptAfter s) (state_bytes begun)
-        last next one_now other_now }
+        → LeftOnWay D.keeps D.image D.clock D.left life.way last next one other)
+        → HasLived D.keeps D.content D.image D.clock D.left s begun last next one_now other_now }
     ensures turned { (s : SystemParts) (begun : Kept) (kept coming : List ℕ)
-        → Lives D.keeps D.content D.image D.clock D.left (IsKeptAfter s) (state_bytes begun)
-        kept coming first.now second.now
-        → Lives D.keeps D.content D.image D.clock D.left (IsKeptAfter s) (state_bytes begun)
-        kept coming second.now first.now }
+        → HasLived D.keeps D.content D.image D.clock D.left s begun kept coming first.now second.now
+        → HasLived D.keeps D.content D.image D.clock D.left s begun kept coming second.now first.now }
+    // What was said of the lives of a reduction is said of these.
+    ensures lives { (s : SystemParts) (begun : Kept) (kept coming : List ℕ)
+        → HasLived D.keeps D.content D.image D.clock D.left s begun kept coming first.now second.now
+        → IsKept begun × IsStateOf s begun
+        × Lives D.keeps D.content D.image D.clock D.left (IsKeptAfter s) (state_bytes begun)
+        kept coming first.now second.now }
 {
     let _ = first;
     let _ = second;
@@ -143,6 +160,13 @@ pub fn what_a_kept_state_says()
         × (k.interactions ≡ 0) × (k.ended ≡ false) × (k.millis ≡ 0) }
     ensures ended { (s : SystemParts) (k : Kept) → IsStateOf s k → k.ended ≡ true
         → (next : ℕ) × IsQuiet s.rules.rules (configuration_of k.words k.terms next) }
+    // Each agent has its arguments, each equation two sides, and the names may stand in a text if there aren't too many words.
+    ensures whole { (s : SystemParts) (k : Kept) → IsStateOf s k → IsWhole k.words }
+    ensures counted { (s : SystemParts) (k : Kept) → IsStateOf s k
+        → (equations : ℕ) × (length (forest k.words) ≡ k.terms + 2 * equations) }
+    ensures low { (s : SystemParts) (k : Kept) → IsStateOf s k → length k.words ≤ MAX_WIDE_NODES
+        → (next : ℕ) × (fired : List ℕ) × (next ≤ MAX_NAME + 1)
+        × Reaches s.rules.rules s.config (configuration_of k.words k.terms next) fired }
 {}
 
 /// What the end of a run says that was kept: why there are no more interactions, and which of its equations are told.
@@ -159,6 +183,9 @@ pub fn what_a_kept_end_says()
         → (bounds.nodes < places + left) × (k.interactions < bounds.steps) }
     ensures limit { (s : SystemParts) (bounds : Bounds) (places left : ℕ) (k : Kept)
         → IsAnswer s bounds Limit places left k → k.interactions < bounds.steps }
+    // At each end nothing is left that could be put for a name.
+    ensures together { (s : SystemParts) (bounds : Bounds) (end : End) (places left : ℕ) (k : Kept)
+        → (is : IsAnswer s bounds end places left k) → IsPutTogether is.answer }
     // What is told of places and equations is that of a reduction in place.
     ensures piece { (s : SystemParts) (bounds : Bounds) (end : End) (places left : ℕ) (k : Kept)
         → (is : IsAnswer s bounds end places left k)
@@ -166,6 +193,37 @@ pub fn what_a_kept_end_says()
         × (from.rules ≡ s.rules) × (most.nodes ≡ bounds.nodes)
         × IsReachedBy from most is.answer end made places left by_rule }
 {}
+
+/// What is told at the end of a life: the rules of the system, the line that is asked for, and at a quiet end the first pair
+/// that is stuck. A run from a state stops for nothing that stands in its files.
+pub fn what_a_life_tells()
+    ensures rules { (s : SystemParts) (asked : Asked) (ended : Ended) → IsTold s asked ended
+        → arc_value ended.rules ≡ s.rules }
+    ensures line { (s : SystemParts) (asked : Asked) (ended : Ended) → IsTold s asked ended
+        → ended.line.items ≡ if is_written asked ended.end then line_of s.rules.symbols
+        (configuration_of ended.state.words.items ended.state.terms 0) else [] }
+    ensures stuck { (s : SystemParts) (asked : Asked) (ended : Ended) → IsTold s asked ended
+        → ended.end ≡ Quiet → option_map (λ text. text.items) ended.stuck
+        ≡ stuck_text s.rules.symbols
+        (configuration_of ended.state.words.items ended.state.terms 0) }
+    ensures unstuck { (s : SystemParts) (asked : Asked) (ended : Ended) → IsTold s asked ended
+        → ended.end ≢ Quiet → IsNone ended.stuck }
+    ensures stops { ¬ StopsARun keeping.Unsound × ¬ StopsARun keeping.NotEmpty
+        × ¬ StopsARun keeping.Device × ((cause : OpenCause) → ¬ StopsARun (keeping.Open cause)) }
+{}
+
+/// What a keep that was refused says of its keeper: it was broken, its number is the last one, or it is broken only now.
+pub fn why_a_keep_fails<D: Disk>(keeper: &Keeper<D>)
+    ensures broken { (new : Keeper D) → KeepFails keep.Broken keeper.now new
+        → (is_broken keeper.now ≡ true) × (new ≡ keeper.now) }
+    ensures worn { (new : Keeper D) → KeepFails keep.Worn keeper.now new
+        → (is_broken keeper.now ≡ false) × (is_broken new ≡ false)
+        × (number_of new ≡ 2 ^ 64 - 1) }
+    ensures device { (new : Keeper D) → KeepFails keep.Device keeper.now new
+        → (is_broken keeper.now ≡ false) × (is_broken new ≡ true) }
+{
+    let _ = keeper;
+}
 
 /// A state that is kept after another one is reached from there. It has more interactions, or as many and has ended where the
 /// other hadn't. What is kept of a reduction is what is read back as one of its states.
@@ -178,7 +236,10 @@ pub fn kept_states_go_on()
         → IsStateOf s k × IsStateOf s next × (one : ℕ) × (other : ℕ) × (more : List ℕ)
         × Reaches s.rules.rules (configuration_of k.words k.terms one)
         (configuration_of next.words next.terms other) more
-        × (next.interactions ≡ k.interactions + length more) }
+        × (next.interactions ≡ k.interactions + length more)
+        × (next.text ≡ k.text) × (k.millis ≤ next.millis) }
+    ensures as_far { (kept k : Kept) → IsAsFar kept k → (kept.interactions ≡ k.interactions)
+        × (kept.by_rule ≡ k.by_rule) × (k.ended ≡ true → kept.ended ≡ true) }
     ensures of { (s : SystemParts) (least : ℕ) (one other : List ℕ)
         → HoldOne (IsFormFrom s least) one other → HoldOne (IsFormOf s) one other }
 {

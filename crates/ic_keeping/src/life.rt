@@ -1,20 +1,23 @@
 //! One life of a reduction that is kept: from the state that two files hold until it ends.
 
-ghost use Rattle.std.specs.Prelude.{◌≡◌, ◌⊎◌, ◌≤◌, List, ℕ, IfOk, IfErr, max};
+ghost use Rattle.std.specs.Prelude.{◌≡◌, ◌⊎◌, ◌↔◌, ◌≤◌, List, ℕ, IfOk, IfErr, IsTrue, max, true};
+ghost use Rattle.ic_disk.specs.Time.{OneMore};
+ghost use Rattle.ic_frames.specs.declared.faults.KeepFault.{KeepFault};
 ghost use Rattle.ic_frames.specs.declared.faults.OpenCause.{OpenCause};
+ghost use Rattle.ic_kept.specs.Held.{Answers};
 ghost use Rattle.ic_kept.specs.Keeper.{Keeps, KeepsModel, newest_of, other_of};
 ghost use Rattle.ic_kept.specs.Opening.{InSomeOrder, OnlyReads};
 ghost use Rattle.ic_rules.specs.System.{SystemParts};
 ghost use Rattle.ic_state.specs.State.{IsKept, Kept, kept_by, state_bytes};
 ghost use Rattle.ic_keeping.specs.declared.fault.KeepingFault.{KeepingFault};
-ghost use Rattle.ic_keeping.specs.Life.{HasLived, IsLife, IsTold, StopsARun};
+ghost use Rattle.ic_keeping.specs.Life.{HasLived, IsLife, IsTold, KeepFails, StopsAnOpening, StopsARun};
 ghost use Rattle.ic_keeping.specs.Way.{IsAnswer, IsAsFar, IsReachedFrom};
 
 use crate::beginning::{ResumeFault, resume};
 use crate::going::{Ended, go_on};
 use crate::pace::{Clock, Pace};
 use ic_disk::Disk;
-use ic_in_place::{Asked, Bounds, Watch};
+use ic_in_place::{Asked, Bounds, End, Watch};
 use ic_kept::Keeper;
 use std::alloc::Global;
 
@@ -38,6 +41,8 @@ pub fn live<D: Disk, C: Clock, V: Watch>(
     ensures told { (s : SystemParts) (begun : Kept) (kept coming : List ℕ)
         → HasLived D.keeps D.content D.image D.clock D.left s begun kept coming first second
         → IfOk result (λ lived. IsTold s asked lived.0) }
+    ensures ended { IfOk result (λ lived.
+        (lived.0.state.ended ≡ true) ↔ (lived.0.end ≡ End.Quiet)) }
     // A state is kept then that goes as far, and from which the answer is reached.
     ensures kept { (s : SystemParts) (begun : Kept) (kept coming : List ℕ)
         → HasLived D.keeps D.content D.image D.clock D.left s begun kept coming first second
@@ -55,15 +60,29 @@ pub fn live<D: Disk, C: Clock, V: Watch>(
     // So it is where it stops by a fault: it has only read the two disks, or opened them and gone on. It hands them back.
     ensures stopped { (s : SystemParts) (begun : Kept) (kept coming : List ℕ)
         → HasLived D.keeps D.content D.image D.clock D.left s begun kept coming first second
-        → IfErr result (λ fault. InSomeOrder (OnlyReads D.content D.image D.clock D.left)
-        first second fault.first fault.second ⊎ ((found : Kept) × (k n : Keeper D)
+        → IfErr result (λ fault. (InSomeOrder (OnlyReads D.content D.image D.clock D.left)
+        first second fault.first fault.second × StopsAnOpening fault.cause)
+        ⊎ ((found : Kept) × (k n : Keeper D)
         × IsLife D.keeps D.content D.image D.clock D.left s found first second k n
-        × (fault.first ≡ newest_of n) × (fault.second ≡ other_of n))) }
+        × (fault.first ≡ newest_of n) × (fault.second ≡ other_of n)
+        × ((cause : KeepFault) → fault.cause ≡ KeepingFault.Keep cause → KeepFails cause k n))) }
     // There is no other fault: a call has failed or memory ran out as it read the disks, or it has stopped as a run does.
     ensures refused { (s : SystemParts) (begun : Kept) (kept coming : List ℕ)
         → HasLived D.keeps D.content D.image D.clock D.left s begun kept coming first second
         → IfErr result (λ fault. (fault.cause ≡ KeepingFault.Open OpenCause.Device)
         ⊎ (fault.cause ≡ KeepingFault.Open OpenCause.Memory) ⊎ StopsARun fault.cause) }
+    // Of any two files: what it says of those in which it finds no state is pinned, and it doesn't write over what it refuses.
+    ensures named { IsTrue (D.keeps first) → IsTrue (D.keeps second)
+        → IfErr result (λ fault. (cause : OpenCause) → fault.cause ≡ KeepingFault.Open cause
+        → Answers cause (D.content first) (D.content second)) }
+    ensures reads { IsTrue (D.keeps first) → IsTrue (D.keeps second)
+        → IfErr result (λ fault. ((cause : OpenCause) × (fault.cause ≡ KeepingFault.Open cause))
+        ⊎ (fault.cause ≡ KeepingFault.Unsound)
+        → InSomeOrder (OnlyReads D.content D.image D.clock D.left)
+        first second fault.first fault.second) }
+    ensures device { IfErr result (λ fault. fault.cause ≡ KeepingFault.Open OpenCause.Device
+        → OneMore (D.failures first) (D.failures fault.first)
+        ⊎ OneMore (D.failures second) (D.failures fault.second)) }
 {
     ic_kept::laws::one_state_is_held();
     ic_state::laws::each_state_has_its_own_bytes();

@@ -6,6 +6,7 @@ ghost use Rattle.ic_term.specs.Configuration.{configuration_names, occurrences};
 ghost use Rattle.ic_term.specs.Symbol.{is_over};
 ghost use Rattle.ic_flat.specs.Flat.{configuration_of};
 ghost use Rattle.ic_frames.specs.declared.faults.KeepFault.{KeepFault};
+ghost use Rattle.ic_frames.specs.declared.faults.OpenCause.{OpenCause};
 ghost use Rattle.ic_flat.specs.Words.{forest, IsWhole};
 ghost use Rattle.ic_keeping.specs.Way.{IsReachedFrom, IsSound, IsStateOf};
 ghost use Rattle.ic_round.specs.Naming.{HasNames};
@@ -43,6 +44,8 @@ pub(crate) fn system_of(
         → IfErr result (λ fault. (fault ≡ KeepingFault.Memory) ⊎ (fault ≡ KeepingFault.Limit)) }
     ensures unkept { IfErr result (λ fault. (cause : KeepFault)
         → fault ≢ KeepingFault.Keep cause) }
+    ensures unopened { IfErr result (λ fault. (cause : OpenCause)
+        → fault ≢ KeepingFault.Open cause) }
 {
     let config = config_of(alloc, words, terms)?;
     if config.next() > MAX_NAME + 1 {
@@ -66,6 +69,8 @@ fn config_of(alloc: Global, words: Vec<Word>, terms: u64) -> Result<WideFlat, Ke
         → IfErr result (λ fault. (fault ≡ KeepingFault.Memory) ⊎ (fault ≡ KeepingFault.Limit)) }
     ensures unkept { IfErr result (λ fault. (cause : KeepFault)
         → fault ≢ KeepingFault.Keep cause) }
+    ensures unopened { IfErr result (λ fault. (cause : OpenCause)
+        → fault ≢ KeepingFault.Open cause) }
 {
     ic_term::laws::third_occurrence_is_the_first();
     let terms = terms as usize;

@@ -1,4 +1,6 @@
-use Rattle.std.proofs.Common.{◌∙◌, sym, subst}
+use Rattle.std.proofs.Common.{◌≡◌, ◌∙◌, sym, subst}
+use Rattle.ic_frames.specs.declared.faults.OpenCause.{OpenCause}
+use Rattle.ic_kept.specs.Held.{Answers}
 use Rattle.ic_state.specs.State.{Kept, kept_by}
 use Rattle.ic_keeping.specs.Way.{IsStateOf}
 use Rattle.ic_keeping.proofs.Resuming.{of_calls}
@@ -17,3 +19,9 @@ pub returns-clause-refused : goal.returns-clause-refused
 returns-clause-refused g c s keeps keeps_too held =
     let disk = g.D.Disk in
     of_calls c.in-Err.fault.cause (disk.content c.args.first) (disk.content c.args.second) held.0 (c.in-Err.ensures.refused keeps keeps_too) held.2
+
+pub returns-clause-named : goal.returns-clause-named
+returns-clause-named g c keeps keeps_too cause same =
+    let disk = g.D.Disk in
+    let one : c.in-Err.fault.cause ≡ cause = cc (same) in
+    subst (λ (x : OpenCause). Answers x (disk.content c.args.first) (disk.content c.args.second)) one (c.in-Err.ensures.refused keeps keeps_too)

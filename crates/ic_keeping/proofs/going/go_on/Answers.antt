@@ -1,4 +1,4 @@
-use Rattle.std.proofs.Common.{◌≡◌, List, [], ℕ, Ok, Vec, Global, if◌then◌else◌, refl, sym, ap, subst, arith, ◌∙◌}
+use Rattle.std.proofs.Common.{⊎_elim, inl, inr, ◌≡◌, List, [], ℕ, Ok, Vec, Global, if◌then◌else◌, refl, sym, ap, subst, arith, ◌∙◌}
 use Rattle.std.proofs.lemmas.Result.{err_from_is_err_and}
 use Rattle.std.specs.Option.{option_map}
 use Rattle.ic_by_rounds.specs.Stuck.{stuck_text}
@@ -14,7 +14,7 @@ use Rattle.ic_streams.specs.Streams.{line_of}
 use Rattle.ic_term.specs.Symbol.{Symbol}
 use Rattle.ic_keeping.specs.Way.{IsKeptAfter}
 use Rattle.ic_keeping.proofs.GoingLemmas.{begins, keeps_on, way_of, way_refused}
-use Rattle.ic_keeping.proofs.Refusing.{of_two}
+use Rattle.ic_keeping.proofs.Refusing.{fails_on, of_two, ready_on, run_not_unsound, run_unopened}
 use Rattle.ic_keeping.proofs.going.go_on.Goals as goal
 
 pub returns-in_err-rules-clause-way : goal.returns-in_err-rules-clause-way
@@ -29,6 +29,8 @@ loop-init g c = record {
   least = omega arith;
   most = omega arith;
   millis = omega arith;
+  sound = inl refl;
+  ready = inl refl;
   from = λ s is. c.states_are_reached.ensures s (kept_by c.args.state) is;
   kept = λ s is is_kept. begins g.D.Disk.keeps g.D.Disk.image g.D.Disk.clock g.D.Disk.left s (kept_by c.args.state) c.args.keeper.now is_kept (c.states_are_reached.ensures s (kept_by c.args.state) is);
 }
@@ -157,6 +159,8 @@ loop-preserved g c = record {
   least = omega (arith, c.loop.invariant.least, c.in_ok-run.ensures.later);
   most = omega (arith, c.loop.invariant.most, c.in_ok-run.ensures.within, c.min.ensures, c.saturating_sub-left.ensures);
   millis = omega (arith, c.loop.invariant.millis, c.in_ok-run.ensures.millis);
+  sound = inr c.in_ok-run.ensures.written;
+  ready = ready_on c.args.keeper.now c.loop.keeper c.keep_further.new.keeper c.loop.invariant.ready c.in_ok-now_ended.ensures.ready;
   from = λ s is.
       let first = kept_by c.args.state in
       let old = kept_by c.loop.state in
@@ -184,3 +188,23 @@ pub returns-clause-way : goal.returns-clause-way
 returns-clause-way g c s is is_kept =
     let disk = g.D.Disk in
     way_of disk.keeps disk.image disk.clock disk.left s (kept_by c.args.state) c.args.keeper.now (kept_by c.loop.state) c.loop.kept_ended c.loop.keeper (c.loop.invariant.kept s is is_kept)
+
+pub returns-in_err-now_ended-clause-unopened : goal.returns-in_err-now_ended-clause-unopened
+returns-in_err-now_ended-clause-unopened g c =
+    let e = err_from_is_err_and c.from_residual-in_err-now_ended.result c.from_residual-in_err-now_ended.ensures.1 in
+    rw (e.1, e.2) (run_unopened c.in_err-now_ended.field-0.0 c.in_err-now_ended.ensures.refused)
+
+pub returns-in_err-run-clause-unsound : goal.returns-in_err-run-clause-unsound
+returns-in_err-run-clause-unsound g c =
+    let e = err_from_is_err_and c.from_residual-in_err-run.result c.from_residual-in_err-run.ensures.1 in
+    rw (e.1, e.2) (λ same. ⊎_elim (λ stayed. stayed) (λ written. absurd (c.in_err-run.ensures.sound written same)) c.loop.invariant.sound)
+
+pub returns-in_err-now_ended-clause-unsound : goal.returns-in_err-now_ended-clause-unsound
+returns-in_err-now_ended-clause-unsound g c =
+    let e = err_from_is_err_and c.from_residual-in_err-now_ended.result c.from_residual-in_err-now_ended.ensures.1 in
+    rw (e.1, e.2) (λ same. absurd (run_not_unsound c.in_err-now_ended.field-0.0 c.in_err-now_ended.ensures.refused same))
+
+pub returns-in_err-now_ended-clause-failed : goal.returns-in_err-now_ended-clause-failed
+returns-in_err-now_ended-clause-failed g c =
+    let e = err_from_is_err_and c.from_residual-in_err-now_ended.result c.from_residual-in_err-now_ended.ensures.1 in
+    rw (e.1, e.2) (λ cause same. fails_on cause c.args.keeper.now c.loop.keeper c.keep_further.new.keeper c.loop.invariant.ready (c.in_err-now_ended.ensures.failed cause same))

@@ -2,7 +2,7 @@ use Rattle.std.proofs.Common.{◌≡◌, ◌∙◌, ℕ, List, Ok, subst}
 use Rattle.ic_frames.specs.declared.faults.KeepFault.{KeepFault}
 use Rattle.ic_kept.specs.Keeping.{CrashInKeeping}
 use Rattle.ic_keeping.specs.Life.{KeepFails}
-use Rattle.ic_keeping.proofs.Refusing.{keep_fails}
+use Rattle.ic_keeping.proofs.Refusing.{keep_fails, keep_ready}
 use Rattle.ic_keeping.proofs.going.keep_state.Goals as goal
 
 pub returns-in-Ok-clause-keeps : goal.returns-in-Ok-clause-keeps
@@ -17,5 +17,8 @@ returns-in-Ok-clause-keeps g c =
 pub returns-clause-failed : goal.returns-clause-failed
 returns-clause-failed g c cause same =
     let one : c.in-Err.fault ≡ cause = cc (same) in
-    subst (λ (fault : KeepFault). KeepFails fault c.keep.new.self) one
+    subst (λ (fault : KeepFault). KeepFails fault c.args.keeper.now c.keep.new.self) one
     (keep_fails c.in-Err.fault c.args.keeper.now c.keep.new.self c.in-Err.ensures.fault)
+
+pub returns-in-Ok-clause-ready : goal.returns-in-Ok-clause-ready
+returns-in-Ok-clause-ready g c = keep_ready c.args.keeper.now c.keep.new.self c.in-Ok.ensures.fault

@@ -11,10 +11,12 @@ use Rattle.ic_flat.specs.Flat.{configuration_of}
 use Rattle.ic_flat.specs.Words.{forest, is_word_over, IsWhole}
 use Rattle.ic_in_place.specs.declared.running.End.{End}
 use Rattle.ic_state.specs.State.{kept_by}
+use Rattle.ic_keeping.specs.inner.Pieces.{IsWritten}
 use Rattle.ic_keeping.specs.Way.{IsAnswer}
+use Rattle.ic_keeping.proofs.Refusing.{not_unsound}
 use Rattle.ic_keeping.proofs.LowNames.{TellingLaws}
 use Rattle.ic_keeping.proofs.Quiet.{QuietLaws}
-use Rattle.ic_keeping.proofs.WayLemmas.{NamingLaws, ReachingLaws, answer_of, counts_stay, reached_from}
+use Rattle.ic_keeping.proofs.WayLemmas.{NamingLaws, ReachingLaws, answer_of, counts_stay, reached_from, reached_written}
 use Rattle.ic_keeping.proofs.going.run_piece.Goals as goal
 
 whole : (words made : List Word) → words ≡ made → IsWhole made → IsWhole words
@@ -50,7 +52,7 @@ returns-clause-further g c s first sound rules from =
     } in
     reached_from naming laws s t sound (kept_by old) (kept_by c.take_in.new.state) from.is (c.in_ok-system.ensures.rules ∙ rules) interface equations c.in_ok-system.ensures.names c.in_ok-system.ensures.low
     c.args.bounds answer.0 reduced.end reduced.interactions reduced.places reduced.left reduced.by_rule.items answer.1 answer.2 reduced.words.items reduced.terms answer.4.written
-    piece.text piece.words piece.terms piece.interactions piece.by_rule first from quiet_laws telling piece.ended.0
+    piece.text piece.words piece.terms piece.interactions piece.by_rule first from quiet_laws telling piece.millis piece.ended.0
     (whole c.take_in.new.state.words.items reduced.words.items piece.words answer.4.whole) reduced.equations
     (ap (λ (ws : List Word). length (forest ws)) piece.words ∙ answer.4.counted ∙ omega (arith, piece.terms))
 
@@ -121,3 +123,37 @@ returns-clause-counted g c =
     ap (λ (ws : List Word). length (forest ws)) piece.words
     ∙ c.in_ok-reduced.ensures.4.counted
     ∙ omega (arith, piece.terms, piece.equations)
+
+pub returns-clause-written : goal.returns-clause-written
+returns-clause-written g c =
+    let naming : NamingLaws = record {
+      next = c.a_name_step_leads_to_one_net.ensures.next;
+      net = c.a_renumbered_net_is_the_same_net.ensures.net;
+    } in
+    let laws : ReachingLaws = record {
+      names = c.what_is_reached_is_one_net.ensures.names;
+      over = c.what_is_reached_is_one_net.ensures.over;
+      net = c.what_is_reached_is_one_net.ensures.net;
+      reached = c.what_is_reached_goes_on.ensures.reached;
+      free = c.free_names_stay.ensures.reached;
+      above = c.next_is_one_above_the_greatest_name.ensures.above;
+    } in
+    let t = c.in_ok-system.system in
+    let reduced = c.in_ok-reduced.reduced in
+    let answer = c.in_ok-reduced.ensures in
+    let piece = c.in_ok-piece.ensures in
+    let is = reached_written naming laws c.what_is_reached_is_one_net.ensures.itself t c.systems_are_sound.ensures
+    c.args.bounds answer.0 reduced.end reduced.interactions reduced.places reduced.left reduced.by_rule.items answer.1 c.in_ok-system.ensures.low
+    reduced.words.items reduced.terms answer.4.written answer.4.whole reduced.equations answer.4.counted in
+    subst (λ (ws : List Word). IsWritten (arc_value c.args.rules.now).symbols ws c.take_in.new.state.terms) (sym piece.words)
+    (subst (λ (n : ℕ). IsWritten (arc_value c.args.rules.now).symbols reduced.words.items n) (sym piece.terms)
+    (subst (λ (rs : Rules). IsWritten rs.symbols reduced.words.items reduced.terms) c.in_ok-system.ensures.rules is))
+
+pub returns-in_err-system-clause-sound : goal.returns-in_err-system-clause-sound
+returns-in_err-system-clause-sound g c is =
+    let old = c.args.state.now in
+    let words : c.replace-words.result.items ≡ old.words.items = ap (λ ws. ws.items) c.replace-words.ensures.value in
+    let e = err_from_is_err_and c.from_residual.result c.from_residual.ensures.1 in
+    let here = subst (λ (ws : List Word). IsWritten (arc_value c.args.rules.now).symbols ws old.terms) (sym words) is in
+    rw (e.1, e.2) (not_unsound c.in_err-system.field-0.0
+    (c.in_err-system.ensures.refused here.equations here.whole here.counted here.twice here.over))

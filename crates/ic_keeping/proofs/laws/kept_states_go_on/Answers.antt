@@ -16,4 +16,7 @@ returns-clause-of c s least one other held =
     (held.0, (held.1.0, held.1.1, held.1.2, held.1.4), held.2)
 
 pub returns-clause-reached : goal.returns-clause-reached
-returns-clause-reached c = λ s k next is. (is.was, is.is, is.was.next, is.is.next, is.more, is.reached, is.counted)
+returns-clause-reached c = λ s k next is. (is.was, is.is, is.was.next, is.is.next, is.more, is.reached, is.counted, is.text, is.millis)
+
+pub returns-clause-as_far : goal.returns-clause-as_far
+returns-clause-as_far c = λ kept k is. (is.interactions, is.by_rule, is.ended)

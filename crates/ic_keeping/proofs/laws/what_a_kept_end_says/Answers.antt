@@ -16,3 +16,6 @@ returns-clause-limit c = λ s bounds places left k is. is.ended
 pub returns-clause-piece : goal.returns-clause-piece
 returns-clause-piece c = λ s bounds end places left k is.
     (is.piece.from, is.piece.most, is.piece.made, is.piece.by_rule, is.piece.rules, is.piece.nodes, is.piece.reached)
+
+pub returns-clause-together : goal.returns-clause-together
+returns-clause-together c = λ s bounds end places left k is. is.together

@@ -11,3 +11,12 @@ returns-clause-begun c = λ s k is. (is.state, is.config, is.none, is.goes_on, i
 
 pub returns-clause-ended : goal.returns-clause-ended
 returns-clause-ended c = λ s k is ended. (is.next, is.quiet ended)
+
+pub returns-clause-whole : goal.returns-clause-whole
+returns-clause-whole c = λ s k is. is.whole
+
+pub returns-clause-counted : goal.returns-clause-counted
+returns-clause-counted c = λ s k is. (is.equations, is.counted)
+
+pub returns-clause-low : goal.returns-clause-low
+returns-clause-low c = λ s k is few. (is.next, is.way.fired, is.low few, is.way.reached)
