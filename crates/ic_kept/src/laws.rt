@@ -11,7 +11,7 @@ ghost use Rattle.ic_kept.specs.Keeper.{Keeps, KeepsModel, is_broken, newest_of, 
 ghost use Rattle.ic_kept.specs.Keeping.{FaultLeaves};
 ghost use Rattle.ic_kept.specs.Lives.{Lives};
 ghost use Rattle.ic_kept.specs.Sheet.{IsNewest};
-ghost use Rattle.ic_kept.specs.Worked.{file_by_hand};
+ghost use Rattle.ic_kept.specs.Worked.{file_by_hand, shut_by_hand};
 ghost use Rattle.ic_kept.specs.declared.head.TheConstants.{HEAD};
 
 use crate::Keeper;
@@ -21,6 +21,14 @@ use ic_disk::Disk;
 pub fn a_file_by_hand()
     ensures newest { IsNewest 258 (5 ∷ 6 ∷ 7 ∷ []) file_by_hand }
     ensures lengths { (length file_by_hand ≡ 21) × (HEAD ≡ 17) }
+{}
+
+/// Which refusal is whose, by three pairs of files that are written by hand: both gates are closed, both open before one
+/// number, and one file is empty.
+pub fn refusals_by_hand()
+    ensures no_slot { Answers opening.NoSlot shut_by_hand shut_by_hand }
+    ensures two_alike { Answers opening.TwoAlike file_by_hand file_by_hand }
+    ensures damaged { Answers opening.Damaged [] file_by_hand }
 {}
 
 /// Two files hold one state at most.

@@ -1,4 +1,4 @@
--- Two states by hand, and their bytes field by field: the worked example of the form.
+-- Three states by hand, and their bytes field by field: the worked example of the form.
 use Rattle.std.specs.Prelude.{ℕ, List, [], ◌∷◌, ◌++◌, true, false, codes}
 use Rattle.ic_flat.specs.declared.word.Word.TheVariants.{Name, Agent}
 use Rattle.ic_state.specs.State.{Kept}
@@ -31,6 +31,23 @@ joins_ended = record {
   millis = 1027;
 }
 
+-- a text with three rules, of which the symbols are `A` 0 and `B` 1
+abbrev pub meets : List ℕ
+meets = codes "{A><A; A><B; B><B} <x,B|x=A>"
+
+-- A state with this text whose numbers are apart: two terms, four words, five interactions in 40 milliseconds, and not ended.
+-- The rules have fired never, twice and three times.
+abbrev pub meets_midway : Kept
+meets_midway = record {
+  text = meets;
+  words = Name 9 ∷ Agent 1 0 ∷ Name 9 ∷ Agent 0 0 ∷ [];
+  terms = 2;
+  interactions = 5;
+  by_rule = 0 ∷ 2 ∷ 3 ∷ [];
+  ended = false;
+  millis = 40;
+}
+
 -- a number below 256 in eight bytes
 abbrev pub in_eight : ℕ → List ℕ
 in_eight n = 0 ∷ 0 ∷ 0 ∷ 0 ∷ 0 ∷ 0 ∷ 0 ∷ n ∷ []
@@ -59,3 +76,12 @@ ended_by_hand = format_by_hand
     ++ in_eight 1
     ++ agent_in_eight 2 0
     ++ joins
+
+-- The 140 bytes: two terms, five interactions, not ended, three rules, four words, 40 milliseconds; the rules have fired 0, 2
+-- and 3 times.
+abbrev pub midway_by_hand : List ℕ
+midway_by_hand = format_by_hand
+    ++ in_eight 2 ++ in_eight 5 ++ in_eight 0 ++ in_eight 3 ++ in_eight 4 ++ in_eight 40
+    ++ in_eight 0 ++ in_eight 2 ++ in_eight 3
+    ++ in_eight 9 ++ agent_in_eight 1 0 ++ in_eight 9 ++ agent_in_eight 0 0
+    ++ meets

@@ -3,7 +3,7 @@
 ghost use Rattle.std.specs.Prelude.{◌≡◌, ℕ, List, true, length};
 ghost use Rattle.ic_state.specs.State.{Kept, IsHeadOf, IsKept, state_bytes};
 ghost use Rattle.ic_state.specs.declared.state.StateHead.{StateHead};
-ghost use Rattle.ic_state.specs.Worked.{begun_by_hand, ended_by_hand, joins_begun, joins_ended};
+ghost use Rattle.ic_state.specs.Worked.{begun_by_hand, ended_by_hand, joins_begun, joins_ended, meets_midway, midway_by_hand};
 
 /// Two states with the same bytes are the same state.
 pub fn each_state_has_its_own_bytes()
@@ -11,13 +11,15 @@ pub fn each_state_has_its_own_bytes()
         → k ≡ other }
 {}
 
-/// The fields and their order, by two states of one reduction whose bytes are written by hand: as it begins, and as it has
-/// ended.
+/// The fields and their order, by three states whose bytes are written by hand: one as a reduction begins, one as it has
+/// ended, and one of another text whose numbers are apart.
 pub fn a_state_by_hand()
     ensures begun { state_bytes joins_begun ≡ begun_by_hand }
     ensures ended { state_bytes joins_ended ≡ ended_by_hand }
-    ensures kept { IsKept joins_begun × IsKept joins_ended }
+    ensures midway { state_bytes meets_midway ≡ midway_by_hand }
+    ensures kept { IsKept joins_begun × IsKept joins_ended × IsKept meets_midway }
     ensures head { (head : StateHead) → IsHeadOf head joins_ended → (head.interactions ≡ 1)
         × (head.ended ≡ true) × (head.rules ≡ 1) × (head.words ≡ 1) × (head.millis ≡ 1027) }
-    ensures lengths { (length begun_by_hand ≡ 130) × (length ended_by_hand ≡ 98) }
+    ensures lengths { (length begun_by_hand ≡ 130) × (length ended_by_hand ≡ 98)
+        × (length midway_by_hand ≡ 140) }
 {}

@@ -1,5 +1,5 @@
 use Rattle.std.proofs.Common.{refl, arith}
-use Rattle.ic_state.proofs.WorkedLemmas.{begun_bytes, ended_bytes}
+use Rattle.ic_state.proofs.WorkedLemmas.{begun_bytes, ended_bytes, midway_bytes}
 use Rattle.ic_state.proofs.laws.a_state_by_hand.Goals as goal
 
 pub returns-clause-begun : goal.returns-clause-begun
@@ -8,14 +8,18 @@ returns-clause-begun c = begun_bytes
 pub returns-clause-ended : goal.returns-clause-ended
 returns-clause-ended c = ended_bytes
 
+pub returns-clause-midway : goal.returns-clause-midway
+returns-clause-midway c = midway_bytes
+
 pub returns-clause-kept : goal.returns-clause-kept
 returns-clause-kept c = (
   record { terms = omega arith; interactions = omega arith; rules = omega arith; count = omega arith; millis = omega arith; by_rule = (omega arith, tt); words = (omega arith, ((omega arith, omega arith), (omega arith, ((omega arith, omega arith), ((omega arith, omega arith), tt))))) },
   record { terms = omega arith; interactions = omega arith; rules = omega arith; count = omega arith; millis = omega arith; by_rule = (omega arith, tt); words = ((omega arith, omega arith), tt) },
+  record { terms = omega arith; interactions = omega arith; rules = omega arith; count = omega arith; millis = omega arith; by_rule = (omega arith, (omega arith, (omega arith, tt))); words = (omega arith, ((omega arith, omega arith), (omega arith, ((omega arith, omega arith), tt)))) },
 )
 
 pub returns-clause-head : goal.returns-clause-head
 returns-clause-head c head is = (is.interactions, is.ended, is.rules, is.words, is.millis)
 
 pub returns-clause-lengths : goal.returns-clause-lengths
-returns-clause-lengths c = (refl, refl)
+returns-clause-lengths c = (refl, refl, refl)
