@@ -4,7 +4,7 @@
 import re
 from pathlib import Path
 
-BOX, HIGH, GAP = 330, 62, 26  # how wide and how high the box of a floor is, and how far from the next one
+BOX, HIGH, GAP = 330, 76, 26  # how wide and how high the box of a floor is, and how far from the next one
 # The row of each floor in the picture, from below, and its column; none is the whole row.
 PLACES = {"Calculus": (0, None), "Texts": (1, None), "Machine": (2, 0), "Rounds": (2, 1), "Store": (3, 1), "Serving": (4, 1)}
 PLACES |= {"Tools": (5, 0), "Laws": (5, 1), "Rows": (6, None)}

@@ -1,6 +1,6 @@
 #!/usr/bin/env python3
-"""Writes the proofs that go through the names of helps in crates/ic_args/src/help.rt, or find parts of a help: run it after
-an edit of a help, or of the law on helps."""
+"""Writes the proofs that go through the names of helps in crates/ic_args/src/help.rt, or find parts of a help, and the digest
+of each help in the law on digests: run it after an edit of a help, or of the law on helps."""
 
 import re
 from pathlib import Path
@@ -62,9 +62,25 @@ def proof():
     return text
 
 
+def digest(text):
+    """What is left if 2^61 - 1 divides the number with these digits to the base 257: the text's length and then its bytes."""
+    number = len(text.encode())
+    for byte in text.encode():
+        number = number * 257 + byte
+    return number % (2**61 - 1)
+
+
+def law():
+    """The laws, with the digest of each help."""
+    text = LAWS.read_text()
+    for name, help_text in helps().items():
+        text = re.sub(rf"(?m)^(    ensures {name} \{{ digest {name}_help ≡) \d+ \}}$", rf"\1 {digest(help_text)} }}", text)
+    return text
+
+
 def written():
     """Each file that this writes, with what it has to hold."""
-    return {PROOF: proof(), NAMED: named()}
+    return {PROOF: proof(), NAMED: named(), LAWS: law()}
 
 
 if __name__ == "__main__":

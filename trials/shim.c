@@ -10,19 +10,25 @@
      interrupt  it is interrupted, and later ones are made
      nothing    it takes or gives nothing, and later ones are made
      short      it and all later reads and writes take or give one byte
+     kill       it isn't made, and the program is killed
 
    SHIM_DEVICE="WHEN PATH": the file of this path looks as a block device does. WHEN is `looked`, where it is looked at by its
    path, `opened`, where it is looked at once it is open, as if it had taken the place of another file just then, or `always`.
 
+   SHIM_GATE="FIRST N": each of N threads, from the FIRST one on (from 0), waits at its end until all of them have begun, for ten
+   seconds at most. (At its beginning it can't: a thread may begin others.)
+
    SHIM_LOG=PATH: a line is appended to this file for each call that changes a file, syncs it, reads it at a place, writes
    answers or goes wrong, as "KIND AT LENGTH\n" and, of a write, its bytes. KIND is W (written), R (read at a place), T (cut
    or made longer), S (synced), O (written to standard output), E (gone wrong, with the call's number in place of AT), C (at the end:
-   how many calls of WHAT there were), and where SHIM is set B (a thread begun) and J (one joined). */
+   how many calls of WHAT there were), where SHIM is set B (a thread begun) and J (one joined), and where there is a gate G (a
+   thread that ended when all had begun) and L (one that waited in vain). */
 #define _GNU_SOURCE
 #include <dlfcn.h>
 #include <errno.h>
 #include <fcntl.h>
 #include <pthread.h>
+#include <signal.h>
 #include <stdarg.h>
 #include <stdio.h>
 #include <stdlib.h>
@@ -39,12 +45,16 @@ enum outcome { MADE, REFUSED, DONE, HALF, INTERRUPTED, NOTHING, SHORT };
 static char what[16], how[16];
 static long wanted, seen;
 static int log_fd = -1, is_set, is_file[1024], is_device[1024];
+static int gate, first, begun, there;
+static struct { void *(*body)(void *); void *argument; } waiting[64];
 static char device_when[16], device[4096];
 
 #define NEXT(name) ((__typeof__(&name))dlsym(RTLD_NEXT, #name))
 
 __attribute__((constructor)) static void begin(void) {
     const char *shim = getenv("SHIM"), *path = getenv("SHIM_LOG"), *special = getenv("SHIM_DEVICE");
+    const char *threads = getenv("SHIM_GATE");
+    if (threads && sscanf(threads, "%d %d", &first, &gate) == 2 && gate > 64) gate = 64;
     if (special) sscanf(special, "%15s %4095[^\n]", device_when, device);
     if (path) {
         int fd = NEXT(open)(path, O_WRONLY | O_CREAT | O_APPEND | O_CLOEXEC, 0600);
@@ -69,6 +79,7 @@ static enum outcome outcome_of(const char *kind, int error) {
     int goes_on = !strcmp(how, "on") || !strcmp(how, "half") || !strcmp(how, "short");
     if (number < wanted || (number > wanted && !goes_on)) return MADE;
     if (number == wanted) note('E', number, 0, NULL);
+    if (!strcmp(how, "kill")) raise(SIGKILL);
     if (!strcmp(how, "short")) return SHORT;
     if (!strcmp(how, "half") && number == wanted) return HALF;
     if (!strcmp(how, "done")) { errno = error; return DONE; }
@@ -92,8 +103,24 @@ void *calloc(size_t count, size_t size) { return outcome_of("growth", ENOMEM) ==
 
 void *realloc(void *old, size_t size) { return outcome_of("growth", ENOMEM) == MADE ? __libc_realloc(old, size) : NULL; }
 
+static void *before_gate(void *place) {
+    long number = (long)place;
+    __atomic_add_fetch(&there, 1, __ATOMIC_SEQ_CST);
+    void *result = waiting[number].body(waiting[number].argument);
+    for (int waited = 0; waited < 10000 && __atomic_load_n(&there, __ATOMIC_SEQ_CST) < gate; waited++) usleep(1000);
+    note(__atomic_load_n(&there, __ATOMIC_SEQ_CST) < gate ? 'L' : 'G', number, 0, NULL);
+    return result;
+}
+
 int pthread_create(pthread_t *thread, const pthread_attr_t *attributes, void *(*body)(void *), void *argument) {
     if (outcome_of("thread", EAGAIN) != MADE) return EAGAIN;
+    long number = __atomic_fetch_add(&begun, 1, __ATOMIC_SEQ_CST) - first;
+    if (number >= 0 && number < gate) {
+        waiting[number].body = body;
+        waiting[number].argument = argument;
+        body = before_gate;
+        argument = (void *)number;
+    }
     int answer = NEXT(pthread_create)(thread, attributes, body, argument);
     if (is_set && !answer) note('B', 0, 0, NULL);
     return answer;

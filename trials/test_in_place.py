@@ -216,17 +216,14 @@ class Bounds(InPlace):
 
     def test_rounds_and_reducing_in_place_exclude_each_other(self):
         two = f"{ADD} <r|Add(r,S(Z))=S(Z)>"
-        wanted = "error: the arguments '--rounds <N>' and '--workers <N>' cannot be used with '--steps <N>', '--nodes <N>', "
+        wanted = "error: the argument '--rounds <N>' cannot be used with '--steps <N>', '--nodes <N>', "
         wanted += "'--limits <L>', '--stats', '--format <FORMAT>', '--quiet-answer', '--keep <F>', '--resume <F>' or '--seconds <N>'\n\n"
         wanted += "Usage: icserve reduce [OPTIONS] [FILE]\n\nFor more information, try '--help'.\n"
         options = [["--steps", 1], ["--nodes=1"], ["--stats"], ["--partial", "--stats"], ["--limits", "wide"]]
         for option in (*options, ["--format", "lines"], ["--format=json"], ["--quiet-answer"], ["--keep", "f"], ["--resume=f"], ["--seconds", 1]):
-            for rounds in (["--rounds", 1], ["--workers", 1], ["--rounds", 1, "--workers", 2]):
+            for rounds in (["--rounds", 1], ["--rounds", 1, "--workers", 2]):
                 self.runs("reduce", *rounds, *option, given=two, err=wanted, status=2)
                 self.runs("reduce", *option, *rounds, given=two, err=wanted, status=2)
-        wanted = "error: the following required arguments were not provided:\n  --rounds <N>\n\n"
-        wanted += "Usage: icserve reduce --rounds <N> --workers <N> [FILE]\n\nFor more information, try '--help'.\n"
-        self.runs("reduce", "--workers", 3, given=two, err=wanted, status=2)
         wrongs = [["--steps", -1], ["--steps"], ["--nodes", "many"], ["--partial=1"], ["--steps", 1, "--steps", 2], ["--stats", "--stats"]]
         for wrong in (*wrongs, ["--format"], ["--format", "tsv"], ["--format="], ["--quiet-answer=1"], ["--quiet-answer"] * 2):
             ran = run("reduce", *wrong, given=two)

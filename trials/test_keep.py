@@ -1,15 +1,18 @@
 """A reduction that is kept in two files (`reduce --keep`, `reduce --resume`) goes on after any stop, with the answer and the
 counts of one that isn't stopped. Files that hold something else are refused, and stay as they are."""
 
+import contextlib
+import itertools
 import json
 import os
+import shutil
 import signal
 import struct
 import subprocess
 import sys
 import time
 
-from program import PROGRAM, TOP, grows_to, heeds_signals, run
+from program import PROGRAM, TOP, grows_to, heeds_signals, ran_with, run, said_of
 from shim import noted, recording, shimmed, was_refused
 from stops import Stops
 
@@ -56,8 +59,15 @@ def torn(draw, old, new):
     return draw.choice([*drawn, draw.randbytes(len(new))])
 
 
+def turned(state):
+    """A state whose numbers have their lowest byte first, as another machine might write it. Its letters and its text stay."""
+    rules, words = struct.unpack(">2Q", state[32:48])
+    end = 56 + 8 * (rules + words)
+    return state[:8] + b"".join(state[at : at + 8][::-1] for at in range(8, end, 8)) + state[end:]
+
+
 class Keep(Stops):
-    seconds = 60
+    seconds = 80
 
     def setUp(self):
         super().setUp()
@@ -211,8 +221,25 @@ class Keep(Stops):
         for at in (0, 1, 8, 16, 17, 24, 30, 70, len(whole[newest]) - 30):
             for content in (whole[newest][:at], laid(whole[newest], at, b"\7")):
                 self.put([content if it == newest else whole[it] for it in (0, 1)])
+                put = self.contents()
                 ran = run("reduce", "--resume", self.file, "--steps", 0, *FIGURES)
                 self.equals(ran.command, f"an end that is told; it said {ran.err}", True, ran.status in (1, 3, 4, 5))
+                self.equals(ran.command, "what the files hold", put, self.contents())
+
+    def test_another_form_and_another_byte_order_are_refused(self):
+        run("reduce", "--keep", self.file, "--steps", 9, given=ackermann(2))
+        whole = self.contents()
+        newest = max((0, 1), key=lambda it: (whole[it][:1] == b"\1", whole[it][1:9]))
+        gate, number, size, state = (whole[newest][a:b] for a, b in ((0, 1), (1, 9), (9, HEAD), (HEAD, None)))
+        self.equals(self.file, "how many interactions are kept", 9, struct.unpack(">Q", state[16:24])[0])
+        head = gate + number + size
+        others = [head + letters + state[8:] for letters in (b"ICKEPT02", b"ICKEPT00", b"ICKEPT1\0", b"10TPEKCI")]
+        for content in (*others, head + turned(state), gate + number[::-1] + size[::-1] + state):
+            self.put([content if it == newest else whole[it] for it in (0, 1)])
+            put = self.contents()
+            ran = run("reduce", "--resume", self.file)
+            told = (ran.status, ran.out, ran.err, self.contents() == put)
+            self.equals(ran.command, f"the end of {content[:40]}", (3, b"", b"icserve: damaged\n", True), told)
 
     def test_kept_files_are_no_disks(self):
         run("reduce", "--keep", self.file, given=ackermann(2))
@@ -291,6 +318,60 @@ class Keep(Stops):
         self.equals(ran.command, "interactions that are kept", before, self.kept())
         self.agree(run("reduce", "--resume", self.file, *FIGURES), whole)
 
+    @contextlib.contextmanager
+    def device(self, size):
+        """A device in memory of so many bytes, which is taken away at the end. A trial that asks for it is skipped where none can
+        be had."""
+        if os.geteuid() or not shutil.which("mount"):
+            self.skipTest("a device in memory takes root and mount")
+        folder = self.room / "device"
+        folder.mkdir()
+        made = subprocess.run(["mount", "-t", "tmpfs", "-o", f"size={size}", "tmpfs", folder], stderr=subprocess.PIPE)
+        if made.returncode:
+            self.skipTest(f"no device in memory can be had: {made.stderr.decode(errors='replace')}")
+        try:
+            yield folder
+        finally:
+            subprocess.run(["umount", folder], check=True)
+
+    def test_a_device_that_fills_in_the_midst_of_a_keep_leaves_what_was_kept(self):
+        """The state takes six pages, and its file has one."""
+        text = church(14)
+        whole = self.whole(text)
+        with self.device(2**20) as folder:
+            self.file, self.second, more = folder / "net.keep", folder / "net.keep.2", folder / "more"
+            run("reduce", "--keep", self.file, "--steps", 100, given=text)
+            before = self.kept()
+            for pages in (0, 1, 3):
+                more.unlink(missing_ok=True)
+                has = os.statvfs(folder)
+                more.write_bytes(bytes((has.f_bavail - pages) * has.f_frsize))
+                ran = run("reduce", "--resume", self.file, "--steps", 3000)
+                told = (ran.status, ran.err, ran.after)
+                cause = f"{self.file}: write: no room left on the device\n".encode()
+                self.equals(ran.command, f"the end where {pages} pages are free", (4, b"icserve: device\n", cause), told)
+                self.equals(ran.command, "interactions that are kept", before, self.kept())
+            more.unlink()
+            self.agree(run("reduce", "--resume", self.file, *FIGURES), whole)
+
+    def test_a_folder_a_pipe_and_a_device_are_refused(self):
+        """In the place of either file. The other one isn't made, nor written."""
+        puts = {"folder": os.mkdir, "pipe": os.mkfifo, "device": lambda path: os.symlink("/dev/full", path)}
+        for number, (kind, word, place) in enumerate(itertools.product(puts, ("--keep", "--resume"), (0, 1))):
+            room = self.room / str(number)
+            room.mkdir()
+            paths = self.file, self.second = room / "net.keep", room / "net.keep.2"
+            if word == "--resume":
+                run("reduce", "--keep", self.file, "--steps", 9, given=ackermann(2))
+                paths[place].unlink()
+            other = paths[1 - place].read_bytes() if word == "--resume" else None
+            puts[kind](paths[place])
+            ran = run("reduce", word, self.file, given=ackermann(2), seconds=20)
+            told = (ran.status, ran.out, ran.err, ran.after.decode())
+            self.equals(ran.command, "the end", (3, b"", b"icserve: device\n", f"{paths[place]}: open: is a {kind}\n"), told)
+            left = paths[1 - place].read_bytes() if paths[1 - place].exists() else None
+            self.equals(ran.command, "what the other file holds", other, left)
+
     def life(self, text, most, begins):
         """A run that is recorded and makes at most so many interactions: what it told, and its calls on the files."""
         words = ["--keep" if begins else "--resume", self.file, "--steps", most, "--quiet-answer", *FIGURES]
@@ -361,7 +442,7 @@ class Keep(Stops):
         total, calls = whole[1]["interactions"], 0
         run("reduce", "--keep", self.file, "--steps", 30, given=text)
         before = self.contents()
-        for how in ("once", "on", "done", "half", "nothing", "short", "interrupt"):
+        for how in ("once", "on", "done", "half", "nothing", "short", "interrupt", "kill"):
             number, is_over = 0, False
             while not is_over:
                 number += 1
@@ -369,7 +450,8 @@ class Keep(Stops):
                 env = shimmed(f"disk {number} {how}", self.log)
                 ran = run("reduce", "--resume", self.file, "--steps", 90, "--quiet-answer", *FIGURES, env=env)
                 is_over = not was_refused(self.log)
-                if ran.status not in (5,) and (ran.status, ran.err) not in ((3, b"icserve: device\n"), (4, b"icserve: device\n")):
+                ends = [(3, b"icserve: device\n"), (4, b"icserve: device\n"), (-signal.SIGKILL, b"")]
+                if ran.status != 5 and (ran.status, ran.err) not in ends[2 if how == "kill" else 0 :][:2]:
                     self.told(ran.command, f"the end where call {number} went wrong, {how}", "device, or not done", ran[1:])
                 came = self.kept()
                 self.equals(ran.command, f"interactions where call {number} went wrong, {how}", True, came in (30, 90))
@@ -381,9 +463,10 @@ class Keep(Stops):
         self.equals("the whole", "interactions", True, total > 90)
 
     def test_each_call_of_a_first_keep_goes_wrong_in_turn(self):
+        """It goes wrong, or the program is killed before it."""
         text = ackermann(2)
         whole = self.whole(text)
-        for how in ("once", "on"):
+        for how, ends in (("once", (3, 4, 5)), ("on", (3, 4, 5)), ("kill", (-signal.SIGKILL, 5))):
             number, is_over = 0, False
             while not is_over:
                 number += 1
@@ -391,7 +474,7 @@ class Keep(Stops):
                 env = shimmed(f"disk {number} {how}", self.log)
                 ran = run("reduce", "--keep", self.file, "--steps", 30, "--quiet-answer", given=text, env=env)
                 is_over = not was_refused(self.log)
-                self.equals(ran.command, f"status where call {number} went wrong, {how}: {ran.err}", True, ran.status in (3, 4, 5))
+                self.equals(ran.command, f"status where call {number} went wrong, {how}: {ran.err}", True, ran.status in ends)
                 if ran.status == 5 or self.kept() is not None:
                     self.agree(run("reduce", "--resume", self.file, *FIGURES), whole)
                     continue
@@ -418,32 +501,60 @@ class Keep(Stops):
             self.agree(run("reduce", "--resume", self.file, *FIGURES), whole)
         self.equals("growths", f"at least 100, came {number}", True, number >= 100)
 
+    def test_each_growth_of_a_first_keep_is_refused_in_turn(self):
+        text = "{A><B} <|A=B,x=C(x)>"
+        whole = self.whole(text)
+        number, is_over = 0, False
+        while not is_over:
+            number += 1
+            self.clear()
+            ran = run("reduce", "--keep", self.file, *FIGURES, given=text, env=shimmed(f"growth {number} once", self.log))
+            is_over = not was_refused(self.log)
+            if ran.status:
+                word = (ran.status, ran.err.splitlines()[-1])
+                self.equals(ran.command, f"the end where growth {number} was refused", True, word in ((3, b"icserve: memory"), (4, b"icserve: memory")))
+            if self.kept() is None:
+                self.clear()
+                self.agree(run("reduce", "--keep", self.file, *FIGURES, given=text), whole)
+            self.agree(run("reduce", "--resume", self.file, *FIGURES), whole)
+        self.equals("growths", f"at least 100, came {number}", True, number >= 100)
+
+    def stopped(self, words, text, seconds, sign):
+        """Starts a run, and stops it by a signal after so many seconds: how it has ended."""
+        command = [PROGRAM, "reduce", *map(str, words), "--seconds", "1", *FIGURES]
+        pipes = dict.fromkeys(("stdin", "stdout", "stderr"), subprocess.PIPE)
+        with subprocess.Popen(command, preexec_fn=heeds_signals, **pipes) as process:
+            try:
+                out, err = process.communicate(text, timeout=seconds)
+            except subprocess.TimeoutExpired:
+                process.send_signal(sign)
+                out, err = process.communicate()
+        return ran_with(said_of(command, text), process.returncode, out, err)
+
     def test_100_kills_at_drawn_moments_of_a_long_reduction(self):
-        draw, text = self.draws(), ackermann(int(os.environ.get("KEEP_SIZE") or 10))
+        """Each comes as a run goes on, and the next run resumes what is kept then. Where the reduction ends, it has the answer and
+        the counts of one that isn't stopped, and is begun anew."""
+        draw, text = self.draws(), ackermann(int(os.environ.get("KEEP_SIZE") or 11))
         began = time.monotonic()
         whole = self.whole(text)
         took = time.monotonic() - began
-        words, given, lives, earlier = ["--keep", self.file], text.encode(), 0, 0
-        for kills in range(100):
-            command = [PROGRAM, "reduce", *map(str, words), "--seconds", "1", "--quiet-answer"]
-            pipes = {"stdin": subprocess.PIPE, "stdout": subprocess.DEVNULL, "stderr": subprocess.DEVNULL}
-            with subprocess.Popen(command, preexec_fn=heeds_signals, **pipes) as process:
-                process.stdin.write(given)
-                process.stdin.close()
-                # Where nothing is kept yet it is let alone until something is.
-                end = time.monotonic() + 30
-                while words[0] == "--keep" and not self.file.exists() and time.monotonic() < end:
-                    time.sleep(0.001)
-                time.sleep(draw.random() * took * (0.15 if kills else 0.02))
-                process.send_signal(draw.choice((signal.SIGKILL, signal.SIGKILL, signal.SIGTERM)))
-                process.wait()
-            if words[0] == "--keep" and self.kept() is None:
+        words, given, held, kills, went_on, ends = ["--keep", self.file], text.encode(), None, 0, 0, 0
+        while kills < 100:
+            ran = self.stopped(words, given, draw.random() * took * 0.1, draw.choice((signal.SIGKILL, signal.SIGKILL, signal.SIGTERM)))
+            if ran.status >= 0:
+                self.agree(ran, whole)
+                self.clear()
+                words, given, held, ends = ["--keep", self.file], text.encode(), None, ends + 1
+                continue
+            kills += 1
+            now = self.kept()
+            # Nothing is kept yet: it is begun anew.
+            if held is None and now is None:
                 self.clear()
                 continue
-            words, given = ["--resume", self.file], b""
-            if kills % 10 == 9:
-                now = self.kept()
-                self.equals(self.file, f"interactions after {kills + 1} kills, no fewer than {earlier}", True, earlier <= now)
-                lives, earlier = lives + (now > earlier), now
+            earlier = held or 0
+            is_between = now is not None and earlier <= now <= whole[1]["interactions"]
+            self.equals(ran.command, f"interactions after {kills} kills, {earlier} before: {now}", True, is_between)
+            words, given, held, went_on = ["--resume", self.file], b"", now, went_on + (now > earlier)
         self.agree(run("reduce", *map(str, words), "--seconds", 1, *FIGURES, given=given), whole)
-        self.equals(self.file, f"whether it went on between kills, in {took:.1f} s", True, lives > 0)
+        self.equals(self.file, f"whether it went on between kills, in {took:.1f} s: {went_on} times, {ends} ends", True, went_on >= 20)

@@ -26,7 +26,7 @@ use Rattle.ic_args.specs.declared.words.FiguresFormat.TheVariants.{Lines, Object
 use Rattle.ic_args.specs.declared.words.WordsFault.{WordsFault}
 use Rattle.ic_args.specs.declared.words.WordsFault.TheVariants.{Words, Memory}
 use Rattle.ic_args.proofs.Known.{known_attend, known_batch, known_reduce, known_serve, known_trace}
-use Rattle.ic_args.proofs.OptionNumbers.{number, number_given, number_if}
+use Rattle.ic_args.proofs.OptionNumbers.{number, number_given, number_if, number_if_given}
 use Rattle.ic_args.proofs.TextWords.{alone_taken, is_word, no_own, same_word}
 use Rattle.ic_args.proofs.WordsExact.{IsCalled}
 use Rattle.ic_args.proofs.WordsLaws.{IsMistake, alone_met, among_all, asked_alone, called_as, help_asked, help_is, in_place_free, kept_free, own_of, reduce_wrong, report_is, rounds_free, taken_alone, trace_is, version_asked}
@@ -108,14 +108,15 @@ asked words none called (Ok (Attend disk runners turns workers scripts)) asks =
       workers = of (codes "workers") 1 64 (codes "2") refl refl workers asks.4;
       scripts = asks.5;
     })
-asked words none called (Ok (Reduce steps nodes partial stats limits format quiet file)) asks =
-    let free = in_place_free (subcommand_of command_line words) asks.1 asks.10 asks.9 asks.11
+asked words none called (Ok (Reduce workers steps nodes partial stats limits format quiet file)) asks =
+    let free = in_place_free (subcommand_of command_line words) asks.1 asks.10 asks.9 asks.12
     (ap₂ (λ (a b : Bool). a && b) (ap is_limits asks.6 ∙ limits_is limits) (ap is_figures asks.7 ∙ figures_is format)) in
-    done words none called (codes "reduce") (Reduce steps nodes partial stats limits format quiet file) asks.0.0 refl (own_of (codes "reduce") _ asks.0.0 ∙ free) (λ e. e) (λ begins.
+    done words none called (codes "reduce") (Reduce workers steps nodes partial stats limits format quiet file) asks.0.0 refl (own_of (codes "reduce") _ asks.0.0 ∙ free) (λ e. e) (λ begins.
     let of = number_if reduce_entry known_reduce words none begins in record {
       begins = begins;
       alone = asks.1;
       unkept = asks.9;
+      workers = number_if_given reduce_entry known_reduce words none begins (codes "workers") 1 64 refl refl workers asks.11;
       steps = of (codes "steps") 0 most_steps most_steps refl refl steps asks.2;
       nodes = of (codes "nodes") 0 most_steps 134217728 refl refl nodes asks.3;
       partial = asks.4;
@@ -237,7 +238,7 @@ not_taken words kind (Ok (task.Text word file)) made is = absurd is
 not_taken words kind (Ok (Create disk overwrite)) made is = absurd is
 not_taken words kind (Ok (Serve disk workers every explain)) made is = absurd is
 not_taken words kind (Ok (Attend disk runners turns workers scripts)) made is = absurd is
-not_taken words kind (Ok (Reduce steps nodes partial stats limits format quiet file)) made is = absurd is
+not_taken words kind (Ok (Reduce workers steps nodes partial stats limits format quiet file)) made is = absurd is
 not_taken words kind (Ok (ReduceKept disk begins seconds steps nodes partial stats format quiet file)) made is = absurd is
 not_taken words kind (Ok (ReduceByRounds rounds workers partial file)) made is = absurd is
 not_taken words kind (Ok (Trace rounds format file)) made is = absurd is

@@ -11,9 +11,9 @@ use Rattle.clap.specs.ValueTests.{accepts}
 use Rattle.clap.proofs.ValueTestLemmas.{accepts-Accepts}
 use Rattle.clap.specs.Walk.{has_row, nothing_held, settled, walk, with_default}
 use Rattle.clap.specs.declared.builder.value_parser.ValueParser.TheVariants as vp
-use Rattle.ic_args.specs.Words.{BeginsWith, Choice, Entry, IsNumberOf, IsNumberOr, Tail, a_flag, a_number, an_option, choice_named, command_line, name_of, is_given, many_words, no_words, one_word, value_met}
+use Rattle.ic_args.specs.Words.{BeginsWith, Choice, Entry, IsNumberIfGiven, IsNumberOf, IsNumberOr, Tail, a_flag, a_number, an_option, choice_named, command_line, name_of, is_given, many_words, no_words, one_word, value_met}
 use Rattle.ic_args.specs.Lines.{IsWithin}
-use Rattle.ic_args.specs.inner.Asking.{IsReadFrom, IsReadOr}
+use Rattle.ic_args.specs.inner.Asking.{IsReadFrom, IsReadIfGiven, IsReadOr}
 use Rattle.ic_args.proofs.Entries.{after_options, apart_parts, are_apart, both_true, built_choice, choice_apart, choice_sound, default_of, differ, differ_parts, is_name, kind_fits, rules_of, tail_name}
 use Rattle.ic_args.proofs.LineRows.{apart_other_way}
 use Rattle.ic_args.proofs.EntryLines.{IsKnown, defaults_are, leaf, tail_plain}
@@ -146,3 +146,8 @@ module _ (entry : Entry) (known : IsKnown entry) (words : List Text) (none : fau
   pub number_if : (name : Text) (least most default : ℕ) → choice_named name entry.options ≡ Some (an_option name (a_number least most) None false) → bytes_eq (codes "help") name ≡ false
       → (result : ℕ) → IsReadOr name least most default met result → IsNumberOr name least most default words result
   number_if name least most default is help result read = ((λ given. number_given name least most is help result (read.0 given) given), read.1)
+
+  pub number_if_given : (name : Text) (least most : ℕ) → choice_named name entry.options ≡ Some (an_option name (a_number least most) None false) → bytes_eq (codes "help") name ≡ false
+      → (result : Option ℕ) → IsReadIfGiven name least most met result → IsNumberIfGiven name least most words result
+  number_if_given name least most is help None read = read
+  number_if_given name least most is help (Some number) read = (read.0, number_given name least most is help number read.1 read.0)

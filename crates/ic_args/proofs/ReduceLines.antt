@@ -4,8 +4,8 @@ use Rattle.std.specs.Prelude.{is_some}
 use Rattle.std.specs.Str.{bytes_eq}
 use Rattle.clap.specs.Words.{Row, Text, subcommand_of}
 use Rattle.clap.specs.Kinds.{or_else}
-use Rattle.ic_args.specs.Words.{IsDecimal, IsNumberOf, IsNumberOr, NamesReduce, asks_in_place, asks_kept, asks_rounds, clashes, command_line, file_met, is_flag_met, is_figures, is_given, is_limits, mistakes_of, most_rounds, most_steps, reduce_entry, value_if_met}
-use Rattle.ic_args.specs.Lines.{AreInPlace, AreOfRounds, AreUnkept, Given, Gives, given_value, HasFlag, HasNone, HasNumber, HasValue, IsNumberIn, IsReduceLine}
+use Rattle.ic_args.specs.Words.{IsDecimal, IsNumberIfGiven, IsNumberOf, IsNumberOr, NamesReduce, asks_in_place, asks_kept, asks_rounds, clashes, command_line, file_met, is_flag_met, is_figures, is_given, is_limits, mistakes_of, most_rounds, most_steps, reduce_entry, value_if_met}
+use Rattle.ic_args.specs.Lines.{AreInPlace, AreOfRounds, AreUnkept, Given, Gives, given_value, HasFlag, HasNone, HasNumber, HasNumberIfGiven, HasValue, IsNumberIn, IsReduceLine}
 use Rattle.ic_args.proofs.Known.{known_reduce}
 use Rattle.ic_args.proofs.Entries.{default_value}
 use Rattle.ic_args.proofs.EntryLines.{IsTaken, file_is, file_rest, flag_is, taken, value_given}
@@ -46,7 +46,7 @@ module _ (words : List Text) (gs : List Given) (path : Option Text) (line : IsRe
 
     no_clash : clashes met ≡ false
     no_clash =
-        ap₂ (λ (k r : Option Text). (is_some k && is_some r) || (((is_some k || is_some r) && is_some (value_if_met (codes "limits") met)) || (is_some r && is_some (value_if_met (codes "file") met))))
+        ap₂ (λ (k r : Option Text). (is_some k && is_some r) || (((is_some k || is_some r) && is_some (value_if_met (codes "limits") met)) || (((is_some k || is_some r) && is_given (codes "workers") met) || (is_some r && is_some (value_if_met (codes "file") met)))))
         no_keep no_resume
 
     not_waited : is_given (codes "seconds") met ≡ false
@@ -66,6 +66,14 @@ module _ (words : List Text) (gs : List Given) (path : Option Text) (line : IsRe
       go (Some v) gives is =
           let there = names.0 (given_is name v s gives is) in
           (subst (λ (t : Text). IsDecimal t result) (value_given reduce_entry known_reduce words gs line.rest is_taken name v gives) there.0).1 ∙ sym is.1
+
+  number_if_is : (name : Text) (least most : ℕ) (s result : Option ℕ) → bytes_eq (codes "file") name ≡ false → default_value name reduce_entry.options ≡ None → HasNumberIfGiven gs name s
+      → IsNumberIfGiven name least most words result → result ≡ s
+  number_if_is name least most None None other has none names = refl
+  number_if_is name least most None (Some n) other has none names = absurd (true≢false (sym names.0 ∙ none_is name (none_met name other has none)))
+  number_if_is name least most (Some k) None other has of names = absurd (true≢false (sym (given_is name of.0 k of.1 of.2) ∙ names))
+  number_if_is name least most (Some k) (Some n) other has of names = ap (λ (m : ℕ). Some m)
+      ((subst (λ (t : Text). IsDecimal t n) (value_given reduce_entry known_reduce words gs line.rest is_taken name of.0 of.1) names.1.0).1 ∙ sym of.2.1)
 
   flag_met : (name : Text) (p : Bool) → bytes_eq (codes "file") name ≡ false → default_value name reduce_entry.options ≡ Some (codes "false") → HasFlag gs name p → is_flag_met name met ≡ p
   flag_met = flag_is reduce_entry known_reduce words gs line.rest is_taken
@@ -90,18 +98,18 @@ module _ (words : List Text) (gs : List Given) (path : Option Text) (line : IsRe
       (ap₂ (λ (a b : Bool). a || b) (ap is_some (none_met (codes "format") refl refl of.no_format))
       (ap₂ (λ (a b : Bool). a || b) (flag_met (codes "quiet-answer") false refl refl of.no_quiet) (ap₂ (λ (a b : Bool). a || b) (not_kept of.unkept) (not_waited of.unkept)))))))
 
-  pub in_place_taken : (s n : ℕ) (p t q : Bool) (l w : Text) → AreInPlace gs s n p t q l w → mistakes_of words ≡ []
-  in_place_taken s n p t q l w of =
-      let alone : asks_rounds met ≡ false = ap₂ (λ (a b : Bool). a || b) (none_is (codes "rounds") (none_met (codes "rounds") refl refl of.no_rounds))
-      (none_is (codes "workers") (none_met (codes "workers") refl refl of.no_workers)) in
+  pub in_place_taken : (k : Option ℕ) (s n : ℕ) (p t q : Bool) (l w : Text) → AreInPlace gs k s n p t q l w → mistakes_of words ≡ []
+  in_place_taken k s n p t q l w of =
+      let alone : asks_rounds met ≡ false = none_is (codes "rounds") (none_met (codes "rounds") refl refl of.no_rounds) in
       let limits = ap is_limits (word_is (codes "limits") (codes "wide") l refl refl of.limits) ∙ limits_known l of.known_limits in
       let format = ap is_figures (word_is (codes "format") (codes "lines") w refl refl of.format) ∙ figures_known w of.known_format in
       ap₂ or_else is_taken.free (own_of (codes "reduce") met is_taken.named ∙ in_place_free met alone (no_clash of.unkept) (not_kept of.unkept) (not_waited of.unkept) (ap₂ (λ (a b : Bool). a && b) limits format))
 
-  pub in_place_named : (s n steps nodes : ℕ) (p t q partial stats quiet : Bool) (l w limits format : Text) → AreInPlace gs s n p t q l w → (f : Option Text)
-      → NamesReduce words steps nodes partial stats quiet limits format f
-      → (steps ≡ s) × (nodes ≡ n) × (partial ≡ p) × (stats ≡ t) × (quiet ≡ q) × (limits ≡ l) × (format ≡ w) × (f ≡ path)
-  in_place_named s n steps nodes p t q partial stats quiet l w limits format of f names = (
+  pub in_place_named : (k workers : Option ℕ) (s n steps nodes : ℕ) (p t q partial stats quiet : Bool) (l w limits format : Text) → AreInPlace gs k s n p t q l w → (f : Option Text)
+      → NamesReduce words workers steps nodes partial stats quiet limits format f
+      → (workers ≡ k) × (steps ≡ s) × (nodes ≡ n) × (partial ≡ p) × (stats ≡ t) × (quiet ≡ q) × (limits ≡ l) × (format ≡ w) × (f ≡ path)
+  in_place_named k workers s n steps nodes p t q partial stats quiet l w limits format of f names = (
+    number_if_is (codes "workers") 1 64 k workers refl refl of.workers names.workers,
     number_is (codes "steps") 0 most_steps most_steps s steps refl refl of.steps names.steps,
     number_is (codes "nodes") 0 most_steps 134217728 n nodes refl refl of.nodes names.nodes,
     names.partial ∙ flag_met (codes "partial") p refl refl of.partial,

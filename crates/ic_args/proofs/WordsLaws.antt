@@ -129,9 +129,8 @@ abbrev pub are_known : Option (Text × List Row) → Bool
 are_known met = is_limits (limits_met met) && is_figures (figures_met met)
 
 -- its faults, by what is asked
-abbrev faults_by : (rounds in_place counted : Bool) → Kinds → Kinds
-faults_by rounds in_place counted others =
-    cond (not rounds) others (cond in_place (ArgumentConflict ∷ []) (cond counted [] (MissingRequiredArgument ∷ [])))
+abbrev faults_by : (rounds in_place : Bool) → Kinds → Kinds
+faults_by rounds in_place others = cond (not rounds) others (cond in_place (ArgumentConflict ∷ []) [])
 
 abbrev place_by : (clash kept shown waits known : Bool) → Kinds
 place_by clash kept shown waits known = cond clash (ArgumentConflict ∷ [])
@@ -157,7 +156,7 @@ abbrev pub IsMistake : ErrorKind → Type 0
 IsMistake kind = (kind ≢ DisplayHelp) × (kind ≢ DisplayVersion)
 
 pub reduce_wrong : (met : Option (Text × List Row)) → reduce_faults met ≢ [] → (kind : ErrorKind) × (reduce_faults met ≡ kind ∷ []) × IsMistake kind
-reduce_wrong met wrong = go (asks_rounds met) (asks_in_place met) (is_given (codes "rounds") met) wrong
+reduce_wrong met wrong = go (asks_rounds met) (asks_in_place met) wrong
   where
     place : (c k f w l : Bool) → place_by c k f w l ≢ [] → (kind : ErrorKind) × (place_by c k f w l ≡ kind ∷ []) × IsMistake kind
     place true k f w l other = (ArgumentConflict, refl, ((λ e. cc), λ e. cc))
@@ -167,11 +166,10 @@ reduce_wrong met wrong = go (asks_rounds met) (asks_in_place met) (is_given (cod
     place false false f false true other = absurd (other refl)
     place false false f false false other = (InvalidValue, refl, ((λ e. cc), λ e. cc))
 
-    go : (r p c : Bool) → faults_by r p c (place_of met) ≢ [] → (kind : ErrorKind) × (faults_by r p c (place_of met) ≡ kind ∷ []) × IsMistake kind
-    go false p c other = place (clashes met) (asks_kept met) (is_figures (figures_met met)) (is_given (codes "seconds") met) (are_known met) other
-    go true true c other = (ArgumentConflict, refl, ((λ e. cc), λ e. cc))
-    go true false true other = absurd (other refl)
-    go true false false other = (MissingRequiredArgument, refl, ((λ e. cc), λ e. cc))
+    go : (r p : Bool) → faults_by r p (place_of met) ≢ [] → (kind : ErrorKind) × (faults_by r p (place_of met) ≡ kind ∷ []) × IsMistake kind
+    go false p other = place (clashes met) (asks_kept met) (is_figures (figures_met met)) (is_given (codes "seconds") met) (are_known met) other
+    go true true other = (ArgumentConflict, refl, ((λ e. cc), λ e. cc))
+    go true false other = absurd (other refl)
 
 -- a mistake that the parser finds is one of all
 pub among_all : (k : ErrorKind) (a b : Kinds) → IsAmong k a → IsAmong k (or_else a b)

@@ -1,5 +1,5 @@
 -- To be believed: which help the program has, and which each of its commands. The texts stand in src/help.rt.
-use Rattle.std.specs.Prelude.{◌≡◌, ℕ, List, [], ◌∷◌, codes, bytes_eq, find, Option, None, Some, option_map, unwrap_or, length, take, drop}
+use Rattle.std.specs.Prelude.{◌≡◌, ◌+◌, ◌*◌, ◌%◌, ℕ, List, [], ◌∷◌, codes, bytes_eq, find, fold, Option, None, Some, option_map, unwrap_or, length, take, drop}
 use Rattle.clap.specs.Words.{Text}
 use Rattle.ic_args.specs.declared.help.TheConstants.{ATTEND, BATCH, CHECK, CREATE, DRAW, DUMP, EXPAND, HELP}
 use Rattle.ic_args.specs.declared.help.TheConstants.{INSPECT, ONCE, PROGRAM, REDUCE, SERVE, SETTLE, TRACE}
@@ -74,3 +74,8 @@ help_by (Some word) = help_of (word ∷ [])
 -- this part stands in a text
 abbrev pub Says : Text → Text → Type 0
 Says text part = (place : ℕ) × (take (length part) (drop place text) ≡ part)
+
+-- the digest of a text: a number is written to the base 257 with the text's length as its first digit and then the
+-- text's bytes; the digest is what is left if the prime 2^61 - 1 divides it
+abbrev pub digest : Text → ℕ
+digest text = fold (λ sum byte. (sum * 257 + byte) % 2305843009213693951) (length text) text

@@ -105,6 +105,12 @@ IsNumberIn (Some text) default number = IsDecimal text number
 abbrev pub HasNumber : List Given → (name : Text) (default number : ℕ) → Type 0
 HasNumber given name default number = IsNumberIn (given_value given name) default number
 
+-- an option's number: that which it is given, or none where it isn't given
+abbrev pub HasNumberIfGiven : List Given → (name : Text) → Option ℕ → Type 0
+HasNumberIfGiven given name None = HasNone given name
+HasNumberIfGiven given name (Some number) =
+    (text : Text) × Gives given name text × IsDecimal text number
+
 -- no option has the name of one after it
 abbrev pub AreOnce : List Given → Type 0
 AreOnce [] = Unit {0}
@@ -208,11 +214,12 @@ pub record AreUnkept (given : List Given) : Type 0 where
   pub no_resume : HasNone given (codes "resume")
   pub no_seconds : HasNone given (codes "seconds")
 
--- options by which a net is reduced in place: bounds on interactions and on places, three flags, limits,
--- and a format
-pub record AreInPlace (given : List Given) (s n : ℕ) (p t q : Bool) (l w : Text) : Type 0 where
+-- options by which a net is reduced in place: how many threads, if that is said, bounds on interactions and on
+-- places, three flags, limits, and a format
+pub record AreInPlace (given : List Given) (k : Option ℕ) (s n : ℕ) (p t q : Bool) (l w : Text)
+    : Type 0 where
   pub no_rounds : HasNone given (codes "rounds")
-  pub no_workers : HasNone given (codes "workers")
+  pub workers : HasNumberIfGiven given (codes "workers") k
   pub unkept : AreUnkept given
   pub steps : HasNumber given (codes "steps") most_steps s
   pub nodes : HasNumber given (codes "nodes") 134217728 n

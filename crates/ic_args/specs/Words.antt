@@ -374,9 +374,9 @@ figures_met met = unwrap_or (value_if_met (codes "format") met) (figures_word Li
 abbrev pub asks_kept : Option (Text × List Row) → Bool
 asks_kept met = is_some (value_if_met (codes "keep") met) || is_some (value_if_met (codes "resume") met)
 
--- an option of rounds is given to `reduce`, or one of reducing in place alone
+-- rounds are asked of `reduce`, or an option of reducing in place alone is given to it
 abbrev pub asks_rounds : Option (Text × List Row) → Bool
-asks_rounds met = is_given (codes "rounds") met || is_given (codes "workers") met
+asks_rounds met = is_given (codes "rounds") met
 
 abbrev pub asks_in_place : Option (Text × List Row) → Bool
 asks_in_place met = is_given (codes "steps") met
@@ -385,11 +385,12 @@ asks_in_place met = is_given (codes "steps") met
     || (is_flag_met (codes "quiet-answer") met || (asks_kept met || is_given (codes "seconds") met))))))
 
 -- the options of a reduction that is kept clash: it begins anew or goes on, and not both; its text has
--- wide limits; and where it goes on it is given no text
+-- wide limits; one thread reduces it; and where it goes on it is given no text
 abbrev pub clashes : Option (Text × List Row) → Bool
 clashes met = (is_some (value_if_met (codes "keep") met) && is_some (value_if_met (codes "resume") met))
     || ((asks_kept met && is_some (value_if_met (codes "limits") met))
-    || (is_some (value_if_met (codes "resume") met) && is_some (value_if_met (codes "file") met)))
+    || ((asks_kept met && is_given (codes "workers") met)
+    || (is_some (value_if_met (codes "resume") met) && is_some (value_if_met (codes "file") met))))
 
 -- the file of a reduction that is kept
 abbrev pub kept_met : Option (Text × List Row) → Text
@@ -403,12 +404,11 @@ in_place_faults met = if clashes met then ArgumentConflict ∷ []
     else if is_given (codes "seconds") met then MissingRequiredArgument ∷ []
     else if is_limits (limits_met met) && is_figures (figures_met met) then [] else InvalidValue ∷ []
 
--- `reduce` makes rounds or reduces in place, and workers are those of rounds
+-- `reduce` makes rounds or reduces in place
 abbrev pub reduce_faults : Option (Text × List Row) → Kinds
 reduce_faults met = if not (asks_rounds met)
     then in_place_faults met
-    else if asks_in_place met then ArgumentConflict ∷ []
-    else if is_given (codes "rounds") met then [] else MissingRequiredArgument ∷ []
+    else if asks_in_place met then ArgumentConflict ∷ [] else []
 
 -- the word names a command; where there is none, the program is meant
 abbrev pub has_help : Option Text → Bool
@@ -440,7 +440,7 @@ AnswersWords mistakes (Ok (task.Text word file)) = mistakes ≡ []
 AnswersWords mistakes (Ok (Create disk overwrite)) = mistakes ≡ []
 AnswersWords mistakes (Ok (Serve disk workers every explain)) = mistakes ≡ []
 AnswersWords mistakes (Ok (Attend disk runners turns workers scripts)) = mistakes ≡ []
-AnswersWords mistakes (Ok (Reduce steps nodes partial stats limits format quiet file)) = mistakes ≡ []
+AnswersWords mistakes (Ok (Reduce workers steps nodes partial stats limits format quiet file)) = mistakes ≡ []
 AnswersWords mistakes (Ok (ReduceKept disk begins seconds steps nodes partial stats format quiet file)) =
     mistakes ≡ []
 AnswersWords mistakes (Ok (ReduceByRounds rounds workers partial file)) = mistakes ≡ []
@@ -501,6 +501,14 @@ IsNumberOr option least most default words number =
     → IsNumberOf option least most words number)
     × (is_given option (subcommand_of command_line words) ≡ false → number ≡ default)
 
+-- this is the number of an option where it is given, and none is where it isn't
+abbrev pub IsNumberIfGiven : (option : Text) (least most : ℕ) → List (List ℕ) → Option ℕ → Type 0
+IsNumberIfGiven option least most words None =
+    is_given option (subcommand_of command_line words) ≡ false
+IsNumberIfGiven option least most words (Some number) =
+    (is_given option (subcommand_of command_line words) ≡ true)
+    × IsNumberOf option least most words number
+
 -- the words of this command name a file to read, or none
 abbrev pub NamesText : (command : Text) (words : List Text) → Option Text → Type 0
 NamesText command words file =
@@ -511,13 +519,14 @@ abbrev pub help_asked : List Text → Text
 help_asked words = if is_empty (fault_of command_line words)
     then help_by (value_if_met (codes "word") (subcommand_of command_line words)) else help_of words
 
--- the words of `reduce` give two bounds, three flags, limits, a format and a file, no option of rounds, and
--- no file in which it is kept
-pub record NamesReduce (words : List Text) (s n : ℕ) (p t q : Bool) (l w : Text) (f : Option Text)
-    : Type 0 where
+-- the words of `reduce` give threads or none, two bounds, three flags, limits, a format and a file, no rounds,
+-- and no file in which it is kept
+pub record NamesReduce (words : List Text) (k : Option ℕ) (s n : ℕ) (p t q : Bool) (l w : Text)
+    (f : Option Text) : Type 0 where
   pub begins : BeginsWith (codes "reduce") words
   pub alone : asks_rounds (subcommand_of command_line words) ≡ false
   pub unkept : asks_kept (subcommand_of command_line words) ≡ false
+  pub workers : IsNumberIfGiven (codes "workers") 1 64 words k
   pub steps : IsNumberOr (codes "steps") 0 most_steps most_steps words s
   pub nodes : IsNumberOr (codes "nodes") 0 most_steps 134217728 words n
   pub partial : p ≡ is_flag_met (codes "partial") (subcommand_of command_line words)
@@ -578,8 +587,8 @@ Names words (Serve disk workers every explain) = BeginsWith (codes "serve") word
     × (explain ≡ is_flag_met (codes "explain") (subcommand_of command_line words))
 Names words (Attend disk runners turns workers scripts) =
     NamesAttend words (string_bytes disk) runners turns workers (map string_bytes scripts.items)
-Names words (Reduce steps nodes partial stats limits format quiet file) =
-    NamesReduce words steps nodes partial stats quiet (limits_word limits) (figures_word format)
+Names words (Reduce workers steps nodes partial stats limits format quiet file) =
+    NamesReduce words workers steps nodes partial stats quiet (limits_word limits) (figures_word format)
     (option_map string_bytes file)
 Names words (ReduceKept disk begins seconds steps nodes partial stats format quiet file) =
     NamesKept words (string_bytes disk) begins seconds steps nodes partial stats quiet

@@ -179,13 +179,15 @@ Options:
       --resume <F>       Go on with what is kept in F and F.2, and keep it there
       --seconds <N>      About how long it goes on between two keeps, from 1 to 86400 [default: 30]
       --rounds <N>       Make rounds, and at most so many, from 0 to 4611686018427387904
-      --workers <N>      Threads for a round of 4000 equations or more, from 1 to 64 [default: 2]
+      --workers <N>      Threads that reduce it, from 1 to 64 [default: 1], or make a round [default: 2]
   -h, --help             Print help
 
 A round fires all active pairs at once, and then removes names that only join two terms.
-Beside --rounds only --workers and --partial may stand, and beside --keep and --resume no --limits.
+Beside --rounds only --workers and --partial may stand,
+and beside --keep and --resume no --limits or --workers.
 Without --stats, --format changes nothing.
-What --nodes bounds is looked at every 4096 interactions, so there may be more by then.
+What --nodes bounds is looked at every 4096 interactions, and less often where several threads
+reduce, so there may be more by then.
 If two agents are left that have no rule, the first pair is told: icserve: stuck A><B
 
 Exit statuses:

@@ -5,7 +5,7 @@ ghost use Rattle.std.specs.List.{AllByRecursion};
 ghost use Rattle.std.specs.Fmt.{decimal};
 ghost use Rattle.clap.specs.Words.{Text};
 ghost use Rattle.clap.specs.declared.error.ErrorKind.{ErrorKind};
-ghost use Rattle.clap.specs.declared.error.ErrorKind.TheVariants.{ArgumentConflict, DisplayHelp, DisplayVersion, InvalidSubcommand, InvalidValue, MissingRequiredArgument};
+ghost use Rattle.clap.specs.declared.error.ErrorKind.TheVariants.{ArgumentConflict, DisplayHelp, DisplayVersion, InvalidSubcommand, InvalidValue, MissingRequiredArgument, ValueValidation};
 ghost use Rattle.ic_args.specs.declared.words.Task.TheVariants.{Create, Serve, Attend, Reduce, ReduceByRounds};
 ghost use Rattle.ic_args.specs.declared.words.Task.TheVariants.{Trace, Dump, Inspect, Check, Batch, Help, Version};
 ghost use Rattle.ic_args.specs.declared.words.Task.TheVariants as task;
@@ -16,7 +16,7 @@ ghost use Rattle.ic_args.specs.declared.words.TextLimits.{TextLimits};
 ghost use Rattle.ic_args.specs.declared.words.FiguresFormat.{FiguresFormat};
 ghost use Rattle.ic_args.specs.declared.words.WordsFault.TheVariants.{Words, Memory};
 ghost use Rattle.ic_args.specs.Words.{AnswersWords, figures_word, format_word, limits_word, help_asked, mistakes_of, words_fault_number, IsDecimal, Names, report_word, commands, text_word, text_words};
-ghost use Rattle.ic_args.specs.Help.{help_by, help_of, Says, program_help, help_help, settle_help, once_help, create_help, serve_help, attend_help};
+ghost use Rattle.ic_args.specs.Help.{help_by, help_of, Says, digest, program_help, help_help, settle_help, once_help, create_help, serve_help, attend_help};
 ghost use Rattle.ic_args.specs.Help.{batch_help, check_help, draw_help, dump_help, expand_help, inspect_help, reduce_help, trace_help};
 ghost use Rattle.ic_args.specs.Lines.{AreInPlace, AreOfRounds, Given, HasNoHyphen, IsAttendLine, IsBatchLine, IsCheckLine, IsCreateLine, IsDumpLine};
 ghost use Rattle.ic_args.specs.Lines.{IsInspectLine, IsReduceLine, IsServeLine, IsTextLine, IsTraceLine};
@@ -121,7 +121,7 @@ pub fn each_command_has_its_help()
         × Says help_help (codes "icserve help [WORD]") }
     ensures rounds { AllByRecursion (Says reduce_help) (codes "icserve reduce" ∷ codes "--rounds <N>"
         ∷ codes "from 0 to 4611686018427387904"
-        ∷ codes "--workers <N>" ∷ codes "from 1 to 64 [default: 2]" ∷ []) }
+        ∷ codes "--workers <N>" ∷ codes "from 1 to 64 [default: 1]" ∷ codes "[default: 2]" ∷ []) }
     ensures in_place { AllByRecursion (Says reduce_help) (codes "--steps <N>"
         ∷ codes "from 0 to 4611686018427387903 [default: 4611686018427387903]" ∷ codes "--nodes <N>"
         ∷ codes "from 0 to 4611686018427387903 [default: 134217728]"
@@ -156,6 +156,26 @@ pub fn each_command_has_its_help()
         (codes "icserve check" ∷ codes "<FILE>..." ∷ codes "--format <FORMAT>"
         ∷ codes "(text)" ∷ codes "(json)" ∷ codes "[default: text]" ∷ codes "--script"
         ∷ codes "Prints the faults of texts with their places" ∷ []) }
+{}
+
+/// The digest of each help, so that no byte of a help is another one, and none is missing or added, unless its number
+/// here is another one too.
+pub fn each_help_has_its_digest()
+    ensures program { digest program_help ≡ 2193908877286253835 }
+    ensures settle { digest settle_help ≡ 931219200271934001 }
+    ensures once { digest once_help ≡ 1394801555228910466 }
+    ensures create { digest create_help ≡ 1291611657193787632 }
+    ensures serve { digest serve_help ≡ 929575633331203873 }
+    ensures attend { digest attend_help ≡ 1668646222601145556 }
+    ensures reduce { digest reduce_help ≡ 2263531928720258663 }
+    ensures trace { digest trace_help ≡ 749994876165703132 }
+    ensures draw { digest draw_help ≡ 2041493995027470377 }
+    ensures dump { digest dump_help ≡ 932412384161095633 }
+    ensures inspect { digest inspect_help ≡ 701881722799012749 }
+    ensures check { digest check_help ≡ 1607413227935232027 }
+    ensures batch { digest batch_help ≡ 2076966897777228702 }
+    ensures expand { digest expand_help ≡ 1377817142407763554 }
+    ensures help { digest help_help ≡ 1627113604630027952 }
 {}
 
 /// A well-formed line of a command that reads a text and has no option is taken, and names the command, and the FILE that
@@ -205,22 +225,23 @@ pub fn attend_lines_are_taken(disk: &String, paths: &Vec<String>)
         × (workers ≤ 64) × (map string_bytes paths.now.items ≡ scripts) }
 {}
 
-/// A well-formed line of `reduce` without options of rounds is taken, in whatever order its options
-/// stand, and names the bounds that it is given, or their defaults, 2^62 - 1 interactions and 2^27
-/// places, whether it has the flags, its limits, or wide ones, and its format, or lines. One with rounds, and
+/// A well-formed line of `reduce` without `--rounds` is taken, in whatever order its options stand, and
+/// names the threads that it is given, or none, and the bounds, or their defaults, 2^62 - 1 interactions and
+/// 2^27 places, whether it has the flags, its limits, or wide ones, and its format, or lines. One with rounds, and
 /// with no other option but `--partial`, is taken too, and names its rounds, its workers, or 2, and whether
 /// it has that flag. Both name the FILE that they are given, or standard input. Both kinds of options in one
-/// line are a mistake, and so are workers without rounds, and limits and formats that there aren't.
+/// line are a mistake, and so are 0 workers, 65, and limits and formats that there aren't.
 #[tactic(auto, unfolding(clap::proofs::OnLiterals::clap_on_literals))]
 pub fn reduce_lines_are_taken(path: &Option<String>)
-    ensures taken { (words : List Text) (given : List Given) (file : Option Text) (s n : ℕ)
-        (p t q : Bool) (l w : Text) → IsReduceLine words given file → AreInPlace given s n p t q l w
+    ensures taken { (words : List Text) (given : List Given) (file : Option Text) (k : Option ℕ)
+        (s n : ℕ) (p t q : Bool) (l w : Text) → IsReduceLine words given file → AreInPlace given k s n p t q l w
         → mistakes_of words ≡ [] }
-    ensures named { (words : List Text) (given : List Given) (file : Option Text) (s n steps nodes : ℕ)
-        (p t q partial stats quiet : Bool) (l w : Text) (limits : TextLimits) (format : FiguresFormat)
-        → IsReduceLine words given file → AreInPlace given s n p t q l w
-        → Names words (Reduce steps nodes partial stats limits format quiet path.now)
-        → (steps ≡ s) × (nodes ≡ n) × (partial ≡ p) × (stats ≡ t) × (quiet ≡ q)
+    ensures named { (words : List Text) (given : List Given) (file : Option Text)
+        (k workers : Option ℕ) (s n steps nodes : ℕ) (p t q partial stats quiet : Bool) (l w : Text) (limits : TextLimits)
+        (format : FiguresFormat)
+        → IsReduceLine words given file → AreInPlace given k s n p t q l w
+        → Names words (Reduce workers steps nodes partial stats limits format quiet path.now)
+        → (workers ≡ k) × (steps ≡ s) × (nodes ≡ n) × (partial ≡ p) × (stats ≡ t) × (quiet ≡ q)
         × (limits_word limits ≡ l) × (figures_word format ≡ w)
         × (option_map string_bytes path.now ≡ file) }
     ensures rounds { (words : List Text) (given : List Given) (file : Option Text) (most threads : ℕ)
@@ -240,12 +261,14 @@ pub fn reduce_lines_are_taken(path: &Option<String>)
     ensures other { map (λ option. mistakes_of (codes "reduce" ∷ option ∷ []))
         (codes "--limits=none" ∷ codes "--limits=" ∷ codes "--format=tsv" ∷ codes "--format=" ∷ [])
         ≡ (InvalidValue ∷ []) ∷ (InvalidValue ∷ []) ∷ (InvalidValue ∷ []) ∷ (InvalidValue ∷ []) ∷ [] }
-    ensures no_rounds { mistakes_of (codes "reduce" ∷ codes "--workers=1" ∷ [])
-        ≡ MissingRequiredArgument ∷ [] }
+    ensures workers { map (λ option. mistakes_of (codes "reduce" ∷ option ∷ []))
+        (codes "--workers=1" ∷ codes "--workers=64" ∷ codes "--workers=0" ∷ codes "--workers=65"
+        ∷ codes "--workers=" ∷ [])
+        ≡ [] ∷ [] ∷ (ValueValidation ∷ []) ∷ (ValueValidation ∷ []) ∷ (ValueValidation ∷ []) ∷ [] }
 {}
 
 /// What a line of `reduce` that keeps what it reaches may have, by examples. To keep and to go on in one line are a mistake,
-/// and so are limits, a FILE where it goes on, options of rounds, and seconds without a file.
+/// and so are limits, workers, a FILE where it goes on, rounds, and seconds without a file.
 #[tactic(auto, unfolding(clap::proofs::OnLiterals::clap_on_literals))]
 pub fn kept_lines_are_taken()
     ensures taken { map (λ more. mistakes_of (codes "reduce" ∷ codes "--keep=f" ∷ more))
@@ -256,9 +279,9 @@ pub fn kept_lines_are_taken()
         ([] ∷ (codes "--seconds=1" ∷ codes "--steps=9" ∷ []) ∷ []) ≡ [] ∷ [] ∷ [] }
     ensures clash { map (λ more. mistakes_of (codes "reduce" ∷ codes "--resume=f" ∷ more))
         ((codes "--keep=f" ∷ []) ∷ (codes "--limits=wide" ∷ []) ∷ (codes "text" ∷ [])
-        ∷ (codes "--rounds=1" ∷ []) ∷ [])
+        ∷ (codes "--rounds=1" ∷ []) ∷ (codes "--workers=2" ∷ []) ∷ [])
         ≡ (ArgumentConflict ∷ []) ∷ (ArgumentConflict ∷ []) ∷ (ArgumentConflict ∷ [])
-        ∷ (ArgumentConflict ∷ []) ∷ [] }
+        ∷ (ArgumentConflict ∷ []) ∷ (ArgumentConflict ∷ []) ∷ [] }
     ensures limits { mistakes_of (codes "reduce" ∷ codes "--keep=f" ∷ codes "--limits=served" ∷ [])
         ≡ ArgumentConflict ∷ [] }
     ensures no_file { mistakes_of (codes "reduce" ∷ codes "--seconds=1" ∷ [])
@@ -363,20 +386,24 @@ pub fn common_lines_are_well_formed()
         → IsBatchLine (codes "batch" ∷ codes "--disk" ∷ path ∷ codes "--rounds=10" ∷ file ∷ [])
         path (codes "10") (codes "100") (codes "2") file }
     ensures reduce { IsReduceLine (codes "reduce" ∷ []) [] None
-        × AreInPlace [] 4611686018427387903 134217728 false false false (codes "wide") (codes "lines") }
+        × AreInPlace [] None 4611686018427387903 134217728 false false false (codes "wide") (codes "lines") }
     ensures reduced { (path : Text) → HasNoHyphen path → (given : List Given)
         × IsReduceLine (codes "reduce" ∷ codes "--stats" ∷ codes "--nodes=9" ∷ codes "--steps"
         ∷ codes "10" ∷ path ∷ []) given (Some path)
-        × AreInPlace given 10 9 false true false (codes "wide") (codes "lines") }
+        × AreInPlace given None 10 9 false true false (codes "wide") (codes "lines") }
     ensures limited { (given : List Given)
         × IsReduceLine (codes "reduce" ∷ codes "--limits" ∷ codes "served" ∷ []) given None
-        × AreInPlace given 4611686018427387903 134217728 false false false (codes "served")
+        × AreInPlace given None 4611686018427387903 134217728 false false false (codes "served")
         (codes "lines") }
     ensures figures { (given : List Given)
         × IsReduceLine (codes "reduce" ∷ codes "--stats" ∷ codes "--format=json"
         ∷ codes "--quiet-answer" ∷ []) given None
-        × AreInPlace given 4611686018427387903 134217728 false true true (codes "wide")
+        × AreInPlace given None 4611686018427387903 134217728 false true true (codes "wide")
         (codes "json") }
+    ensures by_threads { (given : List Given)
+        × IsReduceLine (codes "reduce" ∷ codes "--workers=8" ∷ []) given None
+        × AreInPlace given (Some 8) 4611686018427387903 134217728 false false false (codes "wide")
+        (codes "lines") }
     ensures by_rounds { (given : List Given) × IsReduceLine (codes "reduce" ∷ codes "--workers=3"
         ∷ codes "--rounds" ∷ codes "10" ∷ []) given None × AreOfRounds given 10 3 false }
     ensures trace { (path : Text) → HasNoHyphen path

@@ -6,6 +6,8 @@
 mod commands;
 mod help;
 pub mod laws;
+mod tasks;
+mod values;
 mod words;
 
 pub use words::{

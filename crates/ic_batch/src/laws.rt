@@ -1,24 +1,39 @@
 //! Laws of the definitions that the contracts of this crate cite.
 
-ghost use Rattle.std.specs.Prelude.{◌≡◌, ◌<◌, ◌≤◌, ℕ, List, [], ◌∷◌, Option, false, length, map};
+ghost use Rattle.std.specs.Prelude.{◌≡◌, ◌≢◌, ◌<◌, ◌≤◌, ◌++◌, ◌-◌, ◌^◌, ℕ, List, [], ◌∷◌, Option, Result, Some, Ok, Err, false, true, length, map};
 ghost use Rattle.std.specs.List.{AllByRecursion, IsDistinct, filter_map, flat_map};
+ghost use Rattle.std.specs.Io.KnownBytes.{Appends, Keeps};
 ghost use Rattle.std.specs.Str.{bytes_eq};
 ghost use Rattle.ic_jobs.specs.declared.command.Command.{Command};
 ghost use Rattle.ic_jobs.specs.declared.limits.TheConstants.{MAX_JOBS};
 ghost use Rattle.ic_jobs.specs.State.{is_running};
 ghost use Rattle.ic_jobs.specs.Job.{JobParts};
+ghost use Rattle.ic_jobs.specs.Table.{job_named};
 ghost use Rattle.ic_lines.specs.Answers.{out};
 ghost use Rattle.ic_lines.specs.Lines.{lines};
-ghost use Rattle.ic_lines.specs.Script.{AreAsked};
+ghost use Rattle.ic_lines.specs.Script.{AreAsked, ReadsScript};
 ghost use Rattle.ic_lines.specs.Serving.{IsServed};
+ghost use Rattle.ic_output.specs.Output.{AppendsFront};
+ghost use Rattle.ic_book.specs.declared.fault.BookFault.TheVariants as of_book;
+ghost use Rattle.ic_book.specs.Book.{disk_of, is_broken, number_of, table_of, IsUnchanged};
+ghost use Rattle.ic_disk.specs.Time.{OneMore};
 ghost use Rattle.ic_serving.specs.declared.fault.ServeFault.{ServeFault};
+ghost use Rattle.ic_serving.specs.declared.fault.ServeFault.TheVariants.{Book as by_book, LongLine, Read, TooManyLines, Write};
+ghost use Rattle.ic_serving.specs.Booked.{last_kept, IsAllKept};
+ghost use Rattle.ic_serving.specs.Moments.{Leaves};
+ghost use Rattle.ic_batch.specs.declared.fault.BatchFault.{BatchFault};
+ghost use Rattle.ic_batch.specs.declared.fault.BatchFault.TheVariants.{Full, Serve, Taken};
+ghost use Rattle.ic_batch.specs.Batch.{Brings, IsBatch};
 ghost use Rattle.ic_batch.specs.declared.fault.Difference.{Difference};
 ghost use Rattle.ic_batch.specs.declared.fault.JobsCause.{JobsCause};
 ghost use Rattle.ic_batch.specs.declared.jobs.NewJob.{NewJob};
-ghost use Rattle.ic_batch.specs.Faults.{all_batch_faults, all_jobs_faults, batch_fault_number, jobs_fault_number, AreSame, HasAnother, HasNoRoom};
+ghost use Rattle.ic_batch.specs.Faults.{all_batch_faults, all_jobs_faults, batch_fault_number, jobs_fault_number, AreSame, Differs, Fails, HasAnother, HasNoRoom, IsRefused, Says, StopsAt, Succeeds};
 ghost use Rattle.ic_batch.specs.Jobs.{begun_by, names, submit_of, AreJobsOf};
 ghost use Rattle.ic_batch.specs.Served.{accepted, fetches, run_together};
-ghost use Rattle.ic_batch.specs.Way.{AreOnWay, ComesTo, IsIterate, IsOnWay, IsTextOf};
+ghost use Rattle.ic_batch.specs.Way.{fetched_all, AreOnWay, ComesTo, HaveEnded, IsIterate, IsOnWay, IsTextOf};
+
+use ic_book::Book;
+use ic_disk::Disk;
 
 /// The lasting numbers of the faults.
 pub fn numbers_are_lasting()
@@ -80,4 +95,83 @@ pub fn batch_lines_are_taken()
         → IsTextOf most jobs (out (run_together jobs runs) (map fetches jobs)) }
 {
     ic_lines::laws::scripts_hold_the_commands_of_their_lines();
+}
+
+/// A batch that ends has brought its jobs to their ends, all is kept, and just the answers to fetches
+/// of them are written. Where the jobs that were there were on their way, these answers are the text of
+/// the jobs. However it ends, all are on their way after it, and in each table that a crash leaves.
+pub fn a_batch_brings_its_jobs_to_their_ends<D: Disk>(old: &Book<D>, new: &Book<D>)
+    ensures ended { (done : Unit {0}) (most : ℕ) (jobs : List NewJob) (before after : Option (List ℕ))
+        → Brings (Ok done) most jobs old.now new.now before after
+        → HaveEnded most jobs (table_of old.now) (table_of new.now) × IsAllKept new.now
+        × Appends before after (fetched_all jobs (table_of new.now)) }
+    ensures text { (done : Unit {0}) (most : ℕ) (jobs : List NewJob)
+        → IsBatch (Ok done) most jobs old.now new.now
+        → IsTextOf most jobs (fetched_all jobs (table_of new.now)) }
+    ensures on_way { (result : Result (Unit {0}) BatchFault) (most : ℕ) (jobs : List NewJob)
+        → IsBatch result most jobs old.now new.now → AreOnWay most jobs (table_of new.now)
+        × AreOnWay most jobs (last_kept new.now) × Leaves old.now new.now (AreOnWay most jobs) }
+{
+    let _ = old;
+    let _ = new;
+}
+
+/// A failing writer takes nothing back: the jobs have come to their ends, all is kept, and a front of
+/// the answers is written. At any other fault nothing is written.
+pub fn a_failing_writer_ends_a_batch<D: Disk>(old: &Book<D>, new: &Book<D>)
+    ensures done { (most : ℕ) (jobs : List NewJob) (before after : Option (List ℕ))
+        → Brings {T = Unit {0}} (Err (Serve Write)) most jobs old.now new.now before after
+        → HaveEnded most jobs (table_of old.now) (table_of new.now) × IsAllKept new.now
+        × AppendsFront before after [] (fetched_all jobs (table_of new.now)) }
+    ensures text { (most : ℕ) (jobs : List NewJob)
+        → IsBatch {T = Unit {0}} (Err (Serve Write)) most jobs old.now new.now
+        → IsTextOf most jobs (fetched_all jobs (table_of new.now)) }
+    ensures silent { (most : ℕ) (jobs : List NewJob) (before after : Option (List ℕ))
+        (fault : BatchFault) → fault ≢ Serve Write
+        → Brings {T = Unit {0}} (Err fault) most jobs old.now new.now before after
+        → Keeps before after }
+{
+    let _ = old;
+    let _ = new;
+}
+
+/// What a batch is refused for, and what its faults leave. Nothing is done where another job has a name
+/// of one of its jobs, those before it being the same, or where there is no room for its jobs. Of lines
+/// the first command is told that a table of the jobs before it refuses.
+///
+/// A batch never fails by its reader, by a line, or by a full history. At a failure of the disk the book
+/// is broken then, and one more failure is counted. Where no fault is told, none is counted.
+pub fn a_batch_fails_so<D: Disk>(old: &Book<D>, new: &Book<D>)
+    ensures nothing { (jobs : List NewJob) (name : List ℕ) (is : Difference)
+        → Says jobs old.now new.now (Taken name is)
+        → HasAnother jobs (table_of old.now) name is × IsUnchanged old.now new.now }
+    ensures full { (jobs : List NewJob) → Says jobs old.now new.now Full
+        → AreSame jobs (table_of old.now) × HasNoRoom jobs (table_of old.now)
+        × IsUnchanged old.now new.now }
+    ensures fails { (jobs : List NewJob) (fault : ServeFault)
+        → Says jobs old.now new.now (Serve fault)
+        → AreSame jobs (table_of old.now) × Fails fault old.now new.now }
+    ensures taken { (jobs : List NewJob) (t : List JobParts) (name : List ℕ) (is : Difference)
+        → HasAnother jobs t name is
+        → (before : List NewJob) × (new : NewJob) × (after : List NewJob) × (job : JobParts)
+        × (jobs ≡ before ++ new ∷ after) × AreSame before t × (new.name ≡ name)
+        × (job_named name t ≡ Some job) × Differs new job is }
+    ensures line { (text : List ℕ) (is : JobsCause) → StopsAt text is
+        → (jobs : List NewJob) × (command : Command) × (after : List Command)
+        × ReadsScript text (Ok (map submit_of jobs ++ command ∷ after))
+        × IsDistinct bytes_eq (names jobs) × (length jobs ≤ MAX_JOBS) × IsRefused jobs command is }
+    ensures never { ¬ Fails Read old.now new.now × ¬ Fails LongLine old.now new.now
+        × ¬ Fails TooManyLines old.now new.now × ¬ Fails (by_book of_book.LogFull) old.now new.now }
+    ensures device { Fails (by_book of_book.Device) old.now new.now → is_broken old.now ≡ false
+        → (is_broken new.now ≡ true)
+        × OneMore (D.failures (disk_of old.now)) (D.failures (disk_of new.now)) }
+    ensures worn { Fails (by_book of_book.Worn) old.now new.now → is_broken old.now ≡ false
+        → (is_broken new.now ≡ false) × (number_of new.now ≡ 2 ^ 64 - 1) }
+    ensures none { (jobs : List NewJob) → Succeeds jobs old.now new.now
+        → AreSame jobs (table_of old.now)
+        × (D.failures (disk_of new.now) ≡ D.failures (disk_of old.now))
+        × (is_broken old.now ≡ false → is_broken new.now ≡ false) }
+{
+    let _ = old;
+    let _ = new;
 }

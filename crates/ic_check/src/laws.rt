@@ -20,6 +20,12 @@ ghost use Rattle.ic_causes.specs.Causes.{shown_path};
 ghost use Rattle.ic_diagnostics.specs.Lines.{column, last_line, line_number, told_at};
 ghost use Rattle.ic_diagnostics.specs.Sights.{is_command};
 ghost use Rattle.ic_diagnostics.specs.declared.telling.Kind.{Kind};
+ghost use Rattle.std.specs.Io.KnownBytes.{Appends};
+ghost use Rattle.ic_output.specs.Output.{AppendsFront};
+ghost use Rattle.ic_check.specs.declared.files.Layout.{Layout};
+ghost use Rattle.ic_check.specs.declared.files.Verdict.{Verdict};
+ghost use Rattle.ic_check.specs.Content.{Content};
+ghost use Rattle.ic_check.specs.Files.{AreLooks, Look, LooksOver, LooksOverFront, LooksOverPart, lines_of, reasons_of, verdict_of, told as look_told};
 ghost use Rattle.ic_check.specs.Checking.{Tells, TellsLine, TellsLines, before, form_of, told_fault, told_line_fault};
 ghost use Rattle.ic_check.specs.LinePlaces.{IsDue, IsLinePlace, IsOwnPlace, IsWhole, is_system_due, own_passed};
 ghost use Rattle.ic_check.specs.declared.due.Due.{Due};
@@ -516,3 +522,29 @@ pub fn objects_have_what_lines_tell()
 {
     ic_lines::laws::lines_are_parted_by_line_feeds();
 }
+
+/// The files of some paths are looked over one after the other: what is written of each, and what is told
+/// beside it, follows that of those before it. Of those that were looked over before a fault it is the same,
+/// and where the writer fails, a front of one more file's lines is written.
+pub fn files_are_looked_over_one_after_the_other()
+    ensures all { (layout : Layout) (gives : List ℕ → Content) (paths : List (List ℕ))
+        (old new : Option (List ℕ)) (before after : List ℕ) (verdict : Verdict)
+        → LooksOver layout (λ path content. content ≡ gives path) paths old new before after verdict
+        → (looks : List Look) × AreLooks layout (λ path content. content ≡ gives path) paths looks
+        × Appends old new (flat_map lines_of looks) × (after ≡ before ++ flat_map reasons_of looks)
+        × (verdict ≡ verdict_of looks) }
+    ensures front { (layout : Layout) (gives : List ℕ → Content) (paths : List (List ℕ))
+        (old new : Option (List ℕ)) (before after : List ℕ)
+        → LooksOverFront layout (λ path content. content ≡ gives path) paths old new before after
+        → (many : ℕ) × (looks : List Look)
+        × AreLooks layout (λ path content. content ≡ gives path) (take many paths) looks
+        × Appends old new (flat_map lines_of looks) × (after ≡ before ++ flat_map reasons_of looks) }
+    ensures cut { (layout : Layout) (gives : List ℕ → Content) (paths : List (List ℕ))
+        (old new : Option (List ℕ)) (before after : List ℕ)
+        → LooksOverPart layout (λ path content. content ≡ gives path) paths old new before after
+        → (many : ℕ) × (looks : List Look) × (lines : List ℕ) × (faulty : Bool)
+        × AreLooks layout (λ path content. content ≡ gives path) (take many paths)
+        (looks ++ look_told lines faulty ∷ [])
+        × AppendsFront old new (flat_map lines_of looks) lines
+        × (after ≡ before ++ flat_map reasons_of looks) }
+{}

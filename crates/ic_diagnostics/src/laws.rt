@@ -1,6 +1,6 @@
 //! What is proved of the definitions alone: each law is the contract of a function that does nothing.
 
-ghost use Rattle.std.specs.Prelude.{◌≡◌, ◌≢◌, ◌⊎◌, ◌<◌, ◌≤◌, ◌+◌, ℕ, List, [], ◌∷◌, ◌++◌, false, true, Option, Some, Err, codes, drop, get_or, length, map, min, slice_get, take};
+ghost use Rattle.std.specs.Prelude.{◌≡◌, ◌≢◌, ◌⊎◌, ◌<◌, ◌≤◌, ◌+◌, ℕ, List, [], ◌∷◌, ◌++◌, false, true, Option, Some, Ok, Err, codes, drop, get_or, length, map, min, slice_get, take};
 ghost use Rattle.std.specs.Fmt.{decimal};
 ghost use Rattle.std.specs.List.{AllByRecursion, concat, list_any, list_all};
 ghost use Rattle.std.specs.Str.{IsUtf8, chars};
@@ -18,6 +18,13 @@ ghost use Rattle.ic_text.specs.Places.{IsPlaced};
 ghost use Rattle.ic_text.specs.Source.{IsPhrase, phrase_words};
 ghost use Rattle.ic_text.specs.SystemSource.{IsSystemPhrase, system_words};
 ghost use Rattle.ic_text.specs.Words.{written_phrase, written_system};
+ghost use Rattle.ic_term.specs.Configuration.{Configuration};
+ghost use Rattle.ic_term.specs.Symbol.{Symbol};
+ghost use Rattle.ic_rules.specs.System.{SystemParts};
+ghost use Rattle.ic_text.specs.Text.{Reads, printed};
+ghost use Rattle.ic_text.specs.SystemText.{ReadsSystem};
+ghost use Rattle.ic_round.specs.Settling.{settled};
+ghost use Rattle.ic_round.specs.Rounds.{fits, round};
 ghost use Rattle.ic_streams.specs.Streams.{OfText, Rounds, Settles};
 ghost use Rattle.ic_streams.specs.declared.fault.StreamFault.TheVariants.{Text};
 ghost use Rattle.ic_diagnostics.specs.declared.telling.Kind.{Kind};
@@ -342,3 +349,17 @@ pub fn the_text_that_is_answered_is_told_of()
         → OfText old (λ text. Rounds text (Err (Text fault))
         × IsToldOf Rounds System (take (MAX_TEXT + 1) text) fault before after) }
 {}
+
+/// The line that is answered is that of the text: of its configuration settled, or of the one after a round, where that
+/// fits. So a text has one answer.
+pub fn what_is_answered_is_of_the_text()
+    ensures settled { (input line : List ℕ) (symbols : List Symbol) (c : Configuration)
+        → Reads input (Ok (symbols, c)) → Settles input (Ok line)
+        → line ≡ printed symbols (settled c) ++ 10 ∷ [] }
+    ensures rounded { (input line : List ℕ) (s : SystemParts) → ReadsSystem input (Ok s)
+        → Rounds input (Ok line) → (fits s.rules.rules s.config ≡ true)
+        × (line ≡ printed s.rules.symbols (round s.rules.rules s.config) ++ 10 ∷ []) }
+{
+    ic_text::laws::one_reading();
+    ic_text::laws::one_system_reading();
+}

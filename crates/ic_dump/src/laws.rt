@@ -1,7 +1,8 @@
 //! What is proved of the definitions alone: each law is the contract of a function that does nothing, or calls the laws
 //! that it comes of.
 
-ghost use Rattle.std.specs.Prelude.{◌≡◌, ◌↔◌, ◌⊎◌, ◌≤◌, ℕ, List, [], ◌∷◌, Contains, None, Some, Ok, length, map, true, false};
+ghost use Rattle.std.specs.Prelude.{◌≡◌, ◌↔◌, ◌⊎◌, ◌≤◌, ℕ, List, [], ◌∷◌, Contains, None, Option, Some, Ok, Err, length, map, true, false};
+ghost use Rattle.std.specs.Io.KnownBytes.{Appends};
 ghost use Rattle.std.specs.List.{flat_map, fold};
 ghost use Rattle.ic_term.specs.Configuration.{Configuration};
 ghost use Rattle.ic_jobs.specs.Job.{JobParts, IsJob};
@@ -9,7 +10,12 @@ ghost use Rattle.ic_jobs.specs.Table.{IsTable};
 ghost use Rattle.ic_commands.specs.declared.line.Line.TheVariants.{Command as Asks};
 ghost use Rattle.ic_commands.specs.LineText.{ReadsLine};
 ghost use Rattle.ic_text.specs.declared.limits.TheConstants.{MAX_TEXT};
+ghost use Rattle.ic_output.specs.Output.{AppendsFront};
+ghost use Rattle.ic_slots.specs.Held.{IsHeld, the_table};
+ghost use Rattle.ic_dump.specs.declared.fault.DiskDumpFault.TheVariants.{Dump};
 ghost use Rattle.ic_dump.specs.declared.fault.DumpFault.{DumpFault};
+ghost use Rattle.ic_dump.specs.declared.fault.DumpFault.TheVariants.{NoJob, TooLong};
+ghost use Rattle.ic_dump.specs.DiskDumping.{SaysOf, WritesFound, WritesFoundPart};
 ghost use Rattle.ic_dump.specs.Alike.{HasFreeNamesOfTexts, IsFree, Submits};
 ghost use Rattle.ic_lines.specs.Lines.{lines};
 ghost use Rattle.ic_lines.specs.Serving.{IsServed};
@@ -130,3 +136,23 @@ pub fn numbers_are_lasting()
     ensures numbers { (name : List ℕ) → map dump_fault_number (all_dump_faults name)
         ≡ 1 ∷ 2 ∷ 3 ∷ 4 ∷ [] }
 {}
+
+/// A dump of a disk is that of the table which the disk holds: its lines are written, or a front of them
+/// where the writer fails, and its refusals are those of this table.
+pub fn a_dump_of_a_disk_is_that_of_its_table()
+    ensures written { (names : List (List ℕ)) (file : List ℕ) (t : List JobParts)
+        (old new : Option (List ℕ)) → IsHeld (the_table t) file → WritesFound names true file old new →
+        (lines : List ℕ) × (dumped names t ≡ Ok lines) × Appends old new lines }
+    ensures cut { (names : List (List ℕ)) (file : List ℕ) (t : List JobParts)
+        (old new : Option (List ℕ)) → IsHeld (the_table t) file →
+        WritesFoundPart names true file old new →
+        (lines : List ℕ) × (dumped names t ≡ Ok lines) × AppendsFront old new [] lines }
+    ensures no_job { (names : List (List ℕ)) (file name : List ℕ) (t : List JobParts) →
+        IsHeld (the_table t) file → SaysOf names true file (Dump (NoJob name)) →
+        dumped names t ≡ Err (NoJob name) }
+    ensures too_long { (names : List (List ℕ)) (file name : List ℕ) (t : List JobParts) →
+        IsHeld (the_table t) file → SaysOf names true file (Dump (TooLong name)) →
+        dumped names t ≡ Err (TooLong name) }
+{
+    ic_slots::laws::one_is_held();
+}

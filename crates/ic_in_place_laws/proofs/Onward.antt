@@ -10,7 +10,7 @@ use Rattle.ic_reaching.specs.Reaching.{Reaches}
 use Rattle.ic_arena.specs.declared.word.Word.{Word}
 use Rattle.ic_arena.specs.Piece.{Piece}
 use Rattle.ic_machine.specs.Net.{Net, HasNext, pieces}
-use Rattle.ic_machine.specs.Plan.{Plans, ArePlans}
+use Rattle.ic_machine.specs.Plan.{Planned, Plans, ArePlans}
 use Rattle.ic_machine.specs.Steps.{Steps, fires}
 use Rattle.ic_machine.specs.lemmas.StepsOn.{one_step}
 use Rattle.ic_meaning.specs.Words.{Numbers, AreNumbers}
@@ -20,7 +20,11 @@ use Rattle.ic_in_place.specs.declared.running.Bounds.{Bounds}
 use Rattle.ic_in_place.specs.declared.running.End.{End}
 use Rattle.ic_in_place.specs.declared.running.TheConstants.{PIECE}
 use Rattle.ic_in_place.specs.Running.{Looked, no_look, one_more_look}
+use Rattle.ic_in_place.specs.declared.stream.Asked.{Asked}
+use Rattle.ic_in_place.specs.declared.stream.Outcome.{Outcome}
+use Rattle.ic_in_place.specs.Holding.{AreCompiled, Holds}
 use Rattle.ic_in_place.specs.Reducing.{IsReached}
+use Rattle.ic_in_place.specs.Reductions.{EndsOf}
 use Rattle.ic_in_place_laws.proofs.Pending.{CanFire, next_fires}
 
 -- what the law of steps says
@@ -30,26 +34,40 @@ StepsLaw = (rs : Rules) (numbers : List ℕ) (p : Plans) (n : Numbers) (c : Conf
     → AreNetPieces n.arities i xs → Reaches rs.rules c (net_of n i xs) before → Steps p fired xs ys
     → Reaches rs.rules c (net_of n i ys) (before ++ map (rule_number numbers) fired)
 
--- where a pair that can fire is left, one interaction more is possible
+-- where a machine holds what was reached and a pair that can fire is left, one interaction more is possible
+further : StepsLaw → (s : SystemParts) (rule_numbers : List ℕ) (p : Plans) (given : List ℕ) (plan : Planned) (operands fired : List ℕ) (m : Net)
+    → IsRuleSet s.rules → IsTrue (is_over s.rules.symbols s.config) → HasNames s.config → AreCompiled s.rules rule_numbers p s.config given plan operands
+    → Holds s.rules p s.config given fired m → HasNext p m.pending
+    → (d : Configuration) × (more : List ℕ) × Reaches s.rules.rules s.config d more × (length more ≡ length fired + 1)
+further law s rule_numbers p given plan operands fired m set over named compiled held next =
+    let n : Numbers = held.numbers in
+    let f : CanFire p (pieces m) = next_fires p m held.are_pieces next in
+    let steps : Steps p (f.number ∷ []) (pieces m) f.after = one_step p (f.number ∷ []) (pieces m) f.after (fires f.number (pieces m) f.after f.fires) in
+    let reached = law s.rules rule_numbers p n s.config m.interface (f.number ∷ []) (pieces m) f.after fired set over named
+    compiled.plans compiled.of_rules held.sound held.arities
+    (transport (λ (a : List ℕ). AreNetPieces a m.interface (pieces m)) (sym held.arities) held.are_pieces) held.reached steps in (
+      net_of n m.interface f.after,
+      fired ++ map (rule_number rule_numbers) (f.number ∷ []),
+      reached,
+      length-append fired (map (rule_number rule_numbers) (f.number ∷ [])),
+    )
+
 pub one_more : StepsLaw → (s : SystemParts) (bounds : Bounds) (answer : Configuration) (end : End) (interactions places : ℕ)
     → IsRuleSet s.rules → IsTrue (is_over s.rules.symbols s.config) → HasNames s.config
     → (is : IsReached s bounds answer end interactions places) → HasNext is.held.plans is.held.machine.pending
     → (d : Configuration) × (fired : List ℕ) × Reaches s.rules.rules s.config d fired × (length fired ≡ interactions + 1)
 one_more law s bounds answer end interactions places set over named is next =
-    let p : Plans = is.held.plans in
-    let m : Net = is.held.machine in
-    let held = is.held.held in
-    let n : Numbers = held.numbers in
-    let f : CanFire p (pieces m) = next_fires p m held.are_pieces next in
-    let steps : Steps p (f.number ∷ []) (pieces m) f.after = one_step p (f.number ∷ []) (pieces m) f.after (fires f.number (pieces m) f.after f.fires) in
-    let reached = law s.rules is.held.rule_numbers p n s.config m.interface (f.number ∷ []) (pieces m) f.after is.fired set over named
-    is.held.compiled.plans is.held.compiled.of_rules held.sound held.arities
-    (transport (λ (a : List ℕ). AreNetPieces a m.interface (pieces m)) (sym held.arities) held.are_pieces) held.reached steps in (
-      net_of n m.interface f.after,
-      is.fired ++ map (rule_number is.held.rule_numbers) (f.number ∷ []),
-      reached,
-      omega (arith, is.counted, length-append is.fired (map (rule_number is.held.rule_numbers) (f.number ∷ []))),
-    )
+    let h = is.held in
+    let more = further law s h.rule_numbers h.plans h.given h.plan h.operands is.fired h.machine set over named h.compiled h.held next in
+    (more.0, more.1, more.2, omega (arith, more.3, is.counted))
+
+pub one_more_of_several : StepsLaw → (s : SystemParts) (bounds : Bounds) (asked : Asked) (outcome : Outcome) (line : List ℕ)
+    → (is : EndsOf s bounds asked outcome line) → HasNext is.places.plans is.places.machine.pending
+    → (d : Configuration) × (fired : List ℕ) × Reaches s.rules.rules s.config d fired × (length fired ≡ outcome.interactions + 1)
+one_more_of_several law s bounds asked outcome line is next =
+    let h = is.places in
+    let more = further law s h.rule_numbers h.plans h.given h.plan h.operands is.reached.fired h.machine is.rule_set is.over is.names h.compiled h.held next in
+    (more.0, more.1, more.2, omega (arith, more.3, is.reached.counted))
 
 -- ---- how many pairs fired
 

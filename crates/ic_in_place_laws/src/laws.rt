@@ -7,7 +7,7 @@ ghost use Rattle.std.specs.Option.{option_map};
 ghost use Rattle.ic_term.specs.Configuration.{Configuration};
 ghost use Rattle.ic_term.specs.Symbol.{is_over};
 ghost use Rattle.ic_rules.specs.Rule.{Rule};
-ghost use Rattle.ic_rules.specs.RuleSet.{IsRuleSet};
+ghost use Rattle.ic_rules.specs.RuleSet.{IsRuleSet, Rules};
 ghost use Rattle.ic_rules.specs.System.{SystemParts};
 ghost use Rattle.ic_round.specs.Naming.{HasNames};
 ghost use Rattle.ic_round.specs.Rounds.{IsQuiet, iterate};
@@ -16,6 +16,7 @@ ghost use Rattle.ic_arena.specs.declared.word.TheConstants.{NAME};
 ghost use Rattle.ic_arena.specs.Piece.{equated};
 ghost use Rattle.ic_machine.specs.Net.{equations_in, pieces, IsPair};
 ghost use Rattle.ic_confluence.specs.Kinds.{Kind, Chain};
+ghost use Rattle.ic_reaching.specs.Beside.{HasRun, PartRun};
 ghost use Rattle.ic_reaching.specs.OneNet.{OneNet, SameButNext};
 ghost use Rattle.ic_reaching.specs.Reaching.{Reaches, rules_fired};
 ghost use Rattle.ic_naming.specs.Naming.{renumbered};
@@ -188,3 +189,10 @@ pub fn rounds_fire_as_many_pairs()
     ic_in_place::laws::a_quiet_end_is_that_of_every_order();
     ic_by_rounds::laws::rows_count_interactions();
 }
+
+/// A part of a net has run where it is over the symbols, its names are below `next` and occur at most twice each, and it
+/// reaches what it is said to. Nothing else is asked of the parts of which `parts_run_side_by_side` speaks.
+pub fn a_part_that_is_reduced_has_run()
+    ensures { (rs : Rules) (run : PartRun) → IsTrue (is_over rs.symbols run.given)
+        → HasNames run.given → Reaches rs.rules run.given run.reached run.fired → HasRun rs run }
+{}

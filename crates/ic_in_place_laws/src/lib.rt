@@ -3,3 +3,4 @@
 
 pub mod laws;
 pub mod places;
+pub mod threads;

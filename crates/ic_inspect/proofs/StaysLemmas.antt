@@ -1,5 +1,6 @@
 -- Lemmas: a file that stays as it is, over time.
-use Rattle.std.proofs.Common.{◌≡◌, ◌↔◌, ℕ, ◌+◌, ◌<◌, ◌≤◌, true, List, length, drop, get_or, inl, inr, refl, sym, ap, ◌∙◌, arith}
+use Rattle.std.proofs.Common.{◌≡◌, ◌↔◌, ℕ, ◌+◌, ◌<◌, ◌≤◌, true, false, List, Some, length, take, drop, get_or, inl, inr, refl, sym, ap, ◌∙◌, arith}
+use Rattle.std.proofs.lemmas.List.{take-take}
 use Rattle.ic_frames.specs.declared.frame.TheConstants.{HEAD, MAX_BODY}
 use Rattle.ic_frames.specs.declared.slot.Slot.{Slot}
 use Rattle.ic_frames.specs.declared.slot.Slot.TheVariants.{First, Second}
@@ -8,7 +9,9 @@ use Rattle.ic_frames.specs.Fields.{is_whole, size}
 use Rattle.ic_frames.specs.Held.{IsNewest}
 use Rattle.ic_frames.specs.Places.{place, other}
 use Rattle.ic_inspect.specs.Moments.{AreSlotsRead, IsBodyAmid, IsBodyRead, IsHeadOf, IsHeadRead, IsReadTwice, IsSameSlot, IsServed}
+use Rattle.ic_inspect.specs.Slots.{HaveChanged, body_room, slot_read}
 use Rattle.ic_inspect.proofs.MomentLemmas.{byte_of_body}
+use Rattle.ic_inspect.proofs.ReadingLemmas.{is_one}
 use Rattle.ic_inspect.proofs.SlotLemmas.{SameAt, same_drop, same_refl}
 
 same_slot : (slot : Slot) (file : List ℕ) → IsSameSlot slot file file
@@ -19,6 +22,14 @@ stays_served slot file is i = record { newest = slot; is_newest = is; stays = sa
 
 head_of : (slot : Slot) (file : List ℕ) → IsHeadOf slot file file
 head_of slot file = record { opened = refl; number_is = refl; size_is = refl }
+
+same_head : (all : List ℕ) → take HEAD (slot_read all) ≡ take HEAD all
+same_head all = take-take HEAD (HEAD + body_room all) all (omega arith)
+
+pub stays_unchanged : (file : List ℕ) → HaveChanged (slot_read file) (slot_read (drop SECOND_AT file)) (Some file) (Some (drop SECOND_AT file)) → ⊥
+stays_unchanged file (inl other) = other (same_head file)
+stays_unchanged file (inr (inl other)) = other (same_head (drop SECOND_AT file))
+stays_unchanged file (inr (inr apart)) = let never : true ≡ false = sym (is_one file) ∙ apart in cc
 
 module _ (whole : (at : ℕ) (file : List ℕ) → (is_whole at file ≡ true) ↔ ((size at file ≤ MAX_BODY) × (at + HEAD + size at file ≤ length file))) where
   body_of : (slot : Slot) (file : List ℕ) (from until : ℕ) → from ≤ until → IsBodyAmid slot (λ moment. file) from until file

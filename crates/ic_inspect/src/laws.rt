@@ -39,8 +39,8 @@ ghost use Rattle.ic_inspect.specs.Objects.{stuck_field};
 ghost use Rattle.ic_inspect.specs.Held.{as_newest, held_of, newest_of};
 ghost use Rattle.ic_inspect.specs.Report.{active_pairs, counts_text, job_line, line, newest_text, report, slot_line, stuck_part, table_lines, told_held, halt_text, why_text};
 ghost use Rattle.ic_inspect.specs.Moments.{AreHeadsRead, AreSlotsRead, IsServed, IsServerStep, IsReadTwice, IsReadTwiceBetween, IsWholeNewest};
-ghost use Rattle.ic_inspect.specs.Inspecting.{Tells, WritesTold, all_inspect_faults, inspect_fault_number};
-ghost use Rattle.ic_inspect.specs.Slots.{file_of, is_one_file, slot_read};
+ghost use Rattle.ic_inspect.specs.Inspecting.{Tells, WritesTold, all_inspect_faults, inspect_fault_number, told_as};
+ghost use Rattle.ic_inspect.specs.Slots.{file_of, is_one_file, slot_read, HaveChanged};
 
 use crate::fault::InspectFault;
 use crate::inspecting::{Layout, inspect};
@@ -206,6 +206,9 @@ pub fn the_slots_are_seen_as_the_file()
     ensures lines { (layout : Layout) (file lines : List ℕ)
         → Tells layout (file_of (slot_read file) (slot_read (drop SECOND_AT file))) lines
         → Tells layout file lines }
+    ensures told { (layout : Layout) (file lines : List ℕ) → Tells layout file lines
+        → (first : Option Seen) × (second : Option Seen) × IsSeen First first file
+        × IsSeen Second second file × (lines ≡ told_as layout first second) }
 {
     ic_frames::laws::a_slot_is_open_or_whole();
 }
@@ -222,11 +225,14 @@ pub fn a_table_that_is_shown_stood()
     ic_slots::laws::the_newest_table_is_held();
 }
 
-/// A file that stays as it is, is read as it is, at any moment and twice. A server that does nothing leaves it so.
+/// A file that stays as it is, is read as it is, at any moment and twice, and isn't told as changed. A server that does
+/// nothing leaves it so.
 pub fn a_file_that_stays_is_read_as_it_is()
     ensures read { (file : List ℕ) (from until : ℕ) → from ≤ until
         → AreSlotsRead (λ moment. file) from until file (drop SECOND_AT file) }
     ensures twice { (file : List ℕ) → IsReadTwice (λ moment. file) file }
+    ensures unchanged { (file : List ℕ) → ¬ HaveChanged
+        (slot_read file) (slot_read (drop SECOND_AT file)) (Some file) (Some (drop SECOND_AT file)) }
     ensures served { (slot : Slot) (file : List ℕ) → IsNewest slot file
         → IsServed (λ moment. file) }
 {

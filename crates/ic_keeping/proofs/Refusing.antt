@@ -119,3 +119,9 @@ pub as_a_life : (fault : KeepingFault) → (fault ≡ Open opening.Device) ⊎ (
 as_a_life fault (inl device) = inl device
 as_a_life fault (inr (inl memory)) = inr (inl memory)
 as_a_life fault (inr (inr memory)) = inr (inr (inl memory))
+
+-- an opening is not refused as a keep is
+pub opening_keeps_none : (fault : KeepingFault) → ((cause : OpenCause) × (fault ≡ Open cause)) ⊎ (fault ≡ Unsound) ⊎ (fault ≡ Memory) → (cause : KeepFault) → fault ≡ Keep cause → ⊥
+opening_keeps_none fault (inl opened) cause same = let e : Open opened.0 ≡ Keep cause = sym opened.1 ∙ same in cc
+opening_keeps_none fault (inr (inl unsound)) cause same = let e : Unsound ≡ Keep cause = sym unsound ∙ same in cc
+opening_keeps_none fault (inr (inr memory)) cause same = let e : Memory ≡ Keep cause = sym memory ∙ same in cc

@@ -183,7 +183,25 @@ module _ (naming : NamingLaws) (laws : ReachingLaws) (s t : SystemParts) (sound 
     together = together;
     ends = r.ends;
     written = new_written;
-    piece = record { from = t; most = bounds; made = j; by_rule = more; rules = rules; nodes = sym nodes; reached = r };
+    piece = record {
+      from = t;
+      most = bounds;
+      earlier = k.interactions;
+      before = k.by_rule;
+      made = j;
+      by_rule = more;
+      rules = rules;
+      nodes = sym nodes;
+      way = record {
+        fired = is.way.fired;
+        reached = begun naming laws s t sound (configuration_of k.words k.terms is.next) is.way.fired is.way.reached rules interface equations names;
+        counted = is.way.counted;
+        counts = is.way.counts;
+      };
+      all = sum;
+      sums = adds;
+      reached = r;
+    };
   }
 
   answer_quiet : end ≡ Quiet → IsQuiet s.rules.rules answer

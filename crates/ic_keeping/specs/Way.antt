@@ -88,16 +88,22 @@ EndsWithin rs bounds c interactions entries Nodes =
 EndsWithin rs bounds c interactions entries Limit = interactions < bounds.steps
 EndsWithin rs bounds c interactions entries Memory = Unit {0}
 
--- The last piece of a run is a reduction in place: of a system with the same rules, with the same bound on places and
--- equations, and with an end and counts as they are told of the run.
+-- The last piece of a run is a reduction in place: of a system with the same rules, to whose configuration the interactions
+-- before it lead, with the same bound on places and equations, and with an end and counts as they are told of the run. The
+-- interactions that are told are those before it and its own, of each rule too.
 pub record IsLastPiece (s : SystemParts) (bounds : Bounds) (answer : Configuration) (end : End)
-    (places left : ℕ) : Type 0 where
+    (places left : ℕ) (k : Kept) : Type 0 where
   pub from : SystemParts
   pub most : Bounds
+  pub earlier : ℕ
+  pub before : List ℕ
   pub made : ℕ
   pub by_rule : List ℕ
   pub rules : from.rules ≡ s.rules
   pub nodes : most.nodes ≡ bounds.nodes
+  pub way : IsOnWay s from.config earlier before
+  pub all : k.interactions ≡ earlier + made
+  pub sums : AreSums before by_rule k.by_rule
   pub reached : IsReachedBy from most answer end made places left by_rule
 
 -- What a run ends with: the words of an answer with its names numbered anew, which is reached from the system's
@@ -112,7 +118,7 @@ pub record IsAnswer (s : SystemParts) (bounds : Bounds) (end : End) (places left
   pub together : IsPutTogether answer
   pub ends : (end ≡ Quiet) ⊎ (end ≡ Steps) → HasEnds answer left
   pub written : configuration_of k.words k.terms (MAX_NAME + 1) ≡ renumbered answer
-  pub piece : IsLastPiece s bounds answer end places left
+  pub piece : IsLastPiece s bounds answer end places left k
 
 -- the bytes of a state of the reduction of this system
 abbrev pub IsFormOf : SystemParts → List ℕ → Type 0

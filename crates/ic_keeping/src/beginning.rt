@@ -75,15 +75,15 @@ pub fn begin<D: Disk>(
     ensures empty { IsTrue (D.keeps first.old) → IsTrue (D.keeps second.old)
         → OnOk result ((D.content first.old ≡ []) × (D.content second.old ≡ [])) }
     ensures spares_first { IsTrue (D.keeps first.old) → IsErrOf result KeepingFault.NotEmpty
-        → OnlyReads D.content D.image D.clock D.left first.old first.new }
+        → OnlyReads D.keeps D.content D.image D.clock D.left first.old first.new }
     ensures spares_second { IsTrue (D.keeps second.old) → IsErrOf result KeepingFault.NotEmpty
-        → OnlyReads D.content D.image D.clock D.left second.old second.new }
+        → OnlyReads D.keeps D.content D.image D.clock D.left second.old second.new }
     ensures leaves_first { IsTrue (D.keeps first.old) → IsTrue (D.keeps second.old)
         → ¬ ((D.content first.old ≡ []) × (D.content second.old ≡ []))
-        → OnlyReads D.content D.image D.clock D.left first.old first.new }
+        → OnlyReads D.keeps D.content D.image D.clock D.left first.old first.new }
     ensures leaves_second { IsTrue (D.keeps first.old) → IsTrue (D.keeps second.old)
         → ¬ ((D.content first.old ≡ []) × (D.content second.old ≡ []))
-        → OnlyReads D.content D.image D.clock D.left second.old second.new }
+        → OnlyReads D.keeps D.content D.image D.clock D.left second.old second.new }
     ensures not_empty { IsTrue (D.keeps first.old) → IsTrue (D.keeps second.old)
         → IsErrOf result KeepingFault.NotEmpty
         → ¬ ((D.content first.old ≡ []) × (D.content second.old ≡ [])) }
@@ -183,7 +183,7 @@ pub fn resume<D: Disk>(
 
     // Whatever it answers, a crash at any moment leaves what was there.
     ensures reads { IsTrue (D.keeps first) → IsTrue (D.keeps second)
-        → Relates (OnlyReads D.content D.image D.clock D.left) result first second }
+        → Relates (OnlyReads D.keeps D.content D.image D.clock D.left) result first second }
 {
     ic_kept::laws::one_state_is_held();
     ic_state::laws::each_state_has_its_own_bytes();

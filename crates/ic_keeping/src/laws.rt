@@ -1,6 +1,6 @@
 //! Laws of reductions that are kept.
 
-ghost use Rattle.std.specs.Prelude.{◌≡◌, ◌≢◌, ◌⊎◌, ◌+◌, ◌*◌, ◌-◌, ◌^◌, ◌<◌, ◌≤◌, List, [], ℕ, true, false, Ok, IsNone, IsTrue, length, if◌then◌else◌};
+ghost use Rattle.std.specs.Prelude.{◌≡◌, ◌≢◌, ◌⊎◌, ◌+◌, ◌*◌, ◌-◌, ◌^◌, ◌<◌, ◌≤◌, List, [], ℕ, true, false, Ok, Err, IsNone, IsTrue, length, slice_index_or, if◌then◌else◌};
 ghost use Rattle.std.specs.Arc.{arc_value};
 ghost use Rattle.std.specs.Option.{option_map};
 ghost use Rattle.ic_disk.specs.Images.{Within};
@@ -14,7 +14,9 @@ ghost use Rattle.ic_reaching.specs.Reaching.{Reaches, rules_fired};
 ghost use Rattle.ic_by_rounds.specs.Stuck.{stuck_text};
 ghost use Rattle.ic_flat.specs.Flat.{configuration_of};
 ghost use Rattle.ic_flat.specs.Words.{forest, IsWhole};
+ghost use Rattle.ic_frames.specs.declared.faults.KeepFault.{KeepFault};
 ghost use Rattle.ic_frames.specs.declared.faults.KeepFault.TheVariants as keep;
+ghost use Rattle.ic_frames.specs.declared.faults.OpenCause.TheVariants as opening;
 ghost use Rattle.ic_frames.specs.declared.faults.OpenCause.{OpenCause};
 ghost use Rattle.ic_naming.specs.Naming.{renumbered};
 ghost use Rattle.ic_streams.specs.Streams.{line_of};
@@ -27,7 +29,8 @@ ghost use Rattle.ic_in_place.specs.Counting.{AreCounts};
 ghost use Rattle.ic_in_place.specs.Reducing.{CanInteract, HasEnds, IsPutTogether, IsReachedBy};
 ghost use Rattle.ic_kept.specs.Course.{HoldOne, HoldOneOf, LeftOnWay, Way};
 ghost use Rattle.ic_kept.specs.Held.{Hold};
-ghost use Rattle.ic_kept.specs.Keeper.{is_broken, Keeps, KeepsModel, number_of};
+ghost use Rattle.ic_kept.specs.Keeper.{is_broken, Keeps, KeepsModel, newest_of, number_of, other_of};
+ghost use Rattle.ic_kept.specs.Keeping.{CrashInKeeping};
 ghost use Rattle.ic_kept.specs.Lives.{IsFound, Lives};
 ghost use Rattle.ic_kept.specs.Opening.{InSomeOrder, OnlyReads};
 ghost use Rattle.ic_kept.specs.Sheet.{IsNewest, IsShut};
@@ -38,8 +41,8 @@ ghost use Rattle.ic_text.specs.declared.limits.Limits.TheVariants.{Wide};
 ghost use Rattle.ic_text.specs.declared.limits.TheConstants.{MAX_NAME};
 ghost use Rattle.ic_keeping.specs.declared.fault.KeepingFault.TheVariants as keeping;
 ghost use Rattle.ic_keeping.specs.declared.going.Ended.{Ended};
-ghost use Rattle.ic_keeping.specs.Life.{HasLived, IsLife, IsTold, KeepFails, StopsARun};
-ghost use Rattle.ic_keeping.specs.Way.{IsAnswer, IsAsFar, IsBegun, IsFormFrom, IsFormOf, IsKeptAfter, IsReachedFrom, IsStateOf};
+ghost use Rattle.ic_keeping.specs.Life.{HasLived, IsLife, IsTold, KeepFails, StopsARun, StopsAnOpening};
+ghost use Rattle.ic_keeping.specs.Way.{AreSums, IsAnswer, IsAsFar, IsBegun, IsFormFrom, IsFormOf, IsKeptAfter, IsOnWay, IsReachedFrom, IsStateOf};
 
 use ic_disk::Disk;
 use ic_kept::Keeper;
@@ -109,8 +112,8 @@ pub fn lives_go_on<D: Disk>(first: &D, second: &D)
     ensures opening { (s : SystemParts) (begun : Kept) (kept coming : List ℕ)
         (one_then other_then one_now other_now : D)
         → HasLived D.keeps D.content D.image D.clock D.left s begun kept coming first.now second.now
-        → OnlyReads D.content D.image D.clock D.left first.now one_then
-        → OnlyReads D.content D.image D.clock D.left second.now other_then
+        → OnlyReads D.keeps D.content D.image D.clock D.left first.now one_then
+        → OnlyReads D.keeps D.content D.image D.clock D.left second.now other_then
         → IsTrue (D.keeps one_now) → IsTrue (D.keeps other_now)
         → Within (D.image one_now) (LeftSince (D.left one_then) (D.clock first.now))
         → Within (D.image other_now) (LeftSince (D.left other_then) (D.clock second.now))
@@ -119,7 +122,7 @@ pub fn lives_go_on<D: Disk>(first: &D, second: &D)
     ensures opened { (s : SystemParts) (begun : Kept) (kept coming : List ℕ) (one_now other_now : D)
         → HasLived D.keeps D.content D.image D.clock D.left s begun kept coming first.now second.now
         → InSomeOrder (λ old now. (read : D)
-        × OnlyReads D.content D.image D.clock D.left old read
+        × OnlyReads D.keeps D.content D.image D.clock D.left old read
         × IsFound D.keeps D.content D.image D.clock D.left old read now)
         first.now second.now one_now other_now
         → HasLived D.keeps D.content D.image D.clock D.left s begun kept coming one_now other_now }
@@ -136,6 +139,17 @@ pub fn lives_go_on<D: Disk>(first: &D, second: &D)
     ensures turned { (s : SystemParts) (begun : Kept) (kept coming : List ℕ)
         → HasLived D.keeps D.content D.image D.clock D.left s begun kept coming first.now second.now
         → HasLived D.keeps D.content D.image D.clock D.left s begun kept coming second.now first.now }
+    // So they hold a state of it, with no fewer interactions than it began with, from which `live` goes on.
+    ensures holds { (s : SystemParts) (begun : Kept) (kept coming : List ℕ)
+        → HasLived D.keeps D.content D.image D.clock D.left s begun kept coming first.now second.now
+        → IsTrue (D.keeps first.now) × IsTrue (D.keeps second.now)
+        × HoldOne (IsFormFrom s begun.interactions) (D.content first.now) (D.content second.now) }
+    // At the end of a life, also by a fault, its disks keep the model and hold a state with no fewer interactions than it found:
+    // another life may follow at once.
+    ensures again { (s : SystemParts) (found : Kept) (k n : Keeper D)
+        → IsLife D.keeps D.content D.image D.clock D.left s found first.now second.now k n
+        → KeepsModel D.keeps n × HoldOne (IsFormFrom s found.interactions)
+        (D.content (newest_of n)) (D.content (other_of n)) }
     // What was said of the lives of a reduction is said of these.
     ensures lives { (s : SystemParts) (begun : Kept) (kept coming : List ℕ)
         → HasLived D.keeps D.content D.image D.clock D.left s begun kept coming first.now second.now
@@ -145,6 +159,8 @@ pub fn lives_go_on<D: Disk>(first: &D, second: &D)
 {
     let _ = first;
     let _ = second;
+    ic_kept::laws::one_state_is_held();
+    ic_state::laws::each_state_has_its_own_bytes();
 }
 
 /// What a state of a reduction says: its text is read as the system, and its interactions lead there. One that has begun is
@@ -186,16 +202,29 @@ pub fn what_a_kept_end_says()
     // At each end nothing is left that could be put for a name.
     ensures together { (s : SystemParts) (bounds : Bounds) (end : End) (places left : ℕ) (k : Kept)
         → (is : IsAnswer s bounds end places left k) → IsPutTogether is.answer }
-    // What is told of places and equations is that of a reduction in place.
+    // What is told of places and equations is that of a reduction in place, which goes on from what the interactions before it
+    // lead to. With its own they are those that are told.
     ensures piece { (s : SystemParts) (bounds : Bounds) (end : End) (places left : ℕ) (k : Kept)
         → (is : IsAnswer s bounds end places left k)
         → (from : SystemParts) × (most : Bounds) × (made : ℕ) × (by_rule : List ℕ)
+        × (earlier : ℕ) × (before : List ℕ)
         × (from.rules ≡ s.rules) × (most.nodes ≡ bounds.nodes)
+        × IsOnWay s from.config earlier before × (k.interactions ≡ earlier + made)
+        × AreSums before by_rule k.by_rule
         × IsReachedBy from most is.answer end made places left by_rule }
+    ensures way { (s : SystemParts) (c : Configuration) (interactions : ℕ) (by_rule : List ℕ)
+        → IsOnWay s c interactions by_rule → (fired : List ℕ)
+        × Reaches s.rules.rules s.config c fired × (interactions ≡ length fired)
+        × AreCounts (length s.rules.rules) fired by_rule }
+    ensures sums { (some more all : List ℕ) → AreSums some more all
+        → (length more ≡ length some) × (length all ≡ length some)
+        × ((i : ℕ) → i < length some
+        → slice_index_or all i 0 ≡ slice_index_or some i 0 + slice_index_or more i 0) }
 {}
 
 /// What is told at the end of a life: the rules of the system, the line that is asked for, and at a quiet end the first pair
-/// that is stuck. A run from a state stops for nothing that stands in its files.
+/// that is stuck. A run from a state stops for nothing that stands in its files, and of two files that hold a state an
+/// opening is refused by a failing call or for want of memory alone.
 pub fn what_a_life_tells()
     ensures rules { (s : SystemParts) (asked : Asked) (ended : Ended) → IsTold s asked ended
         → arc_value ended.rules ≡ s.rules }
@@ -210,6 +239,11 @@ pub fn what_a_life_tells()
         → ended.end ≢ Quiet → IsNone ended.stuck }
     ensures stops { ¬ StopsARun keeping.Unsound × ¬ StopsARun keeping.NotEmpty
         × ¬ StopsARun keeping.Device × ((cause : OpenCause) → ¬ StopsARun (keeping.Open cause)) }
+    ensures opens { ¬ StopsAnOpening keeping.Unsound × ¬ StopsAnOpening keeping.NotEmpty
+        × ¬ StopsAnOpening keeping.Limit × ¬ StopsAnOpening keeping.Device
+        × ((cause : KeepFault) → ¬ StopsAnOpening (keeping.Keep cause))
+        × ((cause : OpenCause) → StopsAnOpening (keeping.Open cause)
+        → (cause ≡ opening.Device) ⊎ (cause ≡ opening.Memory)) }
 {}
 
 /// What a keep that was refused says of its keeper: it was broken, its number is the last one, or it is broken only now.
@@ -221,6 +255,23 @@ pub fn why_a_keep_fails<D: Disk>(keeper: &Keeper<D>)
         × (number_of new ≡ 2 ^ 64 - 1) }
     ensures device { (new : Keeper D) → KeepFails keep.Device keeper.now new
         → (is_broken keeper.now ≡ false) × (is_broken new ≡ true) }
+{
+    let _ = keeper;
+}
+
+/// A keep spares the disk of the file that has the newest state. At `Ok` that is the one which is written next, and whatever
+/// is kept then is the next state. At a refusal it has the newest state still.
+pub fn a_keep_spares_the_newest_file<D: Disk>(keeper: &Keeper<D>)
+    ensures kept { (next : List ℕ) (done : Unit {0}) (new : Keeper D)
+        → CrashInKeeping D.keeps D.image D.clock D.left next (Ok done) keeper.now new
+        → other_of new ≡ newest_of keeper.now }
+    ensures held { (state next : List ℕ) (done : Unit {0}) (new : Keeper D)
+        → CrashInKeeping D.keeps D.image D.clock D.left next (Ok done) keeper.now new
+        → KeepsModel D.keeps keeper.now → Keeps D.image state keeper.now
+        → Keeps D.image next new }
+    ensures refused { (next : List ℕ) (fault : KeepFault) (new : Keeper D)
+        → CrashInKeeping {T = Unit {0}} D.keeps D.image D.clock D.left next (Err fault)
+        keeper.now new → newest_of new ≡ newest_of keeper.now }
 {
     let _ = keeper;
 }
@@ -274,7 +325,8 @@ pub fn a_kept_answer_is_that_of_every_order()
     ensures chain { (s : SystemParts) (bounds : Bounds) (end : End) (places left : ℕ) (k : Kept)
         → (is : IsAnswer s bounds end places left k)
         → (kinds : List Kind) × (e : Configuration) × Chain s.rules.rules kinds s.config e
-        × (length (rules_fired kinds) ≡ k.interactions) × OneNet e is.answer }
+        × (length (rules_fired kinds) ≡ k.interactions)
+        × AreCounts (length s.rules.rules) (rules_fired kinds) k.by_rule × OneNet e is.answer }
 {
     ic_reaching::laws::what_is_reached_quiet_is_the_end_of_every_order();
 }

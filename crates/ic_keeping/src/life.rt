@@ -1,17 +1,18 @@
 //! One life of a reduction that is kept: from the state that two files hold until it ends.
 
-ghost use Rattle.std.specs.Prelude.{◌≡◌, ◌⊎◌, ◌↔◌, ◌≤◌, List, ℕ, IfOk, IfErr, IsTrue, max, true};
+ghost use Rattle.std.specs.Prelude.{◌≡◌, ◌≢◌, ◌⊎◌, ◌↔◌, ◌≤◌, ℕ, IfOk, IfErr, IsTrue, max, true};
 ghost use Rattle.ic_disk.specs.Time.{OneMore};
 ghost use Rattle.ic_frames.specs.declared.faults.KeepFault.{KeepFault};
 ghost use Rattle.ic_frames.specs.declared.faults.OpenCause.{OpenCause};
+ghost use Rattle.ic_kept.specs.Course.{HoldOne};
 ghost use Rattle.ic_kept.specs.Held.{Answers};
 ghost use Rattle.ic_kept.specs.Keeper.{Keeps, KeepsModel, newest_of, other_of};
 ghost use Rattle.ic_kept.specs.Opening.{InSomeOrder, OnlyReads};
 ghost use Rattle.ic_rules.specs.System.{SystemParts};
 ghost use Rattle.ic_state.specs.State.{IsKept, Kept, kept_by, state_bytes};
 ghost use Rattle.ic_keeping.specs.declared.fault.KeepingFault.{KeepingFault};
-ghost use Rattle.ic_keeping.specs.Life.{HasLived, IsLife, IsTold, KeepFails, StopsAnOpening, StopsARun};
-ghost use Rattle.ic_keeping.specs.Way.{IsAnswer, IsAsFar, IsReachedFrom};
+ghost use Rattle.ic_keeping.specs.Life.{IsLife, IsTold, KeepFails, StopsAnOpening, StopsARun};
+ghost use Rattle.ic_keeping.specs.Way.{IsAnswer, IsAsFar, IsFormFrom, IsFormOf, IsReachedFrom};
 
 use crate::beginning::{ResumeFault, resume};
 use crate::going::{Ended, go_on};
@@ -32,45 +33,48 @@ pub fn live<D: Disk, C: Clock, V: Watch>(
     clock: &C,
     watch: &V,
 ) -> Result<(Ended, Keeper<D>), ResumeFault<D>>
-    // After any lives of the reduction of a system, each stopped at any moment, it answers that system, and the interactions
-    // are those of all lives.
-    ensures answer { (s : SystemParts) (begun : Kept) (kept coming : List ℕ)
-        → HasLived D.keeps D.content D.image D.clock D.left s begun kept coming first second
+    // From two files that hold a state of the reduction of a system, as after any lives of it (`laws::lives_go_on`), it answers
+    // that system, and the interactions are those of all lives.
+    ensures answer { (s : SystemParts) → IsTrue (D.keeps first) → IsTrue (D.keeps second)
+        → HoldOne (IsFormOf s) (D.content first) (D.content second)
         → IfOk result (λ lived.
         IsAnswer s bounds lived.0.end lived.0.places lived.0.left (kept_by lived.0.state)) }
-    ensures told { (s : SystemParts) (begun : Kept) (kept coming : List ℕ)
-        → HasLived D.keeps D.content D.image D.clock D.left s begun kept coming first second
+    ensures told { (s : SystemParts) → IsTrue (D.keeps first) → IsTrue (D.keeps second)
+        → HoldOne (IsFormOf s) (D.content first) (D.content second)
         → IfOk result (λ lived. IsTold s asked lived.0) }
     ensures ended { IfOk result (λ lived.
         (lived.0.state.ended ≡ true) ↔ (lived.0.end ≡ End.Quiet)) }
     // A state is kept then that goes as far, and from which the answer is reached.
-    ensures kept { (s : SystemParts) (begun : Kept) (kept coming : List ℕ)
-        → HasLived D.keeps D.content D.image D.clock D.left s begun kept coming first second
+    ensures kept { (s : SystemParts) → IsTrue (D.keeps first) → IsTrue (D.keeps second)
+        → HoldOne (IsFormOf s) (D.content first) (D.content second)
         → IfOk result (λ lived. (k : Kept) × IsKept k
         × IsReachedFrom s k (kept_by lived.0.state) × IsAsFar k (kept_by lived.0.state)
         × KeepsModel D.keeps lived.1 × Keeps D.image (state_bytes k) lived.1) }
-    // This is one more of these lives: it has opened the two disks, and gone on from the state that it found.
-    ensures life { (s : SystemParts) (begun : Kept) (kept coming : List ℕ)
-        → HasLived D.keeps D.content D.image D.clock D.left s begun kept coming first second
+    // It is one more life of the reduction: it has opened the two disks, and gone on from the state that it found.
+    ensures life { (s : SystemParts) (least : ℕ) → IsTrue (D.keeps first) → IsTrue (D.keeps second)
+        → HoldOne (IsFormFrom s least) (D.content first) (D.content second)
         → IfOk result (λ lived. (found : Kept) × (k : Keeper D)
         × IsLife D.keeps D.content D.image D.clock D.left s found first second k lived.1
-        × (begun.interactions ≤ found.interactions)
+        × (least ≤ found.interactions)
         × IsReachedFrom s found (kept_by lived.0.state)
         × (lived.0.state.interactions ≤ max bounds.steps found.interactions)) }
     // So it is where it stops by a fault: it has only read the two disks, or opened them and gone on. It hands them back.
-    ensures stopped { (s : SystemParts) (begun : Kept) (kept coming : List ℕ)
-        → HasLived D.keeps D.content D.image D.clock D.left s begun kept coming first second
-        → IfErr result (λ fault. (InSomeOrder (OnlyReads D.content D.image D.clock D.left)
+    ensures stopped { (s : SystemParts) → IsTrue (D.keeps first) → IsTrue (D.keeps second)
+        → HoldOne (IsFormOf s) (D.content first) (D.content second)
+        → IfErr result (λ fault. (InSomeOrder
+        (OnlyReads D.keeps D.content D.image D.clock D.left)
         first second fault.first fault.second × StopsAnOpening fault.cause)
         ⊎ ((found : Kept) × (k n : Keeper D)
         × IsLife D.keeps D.content D.image D.clock D.left s found first second k n
         × (fault.first ≡ newest_of n) × (fault.second ≡ other_of n)
         × ((cause : KeepFault) → fault.cause ≡ KeepingFault.Keep cause → KeepFails cause k n))) }
     // There is no other fault: a call has failed or memory ran out as it read the disks, or it has stopped as a run does.
-    ensures refused { (s : SystemParts) (begun : Kept) (kept coming : List ℕ)
-        → HasLived D.keeps D.content D.image D.clock D.left s begun kept coming first second
+    ensures refused { (s : SystemParts) → IsTrue (D.keeps first) → IsTrue (D.keeps second)
+        → HoldOne (IsFormOf s) (D.content first) (D.content second)
         → IfErr result (λ fault. (fault.cause ≡ KeepingFault.Open OpenCause.Device)
         ⊎ (fault.cause ≡ KeepingFault.Open OpenCause.Memory) ⊎ StopsARun fault.cause) }
+    // A keeper that was opened isn't broken before its first keep.
+    ensures usable { IfErr result (λ fault. fault.cause ≢ KeepingFault.Keep KeepFault.Broken) }
     // Of any two files: what it says of those in which it finds no state is pinned, and it doesn't write over what it refuses.
     ensures named { IsTrue (D.keeps first) → IsTrue (D.keeps second)
         → IfErr result (λ fault. (cause : OpenCause) → fault.cause ≡ KeepingFault.Open cause
@@ -78,7 +82,7 @@ pub fn live<D: Disk, C: Clock, V: Watch>(
     ensures reads { IsTrue (D.keeps first) → IsTrue (D.keeps second)
         → IfErr result (λ fault. ((cause : OpenCause) × (fault.cause ≡ KeepingFault.Open cause))
         ⊎ (fault.cause ≡ KeepingFault.Unsound)
-        → InSomeOrder (OnlyReads D.content D.image D.clock D.left)
+        → InSomeOrder (OnlyReads D.keeps D.content D.image D.clock D.left)
         first second fault.first fault.second) }
     ensures device { IfErr result (λ fault. fault.cause ≡ KeepingFault.Open OpenCause.Device
         → OneMore (D.failures first) (D.failures fault.first)

@@ -29,7 +29,7 @@ module _ {D : Type 0} (keeps_model : D → Bool) (content : D → List ℕ)
     pub held : Hold state (content first) (content second)
     pub model : KeepsModel keeps_model k
     pub keeps : Keeps image state k
-    pub reads : InSomeOrder (OnlyReads content image clock left) first second
+    pub reads : InSomeOrder (OnlyReads keeps_model content image clock left) first second
         (newest_of k) (other_of k)
 
   -- These disks are found after some lives, which began with files that hold a first state. One state was kept last, and
@@ -41,8 +41,8 @@ module _ {D : Type 0} (keeps_model : D → Bool) (content : D → List ℕ)
     -- one that was stopped as it opened the disks, or was refused them
     one_opening : (kept coming : List ℕ) (one other one_then other_then one_now other_now : D)
         → Lives After first kept coming one other
-        → OnlyReads content image clock left one one_then
-        → OnlyReads content image clock left other other_then
+        → OnlyReads keeps_model content image clock left one one_then
+        → OnlyReads keeps_model content image clock left other other_then
         → IsFound one one_then one_now → IsFound other other_then other_now
         → Lives After first kept coming one_now other_now
     -- one that opened them and went on

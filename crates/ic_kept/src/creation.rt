@@ -26,15 +26,15 @@ pub fn create<D: Disk>(first: &mut D, second: &mut D, state: &[u8]) -> Result<()
         → IsErrOf result CreateFault.NotEmpty
         → ¬ ((D.content first.old ≡ []) × (D.content second.old ≡ [])) }
     ensures spares_first { IsTrue (D.keeps first.old) → IsErrOf result CreateFault.NotEmpty
-        → OnlyReads D.content D.image D.clock D.left first.old first.new }
+        → OnlyReads D.keeps D.content D.image D.clock D.left first.old first.new }
     ensures spares_second { IsTrue (D.keeps second.old) → IsErrOf result CreateFault.NotEmpty
-        → OnlyReads D.content D.image D.clock D.left second.old second.new }
+        → OnlyReads D.keeps D.content D.image D.clock D.left second.old second.new }
     ensures leaves_first { IsTrue (D.keeps first.old) → IsTrue (D.keeps second.old)
         → ¬ ((D.content first.old ≡ []) × (D.content second.old ≡ []))
-        → OnlyReads D.content D.image D.clock D.left first.old first.new }
+        → OnlyReads D.keeps D.content D.image D.clock D.left first.old first.new }
     ensures leaves_second { IsTrue (D.keeps first.old) → IsTrue (D.keeps second.old)
         → ¬ ((D.content first.old ≡ []) × (D.content second.old ≡ []))
-        → OnlyReads D.content D.image D.clock D.left second.old second.new }
+        → OnlyReads D.keeps D.content D.image D.clock D.left second.old second.new }
 
     // `Device` is answered only where a call has failed.
     ensures device { IsErrOf result CreateFault.Device
@@ -62,7 +62,7 @@ fn is_empty<D: Disk>(disk: &mut D) -> Result<bool, DiskFault>
     ensures empty { IsTrue (D.keeps disk.old)
         → IfOk result (λ empty. IsTrue empty ↔ (D.content disk.old ≡ [])) }
     ensures reads { IsTrue (D.keeps disk.old)
-        → OnlyReads D.content D.image D.clock D.left disk.old disk.new }
+        → OnlyReads D.keeps D.content D.image D.clock D.left disk.old disk.new }
 {
     let len = disk.len()?;
     Ok(len == 0)

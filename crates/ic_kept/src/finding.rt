@@ -25,7 +25,7 @@ fn read_bytes<D: Disk, const N: usize>(disk: &mut D, at: u64) -> Result<[u8; N],
     ensures bytes { IsTrue (D.keeps disk.old)
         → IfOk result (λ bytes. bytes ≡ bytes_at at N (D.content disk.old)) }
     ensures reads { IsTrue (D.keeps disk.old)
-        → OnlyReads D.content D.image D.clock D.left disk.old disk.new }
+        → OnlyReads D.keeps D.content D.image D.clock D.left disk.old disk.new }
 {
     let mut bytes = [0; N];
     disk.read(at, &mut bytes)?;
@@ -41,7 +41,7 @@ fn measure<D: Disk>(disk: &mut D) -> Result<u64, DiskFault>
     ensures settled { IsTrue (D.keeps disk.old)
         → OnOk result (Only (D.content disk.old) (D.image disk.new)) }
     ensures reads { IsTrue (D.keeps disk.old)
-        → OnlyReads D.content D.image D.clock D.left disk.old disk.new }
+        → OnlyReads D.keeps D.content D.image D.clock D.left disk.old disk.new }
 {
     disk.sync()?;
     let len = disk.len()?;
@@ -56,7 +56,7 @@ fn read_head<D: Disk>(disk: &mut D) -> Result<Option<Head>, DiskFault>
     ensures head { IsTrue (D.keeps disk.old)
         → IfOk result (λ head. IsHeadOf head (D.content disk.old)) }
     ensures reads { IsTrue (D.keeps disk.old)
-        → OnlyReads D.content D.image D.clock D.left disk.old disk.new }
+        → OnlyReads D.keeps D.content D.image D.clock D.left disk.old disk.new }
 {
     let gate = read_bytes::<D, 1>(disk, 0)?;
     if gate[0] != 1 {
@@ -79,7 +79,7 @@ fn look<D: Disk>(disk: &mut D) -> Result<Option<Head>, OpenCause>
     ensures refused { IsTrue (D.keeps disk.old)
         → IfErr result (λ cause. Spoils cause (length (D.content disk.old) < HEAD)) }
     ensures reads { IsTrue (D.keeps disk.old)
-        → OnlyReads D.content D.image D.clock D.left disk.old disk.new }
+        → OnlyReads D.keeps D.content D.image D.clock D.left disk.old disk.new }
 {
     let len = measure(disk)?;
     if len < HEAD {
@@ -151,7 +151,7 @@ fn read_state<D: Disk>(alloc: Global, disk: &mut D, size: u64) -> Result<Vec<u8>
     ensures refused { IsTrue (D.keeps disk.old)
         → IfErr result (λ cause. Spoils cause (length (D.content disk.old) < HEAD + size)) }
     ensures reads { IsTrue (D.keeps disk.old)
-        → OnlyReads D.content D.image D.clock D.left disk.old disk.new }
+        → OnlyReads D.keeps D.content D.image D.clock D.left disk.old disk.new }
 {
     let len = disk.len()?;
     if len < HEAD || len - HEAD < size {
@@ -183,9 +183,9 @@ pub(crate) fn find<D: Disk>(
     ensures settled_second { IsTrue (D.keeps second.old)
         → OnOk result (Only (D.content second.old) (D.image second.new)) }
     ensures reads_first { IsTrue (D.keeps first.old)
-        → OnlyReads D.content D.image D.clock D.left first.old first.new }
+        → OnlyReads D.keeps D.content D.image D.clock D.left first.old first.new }
     ensures reads_second { IsTrue (D.keeps second.old)
-        → OnlyReads D.content D.image D.clock D.left second.old second.new }
+        → OnlyReads D.keeps D.content D.image D.clock D.left second.old second.new }
 {
     let one = look(first)?;
     let other = look(second)?;

@@ -59,7 +59,7 @@ impl<D: Disk> Keeper<D> {
 
         // A crash at any moment leaves what was there.
         ensures reads { IsTrue (D.keeps first) → IsTrue (D.keeps second)
-            → Relates (OnlyReads D.content D.image D.clock D.left) result first second }
+            → Relates (OnlyReads D.keeps D.content D.image D.clock D.left) result first second }
     {
         match find(alloc, &mut first, &mut second) {
             Ok(found) => {

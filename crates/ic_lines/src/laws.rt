@@ -1,7 +1,7 @@
 //! Laws of the definitions that the contracts of this crate and of those above cite.
 
 ghost use Rattle.std.specs.Prelude.{◌≡◌, ◌↔◌, ◌+◌, ◌<◌, ◌≤◌, ℕ, List, [], ◌∷◌, ◌++◌, Option, Result, Ok, Err, None, Some, false, true, length, map, take};
-ghost use Rattle.std.specs.List.{flat_map, list_all, AllByRecursion};
+ghost use Rattle.std.specs.List.{flat_map, list_all, AllByRecursion, AllZip};
 ghost use Rattle.ic_flights.specs.Flight.{FlightParts};
 ghost use Rattle.ic_jobs.specs.declared.command.Command.{Command};
 ghost use Rattle.ic_jobs.specs.declared.event.Event.{Event};
@@ -25,7 +25,7 @@ ghost use Rattle.ic_text.specs.declared.fault.TextFault.TheVariants.{Limit, Memo
 ghost use Rattle.ic_commands.specs.ScriptSense.{ReadsScriptLine};
 ghost use Rattle.ic_lines.specs.declared.script.ScriptFault.{ScriptFault};
 ghost use Rattle.ic_lines.specs.declared.script.TheConstants.{MAX_SCRIPT};
-ghost use Rattle.ic_lines.specs.Script.{AreAsked, ReadsScript};
+ghost use Rattle.ic_lines.specs.Script.{commands, first_fault, AreAsked, IsWanting, ReadsScript, ScriptLine, WantsMemory};
 
 /// A line is what comes before a line feed, and the last one needs none where it has a byte. No
 /// line has a line feed in it. The lines of a text that ends with a line feed, each with its line
@@ -168,3 +168,13 @@ pub fn scripts_are_joined_at_a_line_feed()
 {
     ic_commands::laws::one_script_line_reading();
 }
+
+/// Memory may run out at a line of a script, which has this number among its lines. Those before it are
+/// read, none of them is refused, and the line itself is a submit or a command that isn't one too many.
+pub fn memory_runs_out_at_a_line()
+    ensures { (text : List ℕ) (number : ℕ) → IsWanting text number
+        → (before : List (List ℕ)) × (line : List ℕ) × (rest : List (List ℕ))
+        × (readings : List ScriptLine) × (lines text ≡ before ++ line ∷ rest)
+        × (number ≡ length before + 1) × AllZip ReadsScriptLine before readings
+        × (first_fault [] readings ≡ None) × WantsMemory (length (commands readings)) line }
+{}

@@ -21,3 +21,16 @@ pub mod InUse
 pub mod PlaceLaws
 pub mod Growth
 pub mod Equations
+pub mod Trees
+pub mod Ends
+pub mod Unpacked
+pub mod Putting
+pub mod LinkPairs
+pub mod TablesOnce
+pub mod EndsOnce
+pub mod BordersOnce
+pub mod UnpackedNet
+pub mod Packing
+pub mod Parcels
+pub mod Agents
+pub mod Opening

@@ -5,12 +5,16 @@ use Rattle.std.proofs.Math.Seq.{take-append_seam, take-length}
 use Rattle.std.proofs.lemmas.List.FromFn.{length-map-range_with_len}
 use Rattle.ic_arena.specs.declared.word.Word.{Word}
 use Rattle.ic_arena.specs.Word.{agent_word}
-use Rattle.ic_arena.specs.Tables.{names_pieces}
+use Rattle.ic_arena.specs.Piece.{Piece}
+use Rattle.ic_arena.specs.Tables.{Blocks, names_pieces}
+use Rattle.ic_machine.specs.declared.equation.Equation.{Equation}
 use Rattle.ic_machine.specs.declared.tables.Tables.{Tables}
 use Rattle.ic_machine.specs.declared.machine.Machine.TheInside.{Inside}
 use Rattle.ic_machine.specs.declared.plan.Plan.{Plan}
 use Rattle.ic_machine.specs.Plan.{Plans, constants, planned}
+use Rattle.ic_machine.specs.Net.{equated_of}
 use Rattle.ic_machine.specs.Runs.{Counted}
+use Rattle.ic_machine.specs.Separate.{IsSeparate}
 use Rattle.ic_machine.specs.inner.Firing.{heaps_pieces, arities_of}
 use Rattle.ic_machine.specs.inner.Machine.{IsSound}
 use Rattle.ic_machine.specs.inner.Pairs.{Passed}
@@ -95,3 +99,38 @@ none_counted plans counts is = subst (λ (l : List ℕ). AllByRecursion (λ k. k
 pub all_none : (plans : List Plan) → map {B = ℕ} (λ plan. 0) (map planned plans) ≡ map {B = ℕ} (λ plan. 0) plans
 all_none [] = refl
 all_none (p ∷ ps) = ap (λ (l : List ℕ). 0 ∷ l) (all_none ps)
+
+-- no plan has fired more often than all, in two machines
+pub counts_added : (n m : ℕ) (old more new : List ℕ) → length new ≡ length old → length more ≡ length old
+    → AllByRecursion (λ k. k ≤ n) old → AllByRecursion (λ k. k ≤ m) more
+    → ((i : ℕ) → slice_index_or new i 0 ≡ slice_index_or old i 0 + slice_index_or more i 0) → AllByRecursion (λ k. k ≤ n + m) new
+counts_added n m [] more [] e f a b sums = tt
+counts_added n m [] more (z ∷ new) e f a b sums = absurd (omega arith)
+counts_added n m (x ∷ old) more [] e f a b sums = absurd (omega arith)
+counts_added n m (x ∷ old) [] (z ∷ new) e f a b sums = absurd (omega arith)
+counts_added n m (x ∷ old) (y ∷ more) (z ∷ new) e f a b sums =
+    let sum : z ≡ x + y = sums 0 in
+    let p = a.0 in
+    let q = b.0 in
+    (omega arith, counts_added n m old more new (omega arith) (omega arith) a.1 b.1 (λ i. sums (suc i)))
+
+pub at_most : (n : ℕ) (xs : List ℕ) (i : ℕ) → AllByRecursion (λ k. k ≤ n) xs → slice_index_or xs i 0 ≤ n
+at_most n [] i h = omega arith
+at_most n (x ∷ xs) zero h = h.0
+at_most n (x ∷ xs) (suc i) h = at_most n xs i h.1
+
+-- where nothing is, each place is named no more often than it may be
+pub nothing_separate : (arities : List ℕ) (i : List Word) (ps us : List Equation) (n h : List Piece) → i ≡ [] → ps ≡ [] → us ≡ [] → n ≡ [] → h ≡ []
+    → IsSeparate arities i (map equated_of ps ++ (map equated_of us ++ (n ++ h)))
+nothing_separate arities i ps us n h a b c d e = rw (a, b, c, d, e) (record { each = λ w k. omega arith })
+
+pub no_agents : (hs : List Blocks) (arities : List ℕ) → arities_of hs ≡ arities → AllByRecursion (λ b. b.count ≡ 0) hs
+    → map {B = ℕ} (λ b. b.count) hs ≡ map (λ k. 0) arities
+no_agents [] [] e h = refl
+no_agents [] (a ∷ arities) e h = cc
+no_agents (b ∷ hs) [] e h = cc
+no_agents (b ∷ hs) (a ∷ arities) e h =
+    let rest : arities_of hs ≡ arities = cc in
+    let first : b.count ≡ 0 = h.0 in
+    let later = no_agents hs arities rest h.1 in
+    (λ i. first i ∷ later i)

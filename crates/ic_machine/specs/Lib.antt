@@ -4,5 +4,7 @@ pub mod Steps
 pub mod Net
 pub mod Runs
 pub mod Held
+pub mod Rooms
+pub mod Moving
 pub mod lemmas
 pub mod inner

@@ -6,4 +6,7 @@ pub mod Pairs
 pub mod PairIndex
 pub mod Tables
 pub mod Machine
+pub mod Borders
+pub mod Moving
+pub mod Unpacking
 pub mod Places

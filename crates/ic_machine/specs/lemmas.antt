@@ -10,3 +10,5 @@ pub mod Balance
 pub mod Active
 pub mod RunsOn
 pub mod Upto
+pub mod InRooms
+pub mod Spelled

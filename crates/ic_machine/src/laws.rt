@@ -1,14 +1,19 @@
 //! Laws of steps.
 
-ghost use Rattle.std.specs.Prelude.{◌≡◌, ◌⊎◌, ◌+◌, ◌≤◌, ℕ, List, Contains, length, sum, sum_by};
+ghost use Rattle.std.specs.Prelude.{◌≡◌, ◌≢◌, ◌⊎◌, ◌+◌, ◌++◌, ◌<◌, ◌≤◌, ℕ, List, Contains, length, map, sum, sum_by};
 ghost use Rattle.std.specs.List.{AllByRecursion};
 ghost use Rattle.ic_arena.specs.declared.word.Word.{Word};
 ghost use Rattle.ic_arena.specs.Piece.{Piece};
-ghost use Rattle.ic_machine.specs.Net.{Net, all_places, equations_in, equations_left, in_use, pieces, places_of, IsAtPlace};
+ghost use Rattle.ic_machine.specs.Moving.{times};
+ghost use Rattle.ic_machine.specs.Net.{Net, all_places, equations_in, equations_left, in_use, pieces, places_of, IsAtPlace, IsPair};
 ghost use Rattle.ic_machine.specs.Plan.{Planned, Plans, ArePlans, links_made_by, places_made_by};
 ghost use Rattle.ic_machine.specs.Runs.{Ran, Starts};
+ghost use Rattle.ic_machine.specs.Rooms.{ROOMS, pieces_in, IsOutside};
 ghost use Rattle.ic_machine.specs.Separate.{IsSeparate};
 ghost use Rattle.ic_machine.specs.Steps.{Steps};
+
+use crate::borders::Borders;
+use crate::machine::Machine;
 
 /// What is separate stays separate over steps, whatever pairs they fire and in whatever order.
 pub fn steps_keep_places_apart()
@@ -59,3 +64,31 @@ pub fn equations_are_made_by_plans()
         → equations_left n ≡ equations_in (pieces n) }
     ensures least { (n : Net) → equations_left n ≤ equations_in (pieces n) }
 {}
+
+/// Several machines are one net whose pieces are in rooms, each machine's in one of its own. What is fresh to one of them is
+/// fresh to all, and its steps are steps of all: they fire the same pairs, and what is in other rooms stays.
+pub fn steps_of_one_machine_are_steps_of_all()
+    ensures steps { (p : Plans) (k : ℕ) (fired : List ℕ) (xs ys others : List Piece)
+        → ArePlans p → IsOutside p.arities k others → Steps p fired xs ys
+        → Steps p fired (pieces_in p.arities k xs ++ others) (pieces_in p.arities k ys ++ others) }
+    ensures apart { (arities : List ℕ) (k l : ℕ) (ps : List Piece) → k < ROOMS → l < ROOMS → k ≢ l
+        → IsOutside arities k (pieces_in arities l ps) }
+{}
+
+/// No side of an equation that a machine has pending or aside is a name, and no equation is at a
+/// place.
+pub fn what_a_machine_holds(machine: &Machine)
+    ensures pairs { AllByRecursion IsPair machine.now.pending }
+    ensures aside { AllByRecursion IsPair machine.now.aside }
+    ensures places { AllByRecursion IsAtPlace machine.now.places }
+{
+    let _tables = &machine.tables;
+}
+
+/// No two borders of a machine have one cut, or one name.
+pub fn what_borders_hold(borders: &Borders)
+    ensures cuts { (c : ℕ) → times c (map (λ e. e.cut) borders.now.ends) ≤ 1 }
+    ensures names { (n : ℕ) → times n (map (λ e. e.name) borders.now.ends) ≤ 1 }
+{
+    borders.are_once();
+}

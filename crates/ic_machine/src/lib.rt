@@ -4,18 +4,25 @@
 //! rule, and not by that of the net, and places that are used up are used again.
 #![tactic(auto)]
 
+mod borders;
 mod equation;
 mod firing;
 pub mod laws;
 mod linking;
 mod machine;
+mod moving;
 mod pairs;
 mod places;
 mod plan;
 mod sweeping;
 mod tables;
+mod telling;
+mod unpacking;
 
+pub use borders::Borders;
 pub use equation::Equation;
 pub use machine::{Ended, Machine, MachineFault};
+pub use moving::Parcel;
 pub use places::{Parts, Places};
 pub use plan::{Link, Make, Plan, Program};
+pub use telling::Told;

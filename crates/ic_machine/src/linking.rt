@@ -43,7 +43,7 @@ pub(crate) fn link_each(
 
 /// Links an equation: if a word waits for a side that is a name, it takes the place of that, as long as one does. Then one
 /// side waits for the other, if that is a name. Two sides that are no names are pending.
-fn link(names: &mut Names, pending: &mut Vec<Equation>, equation: Equation)
+pub(crate) fn link(names: &mut Names, pending: &mut Vec<Equation>, equation: Equation)
     requires named { AreNamed equation.left equation.right names.old.entries }
     requires room { vec_len pending.old < vec_capacity pending.old }
     ensures steps { (p : Plans) (rest : List Piece) → Steps p []

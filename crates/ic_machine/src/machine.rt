@@ -1,6 +1,6 @@
 //! The machine.
 
-ghost use Rattle.std.specs.Prelude.{◌≡◌, ◌≢◌, ℕ, ◌+◌, ◌^◌, ◌<◌, ◌≤◌, List, [], ◌∷◌, ◌++◌, true, false, Ok, Err, Contains, length, map, sum, sum_by, vec_capacity, IfOk, OnErr, IfSome, IfNone, MatchOption};
+ghost use Rattle.std.specs.Prelude.{◌≡◌, ◌≢◌, ℕ, ◌+◌, ◌^◌, ◌<◌, ◌≤◌, List, [], ◌∷◌, ◌++◌, true, false, Ok, Err, Contains, length, map, slice_index_or, sum, sum_by, vec_capacity, IfOk, OnErr, IfSome, IfNone, MatchOption};
 ghost use Rattle.std.specs.List.{AllByRecursion};
 ghost use Rattle.ic_arena.specs.declared.word.Word.{Word as AnyWord};
 ghost use Rattle.ic_arena.specs.declared.word.TheConstants.{GIVEN, NAME};
@@ -56,10 +56,10 @@ impl From<AllocError> for MachineFault {
 #[derive(Drop)]
 pub struct Machine {
     interface: Vec<Word>,
-    aside: Vec<Equation>,
-    tables: Tables,
-    interactions: u64,
-    counts: Vec<u64>,
+    pub(crate) aside: Vec<Equation>,
+    pub(crate) tables: Tables,
+    pub(crate) interactions: u64,
+    pub(crate) counts: Vec<u64>,
 }
 
 impl Model for Machine {
@@ -103,6 +103,32 @@ impl Machine {
         let interface = words_at(alloc, &tables.registers, interface)?;
         Ok(Machine {
             interface,
+            aside: Vec::new(alloc),
+            tables,
+            interactions: 0,
+            counts,
+        })
+    }
+
+    /// A machine that holds nothing.
+    pub fn empty(alloc: Global, program: &Program) -> Result<Machine, AllocError>
+        requires symbols { length program.now.arities < GIVEN }
+        ensures { IfOk result (λ m. m ≡ record {
+          arities = program.now.arities;
+          interface = [];
+          pending = [];
+          aside = [];
+          places = [];
+          interactions = 0;
+          names = 0;
+          agents = map (λ k. 0) program.now.arities;
+          counts = map (λ plan. 0) program.now.plans;
+        }) }
+    {
+        let counts = no_counts(alloc, program.plans())?;
+        let tables = Tables::new(alloc, program.arities())?;
+        Ok(Machine {
+            interface: Vec::new(alloc),
             aside: Vec::new(alloc),
             tables,
             interactions: 0,
@@ -289,6 +315,24 @@ impl Machine {
         pending + aside
     }
 
+    /// Counts what another machine has fired as its own.
+    pub fn count_also(&mut self, other: &Machine)
+        requires few { self.old.interactions + other.now.interactions < 2 ^ 64 }
+        requires plans { length other.now.counts ≡ length self.old.counts }
+        ensures interactions { self.new.interactions
+            ≡ self.old.interactions + other.now.interactions }
+        ensures counts { (i : ℕ) → slice_index_or self.new.counts i 0
+            ≡ slice_index_or self.old.counts i 0 + slice_index_or other.now.counts i 0 }
+        ensures plans { length self.new.counts ≡ length self.old.counts }
+        ensures same { self.new ≡ record self.old {
+          interactions = self.new.interactions;
+          counts = self.new.counts;
+        } }
+    {
+        self.interactions += other.interactions;
+        add_each(&mut self.counts, &other.counts);
+    }
+
     /// Takes the machine apart.
     pub fn into_parts(self) -> Parts
         ensures interface { result.interface.items ≡ self.interface }
@@ -348,6 +392,20 @@ fn count(counts: &mut Vec<u64>, number: u32)
 {
     if (number as usize) < counts.len() {
         counts[number as usize] += 1;
+    }
+}
+
+/// Adds numbers to others, place by place.
+fn add_each(counts: &mut Vec<u64>, more: &[u64])
+    requires len { length more.now ≡ length counts.old.items }
+    requires few { (i : ℕ) → slice_index_or counts.old.items i 0
+        + slice_index_or more.now i 0 < 2 ^ 64 }
+    ensures sums { (i : ℕ) → slice_index_or counts.new.items i 0
+        ≡ slice_index_or counts.old.items i 0 + slice_index_or more.now i 0 }
+    ensures len { length counts.new.items ≡ length counts.old.items }
+{
+    for place in 0..counts.len() {
+        counts[place] += more[place];
     }
 }
 

@@ -182,7 +182,7 @@ impl Places {
 }
 
 /// Turns the words after so many first ones round.
-fn turn(words: &mut Vec<Word>, first: usize)
+pub(crate) fn turn(words: &mut Vec<Word>, first: usize)
     requires { first ≤ vec_len words.old }
     ensures { words.new.items ≡ take first words.old.items ++ reverse (drop first words.old.items) }
 {

@@ -1,10 +1,11 @@
 //! Laws of the definitions that the contracts of this crate cite.
 
-ghost use Rattle.std.specs.Prelude.{◌≡◌, ◌↔◌, ◌≤◌, ◌==◌, ◌++◌, ℕ, List, [], ◌∷◌, true, false, Some, codes, if◌then◌else◌, length, count_by, is_some};
+ghost use Rattle.std.specs.Prelude.{◌≡◌, ◌↔◌, ◌≤◌, ◌==◌, ◌++◌, ℕ, List, [], ◌∷◌, true, false, Some, codes, if◌then◌else◌, length, count_by, is_some, Ok};
 ghost use Rattle.std.specs.Fmt.{decimal};
 ghost use Rattle.std.specs.List.{list_all};
 ghost use Rattle.ic_term.specs.Configuration.{Configuration, IsConfiguration, configuration_names, occurrences};
 ghost use Rattle.ic_rules.specs.Rule.{Rule};
+ghost use Rattle.ic_rules.specs.System.{SystemParts};
 ghost use Rattle.ic_settle.specs.Settling.{settled};
 ghost use Rattle.ic_round.specs.Firing.{rule_of_sides};
 ghost use Rattle.ic_confluence.specs.Circle.{cut_at_x, cut_at_y, of_equations, uncut};
@@ -12,8 +13,8 @@ ghost use Rattle.ic_confluence.specs.Sameness.{Rearranges, Renames, Same};
 ghost use Rattle.ic_text.specs.Name.{name_text};
 ghost use Rattle.ic_text.specs.Token.{is_blank};
 ghost use Rattle.ic_nets.specs.Church.{alone, church_false, church_true};
-ghost use Rattle.ic_nets.specs.Dot.{port_text, style_of};
-ghost use Rattle.ic_nets.specs.Draws.{has_rules};
+ghost use Rattle.ic_nets.specs.Dot.{dot_of, port_text, style_of};
+ghost use Rattle.ic_nets.specs.Draws.{has_rules, Draws, ReadsDrawn};
 ghost use Rattle.ic_nets.specs.Likeness.{AreAlike, EitherWay, InSomeOrder, edges};
 ghost use Rattle.ic_nets.specs.Links.{agents_of, links_of};
 ghost use Rattle.ic_nets.specs.Nets.{IsNet};
@@ -192,4 +193,11 @@ pub fn texts_with_rules_begin_with_a_brace()
         → is_blank b ≡ false → ¬ (b ≡ 123) → has_rules (blanks ++ b ∷ rest) ≡ false }
     ensures blank { (blanks : List ℕ) → list_all is_blank blanks ≡ true
         → has_rules blanks ≡ false }
+{}
+
+/// What is drawn of a text is the graph of the net of its configuration, by the rules that the text has.
+pub fn what_is_drawn_is_the_net()
+    ensures { (input output : List ℕ) → Draws input (Ok output)
+        → (s : SystemParts) × (net : Net) × ReadsDrawn input (Ok s)
+        × IsNet s.rules.rules s.config net × (output ≡ dot_of s.rules.symbols net) }
 {}

@@ -23,7 +23,7 @@ use Rattle.ic_readback.specs.declared.token.Token.TheVariants.{Name, Agent}
 use Rattle.ic_readback.specs.Reading.{number_of, flat_words, configuration_read, AreGiven, IsCircle, AreCirclesAfter}
 use Rattle.ic_readback.specs.inner.Expanding.{State, state}
 use Rattle.ic_readback.specs.inner.Writing.{Part}
-use Rattle.ic_readback.proofs.Rows.{over, over-nil, over-names, pairs-names, pairs-length}
+use Rattle.ic_readback.specs.lemmas.Rows.{over, over-nil, over-names, pairs-names, pairs-length}
 use Rattle.ic_readback.proofs.Words.{true_false}
 use Rattle.ic_readback.proofs.Ends.{first_state, sides_given, once_places, given_steps}
 use Rattle.ic_readback.proofs.Puttings.{token_names, EachName, each_both, Not, named_in, MendedSo, mended_so, mended_each, mended_places, equations_in, all_so, same_word, word_itself}

@@ -1,7 +1,3 @@
-pub mod Rows
-pub mod Orders
-pub mod Given
-pub mod RowNets
 pub mod Chains
 pub mod Words
 pub mod StepNets

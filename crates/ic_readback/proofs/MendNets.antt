@@ -18,9 +18,9 @@ use Rattle.ic_readback.specs.declared.token.Token.{Token}
 use Rattle.ic_readback.specs.declared.token.Token.TheVariants.{Name}
 use Rattle.ic_readback.specs.Reading.{number_of, flat_word, flat_words}
 use Rattle.ic_readback.specs.inner.Writing.{Part, part, Writing, writing, Put, put, write, Puts, no_put, one_put, Mended, begun, passed, further}
-use Rattle.ic_readback.proofs.Given.{NetLaws}
-use Rattle.ic_readback.proofs.Rows.{over, WholeOver, over-append, whole-append, over-more}
-use Rattle.ic_readback.proofs.RowNets.{net_of_row, put_row, row_of_piece}
+use Rattle.ic_readback.specs.lemmas.Given.{NetLaws}
+use Rattle.ic_readback.specs.lemmas.Rows.{over, WholeOver, over-append, whole-append, over-more}
+use Rattle.ic_readback.specs.lemmas.RowNets.{net_of_row, put_row, row_of_piece}
 use Rattle.ic_readback.proofs.Puttings.{EachOpen, open_here, open_front, puts_open, equations_in, tokens_more}
 use Rattle.ic_readback.proofs.Shapes.{IsTerm, term_first, PutRow, put_terms, write_same, put_kept, mended_terms, row_parts, sides_in, sides_length, open_equations, term_pair}
 

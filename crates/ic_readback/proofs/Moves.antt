@@ -17,7 +17,7 @@ use Rattle.ic_meaning.specs.Nets.{IsAgentOf}
 use Rattle.ic_readback.specs.declared.token.Token.{Token}
 use Rattle.ic_readback.specs.declared.token.Token.TheVariants.{Name, Agent}
 use Rattle.ic_readback.specs.inner.Expanding.{State, state, IsName, Step, follow, opened, plain, named, Steps}
-use Rattle.ic_readback.proofs.Orders.{all_order}
+use Rattle.ic_readback.specs.lemmas.Orders.{all_order}
 use Rattle.ic_readback.proofs.Chains.{step_last}
 use Rattle.ic_readback.proofs.Words.{true_false}
 

@@ -23,7 +23,7 @@ use Rattle.ic_readback.specs.inner.Reading.{HoldOnce}
 use Rattle.ic_readback.specs.inner.Writing.{Part, part, Gathered, nothing, waited, alone as alone_part}
 use Rattle.ic_readback.proofs.Chains.{contains_cons, contains_first, contained_sum, steps_pieces, gone}
 use Rattle.ic_readback.proofs.Gathering.{gathered_pieces, gathered_fewer}
-use Rattle.ic_readback.proofs.Rows.{WholeOver, over-nil, whole-nil, over-agent}
+use Rattle.ic_readback.specs.lemmas.Rows.{WholeOver, over-nil, whole-nil, over-agent}
 use Rattle.ic_readback.proofs.Words.{row, whole_steps, given_step}
 use Rattle.ic_readback.proofs.Ends.{given_steps, given_piece, agent_not_given}
 use Rattle.ic_readback.proofs.Puttings.{EachName, Not, each_both, AreInOrder, order_more, all_more, equations_in, tokens_more, word_itself}

@@ -24,9 +24,9 @@ use Rattle.ic_readback.specs.inner.Expanding.{state, Steps, IsIdle}
 use Rattle.ic_readback.specs.inner.Reading.{at_words, HasRead, Gathers, HoldOnce}
 use Rattle.ic_readback.specs.inner.Writing.{Part, part_of, Gathered, Mended}
 use Rattle.ic_readback.specs.inner.Mending.{WritesLoose}
-use Rattle.ic_readback.proofs.Given.{NetLaws}
-use Rattle.ic_readback.proofs.Rows.{over, WholeOver, over-nil, whole-nil, pairs-more}
-use Rattle.ic_readback.proofs.RowNets.{to_configured}
+use Rattle.ic_readback.specs.lemmas.Given.{NetLaws}
+use Rattle.ic_readback.specs.lemmas.Rows.{over, WholeOver, over-nil, whole-nil, pairs-more}
+use Rattle.ic_readback.specs.lemmas.RowNets.{to_configured}
 use Rattle.ic_readback.proofs.Words.{whole_steps}
 use Rattle.ic_readback.proofs.Ends.{WasRead, first_state, first_row, read_net, once_places}
 use Rattle.ic_readback.proofs.Parts.{left_of, gathered_terms, gathered_unwritten}

@@ -11,7 +11,7 @@ use Rattle.ic_meaning.specs.Words.{Numbers}
 use Rattle.ic_readback.specs.declared.token.Token.{Token}
 use Rattle.ic_readback.specs.Reading.{number_of, flat_word, flat_words}
 use Rattle.ic_readback.specs.inner.Writing.{Part, part, Writing, writing, Put, put, write, Puts, no_put, one_put, Mended, begun, passed, further}
-use Rattle.ic_readback.proofs.Rows.{over, WholeOver, over-nil, whole-nil, over-append, whole-append, length-over, whole-over, over-more, pairs-more}
+use Rattle.ic_readback.specs.lemmas.Rows.{over, WholeOver, over-nil, whole-nil, over-append, whole-append, length-over, whole-over, over-more, pairs-more}
 use Rattle.ic_readback.proofs.Puttings.{EachOpen, open_here, open_written, open_front, all_open, all_more, equations_in}
 
 -- tokens write one term

@@ -20,10 +20,10 @@ use Rattle.ic_readback.specs.declared.token.Token.{Token}
 use Rattle.ic_readback.specs.declared.token.Token.TheVariants.{Name, Agent}
 use Rattle.ic_readback.specs.Reading.{number_of, flat_word, flat_words, AreGiven}
 use Rattle.ic_readback.specs.inner.Expanding.{State, state, Step, follow, opened, plain, named, Steps, no_step, one_more}
-use Rattle.ic_readback.proofs.Given.{NetLaws}
-use Rattle.ic_readback.proofs.Orders.{flat_order}
-use Rattle.ic_readback.proofs.Rows.{over, WholeOver, over-append, over-agent}
-use Rattle.ic_readback.proofs.RowNets.{net_of_row, put_row}
+use Rattle.ic_readback.specs.lemmas.Given.{NetLaws}
+use Rattle.ic_readback.specs.lemmas.Orders.{flat_order}
+use Rattle.ic_readback.specs.lemmas.Rows.{over, WholeOver, over-append, over-agent}
+use Rattle.ic_readback.specs.lemmas.RowNets.{net_of_row, put_row}
 use Rattle.ic_readback.proofs.Words.{row, name_tag, agent_tag, place_term, plain_term, named_term, whole_step, given_step}
 
 -- the net of a state: the terms of its row, and its pieces beside

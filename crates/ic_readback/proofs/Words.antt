@@ -21,7 +21,7 @@ use Rattle.ic_meaning.specs.Nets.{IsAgentOf}
 use Rattle.ic_readback.specs.declared.token.Token.TheVariants.{Name, Agent}
 use Rattle.ic_readback.specs.Reading.{number_of, flat_word, flat_words, AreGiven}
 use Rattle.ic_readback.specs.inner.Expanding.{State, Step, follow, opened, plain, named, Steps, no_step, one_more}
-use Rattle.ic_readback.proofs.Rows.{over, WholeOver, over-append, whole-append, length-over, whole-over}
+use Rattle.ic_readback.specs.lemmas.Rows.{over, WholeOver, over-append, whole-append, length-over, whole-over}
 
 -- the terms of a state in a row
 abbrev pub row : Numbers → State → List Tree

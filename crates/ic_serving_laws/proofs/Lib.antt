@@ -3,3 +3,4 @@ pub mod ServedLemmas
 pub mod ServingLemmas
 pub mod WordLemmas
 pub mod ToldLemmas
+pub mod KeepLemmas

@@ -1,24 +1,38 @@
 //! Laws of an attendance: what its ends, its faults and its disk come to.
 
-ghost use Rattle.std.specs.Prelude.{◌≡◌, ◌≤◌, ◌-◌, ◌^◌, ℕ, List, Option, Some, None, Ok, IsTrue, true, Contains, length, slice_get};
-ghost use Rattle.std.specs.List.{count_by};
+ghost use Rattle.std.specs.Prelude.{◌≡◌, ◌≢◌, ◌⊎◌, ◌<◌, ◌≤◌, ◌-◌, ◌^◌, ℕ, List, [], Option, Some, None, Ok, Err, IsTrue, true, false, Contains, length, slice_get};
+ghost use Rattle.std.specs.List.{All, AllZip, count_by};
+ghost use Rattle.std.specs.Io.KnownBytes.{Appends};
 ghost use Rattle.ic_disk.specs.Images.{Within};
+ghost use Rattle.ic_disk.specs.Time.{LeavesOnly};
+ghost use Rattle.ic_frames.specs.declared.faults.OpenCause.{OpenCause};
+ghost use Rattle.ic_frames.specs.declared.faults.OpenFault.{OpenFault};
+ghost use Rattle.ic_frames.specs.Faults.{CountsOpen};
 ghost use Rattle.ic_jobs.specs.declared.command.Command.{Command};
 ghost use Rattle.ic_jobs.specs.declared.event.Entry.{Entry};
 ghost use Rattle.ic_jobs.specs.History.{replay};
 ghost use Rattle.ic_jobs.specs.Landing.{due};
 ghost use Rattle.ic_slots.specs.Held.{IsHeld, the_table};
+ghost use Rattle.ic_slots.specs.Opening.{Says};
 ghost use Rattle.ic_book.specs.declared.fault.BookFault.TheVariants.{Broken, LogFull, Worn, Device};
+ghost use Rattle.ic_book.specs.declared.fault.BookFault.TheVariants as of_book;
 ghost use Rattle.ic_book.specs.declared.limits.TheConstants.{MAX_ENTRIES};
-ghost use Rattle.ic_book.specs.Book.{start_of, log_of, table_of, is_broken, number_of};
+ghost use Rattle.ic_book.specs.Book.{disk_of, start_of, log_of, table_of, kept_of, is_broken, number_of};
 ghost use Rattle.ic_book.specs.Entries.{is_round};
 ghost use Rattle.ic_attend.specs.declared.attended.ClientRun.{ClientRun};
 ghost use Rattle.ic_attend.specs.declared.attended.RunnerEnd.TheVariants.{Idle, Turns, Book as by_book};
-ghost use Rattle.ic_attend.specs.Ends.{EndsTell};
-ghost use Rattle.ic_attend.specs.Faults.{IsAsOpened, IsTorn};
+ghost use Rattle.ic_attend.specs.Clients.{Follows, KeepsTo};
+ghost use Rattle.ic_attend.specs.Ends.{EndMayBe, EndsTell};
+ghost use Rattle.ic_attend.specs.Faults.{IsAsOpened, IsStopped, IsTorn, IsUnopened};
 ghost use Rattle.ic_attend.specs.OneHistory.{IsOneHistory};
-ghost use Rattle.ic_scripts.specs.Attending.{IsAttended};
+ghost use Rattle.ic_scripts.specs.declared.fault.ScriptsFault.{ScriptsFault};
+ghost use Rattle.ic_scripts.specs.declared.fault.ScriptsFault.TheVariants.{Memory, NoThread, Open, Read, Torn, Write};
+ghost use Rattle.ic_scripts.specs.Attending.{HasHistory, IsAttended, IsTold, IsToldFault, IsToldPart};
+ghost use Rattle.ic_scripts.specs.Outcome.{faults_of};
+ghost use Rattle.ic_scripts.specs.Reasons.{KeepTells, SaysWhy};
+ghost use Rattle.ic_scripts.specs.Telling.{WritesFront, told};
 ghost use Rattle.ic_serving_laws.specs.Attending.{AttendedOver};
+ghost use Rattle.ic_serving_laws.specs.Served.{BookOver};
 
 use ic_attend::Attended;
 use ic_book::Book;
@@ -107,4 +121,96 @@ pub fn scripts_leave_their_history_on_the_disk<D: Disk>(disk: &D, left: &D)
 {
     let _ = disk;
     let _ = left;
+}
+
+/// Where a disk isn't opened, the refusal says what reads give. The disk that is handed back is the one
+/// that was given, also after a crash, and one more failure is counted exactly where the disk failed.
+/// Where a thread can't be started, each client has followed its script as far as it came, and each
+/// runner has an end that may be a runner's. Where what is left is torn, each client keeps to its script.
+pub fn what_is_not_attended_is_said<D: Disk>(disk: &D, attended: &Attended<D>)
+    ensures unopened { (fault : OpenFault D) → IsUnopened D.Disk disk.now fault
+        → IsTrue (D.keeps disk.now)
+        → Says fault.cause (D.content disk.now) × (D.content fault.disk ≡ D.content disk.now) }
+    ensures crash { (fault : OpenFault D) → IsUnopened D.Disk disk.now fault
+        → IsTrue (D.keeps disk.now)
+        → LeavesOnly D.clock D.left disk.now fault.disk (D.image disk.now) }
+    ensures counted { (fault : OpenFault D) → IsUnopened D.Disk disk.now fault
+        → CountsOpen {T = Unit {0}} (Err fault.cause)
+        (D.failures disk.now) (D.failures fault.disk) }
+    ensures stopped { (scripts : List (List Command)) (runners workers : ℕ)
+        → IsStopped scripts runners workers attended.now
+        → AllZip Follows scripts attended.now.answers.items
+        × (length attended.now.ends.items ≡ runners)
+        × All (EndMayBe workers) attended.now.ends.items }
+    ensures torn { (scripts : List (List Command)) (runners turns workers : ℕ)
+        → IsTorn D.Disk disk.now scripts runners turns workers attended.now
+        → AllZip KeepsTo scripts attended.now.answers.items
+        × (length attended.now.ends.items ≡ runners)
+        × All (EndMayBe workers) attended.now.ends.items }
+{
+    let _ = disk;
+    let _ = attended;
+}
+
+/// At `Ok` no client and no runner had a fault, and just the answers to all clients are written. The
+/// book that they left isn't broken, and at the keep after them no call to the disk failed. A fault of
+/// theirs is told before one of writing; then a front of the answers is written. Each refusal is borne
+/// out by the book that is left.
+pub fn scripts_are_told_so<D: Disk>(left: &D)
+    ensures well { (a : AttendedOver D.Disk) (old new : Option (List ℕ))
+        (is : IsTold a (Ok left.now) old new)
+        → (faults_of a.answers.items a.ends.items is.kept ≡ [])
+        × Appends old new (told a.answers.items) }
+    ensures kept { (a : AttendedOver D.Disk) (old new : Option (List ℕ))
+        → IsTold a (Ok left.now) old new → (is_broken a.book ≡ false)
+        × (D.failures left.now ≡ D.failures (disk_of a.book)) }
+    ensures first { (runs : List ClientRun) (faults : List ScriptsFault) (fault : ScriptsFault)
+        (old new : Option (List ℕ)) → IsToldFault runs faults fault old new
+        → (slice_get faults 0 ≡ Some fault) × WritesFront (told runs) old new }
+    ensures part { (runs : List ClientRun) (faults : List ScriptsFault) (fault : ScriptsFault)
+        (old new : Option (List ℕ)) → IsToldPart runs faults fault old new
+        → (faults ≡ []) × ((fault ≡ Write) ⊎ (fault ≡ Memory)) × WritesFront (told runs) old new }
+    ensures history { (disk : D) (scripts : List (List Command)) (runners turns workers : ℕ)
+        (a : AttendedOver D.Disk) → HasHistory disk scripts runners turns workers a
+        → IsOneHistory scripts runners turns a × EndsTell workers a }
+{
+    let _ = left;
+}
+
+/// Where scripts have no history, the fault says why, as `attend` does: the disk wasn't opened, a thread
+/// couldn't be started, what is left is torn, or memory ran out over a book that was just opened. No
+/// fault of a reader or a writer is told then.
+pub fn scripts_without_a_history_say_why<D: Disk>(disk: &D)
+    ensures unopened { (scripts : List (List Command)) (runners turns workers : ℕ)
+        (cause : OpenCause) → SaysWhy D.Disk disk.now scripts runners turns workers (Open cause)
+        → (fault : OpenFault D) × (fault.cause ≡ cause) × IsUnopened D.Disk disk.now fault }
+    ensures stopped { (scripts : List (List Command)) (runners turns workers : ℕ)
+        → SaysWhy D.Disk disk.now scripts runners turns workers NoThread
+        → (a : AttendedOver D.Disk) × IsStopped scripts runners workers a }
+    ensures torn { (scripts : List (List Command)) (runners turns workers : ℕ)
+        → SaysWhy D.Disk disk.now scripts runners turns workers Torn
+        → (a : AttendedOver D.Disk) × IsTorn D.Disk disk.now scripts runners turns workers a }
+    ensures wanting { (scripts : List (List Command)) (runners turns workers : ℕ)
+        → SaysWhy D.Disk disk.now scripts runners turns workers Memory
+        → (book : BookOver D.Disk) × IsAsOpened disk.now book }
+    ensures never { (scripts : List (List Command)) (runners turns workers : ℕ)
+        → ¬ SaysWhy D.Disk disk.now scripts runners turns workers Read
+        × ¬ SaysWhy D.Disk disk.now scripts runners turns workers Write }
+{
+    let _ = disk;
+}
+
+/// The keep after a history is refused by a broken book. Else something was to be kept, and the numbers
+/// of the slots were used up, or a call to the disk failed. It is never refused for a full history or
+/// for want of memory.
+pub fn the_keep_after_scripts_is_refused_so<D: Disk>(book: &Book<D>)
+    ensures broken { KeepTells {T = Unit {0}} book.now (Err Broken) → is_broken book.now ≡ true }
+    ensures worn { KeepTells {T = Unit {0}} book.now (Err Worn) → (is_broken book.now ≡ false)
+        × (kept_of book.now < length (log_of book.now)) × (number_of book.now ≡ 2 ^ 64 - 1) }
+    ensures device { KeepTells {T = Unit {0}} book.now (Err Device) → (is_broken book.now ≡ false)
+        × (kept_of book.now < length (log_of book.now)) × (number_of book.now ≢ 2 ^ 64 - 1) }
+    ensures never { ¬ KeepTells {T = Unit {0}} book.now (Err LogFull)
+        × ¬ KeepTells {T = Unit {0}} book.now (Err of_book.Memory) }
+{
+    let _ = book;
 }

@@ -1,9 +1,13 @@
-//! Laws of the definitions that say how many calls to its disk a keep makes.
+//! Laws of the definitions that say how many calls to its disk a keep makes, what it writes and when it is refused.
 
-ghost use Rattle.std.specs.Prelude.{◌≡◌, ◌≤◌, ◌+◌, ℕ, List, Result, length, true};
+ghost use Rattle.std.specs.Prelude.{◌≡◌, ◌↔◌, ◌≤◌, ◌+◌, ◌-◌, ◌^◌, ℕ, List, Result, Ok, Err, IsErrOf, length, true, false};
+ghost use Rattle.ic_disk.specs.Content.{laid};
 ghost use Rattle.ic_frames.specs.declared.faults.KeepFault.{KeepFault};
-ghost use Rattle.ic_frames.specs.Frames.{is_closed, disk_of as disk_under};
-ghost use Rattle.ic_frames.specs.Keeping.{WritesSlot};
+ghost use Rattle.ic_frames.specs.declared.faults.KeepFault.TheVariants.{Device, Worn};
+ghost use Rattle.ic_frames.specs.Frames.{content_of, is_broken, is_closed, number_of, target_of, KeepsModel, disk_of as disk_under};
+ghost use Rattle.ic_frames.specs.Keeping.{FaultLeaves, WritesSlot};
+ghost use Rattle.ic_frames.specs.Layout.{slot_bytes};
+ghost use Rattle.ic_frames.specs.Places.{place};
 ghost use Rattle.ic_book.specs.declared.fault.BookFault.{BookFault};
 ghost use Rattle.ic_book.specs.Book.{disk_of, kept_of, log_of};
 ghost use Rattle.ic_book.specs.Calls.{KeepsAll};
@@ -35,6 +39,24 @@ pub fn a_keep_over_a_closed_slot_makes_four_calls<D: Disk>(old: &Frames<D>, new:
     ensures four { (body : List ℕ) (result : Result (Unit {0}) KeepFault)
         → WritesSlot body result old.now new.now → is_closed old.now ≡ true
         → D.clock (disk_under new.now) ≤ D.clock (disk_under old.now) + 4 }
+{
+    let _ = old;
+    let _ = new;
+}
+
+/// A keep of frames that succeeds has written the slot whose turn it was: the next number, the length of
+/// the body, and the body. It is told to be worn where the frames aren't broken and have the last number.
+/// Where the disk fails at it, they are broken then.
+pub fn a_keep_of_frames_writes_its_slot<D: Disk>(old: &Frames<D>, new: &Frames<D>)
+    ensures written { (body : List ℕ) (done : Unit {0})
+        → WritesSlot body (Ok done) old.now new.now → KeepsModel old.now
+        → content_of new.now ≡ laid (place (target_of old.now))
+        (slot_bytes (number_of old.now + 1) body) (content_of old.now) }
+    ensures worn { (result : Result (Unit {0}) KeepFault) → FaultLeaves result old.now new.now
+        → IsErrOf result Worn
+        ↔ ((is_broken old.now ≡ false) × (number_of old.now ≡ 2 ^ 64 - 1)) }
+    ensures breaks { FaultLeaves {T = Unit {0}} (Err Device) old.now new.now
+        → is_broken new.now ≡ true }
 {
     let _ = old;
     let _ = new;

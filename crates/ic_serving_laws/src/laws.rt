@@ -34,6 +34,7 @@ ghost use Rattle.ic_serving.specs.Grown.{GoesOn, GoesOnWithin, HasRoom};
 ghost use Rattle.ic_serving.specs.Moments.{Leaves, IsKeptInLine};
 ghost use Rattle.ic_serving.specs.Parts.{IsPart, IsKeptWithin, IsInLine, IsInFirst};
 ghost use Rattle.ic_serving.specs.Served.{OfLines, MayBeServed, AreAnswered, AppendsFront, SaysOf, IsLeftBy, IsEnded, IsCut};
+ghost use Rattle.ic_serving.specs.Serving.{IsServing};
 ghost use Rattle.ic_serving.specs.Stopped.{IsReached, MayStand};
 
 use ic_book::Book;
@@ -172,6 +173,37 @@ pub fn a_failing_writer_cuts_a_serving()
         → (answers : List ℕ) × MayBeServed front × IsServed t front answers u }
 {
     ic_lines::laws::lines_are_served_in_one_way();
+}
+
+/// A serving that ends well has answered all lines, and where all was kept before it, all is kept after
+/// it. Any other has answered a front of them: a failing writer cuts their answers short and takes
+/// nothing back, and what any other fault leaves is what `a_fault_ends_a_serving` says.
+pub fn a_serving_ends_so<D: Disk>(before: &Book<D>, after: &Book<D>)
+    ensures all { (done : Unit {0}) (ls : List (List ℕ)) (old new : Option (List ℕ))
+        (is : IsServing (Ok done) ls before.now after.now old new) → is.front ≡ ls }
+    ensures served { (done : Unit {0}) (ls : List (List ℕ)) (old new : Option (List ℕ))
+        → IsServing (Ok done) ls before.now after.now old new
+        → AreAnswered ls (table_of before.now) (table_of after.now) old new }
+    ensures kept { (done : Unit {0}) (ls : List (List ℕ)) (old new : Option (List ℕ))
+        → IsServing (Ok done) ls before.now after.now old new
+        → IsAllKept before.now → IsAllKept after.now }
+    ensures front { (fault : ServeFault) (ls : List (List ℕ)) (old new : Option (List ℕ))
+        (is : IsServing {T = Unit {0}} (Err fault) ls before.now after.now old new)
+        → ls ≡ is.front ++ is.rest }
+    ensures fault { (fault : ServeFault) (ls : List (List ℕ)) (old new : Option (List ℕ))
+        → fault ≢ Write
+        → (is : IsServing {T = Unit {0}} (Err fault) ls before.now after.now old new)
+        → IsEnded fault (IsAllKept before.now) is.front is.rest (table_of before.now)
+        (table_of after.now) (last_kept after.now) old new }
+    ensures cut { (ls : List (List ℕ)) (old new : Option (List ℕ))
+        (is : IsServing {T = Unit {0}} (Err Write) ls before.now after.now old new)
+        → IsCut is.front (table_of before.now) (table_of after.now) old new }
+    ensures kept_at_cut { (ls : List (List ℕ)) (old new : Option (List ℕ))
+        → IsServing {T = Unit {0}} (Err Write) ls before.now after.now old new
+        → IsAllKept before.now → IsAllKept after.now }
+{
+    let _ = before;
+    let _ = after;
 }
 
 /// All of a book is kept where each of its entries is; then its table is the one that was kept

@@ -5,17 +5,19 @@ ghost use Rattle.std.specs.Str.{bytes_eq};
 ghost use Rattle.ic_batch.specs.Jobs.{names};
 
 use crate::scripts::{line_of, read_file};
-use crate::{Making, NotedDisk, open_disk};
+use crate::{Making, NotedDisk, book_on, open_disk, put_empty, without_slot};
 use ic_batch::{BatchFault, JobsCause, JobsFault, NewJob, read_jobs};
-use ic_book::{Book, OpenCause, OpenFault};
+use ic_book::{Book, OpenCause};
 use ic_causes::{NotedOutput, Notes, shown_path};
 use ic_check::check_line;
+use ic_disk::Disk;
 use ic_exits::{Failure, refused_job_line};
+use ic_pool::Gate;
 use ic_progress::{Progress, WipedFirst};
 use ic_scripts::ScriptsFault;
 use ic_slots::is_unused;
 use std::alloc::{AllocError, Global};
-use std::io;
+use std::io::{self, Write};
 use std::sync::Wait;
 use std::thread::Threads;
 
@@ -89,25 +91,21 @@ fn made_book<'a>(
     notes: &'a Notes,
 ) -> Result<Book<NotedDisk<'a>>, Failure> {
     let disk = open_disk(rt, path, true, notes)?;
-    let disk = match Book::open(rt.alloc(), disk) {
-        Ok(book) => return Ok(book),
-        Err(
-            OpenFault {
-                disk,
-                cause: OpenCause::NoSlot,
-            },
-        ) => disk,
-        Err(fault) => return Err(Failure::Open(fault.cause)),
-    };
-    let (mut disk, unused) = is_unused(rt.alloc(), disk);
-    if !unused.map_err(Failure::Create)? {
-        return Err(Failure::Open(OpenCause::NoSlot));
-    }
-    ic_slots::create(rt.alloc(), &mut disk).map_err(Failure::Create)?;
     match Book::open(rt.alloc(), disk) {
         Ok(book) => Ok(book),
-        Err(fault) => Err(Failure::Open(fault.cause)),
+        Err(fault) => new_book(rt, without_slot(fault)?),
     }
+}
+
+/// An empty book on a disk, which has to be unused.
+fn new_book<'a>(rt: &HostRuntime, disk: NotedDisk<'a>) -> Result<Book<NotedDisk<'a>>, Failure> {
+    let (mut disk, unused) = is_unused(rt.alloc(), disk);
+    match unused {
+        Ok(true) => put_empty(rt, &mut disk)?,
+        Ok(false) => return Err(Failure::Open(OpenCause::NoSlot)),
+        Err(fault) => return Err(Failure::Create(fault)),
+    }
+    book_on(rt, disk)
 }
 
 /// Brings the jobs to their ends over the book, writes what they came to, and closes the book.
@@ -124,18 +122,43 @@ fn bring<T: Threads + Wait + Copy + Send + 'static>(
 {
     let progress = Progress::new(rt);
     let mut output = WipedFirst::new(&progress, NotedOutput::new(io::writer(rt), notes));
-    let brought = ic_batch::batch(
+    let brought = bring_over(
+        rt,
         threads,
-        rt.alloc(),
         &mut book,
         jobs,
         most,
-        making.workers.max(1) as usize,
-        u64::from(making.every.max(1)),
+        making,
         &progress,
         &mut output,
     );
     progress.wipe();
     book.close();
     brought
+}
+
+/// The same over any book, to any output. The book stays open.
+fn bring_over<T: Threads + Wait + Copy + Send + 'static, D: Disk, G: Gate, W: Write>(
+    rt: &HostRuntime,
+    threads: &T,
+    book: &mut Book<D>,
+    jobs: &[NewJob],
+    most: u64,
+    making: Making,
+    gate: &G,
+    output: &mut W,
+) -> Result<(), BatchFault>
+    requires { IsDistinct bytes_eq (names jobs.now) }
+{
+    ic_batch::batch(
+        threads,
+        rt.alloc(),
+        book,
+        jobs,
+        most,
+        making.workers(),
+        making.every(),
+        gate,
+        output,
+    )
 }

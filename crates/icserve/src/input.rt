@@ -46,12 +46,12 @@ pub(crate) fn tell_terminal(rt: &HostRuntime) {
 }
 
 /// Opens the file of this path to read it. It may be a pipe, which is read to its end. A folder can be opened, and isn't
-/// read.
+/// read. A call to it that fails is noted.
 pub(crate) fn open_file<'n>(
     rt: &HostRuntime,
     path: &str,
     notes: &'n Notes,
-) -> Result<NotedFile<'n>, StreamFault> {
+) -> io::Result<NotedFile<'n>> {
     let files = NotedFiles {
         rt,
         path,
@@ -60,10 +60,20 @@ pub(crate) fn open_file<'n>(
     };
     let mut how = OpenOptions::new();
     how.read(true);
-    how.open(&files, path).map_err(|error| match error.kind() {
-        ErrorKind::OutOfMemory => StreamFault::Memory,
-        _ => StreamFault::Read,
-    })
+    how.open(&files, path)
+}
+
+/// The file of this path, opened to read a text from it.
+pub(crate) fn open_text<'n>(
+    rt: &HostRuntime,
+    path: &str,
+    notes: &'n Notes,
+) -> Result<NotedFile<'n>, StreamFault> {
+    match open_file(rt, path, notes) {
+        Ok(file) => Ok(file),
+        Err(error) if error.kind() == ErrorKind::OutOfMemory => Err(StreamFault::Memory),
+        Err(_) => Err(StreamFault::Read),
+    }
 }
 
 /// What is told where a word over the file of this path fails: why the file can't be read, or of a refused text the lines

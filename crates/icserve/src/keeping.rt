@@ -1,13 +1,14 @@
 //! The program's word `reduce` where what is reached is kept in two files.
 
-use crate::reducing::{Wanted, tell_end};
+use crate::reducing::{Wanted, tell_end, time_since};
 use crate::{NotedDisk, open_disk, open_disk_as};
 use ic_causes::{Cause, NotedOutput, Notes, Reason, Target};
 use ic_diagnostics::{Kind, refused_within};
 use ic_disk::Disk;
 use ic_exits::Failure;
-use ic_in_place::{Bounds, Outcome};
+use ic_in_place::{Asked, Bounds, Outcome};
 use ic_keeping::{Clock, Ended, KeepingFault, Pace, begin, begun, live};
+use ic_kept::Keeper;
 use ic_progress::Watching;
 use ic_state::State;
 use ic_streams::{StreamFault, read_text_within, write_line};
@@ -39,12 +40,7 @@ struct Since<'a> {
 
 impl Clock for Since<'_> {
     fn millis(&self) -> u64 {
-        match (self.begun, Instant::now(self.rt)) {
-            (Some(begun), Ok(now)) => {
-                u64::try_from(now.duration_since(begun).as_millis()).unwrap_or(u64::MAX)
-            }
-            _ => 0,
-        }
+        u64::try_from(time_since(self.rt, self.begun).as_millis()).unwrap_or(u64::MAX)
     }
 }
 
@@ -60,29 +56,13 @@ pub(crate) fn reduce<R: Read>(
     told: &mut Vec<u8>,
 ) -> Result<(), Failure> {
     let (first, second) = if kept.begins {
-        let state = read_state(rt, input, told).map_err(Failure::Stream)?;
+        let state = read_state(rt, Limits::Wide, input, told).map_err(Failure::Stream)?;
         begin_in(rt, kept.path, &state, notes)?
     } else {
         open_both(rt, kept.path, notes)?
     };
-    let watching = Watching::new(rt);
-    let clock = Since {
-        rt,
-        begun: Instant::now(rt).ok(),
-    };
     let pace = Pace::new(kept.seconds.saturating_mul(1_000));
-    let lived = live(
-        rt.alloc(),
-        first,
-        second,
-        bounds,
-        pace,
-        wanted.asked,
-        &clock,
-        &watching,
-    );
-    watching.wipe();
-    let (ended, _keeper) = lived.map_err(|fault| Failure::Kept(fault.cause))?;
+    let (ended, _keeper) = live_over(rt, first, second, bounds, pace, wanted.asked)?;
     let done = tell(rt, ended, bounds, wanted, notes);
     if matches!(done, Err(Failure::Overgrown(_, _))) {
         let _ = told.extend_from_slice(KEPT);
@@ -90,23 +70,49 @@ pub(crate) fn reduce<R: Read>(
     done
 }
 
-/// The state with which the reduction of a text begins.
+/// Lives with the reduction that is kept on two disks, however it began, until it ends. How far it has come is told on
+/// standard error.
+fn live_over<D: Disk + Drop>(
+    rt: &HostRuntime,
+    first: D,
+    second: D,
+    bounds: Bounds,
+    pace: Pace,
+    asked: Asked,
+) -> Result<(Ended, Keeper<D>), Failure> {
+    let watching = Watching::new(rt);
+    let clock = Since {
+        rt,
+        begun: Instant::now(rt).ok(),
+    };
+    let lived = live(
+        rt.alloc(),
+        first,
+        second,
+        bounds,
+        pace,
+        asked,
+        &clock,
+        &watching,
+    );
+    watching.wipe();
+    match lived {
+        Ok(lived) => Ok(lived),
+        Err(fault) => Err(Failure::Kept(fault.cause)),
+    }
+}
+
+/// The state with which the reduction of a text begins that is read within these limits.
 fn read_state<R: Read>(
     rt: &HostRuntime,
+    limits: Limits,
     input: &mut R,
     told: &mut Vec<u8>,
 ) -> Result<State, StreamFault> {
-    let text = read_text_within(rt.alloc(), Limits::Wide, input)?;
+    let text = read_text_within(rt.alloc(), limits, input)?;
     match begun(rt.alloc(), &text) {
         Ok(state) => Ok(state),
-        Err(misread) => Err(refused_within(
-            rt.alloc(),
-            Limits::Wide,
-            Kind::System,
-            &text,
-            misread,
-            told,
-        )),
+        Err(misread) => Err(refused_within(rt.alloc(), limits, Kind::System, &text, misread, told)),
     }
 }
 

@@ -137,13 +137,16 @@ fn lines_of(rt: &HostRuntime, fronts: &Fronts, format: ReportFormat) -> Result<S
     let mut lines = String::new(rt.alloc());
     lines.push_str(line_of(rt, 1, first, format)?.as_str())?;
     lines.push_str(line_of(rt, 2, second, format)?.as_str())?;
-    let held = held_of(first, second);
-    let line = match format {
-        ReportFormat::Text => format!(in rt.alloc(); "held: {held}\n")?,
-        ReportFormat::Json => format!(in rt.alloc(); "{{\"held\":\"{held}\"}}\n")?,
-    };
-    lines.push_str(line.as_str())?;
+    lines.push_str(held_line(rt, held_of(first, second), format)?.as_str())?;
     Ok(lines)
+}
+
+/// The line of which file has the state that is kept.
+fn held_line(rt: &HostRuntime, held: &str, format: ReportFormat) -> Result<String, AllocError> {
+    match format {
+        ReportFormat::Text => format!(in rt.alloc(); "held: {held}\n"),
+        ReportFormat::Json => format!(in rt.alloc(); "{{\"held\":\"{held}\"}}\n"),
+    }
 }
 
 /// What is seen of a file that begins with these bytes.
@@ -184,19 +187,30 @@ fn words_of(rt: &HostRuntime, place: u32, seen: Seen) -> Result<String, AllocErr
         Seen::Missing => format!(in rt.alloc(); "file {place}: missing\n"),
         Seen::CutOff => format!(in rt.alloc(); "file {place}: cut off\n"),
         Seen::NoState(front) => {
-            let (gate, number, size) = (gate_of(front), front.number, front.size);
-            format!(in rt.alloc(); "file {place}: {gate}, number {number}, size {size}, no state\n")
+            let front = front_words(rt, place, front)?;
+            format!(in rt.alloc(); "{front}, no state\n")
         }
         Seen::State(front, head) => {
-            let (gate, number, size) = (gate_of(front), front.number, front.size);
-            let ended = if head.ended { "ended" } else { "not ended" };
-            let (interactions, words) = (head.interactions, head.words);
-            let (rules, millis) = (head.rules, head.millis);
-            format!(in rt.alloc();
-                "file {place}: {gate}, number {number}, size {size}, {ended}, interactions {interactions}, words {words}, rules {rules}, milliseconds {millis}\n"
-            )
+            let (front, head) = (front_words(rt, place, front)?, head_words(rt, head)?);
+            format!(in rt.alloc(); "{front}, {head}\n")
         }
     }
+}
+
+/// What stands before a state, in words.
+fn front_words(rt: &HostRuntime, place: u32, front: Front) -> Result<String, AllocError> {
+    let (gate, number, size) = (gate_of(front), front.number, front.size);
+    format!(in rt.alloc(); "file {place}: {gate}, number {number}, size {size}")
+}
+
+/// The first numbers of a state, in words.
+fn head_words(rt: &HostRuntime, head: StateHead) -> Result<String, AllocError> {
+    let ended = if head.ended { "ended" } else { "not ended" };
+    let (interactions, words) = (head.interactions, head.words);
+    let (rules, millis) = (head.rules, head.millis);
+    format!(in rt.alloc();
+        "{ended}, interactions {interactions}, words {words}, rules {rules}, milliseconds {millis}"
+    )
 }
 
 fn object_of(rt: &HostRuntime, place: u32, seen: Seen) -> Result<String, AllocError> {
@@ -204,20 +218,31 @@ fn object_of(rt: &HostRuntime, place: u32, seen: Seen) -> Result<String, AllocEr
         Seen::Missing => format!(in rt.alloc(); "{{\"file\":{place},\"state\":\"missing\"}}\n"),
         Seen::CutOff => format!(in rt.alloc(); "{{\"file\":{place},\"state\":\"cut off\"}}\n"),
         Seen::NoState(front) => {
-            let (gate, number, size) = (gate_of(front), front.number, front.size);
-            format!(in rt.alloc();
-                "{{\"file\":{place},\"state\":\"{gate}\",\"number\":{number},\"size\":{size}}}\n"
-            )
+            let front = front_members(rt, place, front)?;
+            format!(in rt.alloc(); "{{{front}}}\n")
         }
         Seen::State(front, head) => {
-            let (gate, number, size) = (gate_of(front), front.number, front.size);
-            let (interactions, words, ended) = (head.interactions, head.words, head.ended);
-            let (rules, millis) = (head.rules, head.millis);
-            format!(in rt.alloc();
-                "{{\"file\":{place},\"state\":\"{gate}\",\"number\":{number},\"size\":{size},\"ended\":{ended},\"interactions\":{interactions},\"words\":{words},\"rules\":{rules},\"milliseconds\":{millis}}}\n"
-            )
+            let (front, head) = (front_members(rt, place, front)?, head_members(rt, head)?);
+            format!(in rt.alloc(); "{{{front},{head}}}\n")
         }
     }
+}
+
+/// What stands before a state, as members of an object.
+fn front_members(rt: &HostRuntime, place: u32, front: Front) -> Result<String, AllocError> {
+    let (gate, number, size) = (gate_of(front), front.number, front.size);
+    format!(in rt.alloc();
+        "\"file\":{place},\"state\":\"{gate}\",\"number\":{number},\"size\":{size}"
+    )
+}
+
+/// The first numbers of a state, as members of an object.
+fn head_members(rt: &HostRuntime, head: StateHead) -> Result<String, AllocError> {
+    let (interactions, words, ended) = (head.interactions, head.words, head.ended);
+    let (rules, millis) = (head.rules, head.millis);
+    format!(in rt.alloc();
+        "\"ended\":{ended},\"interactions\":{interactions},\"words\":{words},\"rules\":{rules},\"milliseconds\":{millis}"
+    )
 }
 
 /// The number of a file whose gate is open.

@@ -1,6 +1,8 @@
 //! The program `icserve`: a job server for the interaction calculus.
 #![tactic(auto)]
 
+ghost use Rattle.std.specs.Prelude.{◌≤◌};
+
 mod answers;
 mod batching;
 mod checking;
@@ -19,7 +21,7 @@ mod standstill;
 mod texts;
 
 use crate::answers::Answers;
-use crate::input::{Input, open_file, told_of};
+use crate::input::{Input, open_text, told_of};
 use crate::keeping::KeptIn;
 use crate::others::other_at;
 use crate::reducing::Wanted;
@@ -31,16 +33,18 @@ use ic_book::{Book, BookFault, OpenCause, OpenFault};
 use ic_by_rounds::Workers;
 use ic_causes::{NotedFile, NotedFiles, NotedInput, NotedOutput, Notes, Target};
 use ic_diagnostics::{once_telling, settle_telling};
-use ic_disk::{DiskFault, FileDisk};
+use ic_disk::{Disk, DiskFault, FileDisk};
 use ic_exits::{Failure, opening_failure};
 use ic_in_place::{Asked, Bounds};
 use ic_jobs::Command;
+use ic_pool::Gate;
 use ic_progress::{Progress, WipedFirst};
 use ic_scripts::{ScriptsFault, attend_scripts};
 use ic_serving::{ServeFault, serve_watched};
 use ic_slots::is_unused;
 use ic_streams::StreamFault;
 use ic_text::Limits;
+use ic_workers::Policy;
 use std::alloc::AllocError;
 use std::env;
 use std::io::{self, BufWriter, ErrorKind, IsTerminal, Read, Write};
@@ -106,7 +110,7 @@ fn answer<T: Threads + Wait + Copy + Send + Sync + 'static>(
             }
             Input::Standard(NotedInput::new(rt.reader(), notes))
         }
-        (_, Some(path)) => Input::File(open_file(rt, path, notes).map_err(Failure::Stream)?),
+        (_, Some(path)) => Input::File(open_text(rt, path, notes).map_err(Failure::Stream)?),
     };
     run(rt, threads, task, &mut input, notes, told)?;
     input.end();
@@ -115,15 +119,11 @@ fn answer<T: Threads + Wait + Copy + Send + Sync + 'static>(
 
 /// The path of the file that a task reads a text from, none where it reads standard input or no text.
 fn file_of(task: &Task) -> Option<&str> {
-    let file = match task {
-        Task::Text { file, .. } | Task::Trace { file, .. } => file,
-        Task::Reduce { file, .. } | Task::ReduceByRounds { file, .. } => file,
-        Task::ReduceKept { file, .. } => file,
-        _ => return None,
-    };
-    match file {
-        Some(path) => Some(path.as_str()),
-        None => None,
+    match task {
+        Task::Text { file, .. } | Task::Trace { file, .. } => file.as_deref(),
+        Task::Reduce { file, .. } | Task::ReduceByRounds { file, .. } => file.as_deref(),
+        Task::ReduceKept { file, .. } => file.as_deref(),
+        _ => None,
     }
 }
 
@@ -216,7 +216,7 @@ fn on_word<R: Read>(
 }
 
 /// Reduces or traces the text on this input.
-fn on_text<T: Threads + Wait, R: Read>(
+fn on_text<T: Threads + Wait + Sync, R: Read>(
     rt: &HostRuntime,
     threads: &T,
     task: &Task,
@@ -225,7 +225,7 @@ fn on_text<T: Threads + Wait, R: Read>(
     told: &mut Vec<u8>,
 ) -> Result<(), Failure> {
     match task {
-        Task::Reduce { .. } => reduce_in_place(rt, task, input, notes, told),
+        Task::Reduce { .. } => reduce_in_place(rt, threads, task, input, notes, told),
         Task::ReduceKept { .. } => reduce_kept(rt, task, input, notes, told),
         Task::ReduceByRounds {
             rounds,
@@ -247,8 +247,9 @@ fn on_text<T: Threads + Wait, R: Read>(
 }
 
 /// Reduces the text on this input in place, as the task asks for it.
-fn reduce_in_place<R: Read>(
+fn reduce_in_place<T: Threads + Sync, R: Read>(
     rt: &HostRuntime,
+    threads: &T,
     task: &Task,
     input: &mut R,
     notes: &Notes,
@@ -256,6 +257,7 @@ fn reduce_in_place<R: Read>(
 ) -> Result<(), Failure> {
     match task {
         Task::Reduce {
+            workers,
             steps,
             nodes,
             partial,
@@ -272,8 +274,18 @@ fn reduce_in_place<R: Read>(
             let wanted = Wanted {
                 asked: asked_of(*quiet, *partial),
                 figures: if *stats { Some(*format) } else { None },
+                policy: Policy::of(workers.unwrap_or(1)),
             };
-            reducing::reduce(rt, limits_of(*limits), bounds, wanted, input, notes, told)
+            reducing::reduce(
+                rt,
+                threads,
+                limits_of(*limits),
+                bounds,
+                wanted,
+                input,
+                notes,
+                told,
+            )
         }
         _ => Ok(()),
     }
@@ -312,6 +324,7 @@ fn reduce_kept<R: Read>(
             let wanted = Wanted {
                 asked: asked_of(*quiet, *partial),
                 figures: if *stats { Some(*format) } else { None },
+                policy: Policy::of(1),
             };
             keeping::reduce(rt, kept, bounds, wanted, input, notes, told)
         }
@@ -475,26 +488,41 @@ pub(crate) fn open_disk_as<'a>(
 fn create(rt: &HostRuntime, path: &str, overwrite: bool, notes: &Notes) -> Result<(), Failure> {
     let mut disk = open_disk(rt, path, true, notes)?;
     if overwrite {
-        return ic_slots::create(rt.alloc(), &mut disk).map_err(Failure::Create);
+        return put_empty(rt, &mut disk);
     }
     let (disk, unused) = is_unused(rt.alloc(), disk);
-    if !unused.map_err(Failure::Create)? {
-        return Err(Failure::NotEmpty);
+    match unused {
+        Ok(true) => create_missing(rt, disk),
+        Ok(false) => Err(Failure::NotEmpty),
+        Err(fault) => Err(Failure::Create(fault)),
     }
-    let mut disk = match Book::open(rt.alloc(), disk) {
+}
+
+/// Puts the empty table on a disk where none is.
+fn create_missing(rt: &HostRuntime, disk: NotedDisk<'_>) -> Result<(), Failure> {
+    match Book::open(rt.alloc(), disk) {
         Ok(book) => {
             book.close();
-            return Ok(());
+            Ok(())
         }
-        Err(
-            OpenFault {
-                disk,
-                cause: OpenCause::NoSlot,
-            },
-        ) => disk,
-        Err(fault) => return Err(Failure::Open(fault.cause)),
-    };
-    ic_slots::create(rt.alloc(), &mut disk).map_err(Failure::Create)
+        Err(fault) => {
+            let mut disk = without_slot(fault)?;
+            put_empty(rt, &mut disk)
+        }
+    }
+}
+
+/// Puts the empty table on a disk.
+pub(crate) fn put_empty(rt: &HostRuntime, disk: &mut NotedDisk<'_>) -> Result<(), Failure> {
+    ic_slots::create(rt.alloc(), disk).map_err(Failure::Create)
+}
+
+/// The disk of a book that isn't opened since no slot is there. Another cause is the failure.
+pub(crate) fn without_slot<'a>(fault: OpenFault<NotedDisk<'a>>) -> Result<NotedDisk<'a>, Failure> {
+    match fault.cause {
+        OpenCause::NoSlot => Ok(fault.disk),
+        cause => Err(Failure::Open(cause)),
+    }
 }
 
 /// Opens the book on the disk in the file of this path.
@@ -504,6 +532,14 @@ fn open<'a>(
     notes: &'a Notes,
 ) -> Result<Book<NotedDisk<'a>>, Failure> {
     let disk = open_disk(rt, path, false, notes)?;
+    book_on(rt, disk)
+}
+
+/// Opens the book on a disk.
+pub(crate) fn book_on<'a>(
+    rt: &HostRuntime,
+    disk: NotedDisk<'a>,
+) -> Result<Book<NotedDisk<'a>>, Failure> {
     match Book::open(rt.alloc(), disk) {
         Ok(book) => Ok(book),
         Err(fault) => Err(Failure::Open(fault.cause)),
@@ -515,6 +551,22 @@ fn open<'a>(
 pub(crate) struct Making {
     pub(crate) workers: u32,
     pub(crate) every: u32,
+}
+
+impl Making {
+    /// How many workers make a round, one at least.
+    pub(crate) fn workers(self) -> usize
+        ensures { 1 ≤ result }
+    {
+        self.workers.max(1) as usize
+    }
+
+    /// After how many rounds they are kept, one at least.
+    pub(crate) fn every(self) -> u64
+        ensures { 1 ≤ result }
+    {
+        u64::from(self.every.max(1))
+    }
 }
 
 /// Serves the lines of an input over the book, and closes it. Answers to lines that were read together are
@@ -530,8 +582,6 @@ fn serve<T: Threads + Wait + Copy + Send + 'static, R: Read>(
     explains: bool,
     notes: &Notes,
 ) -> Result<(), ServeFault> {
-    let workers = making.workers.max(1) as usize;
-    let every = u64::from(making.every.max(1));
     let progress = Progress::new(rt);
     let output = WipedFirst::new(&progress, NotedOutput::new(io::writer(rt), notes));
     let output = Answers::new(rt, output, explains);
@@ -539,23 +589,44 @@ fn serve<T: Threads + Wait + Copy + Send + 'static, R: Read>(
         book.close();
         return Err(ServeFault::Memory);
     };
-    let served = serve_watched(
+    let served = serve_over(
+        rt,
         threads,
-        rt.alloc(),
         &mut book,
         input,
-        &mut output,
-        workers,
-        every,
+        making,
         &progress,
+        &mut output,
     );
-    let flushed = output.flush().is_ok();
     progress.wipe();
     if explains || rt.stderr().is_terminal() {
         tell_of_jobs(rt, book.table().jobs());
     }
     book.close();
-    if served.is_ok() && !flushed {
+    served
+}
+
+/// Serves the lines of an input over any book, and flushes the answers.
+fn serve_over<T: Threads + Wait + Copy + Send + 'static, D: Disk, R: Read, G: Gate, W: Write>(
+    rt: &HostRuntime,
+    threads: &T,
+    book: &mut Book<D>,
+    input: &mut R,
+    making: Making,
+    gate: &G,
+    output: &mut W,
+) -> Result<(), ServeFault> {
+    let served = serve_watched(
+        threads,
+        rt.alloc(),
+        book,
+        input,
+        output,
+        making.workers(),
+        making.every(),
+        gate,
+    );
+    if output.flush().is_err() && served.is_ok() {
         return Err(ServeFault::Write);
     }
     served
@@ -577,6 +648,24 @@ fn give<T: Threads + Wait + Sync>(
     let Ok(mut output) = BufWriter::with_capacity(rt.alloc(), ANSWERS, output) else {
         return Err(ScriptsFault::Memory);
     };
+    let given = give_over(rt, threads, disk, scripts, clients, &progress, &mut output);
+    progress.wipe();
+    match given {
+        Ok(_disk) => Ok(()),
+        Err(fault) => Err(fault),
+    }
+}
+
+/// The same over any disk, and flushes what is written.
+fn give_over<T: Threads + Wait + Sync, D: Disk + Send + Drop, G: Gate, W: Write>(
+    rt: &HostRuntime,
+    threads: &T,
+    disk: D,
+    scripts: Vec<Vec<Command>>,
+    clients: Clients,
+    gate: &G,
+    output: &mut W,
+) -> Result<D, ScriptsFault> {
     let given = attend_scripts(
         threads,
         rt.alloc(),
@@ -585,16 +674,13 @@ fn give<T: Threads + Wait + Sync>(
         clients.runners as usize,
         clients.turns as usize,
         clients.workers as usize,
-        &progress,
-        &mut output,
+        gate,
+        output,
     );
-    let flushed = output.flush().is_ok();
-    progress.wipe();
-    match given {
-        Ok(_disk) if flushed => Ok(()),
-        Ok(_disk) => Err(ScriptsFault::Write),
-        Err(fault) => Err(fault),
+    if output.flush().is_err() && given.is_ok() {
+        return Err(ScriptsFault::Write);
     }
+    given
 }
 
 /// Writes a text.

@@ -4,10 +4,13 @@ use crate::looking::tell_stuck;
 use ic_args::FiguresFormat;
 use ic_causes::{NotedOutput, Notes};
 use ic_exits::{Failure, Reached, idle_line, reduce_ending};
-use ic_in_place::{Asked, Bounds, End, Outcome, reduce_in_place_stream};
+use ic_in_place::{Asked, Bounds, End, Outcome, Watch, reduce_in_place_stream};
 use ic_progress::{Watching, WipedFirst, figures_lines, figures_object};
+use ic_streams::StreamFault;
 use ic_text::Limits;
+use ic_workers::{Policy, reduce_by_workers_stream};
 use std::io::{self, IsTerminal, Read, Write};
+use std::thread::Threads;
 use std::time::{Duration, Instant};
 
 /// What is wanted of a reduction in place.
@@ -17,13 +20,16 @@ pub(crate) struct Wanted {
     pub(crate) asked: Asked,
     /// How its figures are told, if they are.
     pub(crate) figures: Option<FiguresFormat>,
+    /// How many threads reduce, and how they share it.
+    pub(crate) policy: Policy,
 }
 
 /// Reduces the system on standard input in place, within these limits of its text and these bounds, and prints what is
 /// reached, as far as that is wanted. Figures and a stuck pair are told on standard error, and how far a long reduction
 /// has come.
-pub(crate) fn reduce<R: Read>(
+pub(crate) fn reduce<T: Threads + Sync, R: Read>(
     rt: &HostRuntime,
+    threads: &T,
     limits: Limits,
     bounds: Bounds,
     wanted: Wanted,
@@ -34,11 +40,12 @@ pub(crate) fn reduce<R: Read>(
     let begun = Instant::now(rt).ok();
     let watching = Watching::new(rt);
     let mut output = WipedFirst::watching(&watching, NotedOutput::new(io::writer(rt), notes));
-    let reduced = reduce_in_place_stream(
-        rt.alloc(),
+    let reduced = reduce_over(
+        rt,
+        threads,
         limits,
         bounds,
-        wanted.asked,
+        wanted,
         &watching,
         input,
         &mut output,
@@ -47,6 +54,44 @@ pub(crate) fn reduce<R: Read>(
     watching.wipe();
     let outcome = reduced.map_err(Failure::Stream)?;
     tell_end(rt, &outcome, time_since(rt, begun), wanted, bounds.nodes)
+}
+
+/// The same of any input and to any output: by one thread, or by several.
+fn reduce_over<T: Threads + Sync, V: Watch, R: Read, W: Write>(
+    rt: &HostRuntime,
+    threads: &T,
+    limits: Limits,
+    bounds: Bounds,
+    wanted: Wanted,
+    watch: &V,
+    input: &mut R,
+    output: &mut W,
+    told: &mut Vec<u8>,
+) -> Result<Outcome, StreamFault> {
+    if wanted.policy.workers == 1 {
+        return reduce_in_place_stream(
+            rt.alloc(),
+            limits,
+            bounds,
+            wanted.asked,
+            watch,
+            input,
+            output,
+            told,
+        );
+    }
+    reduce_by_workers_stream(
+        threads,
+        rt.alloc(),
+        limits,
+        wanted.policy,
+        bounds,
+        wanted.asked,
+        watch,
+        input,
+        output,
+        told,
+    )
 }
 
 /// Tells on standard error what is told of a reduction that took so long: figures, as far as they are wanted, and a stuck
@@ -88,10 +133,10 @@ fn tell_idle(rt: &HostRuntime) {
 }
 
 /// How much time has passed, or none where the clock can't be read.
-fn time_since(rt: &HostRuntime, begun: Option<Instant>) -> Duration {
-    match (begun, Instant::now(rt).ok()) {
-        (Some(begun), Some(now)) => now.duration_since(begun),
-        _ => Duration::ZERO,
+pub(crate) fn time_since(rt: &HostRuntime, begun: Option<Instant>) -> Duration {
+    match begun {
+        Some(begun) => begun.elapsed(rt).unwrap_or(Duration::ZERO),
+        None => Duration::ZERO,
     }
 }
 

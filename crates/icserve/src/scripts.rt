@@ -1,13 +1,13 @@
 //! The scripts of the program's word `attend`, which stand in files.
 
+use crate::input::open_file;
 use crate::texts::{read_limited, too_long};
 use ic_book::MAX_ENTRIES;
-use ic_causes::{NotedFiles, Notes, Target, cause_line, shown_path};
+use ic_causes::{Notes, cause_line, shown_path};
 use ic_check::check_script_line;
 use ic_jobs::Command;
 use ic_scripts::{ScriptsFault, add_script};
 use std::alloc::{AllocError, Global};
-use std::fs::OpenOptions;
 use std::io::{self, ErrorKind, IsTerminal, Write};
 
 /// What is told after `log full`.
@@ -71,12 +71,18 @@ fn split_line(text: &[u8]) -> (&[u8], &[u8]) {
     }
 }
 
-/// Tells a terminal where these scripts and turns may be more than a history holds.
-pub(crate) fn tell_of_room(rt: &HostRuntime, scripts: &[Vec<Command>], runners: u32, turns: u32) {
+/// How many commands and turns these scripts and runners come to at most.
+fn most_entries(scripts: &[Vec<Command>], runners: u32, turns: u32) -> u64 {
     let mut most = u64::from(runners) * u64::from(turns);
     for script in scripts {
         most = most.saturating_add(script.len() as u64);
     }
+    most
+}
+
+/// Tells a terminal where these scripts and turns may be more than a history holds.
+pub(crate) fn tell_of_room(rt: &HostRuntime, scripts: &[Vec<Command>], runners: u32, turns: u32) {
+    let most = most_entries(scripts, runners, turns);
     if most > MAX_ENTRIES as u64 && rt.stderr().is_terminal() {
         let _ = eprintln!(rt;
             "icserve: {most} commands and turns; the history holds 65536, so it may end with log full"
@@ -105,14 +111,8 @@ pub(crate) fn read_file(
 /// The bytes of the file of this path, or none where it has too many. A call to it that fails is
 /// noted. It may be a pipe, which is read to its end.
 fn noted_bytes(rt: &HostRuntime, path: &str, notes: &Notes) -> io::Result<Option<Vec<u8>>> {
-    let files = NotedFiles {
-        rt,
-        path,
-        target: Target::File,
-        notes,
-    };
-    let mut how = OpenOptions::new();
-    how.read(true);
-    let file = how.open(&files, path)?;
-    read_limited(rt.alloc(), file)
+    match open_file(rt, path, notes) {
+        Ok(file) => read_limited(rt.alloc(), file),
+        Err(error) => Err(error),
+    }
 }

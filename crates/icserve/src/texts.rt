@@ -16,11 +16,18 @@ const TOO_LONG: &[u8] = b": it has more than 16777216 bytes\n";
 /// than one after the limit.
 pub(crate) fn read_limited<R: Read + Drop>(alloc: Global, file: R) -> io::Result<Option<Vec<u8>>> {
     let mut text = Vec::new(alloc);
-    file.take(LIMIT + 1).read_to_end(&mut text)?;
-    if text.len() as u64 > LIMIT {
-        return Ok(None);
+    match append_limited(file, &mut text) {
+        Ok(true) => Ok(Some(text)),
+        Ok(false) => Ok(None),
+        Err(error) => Err(error),
     }
-    Ok(Some(text))
+}
+
+/// Appends the bytes of a file, as many as the limit and one more at most. It answers whether the file has no more than the
+/// limit.
+fn append_limited<R: Read + Drop>(file: R, text: &mut Vec<u8>) -> io::Result<bool> {
+    let count = file.take(LIMIT + 1).read_to_end(text)?;
+    Ok(count as u64 <= LIMIT)
 }
 
 /// The line that says of the file of this path that it has too many bytes.

@@ -1,5 +1,5 @@
 -- What a task is read from: the command that the parser met, with its rows.
-use Rattle.std.specs.Prelude.{◌≡◌, ◌≢◌, ◌≤◌, ◌⊎◌, ℕ, List, [], Option, Some, Result, Ok, Err, is_some, codes, map, option_map, string_bytes, Bool, bytes_eq, true, false}
+use Rattle.std.specs.Prelude.{◌≡◌, ◌≢◌, ◌≤◌, ◌⊎◌, ℕ, List, [], Option, None, Some, Result, Ok, Err, is_some, codes, map, option_map, string_bytes, Bool, bytes_eq, true, false}
 use Rattle.std.specs.List.{list_any}
 use Rattle.clap.specs.Words.{Row, Text}
 use Rattle.clap.specs.declared.error.ErrorKind.{ErrorKind}
@@ -25,6 +25,12 @@ abbrev pub IsReadOr : (option : Text) (least most default : ℕ) → Option (Tex
 IsReadOr option least most default met number =
     (is_given option met ≡ true → IsReadFrom option least most met number)
     × (is_given option met ≡ false → number ≡ default)
+
+-- the same where the option has a value, and there is none where it has none
+abbrev pub IsReadIfGiven : (option : Text) (least most : ℕ) → Option (Text × List Row) → Option ℕ → Type 0
+IsReadIfGiven option least most met None = is_given option met ≡ false
+IsReadIfGiven option least most met (Some number) =
+    (is_given option met ≡ true) × IsReadFrom option least most met number
 
 -- the command of this name was met
 abbrev pub IsMet : Text → Option (Text × List Row) → Type 0
@@ -61,14 +67,15 @@ Asks met (Ok (Attend disk runners turns workers scripts)) = IsMet (codes "attend
     × IsReadFrom (codes "runners") 0 64 met runners × IsReadFrom (codes "turns") 0 1000000 met turns
     × IsReadFrom (codes "workers") 1 64 met workers
     × (map string_bytes scripts.items ≡ values_met (codes "script") met)
-Asks met (Ok (Reduce steps nodes partial stats limits format quiet file)) =
+Asks met (Ok (Reduce workers steps nodes partial stats limits format quiet file)) =
     AsksText (codes "reduce") met (option_map string_bytes file) × (asks_rounds met ≡ false)
     × IsReadOr (codes "steps") 0 most_steps most_steps met steps
     × IsReadOr (codes "nodes") 0 most_steps 134217728 met nodes
     × (partial ≡ is_flag_met (codes "partial") met) × (stats ≡ is_flag_met (codes "stats") met)
     × (limits_met met ≡ limits_word limits) × (figures_met met ≡ figures_word format)
     × (quiet ≡ is_flag_met (codes "quiet-answer") met) × (asks_kept met ≡ false)
-    × (clashes met ≡ false) × (is_given (codes "seconds") met ≡ false)
+    × (clashes met ≡ false) × IsReadIfGiven (codes "workers") 1 64 met workers
+    × (is_given (codes "seconds") met ≡ false)
 Asks met (Ok (ReduceKept disk begins seconds steps nodes partial stats format quiet file)) =
     AsksText (codes "reduce") met (option_map string_bytes file) × (asks_rounds met ≡ false)
     × (clashes met ≡ false) × (asks_kept met ≡ true) × (string_bytes disk ≡ kept_met met)

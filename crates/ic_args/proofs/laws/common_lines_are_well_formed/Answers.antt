@@ -1,11 +1,11 @@
-use Rattle.std.proofs.Common.{◌≡◌, ℕ, List, Bool, true, false, [], ◌∷◌, ◌++◌, codes, map, inl, inr, refl, subst, arith}
+use Rattle.std.proofs.Common.{◌≡◌, ℕ, List, Bool, true, false, None, Option, Some, [], ◌∷◌, ◌++◌, codes, map, inl, inr, refl, subst, arith}
 use Rattle.std.specs.List.{AllByRecursion}
 use Rattle.clap.specs.Words.{Text}
 use Rattle.clap.specs.ValueTests.{accepts}
 use Rattle.clap.specs.declared.builder.value_parser.ValueParser.TheVariants as vp
 use Rattle.ic_args.specs.Words.{Choice, Entry, IsDecimal, most_rounds, most_steps}
 use Rattle.ic_args.specs.Words.{attend_entry, batch_entry, check_entry, create_entry, dump_entry, inspect_entry, reduce_entry, serve_entry, trace_entry}
-use Rattle.ic_args.specs.Lines.{AreInPlace, AreOnce, AreUnkept, AreWrittenBy, Given, HasFlag, HasNone, HasNumber, HasValue, IsFiguresText, IsLimitsText, IsLine, IsOneOf}
+use Rattle.ic_args.specs.Lines.{AreInPlace, AreOnce, AreUnkept, AreWrittenBy, Given, HasFlag, HasNone, HasNumber, HasNumberIfGiven, HasValue, IsFiguresText, IsLimitsText, IsLine, IsOneOf}
 use Rattle.ic_args.proofs.OptionNumbers.{within}
 use Rattle.ic_args.proofs.laws.common_lines_are_well_formed.Goals as goal
 
@@ -54,13 +54,13 @@ decimal v n is =
 unkept : (gs : List Given) → HasNone gs (codes "keep") → HasNone gs (codes "resume") → HasNone gs (codes "seconds") → AreUnkept gs
 unkept gs keep resume seconds = record { no_keep = keep; no_resume = resume; no_seconds = seconds }
 
-in_place : (gs : List Given) (s n : ℕ) (p t q : Bool) (l w : Text) → HasNone gs (codes "rounds") → HasNone gs (codes "workers") → AreUnkept gs
+in_place : (gs : List Given) (k : Option ℕ) (s n : ℕ) (p t q : Bool) (l w : Text) → HasNone gs (codes "rounds") → HasNumberIfGiven gs (codes "workers") k → AreUnkept gs
     → HasNumber gs (codes "steps") most_steps s → HasNumber gs (codes "nodes") 134217728 n → HasFlag gs (codes "partial") p → HasFlag gs (codes "stats") t
     → HasFlag gs (codes "quiet-answer") q → HasValue gs (codes "limits") (codes "wide") l → IsLimitsText l → HasValue gs (codes "format") (codes "lines") w → IsFiguresText w
-    → AreInPlace gs s n p t q l w
-in_place gs s n p t q l w rounds workers kept steps nodes partial stats quiet limits known_limits format known_format = record {
+    → AreInPlace gs k s n p t q l w
+in_place gs k s n p t q l w rounds workers kept steps nodes partial stats quiet limits known_limits format known_format = record {
   no_rounds = rounds;
-  no_workers = workers;
+  workers = workers;
   unkept = kept;
   steps = steps;
   nodes = nodes;
@@ -115,7 +115,7 @@ pub returns-clause-reduce : goal.returns-clause-reduce
 returns-clause-reduce c =
     let ps : List Part = [] in (
       record { line = line_of reduce_entry ps [] tt tt; rest = []; last = inl refl },
-      in_place (map given_of ps) 4611686018427387903 134217728 false false false (codes "wide") (codes "lines") refl refl (unkept (map given_of ps) refl refl refl) refl refl refl refl refl refl (inr refl) refl (inl refl),
+      in_place (map given_of ps) None 4611686018427387903 134217728 false false false (codes "wide") (codes "lines") refl refl (unkept (map given_of ps) refl refl refl) refl refl refl refl refl refl (inr refl) refl (inl refl),
     )
 
 pub returns-clause-reduced : goal.returns-clause-reduced
@@ -123,7 +123,7 @@ returns-clause-reduced c = λ path plain.
     let ps : List Part = alone (codes "stats") ∷ joined (codes "nodes") (codes "9") ∷ parted (codes "steps") (codes "10") ∷ [] in (
       map given_of ps,
       record { line = line_of reduce_entry ps (path ∷ []) ((refl, refl), ((within 0 most_steps (codes "9") refl, inl refl), ((within 0 most_steps (codes "10") refl, inr (refl, λ same. cc)), tt))) (refl, (refl, (refl, tt))); rest = (path ∷ []); last = (refl, plain) },
-      in_place (map given_of ps) 10 9 false true false (codes "wide") (codes "lines") refl refl (unkept (map given_of ps) refl refl refl) (decimal (codes "10") 10 refl) (decimal (codes "9") 9 refl) refl refl refl refl (inr refl) refl (inl refl),
+      in_place (map given_of ps) None 10 9 false true false (codes "wide") (codes "lines") refl refl (unkept (map given_of ps) refl refl refl) (decimal (codes "10") 10 refl) (decimal (codes "9") 9 refl) refl refl refl refl (inr refl) refl (inl refl),
     )
 
 pub returns-clause-limited : goal.returns-clause-limited
@@ -131,7 +131,7 @@ returns-clause-limited c =
     let ps : List Part = parted (codes "limits") (codes "served") ∷ [] in (
       map given_of ps,
       record { line = line_of reduce_entry ps [] ((tt, inr (refl, λ same. cc)), tt) (refl, tt); rest = []; last = inl refl },
-      in_place (map given_of ps) 4611686018427387903 134217728 false false false (codes "served") (codes "lines") refl refl (unkept (map given_of ps) refl refl refl) refl refl refl refl refl refl (inl refl) refl (inl refl),
+      in_place (map given_of ps) None 4611686018427387903 134217728 false false false (codes "served") (codes "lines") refl refl (unkept (map given_of ps) refl refl refl) refl refl refl refl refl refl (inl refl) refl (inl refl),
     )
 
 pub returns-clause-figures : goal.returns-clause-figures
@@ -139,7 +139,15 @@ returns-clause-figures c =
     let ps : List Part = alone (codes "stats") ∷ joined (codes "format") (codes "json") ∷ alone (codes "quiet-answer") ∷ [] in (
       map given_of ps,
       record { line = line_of reduce_entry ps [] ((refl, refl), ((tt, inl refl), ((refl, refl), tt))) (refl, (refl, (refl, tt))); rest = []; last = inl refl },
-      in_place (map given_of ps) 4611686018427387903 134217728 false true true (codes "wide") (codes "json") refl refl (unkept (map given_of ps) refl refl refl) refl refl refl refl refl refl (inr refl) refl (inr refl),
+      in_place (map given_of ps) None 4611686018427387903 134217728 false true true (codes "wide") (codes "json") refl refl (unkept (map given_of ps) refl refl refl) refl refl refl refl refl refl (inr refl) refl (inr refl),
+    )
+
+pub returns-clause-by_threads : goal.returns-clause-by_threads
+returns-clause-by_threads c =
+    let ps : List Part = joined (codes "workers") (codes "8") ∷ [] in (
+      map given_of ps,
+      record { line = line_of reduce_entry ps [] ((within 1 64 (codes "8") refl, inl refl), tt) (refl, tt); rest = []; last = inl refl },
+      in_place (map given_of ps) (Some 8) 4611686018427387903 134217728 false false false (codes "wide") (codes "lines") refl (codes "8", refl, decimal (codes "8") 8 refl) (unkept (map given_of ps) refl refl refl) refl refl refl refl refl refl (inr refl) refl (inl refl),
     )
 
 pub returns-clause-by_rounds : goal.returns-clause-by_rounds

@@ -3,11 +3,11 @@ use Rattle.ic_args.proofs.ReduceLines.{in_place_named, in_place_taken, rounds_na
 use Rattle.ic_args.proofs.laws.reduce_lines_are_taken.Goals as goal
 
 pub returns-clause-taken : goal.returns-clause-taken
-returns-clause-taken c = λ words given file s n p t q l w line of. in_place_taken words given file line s n p t q l w of
+returns-clause-taken c = λ words given file k s n p t q l w line of. in_place_taken words given file line k s n p t q l w of
 
 pub returns-clause-named : goal.returns-clause-named
-returns-clause-named c = λ words given file s n steps nodes p t q partial stats quiet l w limits format line of names.
-    in_place_named words given file line s n steps nodes p t q partial stats quiet l w (limits_word limits) (figures_word format) of _ names
+returns-clause-named c = λ words given file k workers s n steps nodes p t q partial stats quiet l w limits format line of names.
+    in_place_named words given file line k workers s n steps nodes p t q partial stats quiet l w (limits_word limits) (figures_word format) of _ names
 
 pub returns-clause-rounds : goal.returns-clause-rounds
 returns-clause-rounds c = λ words given file most threads p line of. rounds_taken words given file line most threads p of

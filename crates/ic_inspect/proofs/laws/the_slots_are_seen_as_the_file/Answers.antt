@@ -15,4 +15,5 @@ returns c =
         second_seen = seen Second is.second file is.second_seen;
         told = is.told;
       };
+      told = λ layout file lines is. (is.first, is.second, is.first_seen, is.second_seen, is.told);
     }

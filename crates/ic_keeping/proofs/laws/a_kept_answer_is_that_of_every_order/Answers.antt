@@ -1,4 +1,5 @@
-use Rattle.std.proofs.Common.{◌∙◌, ap, length, sym}
+use Rattle.std.proofs.Common.{◌∙◌, ℕ, List, ap, length, subst, sym}
+use Rattle.ic_in_place.specs.Counting.{AreCounts}
 use Rattle.ic_keeping.proofs.Orders.{as_many, counts_moved}
 use Rattle.ic_keeping.proofs.laws.a_kept_answer_is_that_of_every_order.Goals as goal
 
@@ -23,5 +24,11 @@ returns-clause-by_rule c = λ s bounds places left k e kinds is chain still.
 
 pub returns-clause-chain : goal.returns-clause-chain
 returns-clause-chain c = λ s bounds end places left k is.
-    let way = is.way in
-    (way.reached.kinds, way.reached.end, way.reached.chain, ap length way.reached.interactions ∙ sym way.counted, way.reached.net)
+    let way = is.way in (
+      way.reached.kinds,
+      way.reached.end,
+      way.reached.chain,
+      ap length way.reached.interactions ∙ sym way.counted,
+      subst (λ (fired : List ℕ). AreCounts (length s.rules.rules) fired k.by_rule) (sym way.reached.interactions) way.counts,
+      way.reached.net,
+    )

@@ -1,6 +1,11 @@
-use Rattle.std.proofs.Common.{⊎_elim}
+use Rattle.std.proofs.Common.{⊎_elim, refl}
 use Rattle.ic_state.specs.State.{state_bytes}
 use Rattle.ic_kept.specs.Lives.{none_yet, one_opening, one_more, turned}
+use Rattle.ic_kept.specs.lemmas.CourseLaws.{held_at_end, model_after}
+use Rattle.ic_kept.specs.Keeper.{newest_of, other_of}
+use Rattle.ic_keeping.proofs.GoingLemmas.{leads_form}
+use Rattle.ic_keeping.specs.Way.{IsKeptAfter}
+use Rattle.ic_keeping.proofs.LivesLemmas.{there, one_is_held}
 use Rattle.ic_keeping.proofs.Resuming.{first_held}
 use Rattle.ic_keeping.proofs.laws.lives_go_on.Goals as goal
 
@@ -51,3 +56,24 @@ returns-clause-turned g c = λ s begun kept coming lived. record {
 
 pub returns-clause-lives : goal.returns-clause-lives
 returns-clause-lives g c = λ s begun kept coming lived. (lived.is_kept, lived.state, lived.lives)
+
+pub returns-clause-holds : goal.returns-clause-holds
+returns-clause-holds g c = λ s begun kept coming lived.
+    let disk = g.D.Disk in
+    let both = there disk.keeps disk.content disk.image disk.clock disk.left (λ d. g.met.D.Disk.content_is_image d) c.one_state_is_held.ensures c.each_state_has_its_own_bytes.ensures
+    s begun kept coming c.args.first.now c.args.second.now lived.lives in (
+      both.keeps,
+      both.keeps_too,
+      one_is_held disk.keeps disk.content disk.image disk.clock disk.left (λ d. g.met.D.Disk.content_is_image d) c.one_state_is_held.ensures c.each_state_has_its_own_bytes.ensures
+          s begun kept coming c.args.first.now c.args.second.now lived.lives lived.is_kept lived.state,
+    )
+
+pub returns-clause-again : goal.returns-clause-again
+returns-clause-again g c = λ s found k n life.
+    let disk = g.D.Disk in
+    let opened = life.opened in
+    let end = held_at_end disk.keeps disk.image disk.clock disk.left (IsKeptAfter s) (λ d t file. g.met.D.Disk.image_is_left d t file) k n (state_bytes found) opened.model opened.keeps life.way
+    (disk.content (newest_of n)) (disk.content (other_of n)) (g.met.D.Disk.content_is_image (newest_of n)) (g.met.D.Disk.content_is_image (other_of n)) in (
+      model_after disk.keeps disk.image disk.clock disk.left (IsKeptAfter s) k n (state_bytes found) opened.model opened.keeps life.way,
+      (end.0, leads_form c.each_state_has_its_own_bytes.ensures s found life.is_kept life.state (state_bytes found) end.0 refl end.1, end.2),
+    )

@@ -15,7 +15,14 @@ returns-clause-limit c = λ s bounds places left k is. is.ended
 
 pub returns-clause-piece : goal.returns-clause-piece
 returns-clause-piece c = λ s bounds end places left k is.
-    (is.piece.from, is.piece.most, is.piece.made, is.piece.by_rule, is.piece.rules, is.piece.nodes, is.piece.reached)
+    let piece = is.piece in
+    (piece.from, piece.most, piece.made, piece.by_rule, piece.earlier, piece.before, piece.rules, piece.nodes, piece.way, piece.all, piece.sums, piece.reached)
 
 pub returns-clause-together : goal.returns-clause-together
 returns-clause-together c = λ s bounds end places left k is. is.together
+
+pub returns-clause-way : goal.returns-clause-way
+returns-clause-way c = λ s d interactions by_rule is. (is.fired, is.reached, is.counted, is.counts)
+
+pub returns-clause-sums : goal.returns-clause-sums
+returns-clause-sums c = λ some more all is. (is.long, is.all, is.each)

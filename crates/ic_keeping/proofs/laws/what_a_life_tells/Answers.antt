@@ -1,7 +1,21 @@
+use Rattle.ic_frames.specs.declared.faults.OpenCause.{OpenCause}
+use Rattle.ic_frames.specs.declared.faults.OpenCause.TheVariants as opening
+use Rattle.ic_keeping.specs.declared.fault.KeepingFault.{KeepingFault}
+use Rattle.ic_keeping.specs.Life.{StopsAnOpening}
 use Rattle.ic_keeping.proofs.Refusing.{run_unopened, run_sound, run_begun, run_no_call}
 use Rattle.ic_keeping.specs.declared.fault.KeepingFault.TheVariants as keeping
-use Rattle.std.proofs.Common.{refl}
+use Rattle.std.proofs.Common.{◌≡◌, ◌≢◌, ◌⊎◌, inl, inr, refl}
 use Rattle.ic_keeping.proofs.laws.what_a_life_tells.Goals as goal
+
+by_none : (fault : KeepingFault) → ◌≢◌ fault (keeping.Open opening.Device) → ◌≢◌ fault (keeping.Open opening.Memory) → ◌≢◌ fault keeping.Memory → StopsAnOpening fault → ⊥
+by_none fault one other third (inl is) = one is
+by_none fault one other third (inr (inl is)) = other is
+by_none fault one other third (inr (inr is)) = third is
+
+by_two : (cause : OpenCause) → StopsAnOpening (keeping.Open cause) → (cause ≡ opening.Device) ⊎ (cause ≡ opening.Memory)
+by_two cause (inl is) = inl (let same : cause ≡ opening.Device = cc in same)
+by_two cause (inr (inl is)) = inr (let same : cause ≡ opening.Memory = cc in same)
+by_two cause (inr (inr is)) = absurd (let never : keeping.Open cause ≡ keeping.Memory = is in cc)
 
 pub returns-clause-rules : goal.returns-clause-rules
 returns-clause-rules c = λ s asked ended is. is.rules
@@ -17,3 +31,13 @@ returns-clause-unstuck c = λ s asked ended is. is.unstuck
 
 pub returns-clause-stops : goal.returns-clause-stops
 returns-clause-stops c = (run_sound, run_begun, run_no_call, λ cause stops. run_unopened (keeping.Open cause) stops cause refl)
+
+pub returns-clause-opens : goal.returns-clause-opens
+returns-clause-opens c = (
+  by_none keeping.Unsound (λ same. cc) (λ same. cc) (λ same. cc),
+  by_none keeping.NotEmpty (λ same. cc) (λ same. cc) (λ same. cc),
+  by_none keeping.Limit (λ same. cc) (λ same. cc) (λ same. cc),
+  by_none keeping.Device (λ same. cc) (λ same. cc) (λ same. cc),
+  λ cause. by_none (keeping.Keep cause) (λ same. cc) (λ same. cc) (λ same. cc),
+  by_two,
+)

@@ -1,89 +1,61 @@
-use Rattle.std.proofs.Common.{⊎_elim, inl, inr}
+use Rattle.std.proofs.Common.{◌≡◌, ◌∙◌, ⊎_elim, inl, inr, Bool, true, false, sym}
+use Rattle.ic_frames.specs.declared.faults.KeepFault.TheVariants.{Broken}
 use Rattle.ic_kept.specs.Opening.{OnlyReads}
 use Rattle.std.proofs.lemmas.Result.{err_from_is_err_and}
 use Rattle.ic_state.specs.State.{kept_by}
-use Rattle.ic_keeping.proofs.LivesLemmas.{there, found_is, one_is_held}
-use Rattle.ic_keeping.proofs.Refusing.{as_a_life, as_read}
+use Rattle.ic_keeping.specs.declared.fault.KeepingFault.{KeepingFault}
+use Rattle.ic_keeping.specs.declared.fault.KeepingFault.TheVariants.{Keep}
+use Rattle.ic_keeping.proofs.LivesLemmas.{held_is}
+use Rattle.ic_keeping.proofs.Refusing.{as_a_life, as_read, opening_keeps_none}
 use Rattle.ic_keeping.proofs.life.live.Goals as goal
 
 pub returns-in-Ok-clause-answer : goal.returns-in-Ok-clause-answer
-returns-in-Ok-clause-answer g c s begun kept coming lived =
-    let disk = g.D.Disk in
-    let found = c.in_ok-keeper.ensures in
-    let both = there disk.keeps disk.content disk.image disk.clock disk.left (λ d. g.met.D.Disk.content_is_image d) c.one_state_is_held.ensures c.each_state_has_its_own_bytes.ensures
-    s begun kept coming c.args.first c.args.second lived.lives in
-    let held = found.found both.keeps both.keeps_too in
-    let keeps = found.kept both.keeps both.keeps_too in
-    let state = found_is disk.keeps disk.content disk.image disk.clock disk.left (λ d. g.met.D.Disk.content_is_image d) c.one_state_is_held.ensures c.each_state_has_its_own_bytes.ensures
-    s begun kept coming c.args.first c.args.second lived.lives lived.is_kept lived.state (kept_by c.in_ok-keeper.state) found.sound held in
-    c.in-Ok.ensures.answer s state.0
+returns-in-Ok-clause-answer g c s keeps keeps_too held = c.in-Ok.ensures.answer s (c.in_ok-keeper.ensures.state s keeps keeps_too held)
 
 pub returns-in-Ok-clause-told : goal.returns-in-Ok-clause-told
-returns-in-Ok-clause-told g c s begun kept coming lived =
-    let disk = g.D.Disk in
-    let found = c.in_ok-keeper.ensures in
-    let both = there disk.keeps disk.content disk.image disk.clock disk.left (λ d. g.met.D.Disk.content_is_image d) c.one_state_is_held.ensures c.each_state_has_its_own_bytes.ensures
-    s begun kept coming c.args.first c.args.second lived.lives in
-    let held = found.found both.keeps both.keeps_too in
-    let keeps = found.kept both.keeps both.keeps_too in
-    let state = found_is disk.keeps disk.content disk.image disk.clock disk.left (λ d. g.met.D.Disk.content_is_image d) c.one_state_is_held.ensures c.each_state_has_its_own_bytes.ensures
-    s begun kept coming c.args.first c.args.second lived.lives lived.is_kept lived.state (kept_by c.in_ok-keeper.state) found.sound held in
-    c.in-Ok.ensures.told s state.0
+returns-in-Ok-clause-told g c s keeps keeps_too held = c.in-Ok.ensures.told s (c.in_ok-keeper.ensures.state s keeps keeps_too held)
 
 pub returns-in-Ok-clause-kept : goal.returns-in-Ok-clause-kept
-returns-in-Ok-clause-kept g c s begun kept coming lived =
-    let disk = g.D.Disk in
+returns-in-Ok-clause-kept g c s keeps keeps_too held =
     let found = c.in_ok-keeper.ensures in
-    let both = there disk.keeps disk.content disk.image disk.clock disk.left (λ d. g.met.D.Disk.content_is_image d) c.one_state_is_held.ensures c.each_state_has_its_own_bytes.ensures
-    s begun kept coming c.args.first c.args.second lived.lives in
-    let held = found.found both.keeps both.keeps_too in
-    let keeps = found.kept both.keeps both.keeps_too in
-    let state = found_is disk.keeps disk.content disk.image disk.clock disk.left (λ d. g.met.D.Disk.content_is_image d) c.one_state_is_held.ensures c.each_state_has_its_own_bytes.ensures
-    s begun kept coming c.args.first c.args.second lived.lives lived.is_kept lived.state (kept_by c.in_ok-keeper.state) found.sound held in
-    c.in-Ok.ensures.kept s state.0 found.sound keeps.0 keeps.1
+    let kept = found.kept keeps keeps_too in
+    c.in-Ok.ensures.kept s (found.state s keeps keeps_too held) found.sound kept.0 kept.1
 
 pub returns-in-Ok-clause-life : goal.returns-in-Ok-clause-life
-returns-in-Ok-clause-life g c s begun kept coming lived =
+returns-in-Ok-clause-life g c s least keeps keeps_too held =
     let disk = g.D.Disk in
     let found = c.in_ok-keeper.ensures in
-    let both = there disk.keeps disk.content disk.image disk.clock disk.left (λ d. g.met.D.Disk.content_is_image d) c.one_state_is_held.ensures c.each_state_has_its_own_bytes.ensures
-    s begun kept coming c.args.first c.args.second lived.lives in
-    let held = found.found both.keeps both.keeps_too in
-    let keeps = found.kept both.keeps both.keeps_too in
-    let state = found_is disk.keeps disk.content disk.image disk.clock disk.left (λ d. g.met.D.Disk.content_is_image d) c.one_state_is_held.ensures c.each_state_has_its_own_bytes.ensures
-    s begun kept coming c.args.first c.args.second lived.lives lived.is_kept lived.state (kept_by c.in_ok-keeper.state) found.sound held in (
-      kept_by c.in_ok-keeper.state,
+    let state = kept_by c.in_ok-keeper.state in
+    let here = found.found keeps keeps_too in
+    let kept = found.kept keeps keeps_too in
+    let is = held_is c.one_state_is_held.ensures c.each_state_has_its_own_bytes.ensures s least (disk.content c.args.first) (disk.content c.args.second) state found.sound here held in (
+      state,
       c.in_ok-keeper.keeper,
       record {
         is_kept = found.sound;
-        state = state.0;
-        opened = record { held = held; model = keeps.0; keeps = keeps.1; reads = found.reads both.keeps both.keeps_too };
-        way = c.in-Ok.ensures.way s state.0 found.sound;
+        state = is.0;
+        opened = record { held = here; model = kept.0; keeps = kept.1; reads = found.reads keeps keeps_too };
+        way = c.in-Ok.ensures.way s is.0 found.sound;
       },
-      state.1,
-      c.in-Ok.ensures.from s state.0,
+      is.1,
+      c.in-Ok.ensures.from s is.0,
       c.in-Ok.ensures.within,
     )
 
 pub returns-in-Err-clause-stopped : goal.returns-in-Err-clause-stopped
-returns-in-Err-clause-stopped g c s begun kept coming lived =
-    let disk = g.D.Disk in
+returns-in-Err-clause-stopped g c s keeps keeps_too held =
     let found = c.in_ok-keeper.ensures in
-    let both = there disk.keeps disk.content disk.image disk.clock disk.left (λ d. g.met.D.Disk.content_is_image d) c.one_state_is_held.ensures c.each_state_has_its_own_bytes.ensures
-    s begun kept coming c.args.first c.args.second lived.lives in
-    let held = found.found both.keeps both.keeps_too in
-    let keeps = found.kept both.keeps both.keeps_too in
-    let state = found_is disk.keeps disk.content disk.image disk.clock disk.left (λ d. g.met.D.Disk.content_is_image d) c.one_state_is_held.ensures c.each_state_has_its_own_bytes.ensures
-    s begun kept coming c.args.first c.args.second lived.lives lived.is_kept lived.state (kept_by c.in_ok-keeper.state) found.sound held in
+    let is = found.state s keeps keeps_too held in
+    let kept = found.kept keeps keeps_too in
     inr (
       kept_by c.in_ok-keeper.state,
       c.in_ok-keeper.keeper,
       c.go_on.new.keeper,
       record {
         is_kept = found.sound;
-        state = state.0;
-        opened = record { held = held; model = keeps.0; keeps = keeps.1; reads = found.reads both.keeps both.keeps_too };
-        way = c.in-Err.ensures.way s state.0 found.sound;
+        state = is;
+        opened = record { held = found.found keeps keeps_too; model = kept.0; keeps = kept.1; reads = found.reads keeps keeps_too };
+        way = c.in-Err.ensures.way s is found.sound;
       },
       c.close-first.ensures.newest,
       c.close-first.ensures.other,
@@ -91,38 +63,28 @@ returns-in-Err-clause-stopped g c s begun kept coming lived =
     )
 
 pub returns-in-Err-clause-refused : goal.returns-in-Err-clause-refused
-returns-in-Err-clause-refused g c s begun kept coming lived =
-    let disk = g.D.Disk in
-    let found = c.in_ok-keeper.ensures in
-    let both = there disk.keeps disk.content disk.image disk.clock disk.left (λ d. g.met.D.Disk.content_is_image d) c.one_state_is_held.ensures c.each_state_has_its_own_bytes.ensures
-    s begun kept coming c.args.first c.args.second lived.lives in
-    let held = found.found both.keeps both.keeps_too in
-    let keeps = found.kept both.keeps both.keeps_too in
-    let state = found_is disk.keeps disk.content disk.image disk.clock disk.left (λ d. g.met.D.Disk.content_is_image d) c.one_state_is_held.ensures c.each_state_has_its_own_bytes.ensures
-    s begun kept coming c.args.first c.args.second lived.lives lived.is_kept lived.state (kept_by c.in_ok-keeper.state) found.sound held in
-    inr (inr (c.in-Err.ensures.refused s state.0))
+returns-in-Err-clause-refused g c s keeps keeps_too held = inr (inr (c.in-Err.ensures.refused s (c.in_ok-keeper.ensures.state s keeps keeps_too held)))
+
+pub returns-in-Err-clause-usable : goal.returns-in-Err-clause-usable
+returns-in-Err-clause-usable g c same =
+    let broken : false ≡ true = sym c.in_ok-keeper.ensures.ready ∙ (c.in-Err.ensures.failed Broken same).0 in
+    cc (broken)
 
 pub returns-in_err-keeper-clause-stopped : goal.returns-in_err-keeper-clause-stopped
-returns-in_err-keeper-clause-stopped g c s begun kept coming lived =
-    let disk = g.D.Disk in
+returns-in_err-keeper-clause-stopped g c s keeps keeps_too held =
     let found = c.in_err-keeper.ensures in
-    let both = there disk.keeps disk.content disk.image disk.clock disk.left (λ d. g.met.D.Disk.content_is_image d) c.one_state_is_held.ensures c.each_state_has_its_own_bytes.ensures
-    s begun kept coming c.args.first c.args.second lived.lives in
-    let holds = one_is_held disk.keeps disk.content disk.image disk.clock disk.left (λ d. g.met.D.Disk.content_is_image d) c.one_state_is_held.ensures c.each_state_has_its_own_bytes.ensures
-    s begun kept coming c.args.first c.args.second lived.lives lived.is_kept lived.state in
     let e = err_from_is_err_and c.from_residual.result c.from_residual.ensures.1 in
-    rw (e.1, e.2) (inl (found.reads both.keeps both.keeps_too, found.refused s both.keeps both.keeps_too holds))
+    rw (e.1, e.2) (inl (found.reads keeps keeps_too, found.refused s keeps keeps_too held))
 
 pub returns-in_err-keeper-clause-refused : goal.returns-in_err-keeper-clause-refused
-returns-in_err-keeper-clause-refused g c s begun kept coming lived =
-    let disk = g.D.Disk in
-    let found = c.in_err-keeper.ensures in
-    let both = there disk.keeps disk.content disk.image disk.clock disk.left (λ d. g.met.D.Disk.content_is_image d) c.one_state_is_held.ensures c.each_state_has_its_own_bytes.ensures
-    s begun kept coming c.args.first c.args.second lived.lives in
-    let holds = one_is_held disk.keeps disk.content disk.image disk.clock disk.left (λ d. g.met.D.Disk.content_is_image d) c.one_state_is_held.ensures c.each_state_has_its_own_bytes.ensures
-    s begun kept coming c.args.first c.args.second lived.lives lived.is_kept lived.state in
+returns-in_err-keeper-clause-refused g c s keeps keeps_too held =
     let e = err_from_is_err_and c.from_residual.result c.from_residual.ensures.1 in
-    rw (e.1, e.2) (as_a_life c.in_err-keeper.field-0.0.cause (found.refused s both.keeps both.keeps_too holds))
+    rw (e.1, e.2) (as_a_life c.in_err-keeper.field-0.0.cause (c.in_err-keeper.ensures.refused s keeps keeps_too held))
+
+pub returns-in_err-keeper-clause-usable : goal.returns-in_err-keeper-clause-usable
+returns-in_err-keeper-clause-usable g c =
+    let e = err_from_is_err_and c.from_residual.result c.from_residual.ensures.1 in
+    rw (e.1, e.2) (opening_keeps_none c.in_err-keeper.field-0.0.cause c.in_err-keeper.ensures.only Broken)
 
 pub returns-in_err-keeper-clause-named : goal.returns-in_err-keeper-clause-named
 returns-in_err-keeper-clause-named g c keeps keeps_too =
@@ -147,7 +109,7 @@ returns-in-Err-clause-reads g c keeps keeps_too why =
     let disk = g.D.Disk in
     ⊎_elim
     (λ opened. absurd (c.in-Err.ensures.unopened opened.0 opened.1))
-    (λ unsound. as_read (OnlyReads disk.content disk.image disk.clock disk.left) c.args.first c.args.second c.close-first.result.0 c.close-first.result.1 c.in_ok-keeper.keeper c.go_on.new.keeper
+    (λ unsound. as_read (OnlyReads disk.keeps disk.content disk.image disk.clock disk.left) c.args.first c.args.second c.close-first.result.0 c.close-first.result.1 c.in_ok-keeper.keeper c.go_on.new.keeper
     c.close-first.ensures.newest c.close-first.ensures.other (c.in-Err.ensures.unsound unsound) (c.in_ok-keeper.ensures.reads keeps keeps_too))
     why
 

@@ -30,23 +30,23 @@ returns-in_err-state-2-clause-refused g c keeps keeps_too =
 pub returns-in_err-state-clause-reads_second : goal.returns-in_err-state-clause-reads_second
 returns-in_err-state-clause-reads_second g c keeps =
     let disk = g.D.Disk in
-    reads_then disk.content disk.image disk.clock disk.left c.args.second.now c.look-2.new.disk c.read_state.new.disk
+    reads_then disk.keeps disk.content disk.image disk.clock disk.left c.args.second.now c.look-2.new.disk c.read_state.new.disk
     (c.look-2.ensures.reads keeps) (c.read_state.ensures.reads (c.look-2.ensures.keeps ∙ keeps))
 
 pub returns-then-chosen-clause-reads_second : goal.returns-then-chosen-clause-reads_second
 returns-then-chosen-clause-reads_second g c keeps =
     let disk = g.D.Disk in
-    reads_then disk.content disk.image disk.clock disk.left c.args.second.now c.look-2.new.disk c.read_state.new.disk
+    reads_then disk.keeps disk.content disk.image disk.clock disk.left c.args.second.now c.look-2.new.disk c.read_state.new.disk
     (c.look-2.ensures.reads keeps) (c.read_state.ensures.reads (c.look-2.ensures.keeps ∙ keeps))
 
 pub returns-in_err-state-2-clause-reads_first : goal.returns-in_err-state-2-clause-reads_first
 returns-in_err-state-2-clause-reads_first g c keeps =
     let disk = g.D.Disk in
-    reads_then disk.content disk.image disk.clock disk.left c.args.first.now c.look.new.disk c.read_state-2.new.disk
+    reads_then disk.keeps disk.content disk.image disk.clock disk.left c.args.first.now c.look.new.disk c.read_state-2.new.disk
     (c.look.ensures.reads keeps) (c.read_state-2.ensures.reads (c.look.ensures.keeps ∙ keeps))
 
 pub returns-clause-reads_first : goal.returns-clause-reads_first
 returns-clause-reads_first g c keeps =
     let disk = g.D.Disk in
-    reads_then disk.content disk.image disk.clock disk.left c.args.first.now c.look.new.disk c.read_state-2.new.disk
+    reads_then disk.keeps disk.content disk.image disk.clock disk.left c.args.first.now c.look.new.disk c.read_state-2.new.disk
     (c.look.ensures.reads keeps) (c.read_state-2.ensures.reads (c.look.ensures.keeps ∙ keeps))

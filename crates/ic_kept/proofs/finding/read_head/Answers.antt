@@ -31,14 +31,14 @@ returns-clause-reads g c keeps =
     let old = c.args.disk.now in
     let keeps_once = c.read_bytes.ensures.keeps ∙ keeps in
     let keeps_twice = c.read_bytes-2.ensures.keeps ∙ keeps_once in
-    reads_then disk.content disk.image disk.clock disk.left old c.read_bytes-2.new.disk c.read_bytes-3.new.disk
-    (reads_then disk.content disk.image disk.clock disk.left old c.read_bytes.new.disk c.read_bytes-2.new.disk (c.read_bytes.ensures.reads keeps) (c.read_bytes-2.ensures.reads keeps_once))
+    reads_then disk.keeps disk.content disk.image disk.clock disk.left old c.read_bytes-2.new.disk c.read_bytes-3.new.disk
+    (reads_then disk.keeps disk.content disk.image disk.clock disk.left old c.read_bytes.new.disk c.read_bytes-2.new.disk (c.read_bytes.ensures.reads keeps) (c.read_bytes-2.ensures.reads keeps_once))
     (c.read_bytes-3.ensures.reads keeps_twice)
 
 pub returns-in_err-read_bytes-clause-reads : goal.returns-in_err-read_bytes-clause-reads
 returns-in_err-read_bytes-clause-reads g c keeps =
     let disk = g.D.Disk in
-    reads_then disk.content disk.image disk.clock disk.left c.args.disk.now c.read_bytes.new.disk c.read_bytes-2.new.disk
+    reads_then disk.keeps disk.content disk.image disk.clock disk.left c.args.disk.now c.read_bytes.new.disk c.read_bytes-2.new.disk
     (c.read_bytes.ensures.reads keeps) (c.read_bytes-2.ensures.reads (c.read_bytes.ensures.keeps ∙ keeps))
 
 pub returns-in_err-read_bytes-2-clause-reads : goal.returns-in_err-read_bytes-2-clause-reads
@@ -47,6 +47,6 @@ returns-in_err-read_bytes-2-clause-reads g c keeps =
     let old = c.args.disk.now in
     let keeps_once = c.read_bytes.ensures.keeps ∙ keeps in
     let keeps_twice = c.read_bytes-2.ensures.keeps ∙ keeps_once in
-    reads_then disk.content disk.image disk.clock disk.left old c.read_bytes-2.new.disk c.read_bytes-3.new.disk
-    (reads_then disk.content disk.image disk.clock disk.left old c.read_bytes.new.disk c.read_bytes-2.new.disk (c.read_bytes.ensures.reads keeps) (c.read_bytes-2.ensures.reads keeps_once))
+    reads_then disk.keeps disk.content disk.image disk.clock disk.left old c.read_bytes-2.new.disk c.read_bytes-3.new.disk
+    (reads_then disk.keeps disk.content disk.image disk.clock disk.left old c.read_bytes.new.disk c.read_bytes-2.new.disk (c.read_bytes.ensures.reads keeps) (c.read_bytes-2.ensures.reads keeps_once))
     (c.read_bytes-3.ensures.reads keeps_twice)

@@ -7,7 +7,7 @@ use Rattle.ic_readback.specs.declared.token.Token.{Token}
 use Rattle.ic_readback.specs.Reading.{configuration_read, AreCirclesAfter}
 use Rattle.ic_readback.specs.inner.Mending.{WritesLoose}
 use Rattle.ic_readback.specs.inner.Writing.{part_of}
-use Rattle.ic_readback.proofs.Given.{NetLaws}
+use Rattle.ic_readback.specs.lemmas.Given.{NetLaws}
 use Rattle.ic_readback.proofs.Results.{ReadsNet, reads_net, result_whole, result_counted, result_net}
 use Rattle.ic_readback.proofs.Circles.{result_circles}
 use Rattle.ic_readback.proofs.Heads.{result_heads}

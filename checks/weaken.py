@@ -1,0 +1,198 @@
+#!/usr/bin/env python3
+"""Finds facts of definitions on which nothing rests. `python3 checks/weaken.py [CRATE..]` lists those fields of records of
+specs/ that no proof of their crate or of one above uses, as far as their names tell; it checks nothing. A law that the prover
+found by itself may use them all the same. `python3 checks/weaken.py --try CRATE FACT..` takes facts out that are named as they
+are listed, also of crates below, checks the crate in a room of hard links, and tells which proofs miss one of them."""
+
+import argparse
+import os
+import re
+import shutil
+import subprocess
+import tempfile
+from collections import defaultdict
+from pathlib import Path
+
+from edits import RT, TOP, libraries, with_all_below
+
+WORD = re.compile(r"[A-Za-z_][\w'-]*")
+RECORD = re.compile(r"^( *)(?:pub )?record (\S+)(?:.|\n)*? where\n((?:\1  .*\n|\s*\n)*)", re.M)
+DEFINITION = re.compile(r"^ *(?:(?:abbrev|unfoldable) (?:pub )?|(?:pub )?data )(\S+)((?:.|\n(?=[ ]|\1\b))*)", re.M)
+LEMMA = re.compile(r"^(?:pub )?([A-Za-z_]\S*) : ((?:.|\n(?=  ))*)", re.M)
+ERROR = re.compile(r"^(?:note: )?(?:\./)?(\S+?\.(?:antt|rt)):(\d+):\d+: (?:error: (?!.*that depend)|(?=it is not))(.*(?:\n  .*)*)", re.M)
+CITES = re.compile(r"\bRattle\.(\w+)\.specs\.(\w+)(?=[.\s;]*(?:\{|;|as\b|\n))")  # a module of definitions: crate and name
+NOTHING = "Unit {0}"  # in the place of a fact
+
+
+def plain(path):
+    """A file without its comments, and without what it imports."""
+    return re.sub(r"^[ \t]*(?:--|//).*\n|^(?:ghost )?use .*\n", "", path.read_text(), flags=re.M)
+
+
+def fields(text):
+    """The records of a file, with the names and the types of their fields."""
+    for found in RECORD.finditer(text):
+        indent = len(found[1]) + 2
+        field = r"^ {%d}(?:pub )?(\S+) : ((?:.|\n(?! {0,%d}\S))*)" % (indent, indent)
+        yield found[2], [(it[1], " ".join(it[2].split())) for it in re.finditer(field, found[3], re.M)]
+
+
+def is_fact(kind):
+    """Whether a field of this type says something: it is no list, number or other part of a value."""
+    return bool(re.search(r"[≡≢≤<↔⊎×¬→]|^[A-Z]\w* \S", kind)) and not re.match(r"(List|Option|Result|ℕ)\b", kind)
+
+
+def clauses(text):
+    """The clauses of a file of code: function, name of the clause or `ensures`, and what it says."""
+    starts = [*re.finditer(r"\bfn (\w+)", text)]
+    for start, end in zip(starts, [*(it.start() for it in starts[1:]), len(text)]):
+        body = text[start.start() : end]
+        for found in re.finditer(r"(ensures|requires|invariant)(?: (\w+))? \{", body):
+            depth, at = 1, found.end()
+            while depth and at < len(body):
+                depth += (body[at] == "{") - (body[at] == "}")
+                at += 1
+            yield start[1], found[2] or found[1], body[found.end() : at - 1]
+
+
+class Tree:
+    """What the proofs of the repository use, by the names in their texts."""
+
+    def __init__(self):
+        self.used, crates = libraries(), TOP / "crates"
+        self.below = {it: set(with_all_below(it, self.used)) for it in self.used}
+        self.said, self.inside, self.calls, self.lemmas = defaultdict(str), defaultdict(str), defaultdict(str), defaultdict(str)
+        self.proofs, self.facts, self.words = defaultdict(dict), [], {}
+        for crate in self.used:
+            for path in sorted((crates / crate / "specs").rglob("*.antt")) + sorted((crates / crate / "proofs").rglob("*.antt")):
+                text = plain(path)
+                for name, rest in DEFINITION.findall(text):
+                    self.inside[name] += " " + rest
+                for record, parts in fields(text):
+                    for name, kind in parts:
+                        self.said[name] += " " + kind
+                        if path.parent == crates / crate / "specs" and is_fact(kind):
+                            self.facts.append((crate, path.stem, record, name, kind))
+                if "proofs" in path.parts or "lemmas" in path.parts:
+                    self.proofs[crate][path] = text
+                    for name, kind in LEMMA.findall(text):
+                        self.lemmas[name] += " " + kind
+            for path in (crates / crate / "src").rglob("*.rt"):
+                for function, name, says in clauses(plain(path)):
+                    self.said[name] += " " + says
+                    self.calls[function] += " " + says
+
+    def names(self, key, text):
+        """The words of a text, and those of the definitions that it names."""
+        if key not in self.words:
+            found = new = set(WORD.findall(text))
+            for _ in range(3):
+                new = set(WORD.findall(" ".join(self.inside[it] for it in new if it in self.inside and it[0].isupper()))) - found
+                found = found | new
+            self.words[key] = found
+        return self.words[key]
+
+    def may_be(self, record, path, text, at):
+        """Whether the field that is taken at this place may be one of this record."""
+        before = re.search(r"((?:[A-Za-z_][\w'-]*|\d+|[)\]])(?:\.(?:[A-Za-z_][\w'-]*|\d+))*)$", text[max(0, at - 200) : at])
+        steps = [it for it in before[1].split(".") if not it.isdigit()] if before else []
+        if not steps:
+            return True
+        last = steps[-1] if steps[-1] in self.said else re.sub(r"-.*", "", steps[-1])
+        if record in self.names(("step", last), self.said[last] + self.calls[last]) or len(steps) > 1:
+            return record in self.names(("step", last), "")
+        bound = " ".join(re.findall(r"[({][^(){}:]*\b" + re.escape(steps[-1]) + r"\b[^(){}:]*: ([^)}]*)", text)) if WORD.match(last) else ""
+        callees = " ".join(self.calls[it.split("-")[0]] for it in set(re.findall(r"\bc\.([A-Za-z_]\w*)", text)))
+        own = " ".join(self.calls[part] for part in path.parts)
+        cited = " ".join(self.lemmas[it] for it in set(WORD.findall(text)) if it in self.lemmas) if last in ")]" else ""
+        return record in self.names(("bound", path, last), bound) or record in self.names(path, f"{text} {own} {callees} {cited}")
+
+    def unused(self, chosen):
+        """The facts that no proof uses. To hand a field on to one of the same name is no use."""
+        for crate, module, record, name, kind in self.facts:
+            above = [it for it in self.used if crate in self.below[it] and (not chosen or crate in chosen)]
+            taken = re.compile(r"\." + re.escape(name) + r"(?![\w'-])")
+            handed = re.compile(r"\b" + re.escape(name) + r" = [\w.]+\." + re.escape(name) + r"(?=\s*[;},])")
+            texts = ((path, handed.sub("", text)) for other in above for path, text in self.proofs[other].items())
+            if above and not any(self.may_be(record, path, text, it.start()) for path, text in texts for it in taken.finditer(text)):
+                yield f"{crate}.{module}.{record}.{name} : {kind[:100]}"
+
+
+def weakened(text, record, name):
+    """A file of definitions in which a field of a record says nothing."""
+    for found in RECORD.finditer(text):
+        field = re.compile(r"^( {%d}pub )%s : (?:.|\n {%d} )*" % (len(found[1]) + 2, re.escape(name), len(found[1]) + 3), re.M)
+        if found[2] == record and field.search(found[3]):
+            return text[: found.start(3)] + field.sub(rf"\1{name} : {NOTHING}", found[3], count=1) + text[found.end(3) :]
+    raise SystemExit(f"there is no {record}.{name}")
+
+
+def files_of(crates, name):
+    """What a crate's check reads of it, but for what it made itself."""
+    return [it for part in ["src", "specs", "proofs"] for it in (crates / name / part).rglob("*.*") if it.is_file()]
+
+
+def copied(crates, crate, modules):
+    """The modules of crates below that a crate has to have a weakened copy of: these, and what it cites that cites them."""
+    left, reached = [it.read_text() for it in files_of(crates, crate)], {}
+    while left:
+        for module in set(CITES.findall(left.pop())) - set(reached):
+            path = crates / module[0] / "specs" / f"{module[1]}.antt"
+            if module[0] != crate and path.exists():
+                reached[module] = set(CITES.findall(path.read_text()))
+                left.append(path.read_text())
+    found, more = set(modules), set(modules)
+    while more:
+        more = {it for it, cites in reached.items() if cites & found} - found
+        found |= more
+    return found
+
+
+def try_without(crate, taken):
+    """Checks a crate without these facts, in a room. Facts of crates below are taken out of copies, which the crate then cites."""
+    used, out = libraries(), TOP / "crates" / crate / "out"
+    out.mkdir(exist_ok=True)
+    with tempfile.TemporaryDirectory(prefix="weaken-", dir=out) as room:
+        crates = Path(room) / "crates"
+        for it in with_all_below(crate, used):
+            for part in ["src", "specs", "proofs", "out/rlib"] + ["out/incremental"] * (it == crate):
+                if (TOP / "crates" / it / part).exists():
+                    shutil.copytree(TOP / "crates" / it / part, crates / it / part, copy_function=os.link)
+        (Path(room) / "crates.txt").write_text("".join(f"{it}: {' '.join(used[it])}\n" for it in with_all_below(crate, used)))
+        facts = defaultdict(list)
+        for of, module, record, name in (it.split(".") for it in taken):
+            facts[of, module].append((record, name))
+        texts = {}
+        for of, module in facts.keys() | copied(crates, crate, {it for it in facts if it[0] != crate}):
+            texts[of, module] = (crates / of / "specs" / f"{module}.antt").read_text()
+            for record, name in facts[of, module]:
+                texts[of, module] = weakened(texts[of, module], record, name)
+        copies = {it: "Weak" + "".join(part.capitalize() for part in it[0].split("_")) + it[1] for it in texts if it[0] != crate}
+        own = crates / crate / "specs"
+        written = {it: it.read_text() for it in files_of(crates, crate)}
+        written |= {own / f"{copies.get(it, it[1])}.antt": text for it, text in texts.items()}
+        written[own / "Lib.antt"] += "".join(f"pub mod {it}\n" for it in copies.values())
+        for path, text in written.items():
+            for (of, module), name in copies.items():
+                text = re.sub(rf"\bRattle\.{of}\.specs\.{module}(?!\w)", f"Rattle.{crate}.specs.{name}", text)
+            path.unlink(missing_ok=True)  # it may be a link
+            path.write_text(text)
+        done = subprocess.run([RT, "check", "--jobs", "1"], cwd=crates / crate, capture_output=True, text=True)
+    for path, line, says in ERROR.findall(done.stdout + done.stderr):
+        states = re.search(r"(?:expected type|checked against|where one has) `Unit", says)  # and proves what isn't asked for
+        if says.startswith("it is not") or ("Unit" in says and not states):
+            print(f"{path}:{line} misses a fact: {' '.join(says.split())[:120]}")
+    if "logic=" not in done.stdout:
+        raise SystemExit(f"nothing was checked: {(done.stdout + done.stderr)[-300:]}")
+    print("all is proved without them" if done.returncode == 0 else "not all is proved without them")
+
+
+if __name__ == "__main__":
+    given = argparse.ArgumentParser(description=__doc__.split(". ", maxsplit=1)[0])
+    given.add_argument("names", nargs="*", help="crates; with --try a crate, and facts as they are listed")
+    given.add_argument("--try", dest="tries", action="store_true", help="check the crate without these facts")
+    asked = given.parse_args()
+    if asked.tries:
+        try_without(asked.names[0], asked.names[1:])
+    else:
+        print(*Tree().unused(asked.names), sep="\n")

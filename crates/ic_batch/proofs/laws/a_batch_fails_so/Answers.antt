@@ -1,0 +1,34 @@
+use Rattle.std.proofs.Common.{inl, inr}
+use Rattle.ic_batch.proofs.laws.a_batch_fails_so.Goals as goal
+
+pub returns-clause-nothing : goal.returns-clause-nothing
+returns-clause-nothing g c jobs name is says = says
+
+pub returns-clause-full : goal.returns-clause-full
+returns-clause-full g c jobs says = says
+
+pub returns-clause-fails : goal.returns-clause-fails
+returns-clause-fails g c jobs fault says = says
+
+pub returns-clause-taken : goal.returns-clause-taken
+returns-clause-taken g c jobs t name is other = (other.before, other.new, other.after, other.job, other.among, other.first, other.named, other.there, other.differs)
+
+pub returns-clause-line : goal.returns-clause-line
+returns-clause-line g c text is stops = (stops.jobs, stops.command, stops.after, stops.read, stops.distinct, stops.few, stops.refused)
+
+pub returns-clause-never : goal.returns-clause-never
+returns-clause-never g c = (
+  λ fails. elim fails.comes [ inl same ↦ cc | inr never ↦ never ],
+  λ fails. elim fails.comes [ inl same ↦ cc | inr never ↦ never ],
+  λ fails. elim fails.comes [ inl same ↦ cc | inr never ↦ never ],
+  λ fails. elim fails.comes [ inl same ↦ cc | inr never ↦ never ],
+)
+
+pub returns-clause-device : goal.returns-clause-device
+returns-clause-device g c fails well = (fails.breaks well, fails.counted)
+
+pub returns-clause-worn : goal.returns-clause-worn
+returns-clause-worn g c fails well = fails.breaks well
+
+pub returns-clause-none : goal.returns-clause-none
+returns-clause-none g c jobs is = (is.same, is.counted, is.ready)

@@ -1,0 +1,11 @@
+use Rattle.std.proofs.Common.{◌≤◌}
+use Rattle.ic_workers.specs.inner.HandsOn.{Come}
+use Rattle.ic_workers.specs.inner.Keeping.{parts_at, IsDesk}
+use Rattle.ic_workers.proofs.desk.Desk.take_steps.Given as goal
+
+abbrev pub invariant-loop-step : goal.invariant-loop-step
+invariant-loop-step g l = record {
+  come : Come l.program (parts_at l.initial.self) (parts_at l.self);
+  desk : IsDesk l.program l.self;
+  within : l.self.made ≤ l.bounds.steps;
+}

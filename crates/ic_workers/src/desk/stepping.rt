@@ -1,0 +1,352 @@
+//! Steps of threads, and what is shared before them.
+
+ghost use Rattle.std.specs.Prelude.{◌≡◌, ℕ, ◌+◌, ◌*◌, ◌/◌, ◌^◌, ◌<◌, ◌≤◌, ◌++◌, [], Ok, length, map, max, IfOk, OnOk, IsPermutation};
+ghost use Rattle.std.specs.List.{AllByRecursion};
+ghost use Rattle.ic_in_place.specs.Stopping.{HasCome, IsSound};
+ghost use Rattle.ic_workers.specs.inner.HandsOn.{Come};
+ghost use Rattle.ic_workers.specs.inner.Keeping.{parts_at, parts_in_all, slots_at, AreAt, HandWorked, HandsWorked, IsDesk, IsIdle, IsReady};
+
+use super::{Desk, Due, MOST_PARTS};
+use crate::kept::Hand;
+use crate::laws::what_parts_come_to_is_reached;
+use crate::policy::Policy;
+use ic_flat::WideSystem;
+use ic_in_place::laws::a_run_that_goes_on_stops_by_the_bounds_of_all;
+use ic_in_place::{Bounds, Stopped, Watch, begin, no_counts, run_in_pieces, sum_by_rule};
+use ic_machine::Program;
+use ic_plans::{compile, first_plan};
+use std::alloc::{AllocError, Global};
+use std::thread::{self, Threads};
+
+/// Interactions for each worker without which no step is taken.
+const LEAST_LEFT: u64 = 1_000;
+
+/// Interactions that a worker may make in a step however near the bound of places is.
+const LEAST_NEAR: u64 = 4_096;
+
+/// Reduces a system by several threads until an end comes.
+pub fn run_by_workers<R: Threads + Sync, V: Watch>(
+    rt: &R,
+    alloc: Global,
+    system: &WideSystem,
+    policy: Policy,
+    bounds: Bounds,
+    watch: &V,
+) -> Result<Stopped, AllocError>
+    ensures { IfOk result (λ stopped. HasCome system.now bounds stopped.given.items
+        stopped.by_rule.items stopped.machine stopped.end stopped.places) }
+{
+    what_parts_come_to_is_reached();
+    a_run_that_goes_on_stops_by_the_bounds_of_all();
+    systems_are_sound(system);
+    let (program, numbers) = compile(alloc, system.rules())?;
+    let first = first_plan(alloc, system)?;
+    let machine = begin(alloc, system, &program, &first)?;
+    let mut desk = Desk::new(alloc, machine)?;
+    desk.run_in_parts(rt, alloc, &program, policy, bounds, watch)?;
+    let mut machine = desk.put_together(alloc)?;
+    let left = Bounds {
+        steps: bounds.steps.saturating_sub(machine.interactions()),
+        nodes: bounds.nodes,
+    };
+    let mut by_rule = no_counts(alloc, system.rules().rules().len())?;
+    let (end, places) = run_in_pieces(&mut machine, &program, left, watch);
+    sum_by_rule(&mut by_rule, &numbers, machine.fired());
+    Ok(Stopped {
+        machine,
+        given: first.given,
+        by_rule,
+        places,
+        end,
+    })
+}
+
+/// Systems keep what their rules and their configurations do.
+fn systems_are_sound(system: &WideSystem)
+    ensures { IsSound system.now }
+{
+    let nodes = system.config().nodes();
+    let symbols = system.rules().symbols().len();
+}
+
+impl Desk {
+    /// Divides the net into parts, and has threads run these, if there are several threads.
+    fn run_in_parts<R: Threads + Sync, V: Watch>(
+        &mut self,
+        rt: &R,
+        alloc: Global,
+        program: &Program,
+        policy: Policy,
+        bounds: Bounds,
+        watch: &V,
+    ) -> Result<(), AllocError>
+        requires desk { IsDesk program.now self.old }
+        requires within { self.old.made ≤ bounds.steps }
+        ensures come { OnOk result
+            (Come program.now (parts_at self.old) (parts_at self.new)) }
+        ensures desk { OnOk result (IsDesk program.now self.new) }
+        ensures within { OnOk result (self.new.made ≤ bounds.steps) }
+    {
+        if policy.workers <= 1 {
+            return Ok(());
+        }
+        self.divide(alloc, program, policy, bounds)?;
+        self.take_steps(rt, alloc, program, policy, bounds, watch)
+    }
+
+    /// Makes the first parts, in this thread.
+    fn divide(
+        &mut self,
+        alloc: Global,
+        program: &Program,
+        policy: Policy,
+        bounds: Bounds,
+    ) -> Result<(), AllocError>
+        requires desk { IsDesk program.now self.old }
+        requires within { self.old.made ≤ bounds.steps }
+        ensures come { OnOk result
+            (Come program.now (parts_at self.old) (parts_at self.new)) }
+        ensures desk { OnOk result (IsDesk program.now self.new) }
+        ensures within { OnOk result (self.new.made ≤ bounds.steps) }
+    {
+        let mut next = 0;
+        for _ in 0..policy.parts.saturating_mul(40) {
+            if self.parts.len() >= policy.parts.min(MOST_PARTS) {
+                return Ok(());
+            }
+            let Some(part) = self.next_due(next) else {
+                return Ok(());
+            };
+            let Some(room) = bounds.nodes.checked_sub(self.held()) else {
+                return Ok(());
+            };
+            next = part + 1;
+            let most = policy.early.max(self.made_by(part) / 4).max(1);
+            let steps = most.min(interactions_within(room, 1));
+            if steps > policy.budget || steps > bounds.steps - self.made {
+                return Ok(());
+            }
+            if self.pending(part) >= 3 {
+                let to = self.parts.len();
+                self.add(alloc, program)?;
+                self.share(alloc, part, to, policy)?;
+            }
+            self.run_alone(alloc, program, part, steps)?;
+        }
+        Ok(())
+    }
+
+    /// Runs a part in this thread.
+    fn run_alone(
+        &mut self,
+        alloc: Global,
+        program: &Program,
+        part: usize,
+        steps: u64,
+    ) -> Result<(), AllocError>
+        requires desk { IsDesk program.now self.old }
+        requires there { part < length self.old.parts.items }
+        requires few { self.old.made + steps < 2 ^ 64 }
+        ensures come { OnOk result
+            (Come program.now (parts_at self.old) (parts_at self.new)) }
+        ensures desk { OnOk result (IsDesk program.now self.new) }
+        ensures within { OnOk result (self.new.made ≤ self.old.made + steps) }
+        ensures len { OnOk result
+            (length self.new.parts.items ≡ length self.old.parts.items) }
+    {
+        let mut hand = Hand::new(alloc, steps);
+        self.put_in(&mut hand, part)?;
+        hand.work(alloc, program);
+        self.take_back(hand);
+        let mut parts = Vec::new(alloc);
+        parts.push(part)?;
+        self.meet(alloc, parts)
+    }
+
+    /// Shares until as many parts as workers have something to do, as far as there are pairs.
+    fn feed(&mut self, alloc: Global, program: &Program, policy: Policy) -> Result<(), AllocError>
+        requires desk { IsDesk program.now self.old }
+        ensures come { OnOk result
+            (Come program.now (parts_at self.old) (parts_at self.new)) }
+        ensures desk { OnOk result (IsDesk program.now self.new) }
+        ensures made { self.new.made ≡ self.old.made }
+    {
+        let mut due = self.due(alloc)?;
+        let mut tried = 0;
+        for _ in 0..4 * MOST_PARTS {
+            if due.len() >= policy.workers || tried >= due.len() {
+                return Ok(());
+            }
+            let part = due[tried].part;
+            if self.pending(part) < 2 {
+                tried += 1;
+            } else {
+                let Some(to) = self.spare(alloc, program, part)? else {
+                    return Ok(());
+                };
+                self.share(alloc, part, to, policy)?;
+                let last = u64::MAX;
+                due.push(Due { last, part: to })?;
+                tried = (tried + 1) % due.len();
+            }
+        }
+        Ok(())
+    }
+
+    /// Takes steps until nothing is left to do, or that brings too little. Before each of them it is seen whether all parts
+    /// together have more places and equations left than there may be.
+    fn take_steps<R: Threads + Sync, V: Watch>(
+        &mut self,
+        rt: &R,
+        alloc: Global,
+        program: &Program,
+        policy: Policy,
+        bounds: Bounds,
+        watch: &V,
+    ) -> Result<(), AllocError>
+        requires desk { IsDesk program.now self.old }
+        requires workers { 1 ≤ policy.workers }
+        requires within { self.old.made ≤ bounds.steps }
+        ensures come { OnOk result
+            (Come program.now (parts_at self.old) (parts_at self.new)) }
+        ensures desk { OnOk result (IsDesk program.now self.new) }
+        ensures within { OnOk result (self.new.made ≤ bounds.steps) }
+    {
+        let least = LEAST_LEFT.saturating_mul(policy.workers as u64);
+        let mut before = self.made;
+        for step in 1..1_000_000u64 {
+            let Some(room) = bounds.nodes.checked_sub(self.held()) else {
+                return Ok(());
+            };
+            self.feed(alloc, program, policy)?;
+            let due = self.due(alloc)?;
+            let left = bounds.steps - self.made;
+            if due.is_empty() || left < least || self.has_fault() {
+                return Ok(());
+            }
+            self.take_step(rt, alloc, program, policy, &due, left, room)?;
+            watch.saw(self.made, self.places());
+            if step % 32 == 0 {
+                if self.made.saturating_sub(before) < policy.least.saturating_mul(32) {
+                    return Ok(());
+                }
+                before = self.made;
+            }
+        }
+        Ok(())
+    }
+
+    /// Deals the parts that are due to hands, has threads run these, and hands on what was told. So many interactions are left,
+    /// and there is room for so many places and equations.
+    fn take_step<R: Threads + Sync>(
+        &mut self,
+        rt: &R,
+        alloc: Global,
+        program: &Program,
+        policy: Policy,
+        due: &[Due],
+        left: u64,
+        room: u64,
+    ) -> Result<(), AllocError>
+        requires desk { IsDesk program.now self.old }
+        requires workers { 1 ≤ policy.workers }
+        requires some { 1 ≤ length due.now }
+        requires there { AllByRecursion (λ d. d.part < length self.old.parts.items) due.now }
+        requires few { self.old.made + left < 2 ^ 64 }
+        ensures come { OnOk result
+            (Come program.now (parts_at self.old) (parts_at self.new)) }
+        ensures desk { OnOk result (IsDesk program.now self.new) }
+        ensures within { OnOk result (self.new.made ≤ self.old.made + left) }
+    {
+        let count = policy.workers.min(due.len());
+        let most = policy
+            .interactions_after(self.made, due.len())
+            .min(interactions_within(room, count));
+        let budget = most.min(left / (count as u64).max(1));
+        let mut hands = empty_hands(alloc, count, budget)?;
+        self.deal(due, &mut hands)?;
+        run_hands(rt, alloc, program, &mut hands);
+        self.take_all_back(hands);
+        let parts = parts_of_due(alloc, due)?;
+        self.meet(alloc, parts)
+    }
+
+    /// Deals the parts that are due to hands, there and back.
+    fn deal(&mut self, due: &[Due], hands: &mut [Hand]) -> Result<(), AllocError>
+        requires some { 1 ≤ length hands.old }
+        requires there { AllByRecursion (λ d. d.part < length self.old.parts.items) due.now }
+        ensures moved { OnOk result (IsPermutation (parts_in_all hands.new ++ parts_at self.new)
+            (parts_in_all hands.old ++ parts_at self.old)) }
+        ensures idle { (budget : ℕ) → AllByRecursion (IsIdle budget) hands.old
+            → AllByRecursion (IsIdle budget) hands.new }
+        ensures slots { AreAt 0 (slots_at self.old) → AreAt 0 (slots_at self.new) }
+        ensures len { length self.new.parts.items ≡ length self.old.parts.items }
+        ensures made { self.new.made ≡ self.old.made }
+    {
+        let count = hands.len();
+        for place in 0..due.len() {
+            let hand = hand_at(place, count);
+            self.put_in(&mut hands[hand], due[place].part)?;
+        }
+        Ok(())
+    }
+}
+
+/// How many interactions each of so many workers makes in a step at most, where there is room for so many places: all together
+/// make a quarter as many. So a net that grows passes the bound by little.
+fn interactions_within(room: u64, workers: usize) -> u64
+    ensures { result ≡ max (room / 4 / max workers 1) 4096 }
+{
+    (room / 4 / (workers as u64).max(1)).max(LEAST_NEAR)
+}
+
+/// Which of so many hands the part at this place is dealt to: from the first one to the last one, and back again.
+fn hand_at(place: usize, count: usize) -> usize
+    requires { 1 ≤ count }
+    ensures { result < count }
+{
+    let round = place % count;
+    if place / count % 2 == 0 {
+        round
+    } else {
+        count - 1 - round
+    }
+}
+
+/// So many hands with nothing in them.
+fn empty_hands(alloc: Global, count: usize, budget: u64) -> Result<Vec<Hand>, AllocError>
+    ensures len { IfOk result (λ hands. length hands.items ≡ count) }
+    ensures none { IfOk result (λ hands. parts_in_all hands.items ≡ []) }
+    ensures idle { IfOk result (λ hands. AllByRecursion (IsIdle budget) hands.items) }
+{
+    let mut hands = Vec::new(alloc);
+    for _ in 0..count {
+        hands.push(Hand::new(alloc, budget))?;
+    }
+    Ok(hands)
+}
+
+/// Has threads run what is in hands, as many threads as there are hands.
+fn run_hands<R: Threads + Sync>(rt: &R, alloc: Global, program: &Program, hands: &mut [Hand])
+    requires some { 1 ≤ length hands.old }
+    requires ready { AllByRecursion (IsReady program.now) hands.old }
+    ensures { HandsWorked program.now hands.old hands.new }
+{
+    let count = hands.len();
+    thread::for_each_mut(
+        rt,
+        hands,
+        count,
+        &move |_place: usize, hand: &mut Hand|
+            requires { IsReady program.now hand.now }
+            ensures { HandWorked program.entry.now hand.entry.now hand.exit.now }
+        { hand.work(alloc, program) },
+    );
+}
+
+/// The parts that are due.
+fn parts_of_due(alloc: Global, due: &[Due]) -> Result<Vec<usize>, AllocError>
+    ensures { IfOk result (λ parts. parts.items ≡ map (λ d. d.part) due.now) }
+{
+    due.iter().map(|one| one.part).collect(alloc)
+}

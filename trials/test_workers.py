@@ -1,0 +1,218 @@
+"""The word `reduce --workers W`: one text and one count for any number of workers, over drawn systems and over systems that are
+cut into parts, and what threads do. So many systems are drawn as the variable SYSTEMS says, of 400 if it isn't set."""
+
+import os
+
+import draws
+import model
+import nets
+from known import ADD
+from program import IN_MEMORY, Trial, run
+from shim import noted, shimmed
+from test_in_place import DOUBLES, PIECE, PILES, REACHED, name_steps_of, stats_of
+
+SYSTEMS = int(os.environ.get("SYSTEMS") or 400)
+
+WORKERS = (2, 3, 7, 64)
+
+PATIENT = 2_000
+
+# How many places and equations an interaction adds at most, of the nets here that grow.
+GROWS = 8
+
+FIB = (
+    "{Add(x,x)><Z;Add(S(x),y)><S(Add(x,y));Dup(Z,Z)><Z;Dup(S(x),S(y))><S(Dup(x,y));"
+    "F(Z)><Z;F(r)><S(G(r));G(S(Z))><Z;G(r)><S(Dup(G(Add(r,u)),F(u)))}"
+)
+
+
+def rules_of(text):
+    return model.read_system(text.encode())[0]
+
+
+def numeral(number):
+    return "S(" * number + "Z" + ")" * number
+
+
+class Workers(Trial):
+    rooms = IN_MEMORY
+    seconds = 20
+
+    def ends_alike(self, text):
+        """A text has one net, one count of interactions and of name steps by any number of workers, and the same line if no
+        equation is left."""
+        rules = rules_of(text)
+        alone = run("reduce", "--workers", 1, "--stats", given=text)
+        told = stats_of(alone.err)
+        form = nets.form_of(rules, alone.out)
+        for workers in WORKERS:
+            ran = run("reduce", "--stats", "--workers", workers, given=text)
+            self.equals(ran.command, "status and net", (alone.status, form), (ran.status, nets.form_of(rules, ran.out)))
+            if alone.out.endswith(b"|>\n"):
+                self.equals(ran.command, "answer", alone.out, ran.out)
+            made, _, rest = stats_of(ran.err)
+            self.equals(ran.command, "interactions", told[0], made)
+            self.equals(ran.command, "whether a pair is stuck", bool(told[2]), bool(rest))
+            self.equals(ran.command, "name steps", name_steps_of(alone.err), name_steps_of(ran.err))
+        return told[0]
+
+    def is_cut(self, text, made):
+        """With a bound it ends after as many interactions, and what is printed goes on to the same net."""
+        rules = text[: text.index("}") + 1]
+        whole = nets.form_of(rules_of(text), run("reduce", "--workers", 1, given=text).out)
+        for workers in WORKERS:
+            for most in (0, 1, made // 2, made - 1):
+                cut = run("reduce", "--stats", "--steps", most, "--workers", workers, given=text)
+                told = (5, most, b"icserve: not done\n")
+                self.equals(cut.command, "status and what is told", told, (cut.status, *stats_of(cut.err)[::2]))
+                rest = run("reduce", "--workers", 1, given=rules.encode() + cut.out)
+                self.equals(rest.command, "the same net", whole, nets.form_of(rules_of(text), rest.out))
+
+    def test_drawn_systems(self):
+        drawn = self.draws()
+        for _ in range(max(1, SYSTEMS)):
+            rules, config = draws.system(drawn, drawn.choice([1, 2, 3, 5]), drawn.choice([2, 3, 4]))
+            if nets.Reduction(rules, config, drawn).run(PATIENT):
+                self.ends_alike(draws.system_text(rules, config))
+
+    def test_systems_with_many_active_pairs(self):
+        drawn = self.draws()
+        for _ in range(max(1, SYSTEMS)):
+            symbols = draws.symbols(drawn, drawn.randint(2, 6), drawn.choice([1, 2, 3]))
+            rules = draws.rules(drawn, symbols, drawn.randint(1, 12), size=drawn.choice([1, 2, 3]))
+            config = draws.configuration(drawn, rules, drawn.randrange(5), drawn.randint(1, 200), drawn.choice([2, 4, 6]), active=1.0)
+            if nets.Reduction(rules, config, drawn).run(PATIENT * 10):
+                self.ends_alike(draws.system_text(rules, config))
+
+    def test_systems_that_are_cut_into_parts(self):
+        for text in (f"{FIB}<r|F(r)={numeral(21)}>", f"{FIB}<r,s|F(r)={numeral(14)},F(s)={numeral(15)},Add(t,r1)=Z,t=r1>"):
+            made = self.ends_alike(text)
+            if "," not in text[text.index("<") : text.index("|")]:
+                self.is_cut(text, made)
+
+    def test_one_pair_among_many_that_wait(self):
+        """One worker has something to do, and the equations of the others wait for names that only it has."""
+        waiting = ",".join(f"Add(a{it + 2},S(Z))=a{it + 1}" for it in range(1_200))
+        made = self.ends_alike(f"{ADD} <a1201|a1=S(Z),{waiting}>")
+        self.equals("a chain of 1,200 sums", "interactions", 1_200 * 1_203 // 2, made)
+
+    def test_equations_that_all_wait_for_names_of_one_part(self):
+        """One pair gives each of 600 sums what it waits for, one after the other."""
+        rules = f"{ADD[:-1]};C(S(Z),M(m))><M(m);E><M(Z)}}"
+        names = range(1, 601)
+        given, results = ("".join(f"{agent}({name}{it}," for it in names) + "E" + ")" * len(names) for agent, name in ("Cn", "Kr"))
+        sums = ",".join(f"Add(r{it},S(Z))=n{it}" for it in names)
+        made = self.ends_alike(f"{rules} <w,{results}|{given}=M(w),{sums}>")
+        self.equals("600 sums that wait", "interactions", 1_801, made)
+
+    def test_one_pair_in_a_net_of_a_million(self):
+        text = f"{ADD} <r,t|Add(r,S(Z))=S(Z),t={numeral(1_000_000)}>"
+        wanted = f"<S(S(Z)),{numeral(1_000_000)}|>\n".encode()
+        for workers in (1, *WORKERS):
+            ran = run("reduce", "--stats", "--workers", workers, given=text)
+            self.equals(f"{workers} workers", "status, answer and interactions", (0, wanted, 2), (ran.status, ran.out, stats_of(ran.err)[0]))
+
+    def test_a_net_without_pairs(self):
+        for config in ("<|>", "<x|>", "<x,x|>", "<r|r=Z>", "<|x=Add(x,Z)>"):
+            self.ends_alike(f"{ADD} {config}")
+
+    def test_words_that_are_refused(self):
+        for number in ("0", "65", "-1", "two", ""):
+            self.equals("reduce", "status", 2, run("reduce", "--workers", number, given="{} <|>").status)
+        for other in (["--keep", "F"], ["--resume", "F"]):
+            self.equals("reduce", "status", 2, run("reduce", "--workers", "2", *other, given="{} <|>").status)
+
+
+class Threads(Trial):
+    """What is made and asked for by the threads of a reduction, as the shim sees it."""
+
+    rooms = IN_MEMORY
+    text = f"{FIB}<r|F(r)={numeral(22)}>"
+
+    def setUp(self):
+        super().setUp()
+        self.log = self.room / "log"
+
+    def reduced(self, workers, call, **more):
+        words = ("--workers", workers) if workers else ()
+        return run("reduce", *words, given=self.text, env={**shimmed(call, self.log), **more})
+
+    def at_once(self):
+        """The most threads that have begun and weren't joined yet, and how many had begun before the first of them."""
+        now = most = begun = before = 0
+        for it in noted(self.log):
+            begun += it.kind == "B"
+            now += (it.kind == "B") - (it.kind == "J")
+            if now > most:
+                most, before = now, begun - now
+        return most, before
+
+    def test_no_thread_is_made_for_one_worker_or_where_no_number_is_said(self):
+        for workers in (None, 1, 2, 7, 64):
+            self.reduced(workers, f"thread {10**9} once")
+            threads = next(it.at for it in noted(self.log) if it.kind == "C")
+            self.equals(f"{workers} workers", "whether threads are made", (workers or 1) > 1, threads > 0)
+
+    def test_several_threads_are_at_work_at_once(self):
+        """Each thread of a step waits at its end until all of them have begun. The thread that asks makes a share itself."""
+        for workers in (2, 4, 7):
+            self.reduced(workers, f"thread {10**9} once")
+            most, before = self.at_once()
+            self.equals(f"{workers} workers", "threads beside the first", workers - 1, most)
+            ran = self.reduced(workers, f"thread {10**9} once", SHIM_GATE=f"{before} {most}")
+            self.equals(f"{workers} workers", "status", 0, ran.status)
+            gates = [it.kind for it in noted(self.log) if it.kind in "GL"]
+            self.equals(f"{workers} workers", "whether each ended after all had begun", ["G"] * (workers - 1), gates)
+
+    def test_a_thread_that_cannot_be_made_changes_nothing(self):
+        wanted = run("reduce", "--workers", 1, given=self.text)
+        for call in ("thread 1 on", "thread 1 once", "thread 2 once", "thread 5 on"):
+            ran = self.reduced(4, call)
+            self.equals(call, "status and answer", (0, wanted.out, b""), (ran.status, ran.out, ran.err))
+
+    def test_drawn_growths_are_refused(self):
+        """The answer is there, or memory has run out. Where one growth is refused while several threads are at work, or what
+        they have is handed on, it is there: one thread goes on, or reduces the net from its beginning."""
+        drawn, wanted = self.draws(), run("reduce", "--workers", 1, given=self.text)
+        self.reduced(3, f"growth {10**9} once")
+        growths = next(it.at for it in noted(self.log) if it.kind == "C")
+        among = 0
+        for number in sorted(drawn.sample(range(1, growths + 1), min(growths, 200))):
+            how = drawn.choice(("once", "on"))
+            ran = self.reduced(3, f"growth {number} {how}")
+            kinds = "".join(it.kind for it in noted(self.log))
+            before, _, after = kinds.partition("E")
+            is_among = how == "once" and "B" in before and "B" in after
+            among += is_among
+            if is_among or ran.status == 0:
+                self.equals(f"growth {number} {how}", "status and answer", (0, wanted.out), (ran.status, ran.out))
+            else:
+                self.equals(f"growth {number} {how}", "status and standard output", (4, b""), (ran.status, ran.out))
+        self.equals("drawn growths", "whether some were refused between the first thread and the last one", True, among > 0)
+
+
+class Sizes(Trial):
+    """What ends a reduction by several threads, and how soon."""
+
+    rooms = IN_MEMORY
+    seconds = 20
+
+    def test_a_net_that_grows_without_end_is_overgrown(self):
+        """By equations that are left, or by places. All parts together are held against the bound, so the net passes it by what
+        some steps bring."""
+        for text in (PILES, DOUBLES):
+            for workers in (2, 4):
+                for most in (20_000, 100_000, 1_000_000):
+                    ran = run("reduce", "--workers", workers, "--nodes", most, given=text, seconds=30)
+                    self.equals(ran.command, "status, answer and what is told", (1, b"", b"icserve: overgrown\n"), (ran.status, ran.out, ran.err))
+                    reached = REACHED.match(ran.after)
+                    self.equals(ran.command, "what is told of the net", True, reached is not None and int(reached[4]) == most)
+                    held = int(reached[2]) + int(reached[3])
+                    within = most < held < 2 * most + workers * PIECE * GROWS
+                    self.equals(ran.command, f"whether {held} places and equations are near the bound", True, within)
+
+    def test_a_net_with_one_pair_at_a_time_is_left_to_one_thread(self):
+        text = f"{ADD} <r|Add(r,S(Z))={numeral(3_000_000)}>"
+        alone, several = (run("reduce", "--stats", "--workers", it, given=text, seconds=60) for it in (1, 4))
+        self.equals(several.command, "status, answer and interactions", (0, 3_000_001), (several.status, stats_of(several.err)[0]))
+        self.equals(several.command, "whether the answer is that of one thread", True, several.out == alone.out)
