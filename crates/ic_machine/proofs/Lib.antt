@@ -34,3 +34,5 @@ pub mod Packing
 pub mod Parcels
 pub mod Agents
 pub mod Opening
+pub mod Waiting
+pub mod ByHand

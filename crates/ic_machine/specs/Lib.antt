@@ -6,5 +6,6 @@ pub mod Runs
 pub mod Held
 pub mod Rooms
 pub mod Moving
+pub mod Worked
 pub mod lemmas
 pub mod inner

@@ -1,19 +1,25 @@
 //! Laws of steps.
 
-ghost use Rattle.std.specs.Prelude.{◌≡◌, ◌≢◌, ◌⊎◌, ◌+◌, ◌++◌, ◌<◌, ◌≤◌, ℕ, List, Contains, length, map, sum, sum_by};
+ghost use Rattle.std.specs.Prelude.{◌≡◌, ◌≢◌, ◌⊎◌, ◌+◌, ◌++◌, ◌<◌, ◌≤◌, ℕ, List, [], false, Ok, Contains, length, map, sum, sum_by};
 ghost use Rattle.std.specs.List.{AllByRecursion};
 ghost use Rattle.ic_arena.specs.declared.word.Word.{Word};
-ghost use Rattle.ic_arena.specs.Piece.{Piece};
-ghost use Rattle.ic_machine.specs.Moving.{times};
+ghost use Rattle.ic_arena.specs.Word.{name_word};
+ghost use Rattle.ic_arena.specs.Piece.{Piece, waits};
+ghost use Rattle.ic_machine.specs.declared.telling.Told.{Told as AnyTold};
+ghost use Rattle.ic_machine.specs.Moving.{Ends, side_of, spells_cut, times, worth, AreBordered, IsTold, KeepWorth, NothingWaits, Ships};
 ghost use Rattle.ic_machine.specs.Net.{Net, all_places, equations_in, equations_left, in_use, pieces, places_of, IsAtPlace, IsPair};
 ghost use Rattle.ic_machine.specs.Plan.{Planned, Plans, ArePlans, links_made_by, places_made_by};
 ghost use Rattle.ic_machine.specs.Runs.{Ran, Starts};
 ghost use Rattle.ic_machine.specs.Rooms.{ROOMS, pieces_in, IsOutside};
 ghost use Rattle.ic_machine.specs.Separate.{IsSeparate};
 ghost use Rattle.ic_machine.specs.Steps.{Steps};
+ghost use Rattle.ic_machine.specs.Worked.{arities_by_hand, closed_by_hand, closed_words, cut_by_hand, empty_by_hand, ends_after, ends_before, open_by_hand, open_words};
 
 use crate::borders::Borders;
 use crate::machine::Machine;
+use crate::moving::Parcel;
+use crate::telling::Told;
+use std::alloc::AllocError;
 
 /// What is separate stays separate over steps, whatever pairs they fire and in whatever order.
 pub fn steps_keep_places_apart()
@@ -92,3 +98,53 @@ pub fn what_borders_hold(borders: &Borders)
 {
     borders.are_once();
 }
+
+/// Of each cut a machine can tell that a word waits for its end there, or nothing waits for it. As long as it has one end of
+/// the cut at most, it is never both. What was shipped could be told.
+pub fn a_word_waits_for_a_cut_or_nothing_does()
+    ensures is_so { (n : Net) (b : Ends) (t : AnyTold) → IsTold n b t → (name : ℕ) × (word : Word)
+        × Contains b.ends (record { cut = t.cut; name = name })
+        × Contains n.places (waits (name_word name) word) }
+    ensures tells { (n : Net) (b : Ends) (t : AnyTold) (name : ℕ) (word : Word)
+        → Contains b.ends (record { cut = t.cut; name = name })
+        → Contains n.places (waits (name_word name) word) → IsTold n b t }
+    ensures either { (n : Net) (b : Ends) (t : AnyTold)
+        → IsTold n b t ⊎ NothingWaits t.cut (side_of n b) }
+    ensures never_both { (n : Net) (b : Ends) (t : AnyTold)
+        → times t.cut (map (λ e. e.cut) b.ends) ≤ 1 → IsTold n b t
+        → ¬ NothingWaits t.cut (side_of n b) }
+    ensures shipped { (n m : Net) (b d : Ends) (cut size : ℕ) (before after : List Word)
+        → Ships n.arities cut (side_of n b) (side_of m d) before after
+        → IsTold n b (record { cut = cut; size = size }) }
+{}
+
+/// What a machine tells of a border is shipped if that is asked for, as long as memory lasts: it isn't answered that no word
+/// waits.
+pub fn what_is_told_is_shipped(
+    machine: &mut Machine,
+    told: Told,
+    borders: &mut Borders,
+    parcel: &mut Parcel,
+) -> Result<bool, AllocError>
+    requires told { IsTold machine.old borders.old told }
+    requires bordered { AreBordered machine.old borders.old }
+    requires numbers { (c : ℕ) → worth c borders.old
+        + spells_cut c parcel.old.words.items ≤ 2 }
+    ensures { result ≢ Ok false }
+{
+    what_borders_hold(borders);
+    machine.ship(told.cut, borders, parcel)
+}
+
+/// What is shipped, by two machines that are written by hand. In one of them `S(S(Z))` waits for the end of a cut, and nothing
+/// is left. In the other one `S(t)` does, and nothing waits for `t`. It becomes the end of a cut, whose number was spare.
+pub fn what_is_shipped_by_hand()
+    ensures whole { Ships arities_by_hand 7 closed_by_hand empty_by_hand [] closed_words }
+    ensures cut { Ships arities_by_hand 7 open_by_hand cut_by_hand [] open_words }
+    ensures waits { (¬ NothingWaits 7 open_by_hand) × NothingWaits 9 open_by_hand
+        × NothingWaits 9 cut_by_hand }
+    ensures before { (worth 7 ends_before ≡ 1) × (worth 9 ends_before ≡ 2) }
+    ensures after { (worth 7 ends_after ≡ 0) × (worth 9 ends_after ≡ 1) }
+    ensures spelled { (spells_cut 7 open_words ≡ 1) × (spells_cut 9 open_words ≡ 1) }
+    ensures worth { KeepWorth ends_before ends_after [] open_words }
+{}
