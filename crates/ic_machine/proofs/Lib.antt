@@ -30,6 +30,7 @@ pub mod TablesOnce
 pub mod EndsOnce
 pub mod BordersOnce
 pub mod UnpackedNet
+pub mod Grown
 pub mod Packing
 pub mod Parcels
 pub mod Agents

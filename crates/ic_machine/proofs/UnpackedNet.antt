@@ -1,5 +1,5 @@
 -- Lemmas: the net of a machine into which words were unpacked.
-use Rattle.std.proofs.Common.{◌≡◌, ℕ, ◌*◌, ◌^◌, ◌<◌, List, [], ◌++◌, length, map, reverse, take, cond, refl, ap, sym, subst, ◌∙◌, arith}
+use Rattle.std.proofs.Common.{◌≡◌, ℕ, ◌*◌, ◌^◌, ◌<◌, List, [], ◌++◌, length, map, max, reverse, take, cond, refl, ap, sym, subst, ◌∙◌, arith}
 use Rattle.std.specs.List.{AllByRecursion}
 use Rattle.std.proofs.lemmas.List.{length-reverse}
 use Rattle.std.proofs.lemmas.List.Sums.{sum_by-append}
@@ -12,7 +12,7 @@ use Rattle.ic_machine.specs.declared.equation.Equation.{Equation}
 use Rattle.ic_machine.specs.declared.machine.Machine.TheInside.{Inside}
 use Rattle.ic_machine.specs.declared.tables.Tables.{Tables}
 use Rattle.ic_machine.specs.Moving.{end_word, side_of, sides_of, AreSpelled, Ends, Spells, Unpacks}
-use Rattle.ic_machine.specs.Net.{equated_of, pieces, IsPair}
+use Rattle.ic_machine.specs.Net.{equated_of, in_use, pieces, places_of, IsPair}
 use Rattle.ic_machine.specs.Plan.{constants, Plans}
 use Rattle.ic_machine.specs.Separate.{IsSeparate}
 use Rattle.ic_machine.specs.Steps.{Steps}
@@ -21,6 +21,7 @@ use Rattle.ic_machine.specs.inner.Machine.{net_of, IsSound}
 use Rattle.ic_machine.specs.inner.Moving.{side_in}
 use Rattle.ic_machine.specs.inner.Unpacking.{pairs_on, AreKept}
 use Rattle.ic_machine.specs.lemmas.Balance.{equations_room}
+use Rattle.ic_machine.proofs.Grown.{net_symbols}
 use Rattle.ic_machine.proofs.Heaps.{as_many}
 use Rattle.ic_machine.proofs.LinkPairs.{all_linked, sides_pairs, stack_equated}
 use Rattle.ic_machine.proofs.Sweeps.{swept_separate}
@@ -93,8 +94,9 @@ module _ (m : Inside) (t t' : Tables) (b b' : Ends) (ws words : List Word)
   -- words that came from elsewhere
   pub put_unpacked : AreSpelled (arities_of m.tables.heaps.items) words
       → Spells (arities_of m.tables.heaps.items) (side_in t b') (side_of (net_of m) b) (reverse ws) words
+      → ((kind : ℕ) → places_of kind (net_of (record m { tables = t' })) ≡ max (places_of kind (net_of m)) (in_use kind put))
       → Unpacks words (net_of m) (net_of (record m { tables = t' })) b b'
-  put_unpacked spelled spells =
+  put_unpacked spelled spells room =
       let a : List ℕ = arities_of m.tables.heaps.items in
       let trees = spells_count a (side_in t b') (side_of (net_of m) b) (reverse ws) words spells in
       let others = spells_count a spelled.full spelled.rest (sides_of spelled.equations) words spelled.spells in
@@ -108,6 +110,8 @@ module _ (m : Inside) (t t' : Tables) (b b' : Ends) (ws words : List Word)
         spells = subst (λ (l : List Word). Spells a (side_in t b') (side_of (net_of m) b) l words) (sym sides) spells;
         once = λ w. tables_told w t.names.entries t.heaps.items;
         linked = put_linked;
+        room = room;
+        symbols = net_symbols m t' (ap arities_of heaps ∙ known);
         arities = ap arities_of heaps ∙ known;
         interface = refl;
         interactions = refl;

@@ -1,6 +1,6 @@
 -- What moves from one machine to another: trees that hang below words, spelled in prefix order. A name that two machines have,
 -- once each, is a cut. It has a number, and in each of both an end.
-use Rattle.std.specs.Prelude.{◌≡◌, ◌⊎◌, ℕ, ◌+◌, ◌-◌, ◌*◌, ◌%◌, ◌==◌, ◌&&◌, ◌≤◌, List, [], ◌∷◌, ◌++◌, true, length, map, count_by, sum_by, nat_le, if◌then◌else◌, Contains, IsPermutation}
+use Rattle.std.specs.Prelude.{◌≡◌, ◌⊎◌, ℕ, ◌+◌, ◌-◌, ◌*◌, ◌%◌, ◌==◌, ◌&&◌, ◌≤◌, List, [], ◌∷◌, ◌++◌, true, length, map, max, count_by, sum_by, nat_le, if◌then◌else◌, Contains, IsPermutation}
 use Rattle.std.specs.List.{flat_map}
 use Rattle.ic_arena.specs.declared.word.Word.{Word}
 use Rattle.ic_arena.specs.declared.word.TheConstants.{NAME}
@@ -9,7 +9,7 @@ use Rattle.ic_arena.specs.Piece.{Piece, equated, idle, waits, agent_of, room}
 use Rattle.ic_machine.specs.declared.equation.Equation.{Equation}
 use Rattle.ic_machine.specs.declared.telling.Told.{Told}
 use Rattle.ic_machine.specs.Held.{IsTagOf}
-use Rattle.ic_machine.specs.Net.{Net, equated_of, pieces}
+use Rattle.ic_machine.specs.Net.{Net, equated_of, in_use, pieces, places_of}
 use Rattle.ic_machine.specs.Plan.{Plans}
 use Rattle.ic_machine.specs.Separate.{is_constant_tag, IsSeparate}
 use Rattle.ic_machine.specs.Steps.{Steps}
@@ -178,7 +178,8 @@ tells w (idle x) = if word_eq w x then 1 else 0
 tells w (waits x u) = if word_eq w x then 1 else 0
 tells w (agent_of a ws) = if word_eq w a then 1 else 0
 
--- Equations whose sides were spelled were put in, each place once, and linked.
+-- Equations whose sides were spelled were put in, each place once, and linked. Of each kind there are as many places as before,
+-- or as were in use by then.
 pub record Unpacks (words : List Word) (old new : Net) (before after : Ends) : Type 0 where
   pub equations : List Equation
   pub places : List Piece
@@ -188,6 +189,8 @@ pub record Unpacks (words : List Word) (old new : Net) (before after : Ends) : T
   pub linked : (p : Plans) → Steps p []
       (map equated_of equations
       ++ (map equated_of old.pending ++ (map equated_of old.aside ++ places))) (pieces new)
+  pub room : (kind : ℕ) → places_of kind new ≡ max (places_of kind old) (in_use kind places)
+  pub symbols : length new.agents ≡ length old.agents
   pub arities : new.arities ≡ old.arities
   pub interface : new.interface ≡ old.interface
   pub interactions : new.interactions ≡ old.interactions

@@ -6,7 +6,7 @@ ghost use Rattle.ic_arena.specs.declared.word.Word.{Word};
 ghost use Rattle.ic_arena.specs.Word.{name_word};
 ghost use Rattle.ic_arena.specs.Piece.{Piece, waits};
 ghost use Rattle.ic_machine.specs.declared.telling.Told.{Told as AnyTold};
-ghost use Rattle.ic_machine.specs.Moving.{Ends, side_of, spells_cut, times, worth, AreBordered, IsTold, KeepWorth, NothingWaits, Ships};
+ghost use Rattle.ic_machine.specs.Moving.{Ends, side_of, spells_cut, times, worth, AreBordered, IsTold, KeepWorth, NothingWaits, Ships, Unpacks};
 ghost use Rattle.ic_machine.specs.Net.{Net, all_places, equations_in, equations_left, in_use, pieces, places_of, IsAtPlace, IsPair};
 ghost use Rattle.ic_machine.specs.Plan.{Planned, Plans, ArePlans, links_made_by, places_made_by};
 ghost use Rattle.ic_machine.specs.Runs.{Ran, Starts};
@@ -81,12 +81,14 @@ pub fn steps_of_one_machine_are_steps_of_all()
         → IsOutside arities k (pieces_in arities l ps) }
 {}
 
-/// No side of an equation that a machine has pending or aside is a name, and no equation is at a
-/// place.
+/// No side of an equation that a machine has pending or aside is a name, and no equation is at a place. It has a table for
+/// each symbol. Of each kind it has as many places as are in use, or more.
 pub fn what_a_machine_holds(machine: &Machine)
     ensures pairs { AllByRecursion IsPair machine.now.pending }
     ensures aside { AllByRecursion IsPair machine.now.aside }
     ensures places { AllByRecursion IsAtPlace machine.now.places }
+    ensures symbols { length machine.now.agents ≡ length machine.now.arities }
+    ensures room { (kind : ℕ) → in_use kind machine.now.places ≤ places_of kind machine.now }
 {
     let _tables = &machine.tables;
 }
@@ -116,6 +118,20 @@ pub fn a_word_waits_for_a_cut_or_nothing_does()
     ensures shipped { (n m : Net) (b d : Ends) (cut size : ℕ) (before after : List Word)
         → Ships n.arities cut (side_of n b) (side_of m d) before after
         → IsTold n b (record { cut = cut; size = size }) }
+{}
+
+/// What is put into a machine takes free places first. Of each kind there are as many places as before, or as were in use when
+/// all was there and nothing was linked yet.
+pub fn what_is_unpacked_takes_free_places_first()
+    ensures kept { (words : List Word) (old new : Net) (before after : Ends) (kind : ℕ)
+        → Unpacks words old new before after → places_of kind old ≤ places_of kind new }
+    ensures enough { (words : List Word) (old new : Net) (before after : Ends) (kind : ℕ)
+        → (is : Unpacks words old new before after) → in_use kind is.places ≤ places_of kind new }
+    ensures no_more { (words : List Word) (old new : Net) (before after : Ends) (kind : ℕ)
+        → (is : Unpacks words old new before after) → (places_of kind new ≡ places_of kind old)
+        ⊎ (in_use kind is.places ≡ places_of kind new) }
+    ensures symbols { (words : List Word) (old new : Net) (before after : Ends)
+        → Unpacks words old new before after → length new.agents ≡ length old.agents }
 {}
 
 /// What a machine tells of a border is shipped if that is asked for, as long as memory lasts: it isn't answered that no word

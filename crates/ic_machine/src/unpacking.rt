@@ -1,22 +1,22 @@
 //! Equations that came from other machines, put into a machine with all that hangs below them.
 
-ghost use Rattle.std.specs.Prelude.{◌≡◌, ℕ, ◌^◌, ◌+◌, ◌-◌, ◌/◌, ◌<◌, ◌≤◌, List, [], ◌∷◌, ◌++◌, true, false, IfOk, OnErr, OnOk, length, map, reverse, sum_by, vec_len, vec_capacity};
+ghost use Rattle.std.specs.Prelude.{◌≡◌, ◌⊎◌, ℕ, ◌^◌, ◌+◌, ◌-◌, ◌/◌, ◌<◌, ◌≤◌, List, [], ◌∷◌, ◌++◌, true, false, Err, IfOk, OnErr, OnOk, length, map, max, reverse, sum_by, vec_len, vec_capacity};
 ghost use Rattle.std.specs.List.{AllByRecursion, range_with_len};
 ghost use Rattle.ic_arena.specs.declared.word.TheConstants.{GIVEN, IDLE};
 ghost use Rattle.ic_arena.specs.declared.word.Word.{Word as AnyWord};
 ghost use Rattle.ic_arena.specs.Word.{name_word};
 ghost use Rattle.ic_arena.specs.Piece.{Piece, room};
-ghost use Rattle.ic_arena.specs.Tables.{names_pieces};
+ghost use Rattle.ic_arena.specs.Tables.{blocks_pieces, names_pieces};
 ghost use Rattle.ic_machine.specs.Held.{IsTagOf};
 ghost use Rattle.ic_machine.specs.Moving.{end_word, spells_cut, times, worth, AreBordered, AreSpelled, KeepWorth, Side, Spells, Unpacks};
-ghost use Rattle.ic_machine.specs.Net.{equated_of, IsPair};
+ghost use Rattle.ic_machine.specs.Net.{equated_of, places_of, IsPair};
 ghost use Rattle.ic_machine.specs.Plan.{Plans};
 ghost use Rattle.ic_machine.specs.Separate.{is_constant_tag, IsSeparate};
 ghost use Rattle.ic_machine.specs.Steps.{Steps};
 ghost use Rattle.ic_machine.specs.inner.Firing.{heaps_pieces, arities_of};
 ghost use Rattle.ic_machine.specs.inner.Linking.{Pushed};
 ghost use Rattle.ic_machine.specs.inner.Moving.{side_in};
-ghost use Rattle.ic_machine.specs.inner.Unpacking.{pairs_on, AreEntered, AreKept, IsNext, MakesAgent, PutsAgent, UnpacksName};
+ghost use Rattle.ic_machine.specs.inner.Unpacking.{pairs_on, AreEntered, AreKept, BlocksGrow, HasFullBlocks, HasFullTable, IsNext, MakesAgent, NamesGrow, PutsAgent, TablesGrow, UnpacksName};
 
 use crate::borders::Borders;
 use crate::equation::Equation;
@@ -38,7 +38,7 @@ impl Machine {
     ) -> Result<(), MachineFault>
         requires bordered { AreBordered self.old borders.old }
         requires spelled { AreSpelled self.old.arities parcel.old.words.items }
-        // Where a growth is refused, or a table would be full, that is told, and nothing is said of
+        // Where a growth is refused, or a table would be full, that is told, and no more is said of
         // the net: it is dropped.
         ensures unpacks { OnOk result (Unpacks parcel.old.words.items
             self.old self.new borders.old borders.new) }
@@ -46,6 +46,10 @@ impl Machine {
         ensures pairs { OnOk result (AllByRecursion IsPair self.new.pending) }
         ensures worth { OnOk result (KeepWorth borders.old borders.new
             parcel.old.words.items []) }
+        // A full table is told only of one that has all the places that it may have, or if as many words came.
+        ensures limit { result ≡ Err MachineFault.Limit
+            → (2 ^ 32 ≤ length parcel.old.words.items + 1)
+            ⊎ ((kind : ℕ) × (2 ^ 32 ≤ places_of kind self.new + 1)) }
     {
         self.tables.spare = 0;
         let mut stack = Vec::new(alloc);
@@ -80,6 +84,9 @@ fn put_words(
     ensures words { AllByRecursion (λ w. w.tag < IDLE) stack.new.items }
     ensures few { length tables.new.names.entries < 2 ^ 32 }
     ensures arities { arities_of tables.new.heaps.items ≡ arities_of tables.old.heaps.items }
+    ensures grow { OnOk result (TablesGrow tables.old tables.new) }
+    ensures limit { result ≡ Err MachineFault.Limit
+        → (2 ^ 32 ≤ length words.now + 1) ⊎ HasFullTable tables.new }
     ensures same { (tables.new.pending ≡ tables.old.pending)
         × (tables.new.registers ≡ tables.old.registers) × (tables.new.spare ≡ tables.old.spare) }
 {
@@ -123,6 +130,8 @@ fn unpack_word(
     ensures len { length stack.new.items ≤ length stack.old.items + 1 }
     ensures few { length tables.new.names.entries < 2 ^ 32 }
     ensures arities { arities_of tables.new.heaps.items ≡ arities_of tables.old.heaps.items }
+    ensures grow { OnOk result (TablesGrow tables.old tables.new) }
+    ensures limit { result ≡ Err MachineFault.Limit → HasFullTable tables.new }
     ensures same { (tables.new.pending ≡ tables.old.pending)
         × (tables.new.registers ≡ tables.old.registers) × (tables.new.spare ≡ tables.old.spare) }
 {
@@ -148,6 +157,8 @@ fn unpack_name(names: &mut Names, cut: u32, borders: &mut Borders) -> Result<u32
         (map end_word borders.old.ends) (map end_word borders.new.ends)
         (names_pieces 0 names.old.entries) (names_pieces 0 names.new.entries)) }
     ensures few { length names.new.entries < 2 ^ 32 }
+    ensures grow { OnOk result (NamesGrow names.old.entries names.new.entries) }
+    ensures limit { result ≡ Err MachineFault.Limit → 2 ^ 32 ≤ length names.new.entries + 1 }
 {
     if let Some(name) = borders.name_of(cut) {
         borders.remove(cut, name);
@@ -187,6 +198,8 @@ fn unpack_agent(
     ensures words { AllByRecursion (λ w. w.tag < IDLE) stack.new.items }
     ensures len { length stack.new.items ≤ length stack.old.items + 1 }
     ensures arities { arities_of heaps.new.items ≡ arities_of heaps.old.items }
+    ensures grow { OnOk result (BlocksGrow heaps.old.items heaps.new.items) }
+    ensures limit { result ≡ Err MachineFault.Limit → HasFullBlocks heaps.new.items }
 {
     if heaps.len() < agent.tag as usize {
         push(stack, agent)?;
@@ -219,6 +232,9 @@ fn put_agent(
     ensures same { OnErr result ((stack.new.items ≡ stack.old.items)
         × (heap.new.count ≡ heap.old.count) × (heap.new.words ≡ heap.old.words)) }
     ensures arity { heap.new.arity ≡ heap.old.arity }
+    ensures count { OnOk result ((s : ℕ)
+        → heap.new.count ≡ max heap.old.count (length (blocks_pieces s heap.new))) }
+    ensures limit { result ≡ Err MachineFault.Limit → 2 ^ 32 ≤ heap.new.count + 1 }
 {
     let arity = heap.arity() as usize;
     if heap.count() as usize >= MAX_ENTRIES {

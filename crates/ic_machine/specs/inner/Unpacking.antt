@@ -1,5 +1,5 @@
 -- For private functions: what unpacking does to tables.
-use Rattle.std.specs.Prelude.{◌≡◌, ℕ, ◌+◌, ◌-◌, ◌==◌, ◌<◌, ◌≤◌, List, [], ◌∷◌, ◌++◌, false, length, reverse, slice_index_or, sum_by, IsPermutation, if◌then◌else◌}
+use Rattle.std.specs.Prelude.{◌≡◌, ℕ, ◌+◌, ◌-◌, ◌^◌, ◌==◌, ◌<◌, ◌≤◌, List, [], ◌∷◌, ◌++◌, false, length, max, reverse, slice_index_or, sum_by, IsPermutation, if◌then◌else◌}
 use Rattle.std.specs.List.{AllByRecursion}
 use Rattle.ic_arena.specs.declared.word.Word.{Word}
 use Rattle.ic_arena.specs.declared.word.TheConstants.{IDLE, NAME}
@@ -7,9 +7,14 @@ use Rattle.ic_arena.specs.Word.{agent_word, count, name_word}
 use Rattle.ic_arena.specs.Piece.{Piece, agent_of, idle, room, uses}
 use Rattle.ic_arena.specs.Tables.{Blocks, Replaced, blocks_pieces, names_pieces}
 use Rattle.ic_machine.specs.declared.equation.Equation.{Equation}
+use Rattle.ic_machine.specs.declared.tables.Tables.{Tables}
 use Rattle.ic_machine.specs.Held.{IsTagOf}
 use Rattle.ic_machine.specs.Moving.{CutEnd, end_word}
+use Rattle.ic_machine.specs.Net.{in_use}
 use Rattle.ic_machine.specs.Separate.{is_constant_tag}
+use Rattle.ic_machine.specs.inner.Firing.{table}
+use Rattle.ic_machine.specs.inner.Moving.{places_in}
+use Rattle.ic_machine.specs.inner.Tables.{size_at}
 
 -- Words and pieces became others: no place is named more often than before, but for what it may be
 -- named more often.
@@ -80,3 +85,27 @@ pub record IsNext (arities : List ℕ) (trees : ℕ) (w : Word) : Type 0 where
 abbrev pub AreNext : List ℕ → List Word → Type 0
 AreNext arities [] = Unit {0}
 AreNext arities (t ∷ ts) = IsNext arities (trees_in arities ts) t × AreNext arities ts
+
+-- There are as many names as before, or as are in use. No fewer are in use than before.
+pub record NamesGrow (entries entries' : List Word) : Type 0 where
+  pub places : length entries' ≡ max (length entries) (length (names_pieces 0 entries'))
+  pub more : length (names_pieces 0 entries) ≤ length (names_pieces 0 entries')
+
+-- the same of the blocks of each symbol
+pub record BlocksGrow (heaps heaps' : List Blocks) : Type 0 where
+  pub places : (s : ℕ) → (table heaps' s).count
+      ≡ max (table heaps s).count (length (blocks_pieces s (table heaps' s)))
+  pub more : (s : ℕ) → length (blocks_pieces s (table heaps s)) ≤ length (blocks_pieces s (table heaps' s))
+
+-- the same of all kinds of places
+pub record TablesGrow (old new : Tables) : Type 0 where
+  pub places : (kind : ℕ) → size_at kind new ≡ max (size_at kind old) (in_use kind (places_in new))
+  pub more : (kind : ℕ) → in_use kind (places_in old) ≤ in_use kind (places_in new)
+
+-- some symbol has as many blocks as there may be
+abbrev pub HasFullBlocks : List Blocks → Type 0
+HasFullBlocks hs = (s : ℕ) × (2 ^ 32 ≤ (table hs s).count + 1)
+
+-- some kind has as many places as there may be
+abbrev pub HasFullTable : Tables → Type 0
+HasFullTable t = (kind : ℕ) × (2 ^ 32 ≤ size_at kind t + 1)

@@ -1,4 +1,4 @@
-use Rattle.std.proofs.Common.{◌≡◌, ◌+◌, ◌-◌, ◌<◌, ◌≤◌, ℕ, List, [], ◌∷◌, length, map, take, ap, sym, subst, ◌∙◌, arith}
+use Rattle.std.proofs.Common.{◌≡◌, ◌+◌, ◌-◌, ◌<◌, ◌≤◌, ℕ, List, [], ◌∷◌, length, map, max, take, ap, sym, subst, ◌∙◌, arith}
 use Rattle.std.specs.List.{AllByRecursion, range_with_len}
 use Rattle.std.proofs.lemmas.List.FromFn.{length-map-range_with_len}
 use Rattle.ic_arena.specs.declared.word.Word.{Word}
@@ -49,3 +49,7 @@ returns-clause-put c =
     (blocks_pieces s c.reserve.new.self) (blocks_pieces s c.put-block.new.self)) c.deref.ensures.value
     (subst (λ (l : List Word). Replaced [] (agent_of (agent_word s c.put-block.result) (map (register l) c.deref.result.now) ∷ [])
     (blocks_pieces s c.reserve.new.self) (blocks_pieces s c.put-block.new.self)) c.deref-2.ensures.value (c.put-block.ensures.made s)))
+
+pub returns-clause-count : goal.returns-clause-count
+returns-clause-count c = λ s.
+    c.put-block.ensures.count s ∙ ap (λ (n : ℕ). max n (length (blocks_pieces s c.put-block.new.self))) c.reserve.ensures.count

@@ -1,15 +1,19 @@
-use Rattle.std.proofs.Common.{◌≡◌, ◌+◌, ◌-◌, ◌<◌, ◌≤◌, ℕ, List, [], ◌∷◌, ◌++◌, length, map, drop, reverse, slice_index_or, refl, ap, sym, subst, ◌∙◌, arith}
+use Rattle.std.proofs.Common.{◌≡◌, ◌+◌, ◌-◌, ◌<◌, ◌≤◌, ℕ, inr, List, [], ◌∷◌, ◌++◌, Err, length, map, drop, reverse, slice_index_or, refl, ap, sym, subst, ◌∙◌, arith}
 use Rattle.std.specs.List.{AllByRecursion}
 use Rattle.std.proofs.lemmas.List.{drop_all, drop_more, length-reverse}
+use Rattle.std.proofs.lemmas.Result.{err_from_is_err_and}
 use Rattle.ic_arena.specs.declared.word.Word.{Word}
 use Rattle.ic_arena.specs.declared.word.TheConstants.{IDLE}
 use Rattle.ic_arena.specs.Word.{name_word}
+use Rattle.ic_machine.specs.declared.machine.MachineFault.TheVariants.{Limit}
 use Rattle.ic_machine.specs.Moving.{end_word, spells_cut, sides_of, worth, Side, Spells}
 use Rattle.ic_machine.specs.Separate.{IsSeparate}
 use Rattle.ic_machine.specs.inner.Firing.{arities_of}
 use Rattle.ic_machine.specs.inner.Moving.{side_in}
 use Rattle.ic_machine.specs.inner.Unpacking.{trees_in, AreKept, IsNext}
 use Rattle.ic_machine.specs.lemmas.Spelled.{spells_none}
+use Rattle.ic_machine.proofs.Grown.{tables_stay, tables_then}
+use Rattle.ic_machine.proofs.Limits.{same_fault}
 use Rattle.ic_machine.proofs.Trees.{next_at, spelled_next, spells_count}
 use Rattle.ic_machine.proofs.Unpacked.{kept_same, kept_then, separate_kept, spells_one}
 use Rattle.ic_machine.proofs.unpacking.put_words.Goals as goal
@@ -31,6 +35,7 @@ loop-i-init c =
       len = subst (λ (l : List Word). length l + length ws ≤ length ws) (sym empty) (omega arith);
       few = c.requires.few;
       arities = refl;
+      grow = tables_stay c.args.tables.now;
       pending = refl;
       registers = refl;
       spare = refl;
@@ -101,6 +106,7 @@ loop-i-preserved c =
       len = (let one = c.unpack_word.ensures.len in let old = c.loop-i.invariant.len in omega (arith, one, old));
       few = c.unpack_word.ensures.few;
       arities = c.unpack_word.ensures.arities ∙ same;
+      grow = tables_then c.args.tables.now c.loop-i.tables c.unpack_word.new.tables c.loop-i.invariant.grow c.in_ok-unpack_word.ensures.grow;
       pending = c.unpack_word.ensures.same.0 ∙ c.loop-i.invariant.pending;
       registers = c.unpack_word.ensures.same.1 ∙ c.loop-i.invariant.registers;
       spare = c.unpack_word.ensures.same.2 ∙ c.loop-i.invariant.spare;
@@ -115,3 +121,9 @@ returns-in_err-unpack_word-clause-kept c =
     (subst (λ (x : List ℕ). AreKept x (c.loop-i.stack.items ++ map end_word c.loop-i.borders.ends)
     (c.unpack_word.new.stack.items ++ map end_word c.unpack_word.new.borders.ends) (side_in c.loop-i.tables c.loop-i.borders).places
     (side_in c.unpack_word.new.tables c.unpack_word.new.borders).places) c.loop-i.invariant.arities c.unpack_word.ensures.kept)
+
+pub returns-in_err-unpack_word-clause-limit : goal.returns-in_err-unpack_word-clause-limit
+returns-in_err-unpack_word-clause-limit c = λ e.
+    let given = err_from_is_err_and c.from_residual.result c.from_residual.ensures.1 in
+    inr (c.in_err-unpack_word.ensures.limit
+    (ap Err (same_fault c.from_residual.result given.0 c.in_err-unpack_word.field-0.0 Limit given.1 given.2 e)))

@@ -4,7 +4,7 @@ use Rattle.ic_arena.specs.declared.word.TheConstants.{IDLE}
 use Rattle.ic_machine.specs.Moving.{end_word, KeepWorth, Spells}
 use Rattle.ic_machine.specs.inner.Firing.{arities_of}
 use Rattle.ic_machine.specs.inner.Moving.{side_in}
-use Rattle.ic_machine.specs.inner.Unpacking.{AreKept}
+use Rattle.ic_machine.specs.inner.Unpacking.{AreKept, TablesGrow}
 use Rattle.ic_machine.proofs.unpacking.put_words.Given as goal
 
 -- what was made spells the words from here on
@@ -20,6 +20,7 @@ invariant-loop-i l = record {
   len : length l.stack.items + l.i ≤ length l.words;
   few : length l.tables.names.entries < 2 ^ 32;
   arities : arities_of l.tables.heaps.items ≡ arities_of l.initial.tables.heaps.items;
+  grow : TablesGrow l.initial.tables l.tables;
   pending : l.tables.pending ≡ l.initial.tables.pending;
   registers : l.tables.registers ≡ l.initial.tables.registers;
   spare : l.tables.spare ≡ l.initial.tables.spare;

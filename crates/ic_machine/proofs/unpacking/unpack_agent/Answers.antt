@@ -1,12 +1,16 @@
-use Rattle.std.proofs.Common.{◌≡◌, ◌+◌, ◌-◌, ◌<◌, ◌≤◌, ℕ, List, [], ◌∷◌, ◌++◌, length, reverse, slice_set, refl, ap, sym, subst, ◌∙◌, arith}
+use Rattle.std.proofs.Common.{◌≡◌, ◌+◌, ◌-◌, ◌^◌, ◌<◌, ◌≤◌, ℕ, List, [], ◌∷◌, ◌++◌, Err, length, reverse, slice_set, refl, ap, sym, subst, ◌∙◌, arith}
 use Rattle.std.specs.List.{AllByRecursion}
+use Rattle.std.proofs.lemmas.Result.{err_from_is_err_and}
 use Rattle.ic_arena.specs.declared.word.Word.{Word}
 use Rattle.ic_arena.specs.declared.word.TheConstants.{IDLE}
 use Rattle.ic_arena.specs.Tables.{Blocks}
+use Rattle.ic_machine.specs.declared.machine.MachineFault.TheVariants.{Limit}
 use Rattle.ic_machine.specs.inner.Firing.{arities_of, heaps_pieces, table}
 use Rattle.ic_machine.specs.inner.Unpacking.{AreKept}
 use Rattle.ic_machine.specs.lemmas.FiringKeeps.{all_append}
-use Rattle.ic_machine.proofs.Heaps.{arities_set, table_read}
+use Rattle.ic_machine.proofs.Grown.{blocks_put, blocks_read, blocks_stay}
+use Rattle.ic_machine.proofs.Heaps.{arities_set, table_read, table_set}
+use Rattle.ic_machine.proofs.Limits.{same_fault}
 use Rattle.ic_machine.proofs.Putting.{all_front, armed, armed_enough, bare_plain, kept_dropped, makes_agent, past_plain, pieces_same, tag_some}
 use Rattle.ic_machine.proofs.Unpacked.{agent_kept, agent_put_either, kept_same}
 use Rattle.ic_machine.proofs.unpacking.unpack_agent.Goals as goal
@@ -206,3 +210,40 @@ returns-in_err-push-3-clause-kept c =
     (agent_kept a t xs ys c.args.stack.now.items (vs ++ w ∷ [])
     (makes_agent hs t (t - 1) b c.put_agent.new.heap c.in_ok-index.index c.args.stack.now.items vs
     (vs ++ w ∷ []) is lt same more c.in_ok-index.ensures.put refl)))
+
+pub returns-then-len-agent-clause-grow : goal.returns-then-len-agent-clause-grow
+returns-then-len-agent-clause-grow c = blocks_stay c.args.heaps.now.items
+
+pub returns-then-arity-eq0-clause-grow : goal.returns-then-arity-eq0-clause-grow
+returns-then-arity-eq0-clause-grow c =
+    let hs : List Blocks = c.args.heaps.now.items in
+    let t : ℕ = c.args.agent.tag in
+    let n : ℕ = length c.args.stack.now.items in
+    let some : 1 ≤ t = tag_some hs t n c.requires.known in
+    let lt : t - 1 < length hs = omega (arith, some) in
+    let b : Blocks = c.index_mut-heap.result.now in
+    let same : b ≡ table hs (t - 1) = table_read hs (t - 1) b lt c.index_mut-heap.ensures.value in
+    blocks_read hs (t - 1) b same
+
+pub returns-clause-grow : goal.returns-clause-grow
+returns-clause-grow c =
+    let hs : List Blocks = c.args.heaps.now.items in
+    let t : ℕ = c.args.agent.tag in
+    let n : ℕ = length c.args.stack.now.items in
+    let some : 1 ≤ t = tag_some hs t n c.requires.known in
+    let lt : t - 1 < length hs = omega (arith, some) in
+    let b : Blocks = c.index_mut-heap.result.now in
+    let same : b ≡ table hs (t - 1) = table_read hs (t - 1) b lt c.index_mut-heap.ensures.value in
+    blocks_put hs (t - 1) c.in_ok-index.index b c.put_agent.new.heap c.args.stack.now.items c.put_agent.new.stack.items same
+    c.in_ok-index.ensures.put c.in_ok-index.ensures.count
+
+pub returns-in_err-index-clause-limit : goal.returns-in_err-index-clause-limit
+returns-in_err-index-clause-limit c = λ e.
+    let hs : List Blocks = c.args.heaps.now.items in
+    let t : ℕ = c.args.agent.tag in
+    let some : 1 ≤ t = tag_some hs t (length c.args.stack.now.items) c.requires.known in
+    let lt : t - 1 < length hs = omega (arith, some) in
+    let given = err_from_is_err_and c.from_residual-in_err-index.result c.from_residual-in_err-index.ensures.1 in
+    let full : 2 ^ 32 ≤ c.put_agent.new.heap.count + 1 =
+    c.in_err-index.ensures.limit (ap Err (same_fault c.from_residual-in_err-index.result given.0 c.in_err-index.field-0.0 Limit given.1 given.2 e)) in
+    (t - 1, subst (λ (x : Blocks). 2 ^ 32 ≤ x.count + 1) (sym (table_set hs (t - 1) c.put_agent.new.heap lt)) full)

@@ -8,6 +8,7 @@ use Rattle.ic_arena.specs.Tables.{entry, names_pieces, Replaced}
 use Rattle.ic_machine.specs.Moving.{end_word, spares, CutEnd, Ends}
 use Rattle.ic_machine.specs.inner.Unpacking.{begun, met, AreKept}
 use Rattle.ic_machine.proofs.Ends.{worth_added, worth_ended}
+use Rattle.ic_machine.proofs.Grown.{names_opened, names_stay}
 use Rattle.ic_machine.proofs.NameRooms.{free_room}
 use Rattle.ic_machine.proofs.Putting.{opened_few}
 use Rattle.ic_machine.proofs.Unpacked.{end_dropped, kept_same, name_idle, on_err}
@@ -92,3 +93,11 @@ returns-in_err-reserve-clause-kept c =
     (λ arities. subst (λ (l : List Word). AreKept arities ends ends (names_pieces 0 c.args.names.now.entries) (names_pieces 0 l))
     (sym c.reserve.ensures.entries) (kept_same arities ends (names_pieces 0 c.args.names.now.entries))) in
     on_err c.from_residual-in_err-reserve.result kept
+
+pub returns-in-Some-clause-grow : goal.returns-in-Some-clause-grow
+returns-in-Some-clause-grow c = names_stay c.args.names.now.entries
+
+pub returns-clause-grow : goal.returns-clause-grow
+returns-clause-grow c =
+    names_opened c.args.names.now.entries c.reserve.new.self.entries c.open-name.new.self.entries c.open-name.result c.reserve.ensures.entries
+    c.open-name.ensures.opened c.open-name.ensures.len

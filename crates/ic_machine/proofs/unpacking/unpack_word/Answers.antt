@@ -1,11 +1,16 @@
-use Rattle.std.proofs.Common.{◌≡◌, ℕ, List, [], ◌∷◌, ◌++◌, length, map, refl, ap, ◌∙◌, arith}
+use Rattle.std.proofs.Common.{◌≡◌, ℕ, suc, List, [], ◌∷◌, ◌++◌, Err, length, map, refl, ap, ◌∙◌, arith}
 use Rattle.std.proofs.lemmas.Bool.{ne_eqb}
+use Rattle.std.proofs.lemmas.Result.{err_from_is_err_and}
 use Rattle.ic_arena.specs.declared.word.Word.{Word}
 use Rattle.ic_arena.specs.declared.word.TheConstants.{NAME}
 use Rattle.ic_arena.specs.Word.{name_word}
 use Rattle.ic_arena.specs.Tables.{names_pieces}
+use Rattle.ic_machine.specs.declared.machine.MachineFault.TheVariants.{Limit}
+use Rattle.ic_machine.specs.declared.tables.Tables.{Tables}
 use Rattle.ic_machine.specs.Moving.{end_word, spells_cut, times, CutEnd}
 use Rattle.ic_machine.specs.inner.Firing.{arities_of, heaps_pieces}
+use Rattle.ic_machine.proofs.Grown.{blocks_stay, on_blocks, tables_grow}
+use Rattle.ic_machine.proofs.Limits.{same_fault}
 use Rattle.ic_machine.proofs.NameRooms.{as_name}
 use Rattle.ic_machine.proofs.Putting.{ends_roomy, next_word}
 use Rattle.ic_machine.proofs.Unpacked.{agent_put, agent_put_kept, name_dropped, name_lost, name_put, name_put_kept, on_ok, spells_name, spells_no_cut}
@@ -85,3 +90,21 @@ returns-else-word-eq-NAME-clause-kept c =
     agent_put_kept (arities_of c.args.tables.now.heaps.items) (names_pieces 0 c.args.tables.now.names.entries)
     (heaps_pieces 0 c.args.tables.now.heaps.items) (heaps_pieces 0 c.unpack_agent.new.heaps.items) (map end_word c.args.borders.now.ends)
     c.args.stack.now.items c.unpack_agent.new.stack.items c.unpack_agent.ensures.kept
+
+pub returns-in_ok-push-clause-grow : goal.returns-in_ok-push-clause-grow
+returns-in_ok-push-clause-grow c =
+    let t : Tables = c.args.tables.now in
+    tables_grow t (record t { names = c.unpack_name.new.names }) c.in_ok-name.ensures.grow (blocks_stay t.heaps.items)
+
+pub returns-else-word-eq-NAME-clause-grow : goal.returns-else-word-eq-NAME-clause-grow
+returns-else-word-eq-NAME-clause-grow c =
+    let t : Tables = c.args.tables.now in
+    on_blocks c.unpack_agent.result t (record t { heaps = c.unpack_agent.new.heaps }) refl c.unpack_agent.ensures.grow
+
+pub returns-in_err-name-clause-limit : goal.returns-in_err-name-clause-limit
+returns-in_err-name-clause-limit c = λ e.
+    let given = err_from_is_err_and c.from_residual.result c.from_residual.ensures.1 in
+    (0, c.in_err-name.ensures.limit (ap Err (same_fault c.from_residual.result given.0 c.in_err-name.field-0.0 Limit given.1 given.2 e)))
+
+pub returns-else-word-eq-NAME-clause-limit : goal.returns-else-word-eq-NAME-clause-limit
+returns-else-word-eq-NAME-clause-limit c = λ e. let full = c.unpack_agent.ensures.limit e in (suc full.0, full.1)

@@ -1,10 +1,12 @@
-use Rattle.std.proofs.Common.{◌≡◌, ◌^◌, ◌<◌, ℕ, List, [], ◌++◌, map, reverse, sym, subst, ◌∙◌}
+use Rattle.std.proofs.Common.{◌≡◌, ◌+◌, ◌^◌, ◌<◌, ◌≤◌, ℕ, inl, inr, List, [], ◌++◌, Err, length, map, reverse, refl, ap, sym, subst, ◌∙◌}
 use Rattle.std.specs.List.{AllByRecursion}
+use Rattle.std.proofs.lemmas.Result.{err_from_is_err_and}
 use Rattle.ic_arena.specs.declared.word.Word.{Word}
 use Rattle.ic_arena.specs.Piece.{Piece}
 use Rattle.ic_arena.specs.Tables.{names_pieces}
 use Rattle.ic_machine.specs.declared.equation.Equation.{Equation}
 use Rattle.ic_machine.specs.declared.machine.Machine.TheInside.{Inside}
+use Rattle.ic_machine.specs.declared.machine.MachineFault.TheVariants.{Limit}
 use Rattle.ic_machine.specs.declared.tables.Tables.{Tables}
 use Rattle.ic_machine.specs.Moving.{end_word, side_of, AreBordered, AreSpelled, KeepWorth, Spells, Unpacks}
 use Rattle.ic_machine.specs.Net.{Net, equated_of, pieces, IsPair}
@@ -16,6 +18,8 @@ use Rattle.ic_machine.specs.inner.Machine.{net_of}
 use Rattle.ic_machine.specs.inner.Moving.{side_in}
 use Rattle.ic_machine.specs.inner.Unpacking.{pairs_on, AreEntered}
 use Rattle.ic_machine.specs.lemmas.FiringKeeps.{all_append}
+use Rattle.ic_machine.proofs.Grown.{net_full, net_room}
+use Rattle.ic_machine.proofs.Limits.{same_fault}
 use Rattle.ic_machine.proofs.LinkPairs.{entered}
 use Rattle.ic_machine.proofs.Unpacked.{separate_kept, separate_less}
 use Rattle.ic_machine.proofs.UnpackedNet.{places_separate, places_sound, put_bordered, put_unpacked, tables_sound}
@@ -115,7 +119,9 @@ returns-clause-unpacks c =
     c.put_words.new.borders c.put_words.new.stack.items c.args.parcel.now.words.items c.put_words.ensures.arities
     (λ i. (c.link_pairs.ensures.same.0 i).items) (c.reserve.ensures.items ∙ (λ i. (c.put_words.ensures.same.0 i).items)) links spelled
     (subst (λ (l : List Word). Spells (arities_of m.tables.heaps.items) (side_in t c.put_words.new.borders)
-    (side_of (net_of m) c.args.borders.now) (reverse c.put_words.new.stack.items) l) c.deref.ensures.value c.in_ok-put_words.ensures.spells))
+    (side_of (net_of m) c.args.borders.now) (reverse c.put_words.new.stack.items) l) c.deref.ensures.value c.in_ok-put_words.ensures.spells)
+    (net_room m (record m.tables { spare = 0 }) c.put_words.new.tables c.link_pairs.new.tables refl refl c.link_pairs.ensures.names
+    (λ i. (c.link_pairs.ensures.same.0 i).items) c.in_ok-put_words.ensures.grow))
 
 pub returns-clause-bordered : goal.returns-clause-bordered
 returns-clause-bordered c =
@@ -154,3 +160,13 @@ returns-clause-pairs c =
 pub returns-clause-worth : goal.returns-clause-worth
 returns-clause-worth c =
     subst (λ (l : List Word). KeepWorth c.args.borders.now c.put_words.new.borders l []) c.deref.ensures.value c.in_ok-put_words.ensures.worth
+
+pub returns-in_err-put_words-clause-limit : goal.returns-in_err-put_words-clause-limit
+returns-in_err-put_words-clause-limit c = λ e.
+    let given = err_from_is_err_and c.from_residual.result c.from_residual.ensures.1 in
+    let fault = c.in_err-put_words.ensures.limit
+    (ap Err (same_fault c.from_residual.result given.0 c.in_err-put_words.field-0.0 Limit given.1 given.2 e)) in
+    elim fault [
+      | inl many ↦ inl (subst (λ (l : List Word). 2 ^ 32 ≤ length l + 1) c.deref.ensures.value many)
+      | inr full ↦ inr (net_full c.self.inside c.put_words.new.tables c.put_words.new.tables refl refl full)
+    ]
