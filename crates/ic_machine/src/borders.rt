@@ -3,6 +3,7 @@
 ghost use Rattle.std.specs.Prelude.{◌≡◌, ℕ, ◌+◌, ◌*◌, ◌≤◌, List, [], ◌∷◌, ◌++◌, Contains, IfOk, IfSome, IfNone, OnOk, OnErr, IsPermutation, length, map};
 ghost use Rattle.ic_machine.specs.Moving.{times, worth};
 
+use crate::machine::Machine;
 use std::alloc::{AllocError, Global};
 use std::collections::HashMap;
 use std::marker::Model;
@@ -192,6 +193,21 @@ impl Borders {
             Some(border) => if border.told { None } else { Some(border.name) },
             None => None,
         }
+    }
+
+    /// The cuts of the borders for which a word waits in a machine, but of which that was not told.
+    pub(crate) fn untold_of(
+        &self,
+        alloc: Global,
+        machine: &Machine,
+    ) -> Result<Vec<u32>, AllocError> {
+        let mut cuts = Vec::new(alloc);
+        for (cut, border) in self.by_cut.iter() {
+            if !border.told && machine.waiting(border.name).is_some() {
+                cuts.push(*cut)?;
+            }
+        }
+        Ok(cuts)
     }
 
     /// Remembers that it was told that a word waits for a border.

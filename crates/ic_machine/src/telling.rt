@@ -1,6 +1,6 @@
 //! What a machine tells of the words that wait for its borders.
 
-ghost use Rattle.std.specs.Prelude.{◌≡◌, ◌≤◌, ◌++◌, List, IfOk, OnOk};
+ghost use Rattle.std.specs.Prelude.{◌≡◌, ◌≤◌, ◌++◌, List, IfOk, OnOk, length};
 ghost use Rattle.std.specs.List.{AllByRecursion};
 ghost use Rattle.ic_machine.specs.declared.telling.Told.{Told as AnyTold};
 ghost use Rattle.ic_machine.specs.Moving.{IsTold};
@@ -33,10 +33,32 @@ impl Machine {
         ensures same { borders.new ≡ borders.old }
     {
         let mut stack = Vec::new(alloc);
-        for cut in &borders.cuts(alloc)? {
+        for cut in &borders.untold_of(alloc, self)? {
             self.tell_one(*cut, borders, most, &mut stack, told)?;
         }
         Ok(())
+    }
+
+    /// How many of the first so many pending pairs have fewer than so many nodes together.
+    pub fn pairs_within(
+        &self,
+        alloc: Global,
+        pairs: usize,
+        most: usize,
+    ) -> Result<usize, AllocError>
+        ensures { IfOk result (λ found. (found ≤ pairs) × (found ≤ length self.now.pending)) }
+    {
+        let mut left = most;
+        let mut stack = Vec::new(alloc);
+        for place in 0..pairs.min(self.tables.pending.len()) {
+            let pair = self.tables.pending[place];
+            left -= self.size(pair.left, left, &mut stack)?;
+            left -= self.size(pair.right, left, &mut stack)?;
+            if left == 0 {
+                return Ok(place);
+            }
+        }
+        Ok(pairs.min(self.tables.pending.len()))
     }
 
     /// Tells a border, if a word waits for it and it was not told before.

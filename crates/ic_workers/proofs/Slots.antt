@@ -6,11 +6,12 @@ use Rattle.std.specs.List.Sorted.{IsPermutation}
 use Rattle.std.proofs.lemmas.List.Sums.{sum_by-cons, sum_by-append}
 use Rattle.ic_workers.specs.Parts.{Part}
 use Rattle.ic_workers.specs.declared.kept.Kept.{Kept}
-use Rattle.ic_workers.specs.inner.Keeping.{part_of, slot, AreAt, AreApart, AreWithin}
+use Rattle.ic_workers.specs.declared.desk.Desk.{Desk}
+use Rattle.ic_workers.specs.inner.Keeping.{part_of, slot, slots_at, AreAt, AreApart, AreWithin}
 use Rattle.std.proofs.lemmas.Bool.{eqb-true}
 use Rattle.std.proofs.lemmas.List.{map-append}
 use Rattle.std.proofs.lemmas.List.Sorted.{IsPermutation-sym, IsPermutation-trans, IsPermutation-middle, sum_by-IsPermutation}
-use Rattle.ic_workers.proofs.Lists.{put_at_end, swapped}
+use Rattle.ic_workers.proofs.Lists.{put_at_end, same_length, swapped}
 
 -- a slot is set: its parts have its number
 pub at_set : {X : Type 0} (f : X → List Part) (xs : List X) (j i : ℕ) (n : X) → AllByRecursion (λ q. q.number ≡ j + i) (f n)
@@ -172,3 +173,12 @@ full_slot [] i full lt = absurd (omega (arith, lt))
 full_slot (None ∷ xs) i full lt = let most = full_most xs in absurd (omega (arith, full, most))
 full_slot (Some q ∷ xs) zero full lt = (q, refl)
 full_slot (Some q ∷ xs) (suc i) full lt = full_slot xs i (omega (arith, full)) (omega (arith, lt))
+
+-- a desk has as many slots after its slots stayed
+pub slots_stay : (d e : Desk) → slots_at e ≡ slots_at d → length e.parts.items ≡ length d.parts.items
+slots_stay d e same = same_length slot e.parts.items d.parts.items same
+
+-- numbers that have slots have them at a desk with as many
+pub still_there : (d e : Desk) (ks : List ℕ) → length e.parts.items ≡ length d.parts.items
+    → AllByRecursion (λ k. k < length d.parts.items) ks → AllByRecursion (λ k. k < length e.parts.items) ks
+still_there d e ks len all = subst (λ (n : ℕ). AllByRecursion (λ k. k < n) ks) (sym len) all

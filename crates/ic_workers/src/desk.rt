@@ -12,6 +12,7 @@ ghost use Rattle.ic_workers.specs.inner.Keeping.{parts_at, parts_in, parts_in_al
 
 use self::handing::gather;
 use crate::kept::{Hand, Kept, empty_part};
+use crate::policy::Policy;
 use ic_machine::{Machine, Program, Told};
 use std::alloc::{AllocError, Global};
 use std::cmp::Reverse;
@@ -96,6 +97,30 @@ impl Desk {
         match &self.parts[part] {
             Some(kept) => kept.machine.pending().len(),
             None => 0,
+        }
+    }
+
+    /// One of so many pending pairs of a part, but not all.
+    fn oldest(&self, part: usize, policy: Policy) -> usize
+        requires { part < length self.now.parts.items }
+    {
+        let pairs = self.pending(part);
+        pairs
+            .div_ceil(policy.share.max(1))
+            .min(pairs.saturating_sub(1))
+    }
+
+    /// How many of these have few nodes below them: a quarter as many as the part made interactions in its last step.
+    fn light(&self, alloc: Global, part: usize, policy: Policy) -> Result<usize, AllocError>
+        requires { part < length self.now.parts.items }
+    {
+        let pairs = self.oldest(part, policy);
+        match &self.parts[part] {
+            Some(kept) => {
+                let most = (kept.last / 4).clamp(1_000, 1 << 32) as usize;
+                kept.machine.pairs_within(alloc, pairs, most)
+            }
+            None => Ok(0),
         }
     }
 
@@ -225,13 +250,29 @@ impl Desk {
         for part in 0..self.parts.len() {
             if let Some(kept) = &self.parts[part] {
                 if kept.has_work() {
-                    let last = kept.last;
+                    let last = kept.last_made();
                     due.push(Due { last, part })?;
                 }
             }
         }
         due.sort_unstable_by_key(|one| (Reverse(one.last), one.part));
         Ok(due)
+    }
+
+    /// The parts that have something to do, and made so many interactions in their last step.
+    fn busy(&self, alloc: Global, least: u64) -> Result<Vec<usize>, AllocError>
+        ensures { IfOk result (λ parts.
+            AllByRecursion (λ k. k < length self.now.parts.items) parts.items) }
+    {
+        let mut busy = Vec::new(alloc);
+        for part in 0..self.parts.len() {
+            if let Some(kept) = &self.parts[part] {
+                if kept.has_work() && kept.last_made() >= least {
+                    busy.push(part)?;
+                }
+            }
+        }
+        Ok(busy)
     }
 
     fn has_fault(&self) -> bool {
@@ -256,6 +297,17 @@ impl Desk {
             }
         }
         held
+    }
+
+    /// How many words were moved from part to part.
+    fn moved(&self) -> u64 {
+        let mut moved: u64 = 0;
+        for part in &self.parts {
+            if let Some(kept) = part {
+                moved = moved.saturating_add(kept.taken);
+            }
+        }
+        moved
     }
 
     /// How many places the machines have together.

@@ -9,12 +9,16 @@ ghost use Rattle.ic_workers.specs.inner.Keeping.{part_of, parts_in, HandWorked, 
 use ic_in_place::{names_until_sweep, sweep_if_due};
 use ic_machine::{Borders, Machine, MachineFault, Program, Told};
 use std::alloc::{AllocError, Global};
+use std::sync::atomic::{AtomicBool, Ordering};
 
 /// Nodes of a tree are counted up to so many before it is handed on.
 pub(crate) const MOST_NODES: usize = 2_000;
 
 /// Interactions of a part at a time, at least.
 const LEAST: u64 = 500;
+
+/// Interactions of a part at a time, at most.
+const MOST: u64 = 10_000;
 
 /// A part of a net.
 #[derive(Drop)]
@@ -27,6 +31,8 @@ pub(crate) struct Kept {
     pub(crate) told: Vec<Told>,
     /// Interactions in the last step.
     pub(crate) last: u64,
+    /// Words that were taken from other parts.
+    pub(crate) taken: u64,
     /// How many names may be in use before they are put through.
     names: u64,
     /// Its machine has stopped for this.
@@ -50,6 +56,7 @@ impl Kept {
             borders: Borders::new(alloc, number, numbers),
             told: Vec::new(alloc),
             last: u64::MAX,
+            taken: 0,
             fault: None,
         }
     }
@@ -59,6 +66,11 @@ impl Kept {
         ensures { result ≡ true → HasWork self.now }
     {
         self.fault.is_none() && !self.machine.pending().is_empty()
+    }
+
+    /// How many interactions it has made in the last step. A part that had no turn may have much to do.
+    pub(crate) fn last_made(&self) -> u64 {
+        if self.last == 0 { u64::MAX } else { self.last }
     }
 
     /// Makes so many interactions at most.
@@ -117,13 +129,14 @@ impl Hand {
         }
     }
 
-    /// Runs the parts in turn.
-    pub(crate) fn work(&mut self, alloc: Global, program: &Program)
+    /// Runs the parts in turn, and rings the bell at the end.
+    pub(crate) fn work(&mut self, alloc: Global, program: &Program, bell: &AtomicBool)
         requires { IsReady program.now self.old }
         ensures { HandWorked program.now self.old self.new }
     {
         self.forget();
-        self.take_turns(program);
+        self.take_turns(program, bell);
+        bell.store(true, Ordering::SeqCst);
         self.tell(alloc);
     }
 
@@ -137,22 +150,23 @@ impl Hand {
         }
     }
 
-    /// Takes turns until nothing is left to do, or as many interactions were made as may be.
-    fn take_turns(&mut self, program: &Program)
+    /// Takes turns until nothing is left to do, or as many interactions were made as may be, or the bell has rung.
+    fn take_turns(&mut self, program: &Program, bell: &AtomicBool)
         requires { IsReady program.now self.old }
         ensures { HandWorked program.now self.old self.new }
     {
         let count = (self.parts.len() as u64).max(1);
-        let slice = (self.budget / count).max(LEAST);
+        let slice = (self.budget / count).min(MOST).max(LEAST);
         'turns: loop {
-            if !self.take_turn(program, slice) {
+            if !self.take_turn(program, slice, bell) {
                 break;
             }
         }
     }
 
-    /// Lets each part make so many interactions. Whether there is more to do.
-    fn take_turn(&mut self, program: &Program, slice: u64) -> bool
+    /// Lets each part make so many interactions. Whether there is more to do: not where the bell has rung and an eighth of what
+    /// may be made was made.
+    fn take_turn(&mut self, program: &Program, slice: u64, bell: &AtomicBool) -> bool
         requires may { MayTurn program.now self.old }
         requires some { 1 ≤ slice }
         ensures turn { TakesTurn program.now self.old self.new }
@@ -161,6 +175,9 @@ impl Hand {
     {
         let mut goes_on = false;
         for place in 0..self.parts.len() {
+            if self.made >= self.budget / 8 && bell.load(Ordering::SeqCst) {
+                return false;
+            }
             let more = self.run_part(program, place, slice);
             goes_on = goes_on || more;
         }

@@ -9,8 +9,11 @@ pub struct Policy {
     pub workers: usize,
     /// Parts that are made first.
     pub parts: usize,
-    /// Interactions of a part before it is divided first. Later it makes a quarter of those that it has made.
+    /// Interactions of one thread before the net is divided, and of a part before it is divided first. Later it makes a
+    /// quarter of those that it has made.
     pub early: u64,
+    /// No further parts are made first where a part would make more before it is divided.
+    pub late: u64,
     /// One of so many pending pairs is shared.
     pub share: usize,
     /// Interactions of a worker in a step at first.
@@ -21,9 +24,14 @@ pub struct Policy {
     pub most: u64,
     /// Interactions of a worker in a step where fewer parts than workers have something to do.
     pub small: u64,
-    /// Steps go on as long as 32 of them bring so many interactions each in the mean. More than `small`, so that they end where
-    /// one worker alone has something to do.
-    pub least: u64,
+    /// A part that made so many interactions in its last step has much to do, if it has something to do.
+    pub busy: u64,
+    /// In the time of so many interactions the threads of a step begin and end.
+    pub step: u64,
+    /// After so many steps it is seen what they have brought.
+    pub window: u64,
+    /// Steps go on as long as so many interactions are made in the time in which one thread makes a hundred.
+    pub gain: u64,
 }
 
 impl Policy {
@@ -33,12 +41,16 @@ impl Policy {
           workers = max workers 1;
           parts = max (6 * max workers 1) 24;
           early = 100;
+          late = 2500;
           share = 8;
-          budget = 100000;
+          budget = 200000;
           growth = 16;
           most = 1000000;
           small = 5000;
-          least = 10000;
+          busy = 1000;
+          step = 4000;
+          window = 16;
+          gain = 125;
         } }
     {
         let workers = workers.max(1) as usize;
@@ -46,12 +58,16 @@ impl Policy {
             workers,
             parts: (6 * workers).max(24),
             early: 100,
+            late: 2_500,
             share: 8,
-            budget: 100_000,
+            budget: 200_000,
             growth: 16,
             most: 1_000_000,
             small: 5_000,
-            least: 10_000,
+            busy: 1_000,
+            step: 4_000,
+            window: 16,
+            gain: 125,
         }
     }
 

@@ -10,12 +10,11 @@ ghost use Rattle.ic_workers.specs.inner.Keeping.{part_of, slots_at, AreOnce, Awa
 use super::{Desk, Waiting};
 use crate::kept::{Kept, MOST_NODES};
 use crate::laws::what_a_part_sends_stays_one_net;
-use crate::policy::Policy;
 use ic_machine::laws::what_borders_hold;
 use ic_machine::{Parcel, Told};
 use std::alloc::{AllocError, Global};
 
-/// How many parts are looked at between two steps at most. What is left then meets when all is put together.
+/// How often parts are looked at between two steps at most. What is left then meets when all is put together.
 const MOST_MEETINGS: u64 = 0xffff_ffff;
 
 impl Desk {
@@ -27,19 +26,67 @@ impl Desk {
         ensures made { self.new.made ≡ self.old.made }
         ensures len { length self.new.parts.items ≡ length self.old.parts.items }
     {
-        let mut queue = parts;
+        let mut next = parts;
         for _ in 0..MOST_MEETINGS {
-            let Some(part) = queue.pop() else {
+            if next.is_empty() {
                 return Ok(());
-            };
-            for told in &self.told_in(alloc, part) {
-                if let Some(to) = self.meet_one(alloc, part, *told)? {
-                    self.tell(alloc, to);
-                    queue.push(to)?;
-                }
             }
+            let came = self.meet_all(alloc, &next)?;
+            self.tell_all(alloc, &came);
+            next = came;
         }
         Ok(())
+    }
+
+    /// Hands on what these parts have told. Answers the parts to which something went, once each.
+    fn meet_all(&mut self, alloc: Global, parts: &[usize]) -> Result<Vec<usize>, AllocError>
+        requires desk { (p : Plans) × IsDesk p self.old }
+        requires there { AllByRecursion (λ k. k < length self.old.parts.items) parts.now }
+        ensures come { OnOk result (Comes self.old self.new) }
+        ensures made { self.new.made ≡ self.old.made }
+        ensures len { length self.new.parts.items ≡ length self.old.parts.items }
+        ensures there { IfOk result (λ came.
+            AllByRecursion (λ k. k < length self.new.parts.items) came.items) }
+    {
+        let mut came = Vec::new(alloc);
+        for place in 0..parts.len() {
+            self.meet_from(alloc, parts[place], &mut came)?;
+        }
+        Ok(came)
+    }
+
+    /// Hands on what this part has told. The parts to which something went are remembered, once each.
+    fn meet_from(
+        &mut self,
+        alloc: Global,
+        part: usize,
+        came: &mut Vec<usize>,
+    ) -> Result<(), AllocError>
+        requires desk { (p : Plans) × IsDesk p self.old }
+        requires there { part < length self.old.parts.items }
+        requires before { AllByRecursion (λ k. k < length self.old.parts.items) came.old.items }
+        ensures come { OnOk result (Comes self.old self.new) }
+        ensures made { self.new.made ≡ self.old.made }
+        ensures len { length self.new.parts.items ≡ length self.old.parts.items }
+        ensures came { OnOk result
+            (AllByRecursion (λ k. k < length self.new.parts.items) came.new.items) }
+    {
+        for told in &self.told_in(alloc, part) {
+            let to = self.meet_one(alloc, part, *told)?;
+            remember(came, to)?;
+        }
+        Ok(())
+    }
+
+    /// Has parts tell their borders for which a word waits.
+    fn tell_all(&mut self, alloc: Global, parts: &[usize])
+        requires there { AllByRecursion (λ k. k < length self.old.parts.items) parts.now }
+        ensures slots { slots_at self.new ≡ slots_at self.old }
+        ensures made { self.new.made ≡ self.old.made }
+    {
+        for place in 0..parts.len() {
+            self.tell(alloc, parts[place]);
+        }
     }
 
     /// Hands on what waits for a cut, if something waits for it elsewhere too. Answers the part to which it went.
@@ -163,13 +210,13 @@ impl Desk {
         size < other.size || (size == other.size && part > other.part)
     }
 
-    /// Gives some of a part's pending pairs to another part: the oldest.
+    /// Gives so many of a part's pending pairs to another part, the oldest.
     pub(crate) fn share(
         &mut self,
         alloc: Global,
         from: usize,
         to: usize,
-        policy: Policy,
+        pairs: usize,
     ) -> Result<(), AllocError>
         requires desk { (p : Plans) × IsDesk p self.old }
         requires from { from < length self.old.parts.items }
@@ -181,12 +228,12 @@ impl Desk {
     {
         what_a_part_sends_stays_one_net();
         let mut parcel = Parcel::new(alloc);
-        self.give(from, policy.share, &mut parcel)?;
+        self.give(from, pairs, &mut parcel)?;
         self.send(alloc, to, parcel)
     }
 
-    /// Takes one of so many pending pairs out of a part, the oldest, but leaves it one.
-    fn give(&mut self, from: usize, share: usize, parcel: &mut Parcel) -> Result<(), AllocError>
+    /// Takes so many pending pairs out of a part, the oldest.
+    fn give(&mut self, from: usize, pairs: usize, parcel: &mut Parcel) -> Result<(), AllocError>
         requires desk { (p : Plans) × IsDesk p self.old }
         requires there { from < length self.old.parts.items }
         requires none { parcel.old.words.items ≡ [] }
@@ -198,8 +245,7 @@ impl Desk {
     {
         match &mut self.parts[from] {
             Some(kept) => {
-                let pairs = kept.machine.pending().len();
-                let given = pairs.div_ceil(share.max(1)).min(pairs.saturating_sub(1));
+                let given = pairs.min(kept.machine.pending().len());
                 kept.machine.give(given, &mut kept.borders, parcel)?;
                 what_borders_hold(&kept.borders);
                 Ok(())
@@ -207,6 +253,20 @@ impl Desk {
             None => Ok(()),
         }
     }
+}
+
+/// Puts a number into a list, if there is one and it isn't there.
+fn remember(came: &mut Vec<usize>, to: Option<usize>) -> Result<(), AllocError>
+    ensures { OnOk result ((n : ℕ) → AllByRecursion (λ k. k < n) came.old.items
+        → IfSome to (λ k. k < n) → AllByRecursion (λ k. k < n) came.new.items) }
+{
+    let Some(to) = to else {
+        return Ok(());
+    };
+    if !came.contains(&to) {
+        came.push(to)?;
+    }
+    Ok(())
 }
 
 /// Puts what a part has into another one.
@@ -246,6 +306,7 @@ fn unpack(alloc: Global, part: &mut Kept, parcel: &mut Parcel) -> Result<(), All
     ensures once { AreOnce part.new.borders }
     ensures number { part.new.number ≡ part.old.number }
 {
+    part.taken = part.taken.saturating_add(parcel.words.len() as u64);
     let unpacked = part.machine.unpack(alloc, &mut part.borders, parcel);
     what_borders_hold(&part.borders);
     match unpacked {

@@ -16,6 +16,7 @@ use ic_in_place::{Bounds, Stopped, Watch, begin, no_counts, run_in_pieces, sum_b
 use ic_machine::Program;
 use ic_plans::{compile, first_plan};
 use std::alloc::{AllocError, Global};
+use std::sync::atomic::AtomicBool;
 use std::thread::{self, Threads};
 
 /// Interactions for each worker without which no step is taken.
@@ -81,6 +82,7 @@ impl Desk {
         watch: &V,
     ) -> Result<(), AllocError>
         requires desk { IsDesk program.now self.old }
+        requires some { 1 ≤ length self.old.parts.items }
         requires within { self.old.made ≤ bounds.steps }
         ensures come { OnOk result
             (Come program.now (parts_at self.old) (parts_at self.new)) }
@@ -90,6 +92,8 @@ impl Desk {
         if policy.workers <= 1 {
             return Ok(());
         }
+        let steps = policy.early.min(bounds.steps - self.made);
+        self.run_alone(alloc, program, 0, steps)?;
         self.divide(alloc, program, policy, bounds)?;
         self.take_steps(rt, alloc, program, policy, bounds, watch)
     }
@@ -123,13 +127,14 @@ impl Desk {
             next = part + 1;
             let most = policy.early.max(self.made_by(part) / 4).max(1);
             let steps = most.min(interactions_within(room, 1));
-            if steps > policy.budget || steps > bounds.steps - self.made {
+            if steps > policy.late || steps > bounds.steps - self.made {
                 return Ok(());
             }
             if self.pending(part) >= 3 {
                 let to = self.parts.len();
+                let pairs = self.oldest(part, policy);
                 self.add(alloc, program)?;
-                self.share(alloc, part, to, policy)?;
+                self.share(alloc, part, to, pairs)?;
             }
             self.run_alone(alloc, program, part, steps)?;
         }
@@ -156,14 +161,15 @@ impl Desk {
     {
         let mut hand = Hand::new(alloc, steps);
         self.put_in(&mut hand, part)?;
-        hand.work(alloc, program);
+        let bell = AtomicBool::new(false);
+        hand.work(alloc, program, &bell);
         self.take_back(hand);
         let mut parts = Vec::new(alloc);
         parts.push(part)?;
         self.meet(alloc, parts)
     }
 
-    /// Shares until as many parts as workers have something to do, as far as there are pairs.
+    /// Shares until as many parts as workers have much to do, as far as there are pairs with little below them.
     fn feed(&mut self, alloc: Global, program: &Program, policy: Policy) -> Result<(), AllocError>
         requires desk { IsDesk program.now self.old }
         ensures come { OnOk result
@@ -171,26 +177,38 @@ impl Desk {
         ensures desk { OnOk result (IsDesk program.now self.new) }
         ensures made { self.new.made ≡ self.old.made }
     {
-        let mut due = self.due(alloc)?;
+        let mut busy = self.busy_or_due(alloc, policy)?;
         let mut tried = 0;
         for _ in 0..4 * MOST_PARTS {
-            if due.len() >= policy.workers || tried >= due.len() {
+            if busy.len() >= policy.workers || tried >= busy.len() {
                 return Ok(());
             }
-            let part = due[tried].part;
-            if self.pending(part) < 2 {
+            let part = busy[tried];
+            let pairs = self.light(alloc, part, policy)?;
+            if pairs == 0 {
                 tried += 1;
             } else {
                 let Some(to) = self.spare(alloc, program, part)? else {
                     return Ok(());
                 };
-                self.share(alloc, part, to, policy)?;
-                let last = u64::MAX;
-                due.push(Due { last, part: to })?;
-                tried = (tried + 1) % due.len();
+                self.share(alloc, part, to, pairs)?;
+                busy.push(to)?;
+                tried = (tried + 1) % busy.len();
             }
         }
         Ok(())
+    }
+
+    /// The parts that have much to do, or if there are none, all that have something to do.
+    fn busy_or_due(&self, alloc: Global, policy: Policy) -> Result<Vec<usize>, AllocError>
+        ensures { IfOk result (λ parts.
+            AllByRecursion (λ k. k < length self.now.parts.items) parts.items) }
+    {
+        let busy = self.busy(alloc, policy.busy)?;
+        if busy.is_empty() {
+            return self.busy(alloc, 0);
+        }
+        Ok(busy)
     }
 
     /// Takes steps until nothing is left to do, or that brings too little. Before each of them it is seen whether all parts
@@ -213,8 +231,8 @@ impl Desk {
         ensures within { OnOk result (self.new.made ≤ bounds.steps) }
     {
         let least = LEAST_LEFT.saturating_mul(policy.workers as u64);
-        let mut before = self.made;
-        for step in 1..1_000_000u64 {
+        let mut gain = Gain::from(self.made, self.moved());
+        for _ in 0..1_000_000u64 {
             let Some(room) = bounds.nodes.checked_sub(self.held()) else {
                 return Ok(());
             };
@@ -224,20 +242,21 @@ impl Desk {
             if due.is_empty() || left < least || self.has_fault() {
                 return Ok(());
             }
-            self.take_step(rt, alloc, program, policy, &due, left, room)?;
+            let longest = self.take_step(rt, alloc, program, policy, &due, left, room)?;
             watch.saw(self.made, self.places());
-            if step % 32 == 0 {
-                if self.made.saturating_sub(before) < policy.least.saturating_mul(32) {
+            gain.count(longest, policy);
+            if gain.steps >= policy.window {
+                if !gain.is_enough(self.made, self.moved(), policy) {
                     return Ok(());
                 }
-                before = self.made;
+                gain = Gain::from(self.made, self.moved());
             }
         }
         Ok(())
     }
 
     /// Deals the parts that are due to hands, has threads run these, and hands on what was told. So many interactions are left,
-    /// and there is room for so many places and equations.
+    /// and there is room for so many places and equations. Answers how many interactions the hand made that made most.
     fn take_step<R: Threads + Sync>(
         &mut self,
         rt: &R,
@@ -247,7 +266,7 @@ impl Desk {
         due: &[Due],
         left: u64,
         room: u64,
-    ) -> Result<(), AllocError>
+    ) -> Result<u64, AllocError>
         requires desk { IsDesk program.now self.old }
         requires workers { 1 ≤ policy.workers }
         requires some { 1 ≤ length due.now }
@@ -266,9 +285,11 @@ impl Desk {
         let mut hands = empty_hands(alloc, count, budget)?;
         self.deal(due, &mut hands)?;
         run_hands(rt, alloc, program, &mut hands);
+        let longest = longest(&hands);
         self.take_all_back(hands);
         let parts = parts_of_due(alloc, due)?;
-        self.meet(alloc, parts)
+        self.meet(alloc, parts)?;
+        Ok(longest)
     }
 
     /// Deals the parts that are due to hands, there and back.
@@ -333,6 +354,8 @@ fn run_hands<R: Threads + Sync>(rt: &R, alloc: Global, program: &Program, hands:
     ensures { HandsWorked program.now hands.old hands.new }
 {
     let count = hands.len();
+    let bell = AtomicBool::new(false);
+    let bell = &bell;
     thread::for_each_mut(
         rt,
         hands,
@@ -340,7 +363,7 @@ fn run_hands<R: Threads + Sync>(rt: &R, alloc: Global, program: &Program, hands:
         &move |_place: usize, hand: &mut Hand|
             requires { IsReady program.now hand.now }
             ensures { HandWorked program.entry.now hand.entry.now hand.exit.now }
-        { hand.work(alloc, program) },
+        { hand.work(alloc, program, bell) },
     );
 }
 
@@ -349,4 +372,50 @@ fn parts_of_due(alloc: Global, due: &[Due]) -> Result<Vec<usize>, AllocError>
     ensures { IfOk result (λ parts. parts.items ≡ map (λ d. d.part) due.now) }
 {
     due.iter().map(|one| one.part).collect(alloc)
+}
+
+/// The interactions of the hand that made most.
+fn longest(hands: &[Hand]) -> u64 {
+    let mut most = 0;
+    for hand in hands {
+        most = hand.made.max(most);
+    }
+    most
+}
+
+/// What some steps have brought: how much was made and moved before them, and the time that they took, as interactions of one
+/// thread.
+#[derive(Clone, Copy, Debug)]
+struct Gain {
+    made: u64,
+    moved: u64,
+    steps: u64,
+    time: u64,
+}
+
+impl Gain {
+    fn from(made: u64, moved: u64) -> Gain {
+        Gain {
+            made,
+            moved,
+            steps: 0,
+            time: 0,
+        }
+    }
+
+    /// Counts a step.
+    fn count(&mut self, longest: u64, policy: Policy) {
+        self.steps = self.steps.saturating_add(1);
+        self.time = self
+            .time
+            .saturating_add(longest)
+            .saturating_add(policy.step);
+    }
+
+    /// Whether so much was made by now that it was worth the time, that of moving words, too.
+    fn is_enough(&self, made: u64, moved: u64, policy: Policy) -> bool {
+        let moving = moved.saturating_sub(self.moved);
+        let time = self.time.saturating_add(moving);
+        made.saturating_sub(self.made) >= (time / 100).saturating_mul(policy.gain)
+    }
 }

@@ -9,5 +9,5 @@ invariant-loop l = record {
   come : Come l.program (parts_at l.initial.self) (parts_at l.self);
   desk : IsDesk l.program l.self;
   made : l.self.made ≡ l.initial.self.made;
-  there : AllByRecursion (λ d. d.part < length l.self.parts.items) l.due.items;
+  there : AllByRecursion (λ k. k < length l.self.parts.items) l.busy.items;
 }

@@ -15,7 +15,7 @@ give-requires c =
     let here = at_desk c.requires.desk.0 [] c.args.self.now c.args.from c.index_mut.result.now c.in-Some.kept c.requires.desk.1 c.requires.there
     c.index_mut.ensures.value c.in-Some.is in
     record {
-      there = omega (arith, c.min-given.ensures, c.saturating_sub.ensures, ap length c.pending-pairs.ensures);
+      there = omega (arith, c.min-given.ensures, ap length c.pending.ensures);
       bordered = here.0.bordered;
       numbers = λ k. subst (λ (ws : List Word). worth k c.in-Some.kept.borders + spells_cut k ws ≤ 2) (sym c.requires.none) (here.2 k);
     }

@@ -6,17 +6,7 @@ use Rattle.ic_workers.proofs.desk.Desk.meet.Given as goal
 abbrev pub invariant-loop : goal.invariant-loop
 invariant-loop l = record {
   come : Comes l.initial.self l.self;
-  there : AllByRecursion (λ k. k < length l.self.parts.items) l.queue.items;
-  made : l.self.made ≡ l.initial.self.made;
-  len : length l.self.parts.items ≡ length l.initial.self.parts.items;
-}
-
--- the part that told is still there
-abbrev pub invariant-loop-told : goal.invariant-loop-told
-invariant-loop-told l = record {
-  come : Comes l.initial.self l.self;
-  there : AllByRecursion (λ k. k < length l.self.parts.items) l.queue.items;
-  part : l.part < length l.self.parts.items;
+  there : AllByRecursion (λ k. k < length l.self.parts.items) l.next.items;
   made : l.self.made ≡ l.initial.self.made;
   len : length l.self.parts.items ≡ length l.initial.self.parts.items;
 }

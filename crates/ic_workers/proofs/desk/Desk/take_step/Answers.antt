@@ -8,7 +8,7 @@ use Rattle.ic_workers.specs.declared.kept.Hand.{Hand}
 use Rattle.ic_workers.specs.inner.HandsOn.{Come}
 use Rattle.ic_workers.specs.inner.Keeping.{parts_at, parts_in_all, AreApart, AreWithin, HandsWorked, IsDesk, IsIdle, IsReady}
 use Rattle.ic_workers.proofs.HandSteps.{all_worked, dealt, dealt_ready, in_hands_apart, in_hands_within, made_of, made_within, one_within, shared_within, step_desk}
-use Rattle.ic_workers.proofs.Lists.{all_mapped, ok_any, ok_then, written}
+use Rattle.ic_workers.proofs.Lists.{all_mapped, written}
 use Rattle.ic_workers.proofs.Workings.{come_on}
 use Rattle.ic_workers.proofs.desk.Desk.take_step.Goals as goal
 use Rattle.ic_workers.proofs.desk.Desk.take_step.Goals.{After-run_hands, After-take_all_back, In_ok-deal}
@@ -132,14 +132,14 @@ pub returns-clause-come : goal.returns-clause-come
 returns-clause-come g c =
     let at = goal.at.returns-clause-come g c in
     let b = back g at.After-take_all_back (moved g at.In_ok-deal) (ran g at.After-run_hands) (are_left g at.After-run_hands) in
-    ok_then c.meet.result (λ met. come_on c.args.program.now (parts_at c.args.self.now) (parts_at c.take_all_back.new.self) (parts_at c.meet.new.self) b.1
-    (met c.args.program.now b.0).0) c.meet.ensures.come
+    come_on c.args.program.now (parts_at c.args.self.now) (parts_at c.take_all_back.new.self) (parts_at c.meet.new.self) b.1
+    (c.in_ok-meet.ensures.come c.args.program.now b.0).0
 
 pub returns-clause-desk : goal.returns-clause-desk
 returns-clause-desk g c =
     let at = goal.at.returns-clause-desk g c in
     let b = back g at.After-take_all_back (moved g at.In_ok-deal) (ran g at.After-run_hands) (are_left g at.After-run_hands) in
-    ok_then c.meet.result (λ met. (met c.args.program.now b.0).1) c.meet.ensures.come
+    (c.in_ok-meet.ensures.come c.args.program.now b.0).1
 
 pub returns-clause-within : goal.returns-clause-within
 returns-clause-within g c =
@@ -148,7 +148,7 @@ returns-clause-within g c =
     let made = made_within c.args.program.now c.min-budget.result c.deal.new.hands c.run_hands.new.hands (ran g at.After-run_hands) (idle g at.In_ok-deal) in
     let each : length c.deal.new.hands * c.min-budget.result ≡ c.min-count.result * c.min-budget.result =
     ap (λ (n : ℕ). n * c.min-budget.result) (many g at.In_ok-deal) in
-    ok_any c.meet.result (omega (
+    omega (
       arith,
       same,
       made,
@@ -157,4 +157,4 @@ returns-clause-within g c =
       c.deal.ensures.made,
       c.take_all_back.ensures.made,
       c.meet.ensures.made,
-    ))
+    )

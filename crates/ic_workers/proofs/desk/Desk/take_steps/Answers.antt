@@ -13,8 +13,8 @@ came : (p : Plans) (a b d e : Desk) → Come p (parts_at a) (parts_at b) → Com
 came p a b d e first fed step =
     come_on p (parts_at a) (parts_at b) (parts_at e) first (come_on p (parts_at b) (parts_at d) (parts_at e) fed step)
 
-pub loop-step-init : goal.loop-step-init
-loop-step-init g c = record {
+pub loop-init : goal.loop-init
+loop-init g c = record {
   come = come_same c.args.program.now c.args.self.now c.args.self.now refl;
   desk = c.requires.desk;
   within = c.requires.within;
@@ -22,18 +22,18 @@ loop-step-init g c = record {
 
 pub returns-then-is_empty-clause-come : goal.returns-then-is_empty-clause-come
 returns-then-is_empty-clause-come g c =
-    come_on c.args.program.now (parts_at c.args.self.now) (parts_at c.loop-step.self) (parts_at c.feed.new.self) c.loop-step.invariant.come
+    come_on c.args.program.now (parts_at c.args.self.now) (parts_at c.loop.self) (parts_at c.feed.new.self) c.loop.invariant.come
     c.in_ok-feed.ensures.come
 
-pub returns-then-saturating_sub-saturating_mul-clause-come : goal.returns-then-saturating_sub-saturating_mul-clause-come
-returns-then-saturating_sub-saturating_mul-clause-come g c =
-    came c.args.program.now c.args.self.now c.loop-step.self c.feed.new.self c.take_step.new.self c.loop-step.invariant.come
-    c.in_ok-feed.ensures.come c.in_ok-take_step.ensures.come
+pub returns-then-not-is_enough-clause-come : goal.returns-then-not-is_enough-clause-come
+returns-then-not-is_enough-clause-come g c =
+    came c.args.program.now c.args.self.now c.loop.self c.feed.new.self c.take_step.new.self c.loop.invariant.come
+    c.in_ok-feed.ensures.come c.in_ok-longest.ensures.come
 
-pub loop-step-preserved : goal.loop-step-preserved
-loop-step-preserved g c = record {
-  come = came c.args.program.now c.args.self.now c.loop-step.self c.feed.new.self c.take_step.new.self c.loop-step.invariant.come
-      c.in_ok-feed.ensures.come c.in_ok-take_step.ensures.come;
-  desk = c.in_ok-take_step.ensures.desk;
-  within = omega (arith, c.in_ok-take_step.ensures.within, c.feed.ensures.made, c.loop-step.invariant.within);
+pub loop-preserved : goal.loop-preserved
+loop-preserved g c = record {
+  come = came c.args.program.now c.args.self.now c.loop.self c.feed.new.self c.take_step.new.self c.loop.invariant.come
+      c.in_ok-feed.ensures.come c.in_ok-longest.ensures.come;
+  desk = c.in_ok-longest.ensures.desk;
+  within = omega (arith, c.in_ok-longest.ensures.within, c.feed.ensures.made, c.loop.invariant.within);
 }

@@ -3,8 +3,8 @@ use Rattle.ic_workers.specs.inner.HandsOn.{Come}
 use Rattle.ic_workers.specs.inner.Keeping.{parts_at, IsDesk}
 use Rattle.ic_workers.proofs.desk.Desk.take_steps.Given as goal
 
-abbrev pub invariant-loop-step : goal.invariant-loop-step
-invariant-loop-step g l = record {
+abbrev pub invariant-loop : goal.invariant-loop
+invariant-loop g l = record {
   come : Come l.program (parts_at l.initial.self) (parts_at l.self);
   desk : IsDesk l.program l.self;
   within : l.self.made ≤ l.bounds.steps;
