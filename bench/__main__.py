@@ -53,8 +53,8 @@ class Bench:
         else by `trace`."""
         if row.words[0] == "serve":
             return row.pairs * sum(int(it) for it in re.findall(rb"(?m)^ran (\d+)", out))
-        if row.words == ["reduce"]:
-            told = subprocess.run([program, "reduce", "--stats"], input=row.given.encode(), capture_output=True).stderr
+        if row.is_in_place():
+            told = subprocess.run([program, *row.words, "--stats"], input=row.given.encode(), capture_output=True).stderr
             return int(re.search(rb"interactions (\d+)", told)[1])
         rounds = row.words[2] if row.words[0] == "reduce" else "1"
         told = subprocess.run([program, "trace", "--rounds", rounds], input=row.given.encode(), stdout=subprocess.PIPE).stdout
@@ -65,7 +65,7 @@ def figures(bench, row, options):
     """What a line of the table says of each program: a median of seconds, millions of instructions, and a rate."""
     first = [bench.tried(it, row) for it in options.program]
     took = [[bench.tried(it, row)[0] for it in options.program] for _ in range(options.times)]
-    is_told = row.pairs or row.words == ["reduce"]
+    is_told = row.pairs or row.is_in_place()
     count = bench.interactions(options.program[0], row, first[0][2]) if is_told else 0
     for program, seconds, tried in zip(options.program, map(statistics.median, zip(*took)), first):
         yield f"{seconds:.4f}"

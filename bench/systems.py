@@ -27,6 +27,9 @@ class Row(NamedTuple):
     pairs: int = 0
     keeps: bool = False
 
+    def is_in_place(self):
+        return self.words[0] == "reduce" and "--rounds" not in self.words
+
 
 def loops(count):
     """Pairs that fire in every round."""
@@ -64,7 +67,7 @@ def church(number):
 
 
 def of_nets(size):
-    """What is reduced in place. Of those that grow fast, a part of a size lies between a least one and the whole."""
+    """What is reduced in place, by one thread. Of those that grow fast, a part of a size lies between a least one and the whole."""
 
     def less(whole, least):
         return least + (whole - least) * size(1_000) // 1_000
@@ -81,7 +84,7 @@ def of_nets(size):
         (f"a chain of {size(8_000):,} agents is eaten", f"{EATS} <r|Eat(r)={chain}>"),
         (f"an agent walks along a chain of {size(8_000):,}", f"{WALKS} <r|Walk(r)={chain}>"),
     ):
-        yield Row(f"reduce: {what}", ["reduce"], given)
+        yield Row(f"reduce: {what}", ["reduce", "--workers", "1"], given)
 
 
 def of_lines(size):

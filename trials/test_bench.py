@@ -38,7 +38,7 @@ class Bench(Trial):
         self.equals("make bench", "the rows", [it.what for it in rows(0.01)], [it[0] for it in found])
         for row, (what, seconds, rate) in zip(rows(0.01), found):
             self.equals(what, "whether it tells seconds", True, float(seconds) > 0)
-            self.equals(what, "whether it tells interactions", row.pairs > 0 or row.words == ["reduce"], rate != "-")
+            self.equals(what, "whether it tells interactions", row.pairs > 0 or row.is_in_place(), rate != "-")
 
     def test_another_program_stands_beside_and_one_that_answers_otherwise_is_told(self):
         for other, more in ((PROGRAM, []), (shutil.which("true"), ["answers otherwise"])):
