@@ -170,8 +170,8 @@ class Bounds(InPlace):
             self.equals(ran.command, f"the range is told: {ran.err}", True, f"0..={MOST}".encode() in ran.err)
 
     def grows(self, *words, most, **how):
-        """A net that grows without end is cut by its bound of what it holds. Hands on what was printed."""
-        ran = run("reduce", "--nodes", most, *words, given=DOUBLES, **how)
+        """A net that grows without end is cut by its bound of what it holds, if one thread reduces it. Hands on what was printed."""
+        ran = run("reduce", "--workers", 1, "--nodes", most, *words, given=DOUBLES, **how)
         self.equals(ran.command, "status and line", (1, b"icserve: overgrown\n"), (ran.status, ran.err))
         told = REACHED.fullmatch(ran.after)
         made, places, left, bound = map(int, told.groups())
@@ -186,7 +186,7 @@ class Bounds(InPlace):
     def test_equations_that_pile_up_are_bounded(self):
         """Equations without a rule count, though the net keeps few places. A bound that they don't meet changes nothing."""
         for most in (0, 20_000, 200_000):
-            ran = run("reduce", "--nodes", most, given=PILES)
+            ran = run("reduce", "--workers", 1, "--nodes", most, given=PILES)
             self.equals(ran.command, "how it ends", (1, b"", b"icserve: overgrown\n"), (ran.status, ran.out, ran.err))
             made, places, left, bound = map(int, REACHED.fullmatch(ran.after).groups())
             self.equals(ran.command, f"few places, and all equations: {ran.after}", (True, 2 * made + 1, most), (places < 10, left, bound))
@@ -206,10 +206,10 @@ class Bounds(InPlace):
 
     def test_where_memory_runs_out_that_is_told_and_nothing_is_printed(self):
         limited = {"preexec_fn": lambda: resource.setrlimit(resource.RLIMIT_AS, (200 * 2**20, 200 * 2**20))}
-        for words in ([], ["--partial"]):
+        for words in (["--workers", 1], ["--workers", 1, "--partial"], []):
             ran = run("reduce", *words, given=DOUBLES, **limited)
             self.equals(ran.command, "status and line", (4, b"icserve: memory\n"), (ran.status, ran.err))
-            if ran.out or not words:
+            if ran.out or "--partial" not in words:
                 self.agrees(ran.command, "standard output", b"", ran.out)
                 told = REACHED.fullmatch(ran.after)
                 self.equals(ran.command, f"how far it came: {ran.after}", True, bool(told) and int(told[1]) > 100_000)
@@ -348,7 +348,7 @@ class HardNets(InPlace):
         yield "{A><B} <|C=D>", [], "quiet", 0
         yield two, ["--steps", drawn.randint(0, 1)], "steps", 5
         yield LOOP.text, ["--steps", drawn.randint(0, 9_999)], "steps", 5
-        yield DOUBLES, ["--nodes", drawn.randint(100, 9_999)], "places", 1
+        yield DOUBLES, ["--nodes", drawn.randint(100, 9_999), "--workers", 1], "places", 1
 
     def test_figures_as_an_object_are_those_as_lines(self):
         fields = ["end", "stuck", "interactions", "name_steps", "places", "equations", "milliseconds", "interactions_a_second", "by_rule"]
@@ -420,7 +420,7 @@ class HardNets(InPlace):
         rules = "{A(U(y,z,z))><U(x,S(x),T(y));S(x)><T(x);Z><U(Q(a,B),a,C)}"
         for count in (100, 5_000, 100_000):
             given = f"{rules} <r|" + "A(" * count + "Z" + ")" * count + "=U(r,n,n)>"
-            _, places = self.reduces(given=given, out=["<Q(C,B)|>"], interactions=2 * count + 1)
+            _, places = self.reduces("--workers", 1, given=given, out=["<Q(C,B)|>"], interactions=2 * count + 1)
             self.equals(given[:80], f"places beside those of the configuration: {places}", True, places < count + 10_000)
 
     def test_circles_that_are_made_again_and_again_stay(self):
@@ -452,7 +452,7 @@ class Growths(InPlace):
         told = {"well": 0, "before": 0, "between": 0, "printed": 0}
 
         def attempt(env, call):
-            ran = run("reduce", *words, given=text, env=env)
+            ran = run("reduce", "--workers", 1, *words, given=text, env=env)
             if (ran.status, ran.out, ran.err) == (0, answer, b""):
                 told["well"] += 1
                 return

@@ -87,8 +87,8 @@ class Keep(Stops):
             path.unlink(missing_ok=True)
 
     def whole(self, text):
-        """The answer and the figures of a reduction that isn't kept."""
-        ran = run("reduce", *FIGURES, given=text)
+        """The answer and the figures of a reduction that isn't kept, by one thread as of one that is."""
+        ran = run("reduce", "--workers", 1, *FIGURES, given=text)
         self.equals(ran.command, "status", 0, ran.status)
         return ran.out, figures(ran)
 
@@ -121,7 +121,7 @@ class Keep(Stops):
 
     def test_a_stuck_pair_is_told(self):
         text = "{A(B(x))><B(x)} <r|A(r)=B(C),D=E(z)>"
-        whole = run("reduce", given=text)
+        whole = run("reduce", "--workers", 1, given=text)
         self.equals(whole.command, "what is told", b"icserve: stuck D><E\n", whole.err)
         for words, given in ((["--keep", self.file], text), (["--resume", self.file], b"")):
             self.runs("reduce", *words, given=given, out=whole.out, err=whole.err)

@@ -2,6 +2,7 @@
 cut into parts, and what threads do. So many systems are drawn as the variable SYSTEMS says, of 400 if it isn't set."""
 
 import os
+from pathlib import Path
 
 import draws
 import model
@@ -32,6 +33,15 @@ def rules_of(text):
 
 def numeral(number):
     return "S(" * number + "Z" + ")" * number
+
+
+def quota():
+    """How many processors the quota of a container allows, one at least."""
+    try:
+        limit, period = map(int, Path("/sys/fs/cgroup/cpu.max").read_text().split())
+        return max(1, limit // period)
+    except (OSError, ValueError):
+        return 64
 
 
 class Workers(Trial):
@@ -134,8 +144,7 @@ class Threads(Trial):
         self.log = self.room / "log"
 
     def reduced(self, workers, call, **more):
-        words = ("--workers", workers) if workers else ()
-        return run("reduce", *words, given=self.text, env={**shimmed(call, self.log), **more})
+        return run("reduce", "--workers", workers, given=self.text, env={**shimmed(call, self.log), **more})
 
     def at_once(self):
         """The most threads that have begun and weren't joined yet, and how many had begun before the first of them."""
@@ -147,11 +156,34 @@ class Threads(Trial):
                 most, before = now, begun - now
         return most, before
 
-    def test_no_thread_is_made_for_one_worker_or_where_no_number_is_said(self):
-        for workers in (None, 1, 2, 7, 64):
-            self.reduced(workers, f"thread {10**9} once")
-            threads = next(it.at for it in noted(self.log) if it.kind == "C")
-            self.equals(f"{workers} workers", "whether threads are made", (workers or 1) > 1, threads > 0)
+    def made(self, *words, text, **how):
+        """A run that went well, and how many threads it has made."""
+        ran = run("reduce", *words, given=text, env=shimmed(f"thread {10**9} once", self.log), **how)
+        self.equals(ran.command, "status", 0, ran.status)
+        return ran, next(it.at for it in noted(self.log) if it.kind == "C")
+
+    def test_no_thread_is_made_for_one_worker(self):
+        for workers in (1, 2, 7, 64):
+            ran, threads = self.made("--workers", workers, text=self.text)
+            self.equals(ran.command, "whether threads are made", workers > 1, threads > 0)
+
+    def test_where_no_number_is_said_there_is_a_thread_for_each_processor(self):
+        """Of those that the process may use. The thread that asks is one of them."""
+        processors = sorted(os.sched_getaffinity(0))
+        wanted = run("reduce", "--workers", 1, given=self.text)
+        for count in (1, 2, 3, 4):
+            if count > len(processors):
+                break
+            ran, _ = self.made(text=self.text, preexec_fn=lambda may=processors[:count]: os.sched_setaffinity(0, may))
+            self.equals(ran.command, f"threads beside the first on {count} processors", min(count, quota()) - 1, self.at_once()[0])
+            self.equals(ran.command, "answer", wanted.out, ran.out)
+
+    def test_where_no_number_is_said_one_thread_makes_few_interactions_and_those_that_are_bounded(self):
+        for words, text in (([], f"{FIB}<r|F(r)={numeral(3)}>"), (["--steps", 10**9], self.text), (["--steps", 10**9, "--nodes", 10**7], self.text)):
+            ran, threads = self.made(*words, text=text)
+            self.equals(ran.command, "threads", 0, threads)
+        first, *others = (run("reduce", "--steps", 20_000, given=self.text) for _ in range(4))
+        self.equals(first.command, "the same line each time", [first[1:]] * len(others), [it[1:] for it in others])
 
     def test_several_threads_are_at_work_at_once(self):
         """Each thread of a step waits at its end until all of them have begun. The thread that asks makes a share itself."""

@@ -179,12 +179,14 @@ Options:
       --resume <F>       Go on with what is kept in F and F.2, and keep it there
       --seconds <N>      About how long it goes on between two keeps, from 1 to 86400 [default: 30]
       --rounds <N>       Make rounds, and at most so many, from 0 to 4611686018427387904
-      --workers <N>      Threads that reduce it, from 1 to 64 [default: 1], or make a round [default: 2]
+      --workers <N>      Threads, from 1 to 64 [default: processors, 1 with --steps, 2 with --rounds]
   -h, --help             Print help
 
 A round fires all active pairs at once, and then removes names that only join two terms.
 Beside --rounds only --workers and --partial may stand,
-and beside --keep and --resume no --limits or --workers.
+and beside --keep and --resume, with which one thread reduces, no --limits or --workers.
+Without --workers and --steps as many threads reduce as the process may use processors, at most 64.
+Several may leave the same equations in another order and with other names each time.
 Without --stats, --format changes nothing.
 What --nodes bounds is looked at every 4096 interactions, and less often where several threads
 reduce, so there may be more by then.

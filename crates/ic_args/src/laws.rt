@@ -121,7 +121,7 @@ pub fn each_command_has_its_help()
         × Says help_help (codes "icserve help [WORD]") }
     ensures rounds { AllByRecursion (Says reduce_help) (codes "icserve reduce" ∷ codes "--rounds <N>"
         ∷ codes "from 0 to 4611686018427387904"
-        ∷ codes "--workers <N>" ∷ codes "from 1 to 64 [default: 1]" ∷ codes "[default: 2]" ∷ []) }
+        ∷ codes "--workers <N>" ∷ codes "from 1 to 64 [default: processors, 1 with --steps, 2 with --rounds]" ∷ []) }
     ensures in_place { AllByRecursion (Says reduce_help) (codes "--steps <N>"
         ∷ codes "from 0 to 4611686018427387903 [default: 4611686018427387903]" ∷ codes "--nodes <N>"
         ∷ codes "from 0 to 4611686018427387903 [default: 134217728]"
@@ -167,7 +167,7 @@ pub fn each_help_has_its_digest()
     ensures create { digest create_help ≡ 1291611657193787632 }
     ensures serve { digest serve_help ≡ 929575633331203873 }
     ensures attend { digest attend_help ≡ 1668646222601145556 }
-    ensures reduce { digest reduce_help ≡ 2263531928720258663 }
+    ensures reduce { digest reduce_help ≡ 1495628207130733388 }
     ensures trace { digest trace_help ≡ 749994876165703132 }
     ensures draw { digest draw_help ≡ 2041493995027470377 }
     ensures dump { digest dump_help ≡ 932412384161095633 }

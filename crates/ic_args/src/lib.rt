@@ -11,5 +11,6 @@ mod values;
 mod words;
 
 pub use words::{
-    FiguresFormat, ReportFormat, Task, TextLimits, TextWord, TraceFormat, WordsFault, read_words,
+    FiguresFormat, MAX_STEPS, ReportFormat, Task, TextLimits, TextWord, TraceFormat, WordsFault,
+    read_words,
 };

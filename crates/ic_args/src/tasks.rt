@@ -12,7 +12,7 @@ use crate::values::{
     value_if_met, value_of, values_of,
 };
 use crate::words::{
-    FiguresFormat, ReportFormat, Task, TextLimits, TextWord, TraceFormat, WordsFault,
+    FiguresFormat, MAX_STEPS, ReportFormat, Task, TextLimits, TextWord, TraceFormat, WordsFault,
     text_word_named,
 };
 use clap::ArgMatches;
@@ -32,9 +32,6 @@ const MAX_TURNS: u32 = 1_000_000;
 
 /// The most rounds of `reduce` and `trace`: 2^62.
 const MAX_ROUNDS: u64 = 4_611_686_018_427_387_904;
-
-/// The most interactions of `reduce`, and the most places and equations of its net: 2^62 - 1.
-const MAX_STEPS: u64 = 4_611_686_018_427_387_903;
 
 /// How many places and equations the net of `reduce` has at most, where nothing else is said: 2^27.
 const NODES: u64 = 134_217_728;

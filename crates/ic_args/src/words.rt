@@ -14,6 +14,10 @@ use std::alloc::{AllocError, AllocFailed, Global};
 /// The version of the program.
 pub(crate) const VERSION: &str = "0.1.0";
 
+/// The most interactions of `reduce`, which it may make where no number is said, and the most places and equations of its
+/// net: 2^62 - 1.
+pub const MAX_STEPS: u64 = 4_611_686_018_427_387_903;
+
 /// What the words after the program's name ask for. A text is read from the file that they name, or from standard input
 /// where they name none.
 #[derive(Debug, Drop)]
@@ -60,7 +64,7 @@ pub enum Task {
     Reduce {
         /// How many threads reduce it, from 1 to 64; none where no number is said.
         workers: Option<u32>,
-        /// How many interactions are made at most, from 0 to 2^62 - 1.
+        /// How many interactions are made at most, from 0 to `MAX_STEPS`, which stands here where no number is said.
         steps: u64,
         /// How many places and equations the net has at most, from 0 to 2^62 - 1.
         nodes: u64,

@@ -24,7 +24,7 @@ use crate::answers::Answers;
 use crate::input::{Input, open_text, told_of};
 use crate::keeping::KeptIn;
 use crate::others::other_at;
-use crate::reducing::Wanted;
+use crate::reducing::{Wanted, threads_for};
 use crate::session::Session;
 use crate::standing::stand_ins;
 use crate::standstill::tell_of_jobs;
@@ -274,7 +274,7 @@ fn reduce_in_place<T: Threads + Sync, R: Read>(
             let wanted = Wanted {
                 asked: asked_of(*quiet, *partial),
                 figures: if *stats { Some(*format) } else { None },
-                policy: Policy::of(workers.unwrap_or(1)),
+                policy: Policy::of(threads_for(threads, *workers, *steps)),
             };
             reducing::reduce(
                 rt,

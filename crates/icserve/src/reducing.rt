@@ -1,7 +1,10 @@
 //! The program's word `reduce` where no rounds are asked for: a net reduced in place.
 
+ghost use Rattle.std.specs.Prelude.{◌≡◌, ◌<◌, ◌≤◌, IfNone, IfSome, max, min};
+ghost use Rattle.ic_args.specs.Words.{most_steps};
+
 use crate::looking::tell_stuck;
-use ic_args::FiguresFormat;
+use ic_args::{FiguresFormat, MAX_STEPS};
 use ic_causes::{NotedOutput, Notes};
 use ic_exits::{Failure, Reached, idle_line, reduce_ending};
 use ic_in_place::{Asked, Bounds, End, Outcome, Watch, reduce_in_place_stream};
@@ -10,7 +13,7 @@ use ic_streams::StreamFault;
 use ic_text::Limits;
 use ic_workers::{Policy, reduce_by_workers_stream};
 use std::io::{self, IsTerminal, Read, Write};
-use std::thread::Threads;
+use std::thread::{Threads, available_parallelism};
 use std::time::{Duration, Instant};
 
 /// What is wanted of a reduction in place.
@@ -22,6 +25,32 @@ pub(crate) struct Wanted {
     pub(crate) figures: Option<FiguresFormat>,
     /// How many threads reduce, and how they share it.
     pub(crate) policy: Policy,
+}
+
+/// How many threads reduce a net: as many as are said, within the bounds. Where no number is said there are as many as there
+/// are processors, or one if the interactions are bounded, so that each run makes the same ones.
+pub(crate) fn threads_for<T: Threads>(threads: &T, said: Option<u32>, steps: u64) -> u32
+    ensures some { 1 ≤ result }
+    ensures few { result ≤ 64 }
+    ensures said { IfSome said (λ number. result ≡ min (max number 1) 64) }
+    ensures bounded { IfNone said (steps < most_steps → result ≡ 1) }
+{
+    match said {
+        Some(number) => number.max(1).min(64),
+        None if steps < MAX_STEPS => 1,
+        None => processors(threads),
+    }
+}
+
+/// How many processors this process may use, 64 at most; one where that can't be told.
+fn processors<T: Threads>(threads: &T) -> u32
+    ensures some { 1 ≤ result }
+    ensures few { result ≤ 64 }
+{
+    match available_parallelism(threads) {
+        Ok(number) => number.get().min(64) as u32,
+        Err(_) => 1,
+    }
 }
 
 /// Reduces the system on standard input in place, within these limits of its text and these bounds, and prints what is

@@ -13,10 +13,10 @@ pub returns-clause-streams : goal.returns-clause-streams
 returns-clause-streams c = ((90, refl), (65, refl), (70, refl), (100, refl), (106, refl), (96, refl), (55, refl))
 
 pub returns-clause-rounds : goal.returns-clause-rounds
-returns-clause-rounds c = ((81, refl), ((1261, refl), ((1314, refl), ((1350, refl), ((1393, refl), ((1436, refl), tt))))))
+returns-clause-rounds c = ((81, refl), ((1261, refl), ((1314, refl), ((1350, refl), ((1378, refl), tt)))))
 
 pub returns-clause-in_place : goal.returns-clause-in_place
-returns-clause-in_place c = ((223, refl), ((282, refl), ((349, refl), ((447, refl), ((608, refl), ((800, refl), ((504, refl), ((557, refl), ((579, refl), ((586, refl), ((876, refl), ((923, refl), ((948, refl), ((1688, refl), ((955, refl), ((702, refl), ((978, refl), ((1080, refl), ((1161, refl), ((1225, refl), tt))))))))))))))))))))
+returns-clause-in_place c = ((223, refl), ((282, refl), ((349, refl), ((447, refl), ((608, refl), ((800, refl), ((504, refl), ((557, refl), ((579, refl), ((586, refl), ((876, refl), ((923, refl), ((948, refl), ((1903, refl), ((955, refl), ((702, refl), ((978, refl), ((1080, refl), ((1161, refl), ((1225, refl), tt))))))))))))))))))))
 
 pub returns-clause-formats : goal.returns-clause-formats
 returns-clause-formats c = ((72, refl), ((213, refl), ((266, refl), ((321, refl), ((358, refl), ((375, refl), ((397, refl), ((404, refl), tt))))))))
