@@ -90,7 +90,7 @@ all_counted s bounds answer end interactions places is =
     omega (arith, looked, after, many, is.counted, is.held.none, length-append w.before w.after.fired)
 
 -- places are looked at after whole pieces
-looked_whole : (p : Plans) (nodes allowed : ℕ) (fired : List ℕ) (first last : Net) → Looked p nodes allowed fired first last
+pub looked_whole : (p : Plans) (nodes allowed : ℕ) (fired : List ℕ) (first last : Net) → Looked p nodes allowed fired first last
     → (looks : ℕ) × (last.interactions ≡ first.interactions + looks * PIECE)
 looked_whole p nodes allowed fired first last (no_look m) = (0, omega arith)
 looked_whole p nodes allowed fired first last (one_more_look low high before a m b looked next) =

@@ -1,10 +1,11 @@
 -- Lemmas: how many names are in use at looks.
-use Rattle.std.proofs.Common.{◌≡◌, ◌⊎◌, inl, inr, ℕ, ◌<◌, List, [], ◌++◌, refl, ⊎_elim, ◌∙◌, subst as transport}
+use Rattle.std.proofs.Common.{◌≡◌, ◌⊎◌, inl, inr, ℕ, suc, ◌+◌, ◌*◌, ◌<◌, List, [], ◌++◌, refl, ⊎_elim, ◌∙◌, arith, subst as transport}
 use Rattle.ic_arena.specs.declared.word.TheConstants.{NAME}
 use Rattle.ic_machine.specs.Net.{Net, in_use, ArePutThrough}
 use Rattle.ic_machine.specs.Plan.{Plans}
+use Rattle.ic_in_place.specs.declared.running.TheConstants.{PIECE}
 use Rattle.ic_in_place.specs.Running.{names_allowed, IsNextLook, Looked, no_look, one_more_look}
-use Rattle.ic_in_place_laws.specs.Looks.{no_look_since, one_more_since, AreTidy}
+use Rattle.ic_in_place_laws.specs.Looks.{Since, no_look_since, one_more_since, AreTidy}
 
 pub tidy_looks : (p : Plans) (nodes allowed : ℕ) (fired : List ℕ) (first last : Net) → Looked p nodes allowed fired first last
     → AreTidy p nodes allowed first last
@@ -42,3 +43,15 @@ tidy_looks p nodes allowed fired first last (one_more_look low high before a m b
       since = no_look_since b;
       same = is.1;
     }
+
+pub since_few : (p : Plans) (nodes : ℕ) (through last : Net) → Since p nodes through last → (last ≡ through) ⊎ (in_use NAME last.places < names_allowed through)
+since_few p nodes through last (no_look_since m) = inl refl
+since_few p nodes through last (one_more_since t m b since next low) = inr low
+
+pub since_whole : (p : Plans) (nodes : ℕ) (through last : Net) → Since p nodes through last
+    → (looks : ℕ) × (last.interactions ≡ through.interactions + looks * PIECE)
+since_whole p nodes through last (no_look_since m) = (0, omega arith)
+since_whole p nodes through last (one_more_since t m b since next low) =
+    let then = since_whole p nodes t m since in
+    let whole = next.whole in
+    (suc then.0, omega (arith, then.1, whole))

@@ -2,5 +2,6 @@
 #![tactic(auto)]
 
 pub mod laws;
+pub mod outcomes;
 pub mod places;
 pub mod threads;

@@ -8,7 +8,7 @@ ghost use Rattle.ic_rules.specs.System.{SystemParts};
 ghost use Rattle.ic_arena.specs.declared.word.Word.{Word};
 ghost use Rattle.ic_arena.specs.declared.word.TheConstants.{NAME};
 ghost use Rattle.ic_arena.specs.Piece.{Piece, equated, waits};
-ghost use Rattle.ic_machine.specs.Net.{Net, all_places, equations_left, in_use};
+ghost use Rattle.ic_machine.specs.Net.{Net, all_places, equations_left, in_use, ArePutThrough};
 ghost use Rattle.ic_machine.specs.Plan.{Planned, Plans, IsPlan, places_made};
 ghost use Rattle.ic_machine.specs.Runs.{Starts, Way};
 ghost use Rattle.ic_machine.specs.Steps.{Fires, Steps};
@@ -138,4 +138,18 @@ pub fn names_in_use_are_fewer_than_allowed()
         → AreTidy p nodes is.allowed old is.mark }
     ensures allowed { (n : Net)
         → names_allowed n ≡ max (2 * in_use NAME n.places) (n.names / 2) + 4096 }
+{}
+
+/// A machine that is tidy was looked at each time that it had made 4,096 interactions more. Names were put through at one look, or
+/// at none yet, and that tells how many may be in use. After each look since then fewer are in use.
+pub fn a_tidy_machine_was_looked_at()
+    ensures looked { (p : Plans) (nodes allowed : ℕ) (first last : Net)
+        → AreTidy p nodes allowed first last
+        → (looks : ℕ) × (last.interactions ≡ first.interactions + looks * 4096) }
+    ensures counted { (p : Plans) (nodes allowed : ℕ) (first last : Net)
+        → AreTidy p nodes allowed first last → (allowed ≡ names_allowed first)
+        ⊎ ((n : Net) × ArePutThrough n.places × (allowed ≡ names_allowed n)) }
+    ensures fewer { (p : Plans) (nodes allowed : ℕ) (first last : Net)
+        → (is : AreTidy p nodes allowed first last)
+        → (last ≡ is.through) ⊎ (in_use NAME last.places < allowed) }
 {}

@@ -1,0 +1,62 @@
+//! Laws of what an outcome tells of the system that was read.
+
+ghost use Rattle.std.specs.Prelude.{◌≡◌, ◌≢◌, ℕ, ◌+◌, ◌^◌, ◌<◌, List, [], true, false, Option, None, SomeIff, length};
+ghost use Rattle.std.specs.Arc.{arc_value};
+ghost use Rattle.std.specs.Option.{option_map};
+ghost use Rattle.ic_term.specs.Configuration.{Configuration};
+ghost use Rattle.ic_rules.specs.System.{SystemParts};
+ghost use Rattle.ic_round.specs.Rounds.{IsQuiet};
+ghost use Rattle.ic_confluence.specs.Kinds.{Kind, Chain};
+ghost use Rattle.ic_reaching.specs.OneNet.{OneNet};
+ghost use Rattle.ic_reaching.specs.Reaching.{Reaches, rules_fired};
+ghost use Rattle.ic_naming.specs.Naming.{renumbered};
+ghost use Rattle.ic_streams.specs.Streams.{line_of};
+ghost use Rattle.ic_by_rounds.specs.Stuck.{stuck_text};
+ghost use Rattle.ic_in_place.specs.declared.running.Bounds.{Bounds};
+ghost use Rattle.ic_in_place.specs.declared.running.End.TheVariants.{Quiet};
+ghost use Rattle.ic_in_place.specs.declared.stream.Asked.{Asked};
+ghost use Rattle.ic_in_place.specs.declared.stream.Outcome.{Outcome};
+ghost use Rattle.ic_in_place.specs.Counting.{name_steps};
+ghost use Rattle.ic_in_place.specs.Reducing.{IsPutTogether};
+ghost use Rattle.ic_in_place.specs.Reductions.{is_written};
+ghost use Rattle.ic_in_place_laws.specs.Outcomes.{AreOf};
+
+/// At a quiet end the net, its interactions and its name steps are those of every order, and the stuck pair is the net's first.
+pub fn a_quiet_outcome_is_that_of_every_order()
+    ensures net { (s : SystemParts) (bounds : Bounds) (asked : Asked) (outcome : Outcome)
+        (line : List ℕ) (e : Configuration) (kinds : List Kind)
+        → (is : AreOf s bounds asked outcome line) → outcome.end ≡ Quiet
+        → Chain s.rules.rules kinds s.config e → IsQuiet s.rules.rules e
+        → OneNet is.answer e × (length (rules_fired kinds) ≡ outcome.interactions) }
+    ensures name_steps { (s : SystemParts) (bounds : Bounds) (asked : Asked) (outcome : Outcome)
+        (line : List ℕ) (e : Configuration) (kinds : List Kind)
+        → (is : AreOf s bounds asked outcome line) → outcome.end ≡ Quiet
+        → Chain s.rules.rules kinds s.config e → IsQuiet s.rules.rules e
+        → SomeIff outcome.name_steps (name_steps kinds + outcome.interactions
+        + length is.answer.equations < 2 ^ 64) (name_steps kinds) }
+    ensures stuck { (s : SystemParts) (bounds : Bounds) (asked : Asked) (outcome : Outcome)
+        (line : List ℕ) → (is : AreOf s bounds asked outcome line) → outcome.end ≡ Quiet
+        → option_map (λ text. text.items) outcome.stuck
+        ≡ stuck_text s.rules.symbols (renumbered is.answer) }
+{
+    ic_in_place::laws::a_quiet_end_is_that_of_every_order();
+    ic_in_place::laws::name_steps_are_those_of_every_order();
+}
+
+/// At any end the line is of a configuration that as many interactions reach as are told. Where it is written, no name of that
+/// is left to replace; else there is no line. The rules are those of the system.
+pub fn an_outcome_says_what_was_reached()
+    ensures reached { (s : SystemParts) (bounds : Bounds) (asked : Asked) (outcome : Outcome)
+        (line : List ℕ) → (is : AreOf s bounds asked outcome line)
+        → (fired : List ℕ) × Reaches s.rules.rules s.config is.answer fired
+        × (length fired ≡ outcome.interactions) }
+    ensures written { (s : SystemParts) (bounds : Bounds) (asked : Asked) (outcome : Outcome)
+        (line : List ℕ) → (is : AreOf s bounds asked outcome line)
+        → is_written asked outcome.end ≡ true → IsPutTogether is.answer
+        × (line ≡ line_of s.rules.symbols (renumbered is.answer)) }
+    ensures unwritten { (s : SystemParts) (bounds : Bounds) (asked : Asked) (outcome : Outcome)
+        (line : List ℕ) → AreOf s bounds asked outcome line
+        → is_written asked outcome.end ≡ false → line ≡ [] }
+    ensures rules { (s : SystemParts) (bounds : Bounds) (asked : Asked) (outcome : Outcome)
+        (line : List ℕ) → AreOf s bounds asked outcome line → arc_value outcome.rules ≡ s.rules }
+{}
