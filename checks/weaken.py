@@ -1,7 +1,9 @@
 #!/usr/bin/env python3
 """Finds facts of definitions on which nothing rests. `python3 checks/weaken.py [CRATE..]` lists those fields of records of
 specs/ that no proof of their crate or of one above uses, as far as their names tell; it checks nothing. A law that the prover
-found by itself may use them all the same. `python3 checks/weaken.py --try CRATE FACT..` takes facts out that are named as they
+found by itself may use them all the same. `python3 checks/weaken.py --cases CRATE..` lists the cases of definitions: an equation
+(`1`), a side of its `⊎` or `×` (`1/2`), which where it says nothing is a disjunct that always holds, or a conjunct less, and a
+premise of a constructor (`name/2`). `python3 checks/weaken.py --try CRATE FACT..` takes facts or cases out that are named as they
 are listed, also of crates below, checks the crate in a room of hard links, and tells which proofs miss one of them."""
 
 import argparse
@@ -21,6 +23,9 @@ DEFINITION = re.compile(r"^ *(?:(?:abbrev|unfoldable) (?:pub )?|(?:pub )?data )(
 LEMMA = re.compile(r"^(?:pub )?([A-Za-z_]\S*) : ((?:.|\n(?=  ))*)", re.M)
 ERROR = re.compile(r"^(?:note: )?(?:\./)?(\S+?\.(?:antt|rt)):(\d+):\d+: (?:error: (?!.*that depend)|(?=it is not))(.*(?:\n  .*)*)", re.M)
 CITES = re.compile(r"\bRattle\.(\w+)\.specs\.(\w+)(?=[.\s;]*(?:\{|;|as\b|\n))")  # a module of definitions: crate and name
+STATES = re.compile(r"^( *)(?:abbrev )?pub (\S+) : (?:.|\n\1 )*?Type 0\n((?:\1\2 (?:.|\n\1 )*\n)+)", re.M)
+DATA = re.compile(r"^( *)pub data (\S+)(?:.|\n\1 )*? where\n((?:\1  .*\n)+)", re.M)
+BINDERS = re.compile(r"\s*(?:[({][^():]+ : (?:[^()]|\([^()]*\))*[)}]\s*)+")
 NOTHING = "Unit {0}"  # in the place of a fact
 
 
@@ -118,8 +123,49 @@ class Tree:
                 yield f"{crate}.{module}.{record}.{name} : {kind[:100]}"
 
 
+def parted(text, sign, start, end):
+    """The parts of a text between signs that stand in no brackets, by where they begin and end."""
+    depth, at = 0, start
+    for i in range(start, end):
+        depth += (text[i] in "([{") - (text[i] in ")]}")
+        if depth == 0 and text[i] == sign:
+            yield at, i
+            at = i + 1
+    yield at, end
+
+
+def sides(text, start, end):
+    """The sides of a disjunction, or of a conjunction. What is said of each value has none."""
+    if len([*parted(text, "→", start, end), *parted(text, "λ", start, end)]) > 2:
+        return []
+    either, both = [*parted(text, "⊎", start, end)], [*parted(text, "×", start, end)]
+    found = either if len(either) > 1 else both
+    return [it for it in found if len(found) > 1 and not BINDERS.fullmatch(text[slice(*it)])]
+
+
+def cases(text):
+    """The cases of a file's definitions: the definition, the case's name, and where it stands."""
+    for found in STATES.finditer(text):
+        each = re.compile(r"^%s%s (?:.|\n%s )*" % (found[1], re.escape(found[2]), found[1]), re.M)
+        for number, it in enumerate(each.finditer(text, found.start(3), found.end(3)), 1):
+            _, end = next(parted(text, "=", it.start(), it.end()))
+            if text[end + 1 : it.end()].strip() not in [NOTHING, "⊤"]:
+                yield found[2], str(number), end + 1, it.end()
+            for side, place in enumerate(sides(text, end + 1, it.end()), 1):
+                yield found[2], f"{number}/{side}", *place
+    for found in DATA.finditer(text):
+        each = re.compile(r"^%s  (\S+) :((?:.|\n%s   )*)" % (found[1], found[1]), re.M)
+        for it in each.finditer(text, found.start(3), found.end(3)):
+            for number, place in enumerate([*parted(text, "→", it.start(2), it.end(2))][:-1], 1):
+                if is_fact(" ".join(text[slice(*place)].split())) and not BINDERS.fullmatch(text[slice(*place)]):
+                    yield found[2], f"{it[1]}/{number}", *place
+
+
 def weakened(text, record, name):
-    """A file of definitions in which a field of a record says nothing."""
+    """A file of definitions in which a field of a record, or a case of a definition, says nothing."""
+    for definition, case, start, end in cases(text):
+        if (definition, case) == (record, name):
+            return f"{text[:start]} {NOTHING} {text[end:]}"
     for found in RECORD.finditer(text):
         field = re.compile(r"^( {%d}pub )%s : (?:.|\n {%d} )*" % (len(found[1]) + 2, re.escape(name), len(found[1]) + 3), re.M)
         if found[2] == record and field.search(found[3]):
@@ -180,7 +226,8 @@ def try_without(crate, taken):
         done = subprocess.run([RT, "check", "--jobs", "1"], cwd=crates / crate, capture_output=True, text=True)
     for path, line, says in ERROR.findall(done.stdout + done.stderr):
         states = re.search(r"(?:expected type|checked against|where one has) `Unit", says)  # and proves what isn't asked for
-        if says.startswith("it is not") or ("Unit" in says and not states):
+        shrinks = "argument that gets smaller" in says  # a call on what a case has left out
+        if says.startswith("it is not") or shrinks or ("Unit" in says and not states):
             print(f"{path}:{line} misses a fact: {' '.join(says.split())[:120]}")
     if "logic=" not in done.stdout:
         raise SystemExit(f"nothing was checked: {(done.stdout + done.stderr)[-300:]}")
@@ -190,9 +237,13 @@ def try_without(crate, taken):
 if __name__ == "__main__":
     given = argparse.ArgumentParser(description=__doc__.split(". ", maxsplit=1)[0])
     given.add_argument("names", nargs="*", help="crates; with --try a crate, and facts as they are listed")
+    given.add_argument("--cases", action="store_true", help="list the cases of the crates' definitions")
     given.add_argument("--try", dest="tries", action="store_true", help="check the crate without these facts")
     asked = given.parse_args()
     if asked.tries:
         try_without(asked.names[0], asked.names[1:])
+    elif asked.cases:
+        for path in (it for crate in asked.names for it in sorted((TOP / "crates" / crate / "specs").glob("*.antt"))):
+            print(*(f"{path.parts[-3]}.{path.stem}.{name}.{case}" for name, case, *_ in cases(path.read_text())), sep="\n")
     else:
         print(*Tree().unused(asked.names), sep="\n")
