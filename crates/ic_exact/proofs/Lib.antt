@@ -1,0 +1,5 @@
+pub mod ThirdLemmas
+pub mod FaultLemmas
+pub mod DealingLemmas
+pub mod MarkLemmas
+pub mod NameLemmas

@@ -1,0 +1,9 @@
+//! Laws that rest on definitions in which laws of crates below end. No program calls them.
+#![tactic(auto)]
+
+pub mod dealing;
+pub mod firsts;
+pub mod jobs;
+pub mod rounds;
+pub mod spelled;
+pub mod texts;
