@@ -217,7 +217,8 @@ def try_without(crate, taken):
         own = crates / crate / "specs"
         written = {it: it.read_text() for it in files_of(crates, crate)}
         written |= {own / f"{copies.get(it, it[1])}.antt": text for it, text in texts.items()}
-        written[own / "Lib.antt"] += "".join(f"pub mod {it}\n" for it in copies.values())
+        own.mkdir(exist_ok=True)
+        written[own / "Lib.antt"] = written.get(own / "Lib.antt", "") + "".join(f"pub mod {it}\n" for it in copies.values())
         for path, text in written.items():
             for (of, module), name in copies.items():
                 text = re.sub(rf"\bRattle\.{of}\.specs\.{module}(?!\w)", f"Rattle.{crate}.specs.{name}", text)
