@@ -11,7 +11,7 @@ use Rattle.ic_settle.specs.Settling.{subst, subst_all}
 use Rattle.ic_settle.specs.lemmas.SubstitutionLaws.{occurrences-append, subst-absent, subst_all-absent}
 use Rattle.ic_confluence.specs.Agents.{symbols, symbols_of, pair_symbols, configuration_symbols}
 use Rattle.ic_confluence.specs.Sameness.{Alike, itself, exchanged, rotated, in_turn, Rearranged, nothing, kept, swapped, one_by_one, renamed_pair, Same, renaming, rearranging, through}
-use Rattle.ic_confluence.proofs.Counts.{alone_other}
+use Rattle.ic_confluence.specs.lemmas.Counts.{alone_other}
 
 -- three parts, the last two exchanged
 last_two : (xs ys zs : List ℕ) → IsPermutation ((xs ++ ys) ++ zs) ((xs ++ zs) ++ ys)

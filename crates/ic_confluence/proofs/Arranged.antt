@@ -8,15 +8,16 @@ use Rattle.ic_term.specs.Configuration.{occurrences}
 use Rattle.ic_settle.specs.Settling.{Binding, subst, subst_pair}
 use Rattle.ic_settle.specs.NameSteps.{Binds}
 use Rattle.ic_settle.specs.lemmas.SubstitutionLaws.{occurrences-cons}
+use Rattle.ic_settle.specs.lemmas.StepLaws.{itself_once as alone_itself}
 use Rattle.ic_confluence.specs.Sameness.{turned, Rotated, Alike, itself, exchanged, rotated, in_turn, Rearranged, nothing, kept, swapped, one_by_one}
-use Rattle.ic_confluence.proofs.Counts.{alone_itself, alone_other, apart_sym, in_pair, in_more, occurrences-put, occurrences-gone}
-use Rattle.ic_confluence.proofs.Puts.{subst-subst}
-use Rattle.ic_confluence.proofs.Equivalence.{Rearranged-refl}
-use Rattle.ic_confluence.proofs.Replacing.{Replaced}
+use Rattle.ic_confluence.specs.lemmas.Counts.{alone_other, apart_sym, in_pair, in_more, occurrences-put, occurrences-gone}
+use Rattle.ic_confluence.specs.lemmas.Puts.{subst-subst}
+use Rattle.ic_confluence.specs.lemmas.Equivalence.{Rearranged-refl}
+use Rattle.ic_confluence.specs.lemmas.Replacing.{Replaced}
 
 -- ---- how often names occur
 
-one_put : (l m o k : ℕ) → l ≡ m + o * k → o ≡ 1 → l ≡ m + k
+pub one_put : (l m o k : ℕ) → l ≡ m + o * k → o ≡ 1 → l ≡ m + k
 one_put l m o k e f = let g = rw f at e in omega (arith, g)
 
 -- a term put for a name that occurs once

@@ -15,10 +15,10 @@ use Rattle.ic_round.specs.lemmas.FreshNames.{absent_above}
 use Rattle.ic_round.specs.lemmas.StepsLemmas.{iterate_reached}
 use Rattle.ic_confluence.specs.Kinds.{Kind, naming, firing, StepOf, Chain}
 use Rattle.ic_confluence.specs.Sameness.{Same}
-use Rattle.ic_confluence.proofs.Counts.{in_configuration, in_more, below_next}
-use Rattle.ic_confluence.proofs.Replacing.{Replaced, replaced_counts}
+use Rattle.ic_confluence.specs.lemmas.Counts.{in_configuration, in_more, below_next}
+use Rattle.ic_confluence.specs.lemmas.Replacing.{Replaced, replaced_counts}
 use Rattle.ic_confluence.proofs.Putting.{from_step, free_before, free_after}
-use Rattle.ic_confluence.proofs.Actives.{fresh_products}
+use Rattle.ic_confluence.specs.lemmas.Actives.{fresh_products}
 use Rattle.ic_confluence.proofs.Firings.{Firing, from_interaction, Sound, rule_of, old_counts}
 use Rattle.ic_confluence.proofs.Order.{kind_of, step_of, same_ends}
 

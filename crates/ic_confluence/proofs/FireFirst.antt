@@ -16,9 +16,9 @@ use Rattle.ic_round.specs.Naming.{HasNames}
 use Rattle.ic_round.specs.Steps.{Interaction, interaction, Steps, no_steps, then_step}
 use Rattle.ic_round.specs.lemmas.ChainLemmas.{steps-over, steps-names}
 use Rattle.ic_confluence.specs.Sameness.{renamed_pair, renamed_in, Same, renaming}
-use Rattle.ic_confluence.proofs.Counts.{in_configuration, in_more, below_next}
-use Rattle.ic_confluence.proofs.Replacing.{in_both}
-use Rattle.ic_confluence.proofs.Actives.{has_rule, renamed_products}
+use Rattle.ic_confluence.specs.lemmas.Counts.{in_configuration, in_more, below_next}
+use Rattle.ic_confluence.specs.lemmas.Replacing.{in_both}
+use Rattle.ic_confluence.specs.lemmas.Actives.{has_rule, renamed_products}
 use Rattle.ic_confluence.proofs.TwoFirings.{block, block_low, block_high, block_first, block_second, block_back, renamed_terms_stay, renamed_pair_stays, active_stays}
 use Rattle.ic_confluence.proofs.Chains.{first_step, step_free}
 

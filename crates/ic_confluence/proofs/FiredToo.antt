@@ -19,14 +19,14 @@ use Rattle.ic_round.specs.Steps.{Steps}
 use Rattle.ic_round.specs.lemmas.ChainLemmas.{steps-over, steps-names}
 use Rattle.ic_round.specs.lemmas.StepsLemmas.{iterate_reached}
 use Rattle.ic_confluence.specs.Sameness.{turned, Alike, itself, exchanged, rotated, in_turn, Rearranged, nothing, kept, swapped, one_by_one, renamed_pair, renamed_in, Renames, Same, renaming, rearranging, through}
-use Rattle.ic_confluence.proofs.Counts.{in_configuration, in_more, below_next}
-use Rattle.ic_confluence.proofs.Equivalence.{Rearranged-refl, Same-refl, Same-sym, same_equations}
-use Rattle.ic_confluence.proofs.Replacing.{in_both}
+use Rattle.ic_confluence.specs.lemmas.Counts.{in_configuration, in_more, below_next}
+use Rattle.ic_confluence.specs.lemmas.Equivalence.{Rearranged-refl, Same-refl, Same-sym, same_equations}
+use Rattle.ic_confluence.specs.lemmas.Replacing.{in_both}
 use Rattle.ic_confluence.proofs.Moving.{same_names}
-use Rattle.ic_confluence.proofs.Settled.{settled_steps, settled_ends}
+use Rattle.ic_confluence.specs.lemmas.Settled.{settled_steps, settled_ends}
 use Rattle.ic_confluence.proofs.Strip.{Chain as Way, chain_too, good_chain}
 use Rattle.ic_confluence.proofs.NameOrder.{Labelled, name_laws, way_of, steps_of, settles_so, step_too}
-use Rattle.ic_confluence.proofs.Actives.{HasRule, has_rule, count_is, renamed_active, renamed_products, oriented_renamed, sides_renamed}
+use Rattle.ic_confluence.specs.lemmas.Actives.{HasRule, has_rule, count_is, renamed_active, renamed_products, oriented_renamed, sides_renamed}
 use Rattle.ic_confluence.proofs.Firings.{Sound}
 use Rattle.ic_confluence.proofs.TwoFirings.{block, block_low, block_high, block_first, block_second, block_back, renamed_terms_stay, renamed_pairs_stay, active_stays}
 use Rattle.ic_confluence.proofs.Mirrored.{turned_active, turn_active, Mirrors, mirrors, mirrored_from, from_low, mirrored_from_back, mirrored_from_fresh, mirrored_products}

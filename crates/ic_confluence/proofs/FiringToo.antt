@@ -1,5 +1,5 @@
 -- Lemmas: an interaction is made by each configuration of the same net.
-use Rattle.std.proofs.Common.{◌≡◌, ◌⊎◌, ℕ, ◌+◌, ◌≤◌, ◌<◌, List, [], ◌∷◌, ◌++◌, Option, None, Some, slice_get, refl, sym, ap, ◌∙◌, append-nil, arith, inl, inr, subst as transport}
+use Rattle.std.proofs.Common.{◌≡◌, ◌⊎◌, ℕ, ◌+◌, ◌≤◌, ◌<◌, List, [], ◌∷◌, ◌++◌, Some, slice_get, refl, sym, ap, ◌∙◌, append-nil, arith, inl, inr, subst as transport}
 use Rattle.std.proofs.lemmas.Bool.{cases_lt}
 use Rattle.std.proofs.lemmas.List.{map-append}
 use Rattle.std.specs.List.{flat_map}
@@ -11,14 +11,14 @@ use Rattle.ic_round.specs.Instance.{inst}
 use Rattle.ic_round.specs.Firing.{Active, active_pair, arguments, against, products_by, count_of}
 use Rattle.ic_round.specs.lemmas.FreshNames.{absent_above}
 use Rattle.ic_confluence.specs.Sameness.{turned, Alike, itself, exchanged, rotated, in_turn, Rearranged, nothing, kept, swapped, one_by_one, renamed_pair, renamed_in, Renames, Rearranges, Same, renaming, rearranging, through}
-use Rattle.ic_confluence.proofs.Counts.{in_configuration, below_next}
-use Rattle.ic_confluence.proofs.Equivalence.{Rearranged-refl, Rearranged-sym, Same-sym, same_equations}
-use Rattle.ic_confluence.proofs.Replacing.{Replaced, replaced_counts, in_both}
+use Rattle.ic_confluence.specs.lemmas.Counts.{in_configuration, below_next}
+use Rattle.ic_confluence.specs.lemmas.Equivalence.{Rearranged-refl, Rearranged-sym, Same-sym, same_equations}
+use Rattle.ic_confluence.specs.lemmas.Replacing.{Replaced, replaced_counts, in_both}
 use Rattle.ic_confluence.proofs.Arranged.{FoundAlike, found_alike}
 use Rattle.ic_confluence.proofs.Moving.{same_names}
-use Rattle.ic_confluence.proofs.Over.{same_over}
-use Rattle.ic_confluence.proofs.Actives.{HasRule, products_are, count_is, fresh_products, renamed_active}
-use Rattle.ic_confluence.proofs.Firings.{fired_in, Firing, Sound, rule_of, renamed_firing, renames_after_firing}
+use Rattle.ic_confluence.specs.lemmas.Over.{same_over}
+use Rattle.ic_confluence.specs.lemmas.Actives.{HasRule, products_are, count_is, fresh_products, renamed_active}
+use Rattle.ic_confluence.proofs.Firings.{fired_in, Firing, Sound, rule_of, renamed_firing, renames_after_firing, no_Some as none_active}
 use Rattle.ic_confluence.proofs.TwoFirings.{renamed_terms_stay, renamed_pairs_stay, active_stays}
 use Rattle.ic_confluence.proofs.Mirrored.{turned_active, TurnedActive, turn_active, Mirrors, mirrors, mirrored_from, from_low, mirrored_from_back, mirrored_from_fresh, mirrored_products}
 
@@ -97,9 +97,6 @@ filled_too p out (q ∷ es) rest (inr (more, r, is)) =
     }
 
 -- ---- an equation alike to an active one
-
-none_active : (a : Active) (o : Option Active) → o ≡ Some a → o ≡ None → ⊥
-none_active a o e f = let both = sym e ∙ f in cc
 
 abbrev AsOrTurned : Pair → Pair → Type 0
 AsOrTurned p q = (q ≡ p) ⊎ (q ≡ turned p)

@@ -14,10 +14,10 @@ use Rattle.ic_round.specs.Naming.{HasNames}
 use Rattle.ic_round.specs.Steps.{Interaction}
 use Rattle.ic_round.specs.lemmas.ActivityLemmas.{active_right_name}
 use Rattle.ic_confluence.specs.Sameness.{renamed_pair, renamed_in, Renames}
-use Rattle.ic_confluence.proofs.Counts.{in_configuration, below_next}
-use Rattle.ic_confluence.proofs.Replacing.{Replaced, replaced_at, place_of, TwoReplaced, two_replaced, replaced_mapped, replaced_counts}
+use Rattle.ic_confluence.specs.lemmas.Counts.{in_configuration, below_next}
+use Rattle.ic_confluence.specs.lemmas.Replacing.{Replaced, replaced_at, place_of, TwoReplaced, two_replaced, replaced_mapped, replaced_counts}
 use Rattle.ic_confluence.proofs.Putting.{occurs_some, bound_in, Putting, Counted, counted}
-use Rattle.ic_confluence.proofs.Actives.{HasRule, has_rule, older_products, put_active, put_products, active_put, renamed_active, renamed_products, active_renamed}
+use Rattle.ic_confluence.specs.lemmas.Actives.{HasRule, has_rule, older_products, put_active, put_products, active_put, renamed_active, renamed_products, active_renamed}
 
 -- a configuration with these equations, once an active equation has fired
 abbrev pub fired_in : List Rule → Configuration → List Pair → Active → Configuration
@@ -80,7 +80,7 @@ rule_of rs c d set sound s =
 
 -- ---- beside a step that puts a term for a name
 
-no_Some : (a : Active) (o : Option Active) → o ≡ Some a → o ≡ None → ⊥
+pub no_Some : (a : Active) (o : Option Active) → o ≡ Some a → o ≡ None → ⊥
 no_Some a o e f = let both = sym e ∙ f in cc
 
 -- an equation that binds a name isn't active

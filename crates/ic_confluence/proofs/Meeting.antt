@@ -8,16 +8,17 @@ use Rattle.ic_rules.specs.lemmas.RenamingLaws.{names-renamed}
 use Rattle.ic_settle.specs.Settling.{Binding, subst, subst_pair, subst_in}
 use Rattle.ic_settle.specs.NameSteps.{Binds}
 use Rattle.ic_settle.specs.lemmas.SubstitutionLaws.{subst-absent}
-use Rattle.ic_settle.specs.lemmas.StepLaws.{occurrences-binds}
+use Rattle.ic_settle.specs.lemmas.StepLaws.{occurrences-binds, itself_once as alone_itself}
+use Rattle.ic_settle.specs.lemmas.PutEach.{occurrences-exact_in as occurrences-put_in}
 use Rattle.ic_round.specs.Naming.{HasNames}
 use Rattle.ic_confluence.specs.Sameness.{turned, Rotated, Alike, itself, exchanged, rotated, Rearranged, kept, one_by_one, renamed_pair, renamed_in, Renames, Same, renaming, through}
-use Rattle.ic_confluence.proofs.Counts.{alone_itself, alone_other, apart_sym, in_pair, in_more, in_configuration, below_next, occurrences-put_in, occurrences-gone}
-use Rattle.ic_confluence.proofs.Puts.{terms_absent, pairs_absent, subst_terms-twice, subst_pairs-twice, undone_is_one_to_one, renamed-subst, renamed-back, occurrences-renamed}
-use Rattle.ic_confluence.proofs.Equivalence.{Rearranged-refl, Same-refl, Same-sym, same_equations}
-use Rattle.ic_confluence.proofs.Replacing.{Replaced, TwoReplaced, two_replaced, replaced_mapped, removed_counts, to_front}
-use Rattle.ic_confluence.proofs.Arranged.{put_once, alike_counts}
-use Rattle.ic_confluence.proofs.Putting.{occurs_some, bound_in, Putting, Counted, counted, kept_counts, gone_counts}
-use Rattle.ic_confluence.proofs.Swaps.{swap, swap_left, swap_right, swap_other, swap_back, turned_terms, turned_pairs, not_there, put_elsewhere, unswapped_terms, unswapped_pairs, swap_renames}
+use Rattle.ic_confluence.specs.lemmas.Counts.{alone_other, apart_sym, in_pair, in_more, in_configuration, below_next, occurrences-gone}
+use Rattle.ic_confluence.specs.lemmas.Puts.{terms_absent, pairs_absent, subst_terms-twice, subst_pairs-twice, undone_is_one_to_one, renamed-subst, renamed-back, occurrences-renamed}
+use Rattle.ic_confluence.specs.lemmas.Equivalence.{Rearranged-refl, Same-refl, Same-sym, same_equations}
+use Rattle.ic_confluence.specs.lemmas.Replacing.{Replaced, TwoReplaced, two_replaced, replaced_mapped, removed_counts, to_front}
+use Rattle.ic_confluence.proofs.Arranged.{put_once, alike_counts, one_put as one_time}
+use Rattle.ic_confluence.proofs.Putting.{occurs_some, bound_in, Putting, Counted, counted, kept_counts, gone_counts, no_time}
+use Rattle.ic_confluence.specs.lemmas.Swaps.{swap, swap_left, swap_right, swap_other, swap_back, turned_terms, turned_pairs, not_there, put_elsewhere, unswapped_terms, unswapped_pairs, swap_renames}
 
 -- Both are the same net at once, or one more step from each leads to one configuration.
 abbrev pub Meets : Configuration → Configuration → Type 0
@@ -100,9 +101,6 @@ put_second q b g side other =
       | inl e ↦ inl (ap (subst_pair b.name b.term) e ∙ ap (λ t. record { left = t; right = subst b.name b.term g.term }) left)
       | inr e ↦ inr (ap (subst_pair b.name b.term) e ∙ ap (λ t. record { left = subst b.name b.term g.term; right = t }) left)
     ]
-
-one_time : (l m o k : ℕ) → l ≡ m + o * k → o ≡ 1 → l ≡ m + k
-one_time l m o k e f = let g = rw f at e in omega (arith, g)
 
 none_times : (l m o k : ℕ) → l ≡ m + o * k → k ≡ 0 → l ≡ m
 none_times l m o k e f = let g = rw f at e in omega (arith, g)
@@ -241,9 +239,6 @@ rotation c both x y t u k = record {
   where
     names_renamed_count : ((m n : ℕ) → swap x y m ≡ swap x y n → m ≡ n) → (n : ℕ) → occurrences (swap x y n) (names (renamed (swap x y) u)) ≡ occurrences n (names u)
     names_renamed_count one n = ap (occurrences (swap x y n)) (names-renamed (swap x y) u) ∙ occurrences-renamed (swap x y) one n (names u)
-
-no_time : (l o k : ℕ) → l ≡ o * k → k ≡ 0 → l ≡ 0
-no_time l o k e f = let g = rw f at e in omega (arith, g)
 
 pub circle_same : (c : Configuration) (both : List Pair) (x y : ℕ) (t u : Tree) → Circle c both x y t u
     → Same (record c { equations = record { left = name y; right = subst x t u } ∷ both }) (record c { equations = record { left = name x; right = subst y u t } ∷ both })

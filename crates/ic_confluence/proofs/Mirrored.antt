@@ -21,9 +21,9 @@ use Rattle.ic_round.specs.Instance.{inst}
 use Rattle.ic_round.specs.Firing.{Active, oriented, active_pair, arguments, against, products, products_by}
 use Rattle.ic_round.specs.lemmas.FreshNames.{rule_below, absent_above}
 use Rattle.ic_confluence.specs.Sameness.{turned, renamed_pair}
-use Rattle.ic_confluence.proofs.Counts.{All_from}
+use Rattle.ic_confluence.specs.lemmas.Counts.{All_from}
 use Rattle.ic_confluence.proofs.Putting.{occurs_some}
-use Rattle.ic_confluence.proofs.Actives.{HasRule, renamed_active, renamed_against, renamed_arguments}
+use Rattle.ic_confluence.specs.lemmas.Actives.{HasRule, renamed_active, renamed_against, renamed_arguments}
 
 -- ---- one rule of a pair
 

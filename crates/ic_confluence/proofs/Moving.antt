@@ -9,10 +9,10 @@ use Rattle.ic_settle.specs.NameSteps.{Binds}
 use Rattle.ic_settle.specs.lemmas.SubstitutionLaws.{occurrences_some}
 use Rattle.ic_round.specs.Naming.{HasNames}
 use Rattle.ic_confluence.specs.Sameness.{Rearranged, renamed_pair, renamed_in, Renames, Rearranges, Same, renaming, rearranging, through}
-use Rattle.ic_confluence.proofs.Counts.{All_from, names_like, below_next, in_configuration}
-use Rattle.ic_confluence.proofs.Puts.{OneToOne, undone_is_one_to_one, occurrences-renamed_in, renamed_in-subst_in}
-use Rattle.ic_confluence.proofs.Equivalence.{same_equations}
-use Rattle.ic_confluence.proofs.Replacing.{replaced_mapped, removed_counts}
+use Rattle.ic_confluence.specs.lemmas.Counts.{All_from, names_like, below_next, in_configuration}
+use Rattle.ic_confluence.specs.lemmas.Puts.{OneToOne, undone_is_one_to_one, occurrences-renamed_in, renamed_in-subst_in}
+use Rattle.ic_confluence.specs.lemmas.Equivalence.{same_equations}
+use Rattle.ic_confluence.specs.lemmas.Replacing.{replaced_mapped, removed_counts}
 use Rattle.ic_confluence.proofs.Arranged.{arranged_counts, found_alike, alike_binds, put_arranged}
 use Rattle.ic_confluence.proofs.Putting.{occurs_some, bound_in, Putting, counted, free_before}
 

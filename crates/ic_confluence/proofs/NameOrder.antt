@@ -1,15 +1,15 @@
 -- Lemmas: whatever order the steps have that put terms for names, they end in the same net.
-use Rattle.std.proofs.Common.{◌≡◌, ◌⊎◌, ◌↔◌, ℕ, List, [], ◌∷◌, ◌++◌, refl, sym, ◌∙◌, inl, inr, subst as transport}
-use Rattle.ic_term.specs.Configuration.{Configuration, configuration_names, occurrences}
+use Rattle.std.proofs.Common.{◌≡◌, ◌⊎◌, ℕ, List, [], ◌∷◌, ◌++◌, refl, sym, ◌∙◌, inl, inr, subst as transport}
+use Rattle.ic_term.specs.Configuration.{Configuration}
 use Rattle.ic_settle.specs.Settling.{settled}
 use Rattle.ic_settle.specs.NameSteps.{NameStep, NameSteps, no_step, one_more}
 use Rattle.ic_round.specs.Naming.{HasNames}
 use Rattle.ic_confluence.specs.Sameness.{Same, through}
-use Rattle.ic_confluence.proofs.Equivalence.{Same-refl, Same-sym}
-use Rattle.ic_confluence.proofs.Putting.{Putting, from_step, to_step, putting_names, free_before, free_after}
+use Rattle.ic_confluence.specs.lemmas.Equivalence.{Same-refl, Same-sym}
+use Rattle.ic_confluence.proofs.Putting.{Putting, from_step, to_step, putting_names}
 use Rattle.ic_confluence.proofs.Moving.{same_names, taken_too}
 use Rattle.ic_confluence.proofs.Meeting.{two_puttings}
-use Rattle.ic_confluence.proofs.Settled.{settled_steps, settled_ends}
+use Rattle.ic_confluence.specs.lemmas.Settled.{settled_steps, settled_ends}
 use Rattle.ic_confluence.proofs.Strip.{Meeting, Chain, Ended, same_end, goes_on}
 
 -- all these steps have one label
@@ -74,10 +74,6 @@ goes_on_to_settled c d named steps =
     (on.end, steps_of on.others d on.end on.chain, on.same)
 
 -- ---- the laws of one step and of two, in the words of `NameStep`
-
-pub same_free_names : (c d : Configuration) → HasNames c → NameStep c d → (n : ℕ)
-    → (occurrences n (configuration_names c) ≡ 1) ↔ (occurrences n (configuration_names d) ≡ 1)
-same_free_names c d named step n = (free_after c d named (from_step c d step) n, free_before c d named (from_step c d step) n)
 
 pub step_too : (c d after : Configuration) → HasNames c → Same c d → NameStep c after → (end : Configuration) × NameStep d end × Same after end
 step_too c d after named same step =

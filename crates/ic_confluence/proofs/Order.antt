@@ -15,7 +15,7 @@ use Rattle.ic_round.specs.lemmas.ChainLemmas.{steps-over, steps-names}
 use Rattle.ic_round.specs.lemmas.NameStepLemmas.{name_step, indirection_step, collect_step}
 use Rattle.ic_confluence.specs.Kinds.{Kind, naming, firing, StepOf, Chain}
 use Rattle.ic_confluence.specs.Sameness.{Same, renaming, rearranging, through}
-use Rattle.ic_confluence.proofs.Equivalence.{Same-refl, Same-sym}
+use Rattle.ic_confluence.specs.lemmas.Equivalence.{Same-refl, Same-sym}
 use Rattle.ic_confluence.proofs.Putting.{Putting, from_step, to_step}
 use Rattle.ic_confluence.proofs.Moving.{taken_too}
 use Rattle.ic_confluence.proofs.Meeting.{two_puttings}

@@ -13,11 +13,11 @@ use Rattle.ic_round.specs.lemmas.ChainLemmas.{steps-over, steps-names}
 use Rattle.ic_round.specs.lemmas.StepsLemmas.{settled_reached, round_reached, iterate_reached}
 use Rattle.ic_confluence.specs.Kinds.{Kind, naming, firing, StepOf, Chain, firings}
 use Rattle.ic_confluence.specs.Sameness.{Same, through}
-use Rattle.ic_confluence.proofs.Equivalence.{Same-refl, Same-sym}
+use Rattle.ic_confluence.specs.lemmas.Equivalence.{Same-refl, Same-sym}
 use Rattle.ic_confluence.proofs.Firings.{Sound}
 use Rattle.ic_confluence.proofs.FiringToo.{same_sound}
 use Rattle.ic_confluence.proofs.Strip.{chain_too}
-use Rattle.ic_confluence.proofs.Settled.{settled_ends}
+use Rattle.ic_confluence.specs.lemmas.Settled.{settled_ends}
 use Rattle.ic_confluence.proofs.Order.{step_of, step_too, all_laws, way_of, chain_of}
 use Rattle.ic_confluence.proofs.Chains.{chain_from, steps_from}
 use Rattle.ic_confluence.proofs.Joins.{After, Among, beside}

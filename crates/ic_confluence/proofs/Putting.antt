@@ -8,10 +8,11 @@ use Rattle.ic_settle.specs.Settling.{Binding, occurs, subst_in}
 use Rattle.ic_settle.specs.NameSteps.{Binds, NameStep}
 use Rattle.ic_settle.specs.lemmas.SubstitutionLaws.{occurrences_none, occurrences_some, occurrences-cons}
 use Rattle.ic_settle.specs.lemmas.StepLaws.{occurrences-binds}
+use Rattle.ic_settle.specs.lemmas.PutEach.{occurrences-exact_in as occurrences-put_in}
 use Rattle.ic_round.specs.Naming.{HasNames}
 use Rattle.ic_round.specs.lemmas.NamesLemmas.{name_step-names}
-use Rattle.ic_confluence.proofs.Counts.{occurrences-put_in, occurrences-gone_in}
-use Rattle.ic_confluence.proofs.Replacing.{Replaced, replaced_at, place_of, removed_counts}
+use Rattle.ic_confluence.specs.lemmas.Counts.{occurrences-gone_in}
+use Rattle.ic_confluence.specs.lemmas.Replacing.{Replaced, replaced_at, place_of, removed_counts}
 
 pub occurs_some : (n : ℕ) (ns : List ℕ) → 1 ≤ occurrences n ns → occurs n ns ≡ true
 occurs_some n ns some = true_from_ne_false (occurs n ns) (λ e. let none = occurrences_none n ns e in absurd (omega (arith, none, some)))
@@ -93,7 +94,7 @@ counted c d named s =
 one_time : (l m o k : ℕ) → l ≡ m + o * k → o ≡ 1 → l ≡ m + k
 one_time l m o k e f = let g = rw f at e in omega (arith, g)
 
-no_time : (l o k : ℕ) → l ≡ o * k → k ≡ 0 → l ≡ 0
+pub no_time : (l o k : ℕ) → l ≡ o * k → k ≡ 0 → l ≡ 0
 no_time l o k e f = let g = rw f at e in omega (arith, g)
 
 -- another name occurs as often as before, and the bound one no more

@@ -12,9 +12,9 @@ use Rattle.ic_round.specs.Naming.{HasNames}
 use Rattle.ic_round.specs.Rounds.{IsQuiet}
 use Rattle.ic_round.specs.Steps.{Steps}
 use Rattle.ic_confluence.specs.Sameness.{Alike, itself, exchanged, rotated, in_turn, Rearranged, nothing, kept, swapped, one_by_one, renamed_pair, renamed_in, Same, renaming, rearranging, through}
-use Rattle.ic_confluence.proofs.Counts.{in_configuration}
-use Rattle.ic_confluence.proofs.Puts.{undone_is_one_to_one, occurrences-renamed_in}
-use Rattle.ic_confluence.proofs.Equivalence.{Same-sym}
+use Rattle.ic_confluence.specs.lemmas.Counts.{in_configuration}
+use Rattle.ic_confluence.specs.lemmas.Puts.{undone_is_one_to_one, occurrences-renamed_in}
+use Rattle.ic_confluence.specs.lemmas.Equivalence.{Same-sym}
 use Rattle.ic_confluence.proofs.Moving.{arranged_configuration}
 use Rattle.ic_confluence.proofs.TwoFirings.{renamed_terms_stay}
 use Rattle.ic_confluence.proofs.Order.{same_ends}

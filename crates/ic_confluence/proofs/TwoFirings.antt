@@ -10,14 +10,15 @@ use Rattle.ic_rules.specs.Renaming.{renamed, renamed_trees}
 use Rattle.ic_rules.specs.Rule.{Rule}
 use Rattle.ic_rules.specs.RuleSet.{Rules, IsRuleSet}
 use Rattle.ic_settle.specs.lemmas.SubstitutionLaws.{occurrences-append}
+use Rattle.ic_settle.specs.lemmas.StepLaws.{itself_once as alone_itself}
 use Rattle.ic_round.specs.Firing.{Active, active_pair, products_by, count_of}
 use Rattle.ic_round.specs.Naming.{HasNames}
 use Rattle.ic_round.specs.lemmas.FreshNames.{absent_above}
 use Rattle.ic_confluence.specs.Sameness.{renamed_pair, Same, renaming}
-use Rattle.ic_confluence.proofs.Counts.{alone_itself, in_configuration, in_pair, in_more, below_next}
-use Rattle.ic_confluence.proofs.Equivalence.{Same-refl, Same-sym}
-use Rattle.ic_confluence.proofs.Replacing.{replaced_at, replaced_after, PlaceOf, place_of, in_both}
-use Rattle.ic_confluence.proofs.Actives.{HasRule, older_products, later_products, fresh_products, renamed_active, renamed_products}
+use Rattle.ic_confluence.specs.lemmas.Counts.{in_configuration, in_pair, in_more, below_next}
+use Rattle.ic_confluence.specs.lemmas.Equivalence.{Same-refl, Same-sym}
+use Rattle.ic_confluence.specs.lemmas.Replacing.{replaced_at, replaced_after, PlaceOf, place_of, in_both}
+use Rattle.ic_confluence.specs.lemmas.Actives.{HasRule, older_products, later_products, fresh_products, renamed_active, renamed_products}
 use Rattle.ic_confluence.proofs.Firings.{fired_in, Firing, Sound, rule_of}
 
 -- ---- two blocks of names exchanged

@@ -10,9 +10,9 @@ use Rattle.ic_settle.specs.Settling.{occurs, subst, subst_all}
 use Rattle.ic_settle.specs.lemmas.SubstitutionLaws.{occurrences-append, occurrences_none, occurrences_some, subst-absent}
 use Rattle.ic_confluence.specs.Agents.{way_to, way_through, way_between, way_round}
 use Rattle.ic_confluence.specs.Sameness.{Rotated, Alike, itself, exchanged, rotated, in_turn, Rearranged, nothing, kept, swapped, one_by_one, renamed_pair, Same, renaming, rearranging, through}
-use Rattle.ic_confluence.proofs.Counts.{alone_other, occurrences-gone}
+use Rattle.ic_confluence.specs.lemmas.Counts.{alone_other, occurrences-gone}
 use Rattle.ic_confluence.proofs.Putting.{occurs_some}
-use Rattle.ic_confluence.proofs.Puts.{OneToOne, undone_is_one_to_one, renamed_test}
+use Rattle.ic_confluence.specs.lemmas.Puts.{OneToOne, undone_is_one_to_one, renamed_test}
 
 abbrev pub Way : Type 0
 Way = List (ℕ × ℕ)

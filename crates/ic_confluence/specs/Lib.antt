@@ -2,3 +2,4 @@ pub mod Sameness
 pub mod Kinds
 pub mod Circle
 pub mod Agents
+pub mod lemmas

@@ -16,14 +16,16 @@ use Rattle.ic_settle.specs.NameSteps.{NameStep, NameSteps, no_step, one_more}
 use Rattle.ic_settle.specs.lemmas.SubstitutionLaws.{occurrences-append, occurrences_some}
 use Rattle.ic_settle.specs.lemmas.MiddleLaws.{occurrences-middle}
 use Rattle.ic_settle.specs.lemmas.StepLaws.{itself_once, occurrences-binds, once_outside, occurrences-subst_in}
+use Rattle.ic_settle.specs.lemmas.PutEach.{occurrences-exact_in as occurrences-put_in}
 use Rattle.ic_round.specs.Firing.{products_by, count_of}
 use Rattle.ic_round.specs.Naming.{HasNames}
 use Rattle.ic_confluence.specs.Kinds.{Kind, naming, firing, StepOf, Chain}
+use Rattle.ic_confluence.specs.lemmas.Counts.{occurrences-gone_in, All_from, below_next}
+use Rattle.ic_confluence.specs.lemmas.Puts.{terms_absent, pairs_absent}
 use Rattle.ic_reaching.proofs.ButNext.{steps_names}
 use Rattle.ic_reaching.proofs.Copies.{in_products, copy_absent}
-use Rattle.ic_reaching.proofs.FreshNets.{All_from, below_next}
 use Rattle.ic_reaching.proofs.Firing.{Sound, sound_step, rule_in_front}
-use Rattle.ic_reaching.proofs.Pieces.{terms_absent, pairs_absent, occurs_some, occurrences-put_in, occurrences-gone_in}
+use Rattle.ic_reaching.proofs.Pieces.{occurs_some}
 
 -- terms before and after those of the interface, and equations after those that are there
 pub record Rest : Type 0 where

@@ -1,94 +1,30 @@
 -- Lemmas: products with any fresh names: how often names occur in them, and how they are renamed.
-use Rattle.std.proofs.Common.{◌≡◌, ℕ, zero, suc, ◌+◌, ◌≤◌, ◌<◌, ◌==◌, List, [], ◌∷◌, ◌++◌, Bool, true, false, cond, Option, None, Some, slice_get, length, map, refl, sym, ap, ◌∙◌, arith, inl, inr, subst as transport}
-use Rattle.std.proofs.lemmas.Bool.{and_parts}
+use Rattle.std.proofs.Common.{◌≡◌, ℕ, ◌+◌, ◌≤◌, ◌<◌, ◌==◌, List, [], ◌∷◌, ◌++◌, Bool, true, false, cond, length, map, refl, sym, ap, ◌∙◌, arith, inl, inr}
 use Rattle.std.proofs.lemmas.Grind.{flat_map-append}
 use Rattle.std.proofs.lemmas.List.{map-append}
 use Rattle.std.specs.Cmp.{unsigned_Decides}
-use Rattle.std.specs.List.{AllByRecursion, flat_map, list_all}
+use Rattle.std.specs.List.{AllByRecursion, flat_map}
 use Rattle.std.specs.Option.{option_map_or}
-use Rattle.ic_term.specs.Tree.{Tree, name, agent, Trees, no_trees, more_trees, list_of, names, names_of, Pair, pair_names}
+use Rattle.ic_term.specs.Tree.{Tree, name, agent, Trees, no_trees, more_trees, names, names_of, Pair, pair_names}
 use Rattle.ic_term.specs.Configuration.{occurrences}
-use Rattle.ic_term.specs.Symbol.{is_pair_over}
 use Rattle.ic_rules.specs.Renaming.{renamed, renamed_trees}
 use Rattle.ic_rules.specs.Rule.{Rule, IsRule, rule_names}
-use Rattle.ic_rules.specs.RuleSet.{Rules, IsRuleSet}
 use Rattle.ic_rules.specs.lemmas.RenamingLaws.{Through, through-append, terms-through, flat_names-renamed}
 use Rattle.ic_settle.specs.lemmas.SubstitutionLaws.{occurrences-append, occurrences-cons, All-front, All-back}
-use Rattle.ic_round.specs.Works.{is_agent_of}
-use Rattle.ic_round.specs.Firing.{Active, oriented, rule_of_sides, active_pair, arguments, against, products, count_of}
-use Rattle.ic_round.specs.lemmas.ActiveRules.{rule_within}
-use Rattle.ic_round.specs.lemmas.SoundRules.{sound_rule}
-use Rattle.ic_round.specs.lemmas.FiredNames.{SidesOf, active_sides_of, names-arguments, All-mono}
+use Rattle.ic_round.specs.Firing.{Active, arguments, against, products}
+use Rattle.ic_round.specs.lemmas.FiredNames.{SidesOf, All-mono}
 use Rattle.ic_round.specs.lemmas.FreshNames.{apart_false, rule_below, rule_twice}
 use Rattle.ic_confluence.specs.Sameness.{renamed_pair}
+use Rattle.ic_confluence.specs.lemmas.Actives.{HasRule, agent_arguments, agent_length, in_against, lengths_renamed, never_once, renamed_against, renamed_arguments}
 use Rattle.ic_reaching.specs.FreshNames.{copied, products_with}
 use Rattle.ic_reaching.proofs.Exchanges.{Apart}
 
 -- ---- the rule of an active equation
 
-pub record HasRule (rs : List Rule) (p : Pair) (a : Active) : Type 0 where
-  pub rule : Rule
-  pub there : slice_get rs a.rule ≡ Some rule
-  pub is_rule : IsRule rule
-  pub left : is_agent_of rule.left (length rule.left_args) a.left ≡ true
-  pub right : is_agent_of rule.right (length rule.right_args) a.right ≡ true
-  pub sides : SidesOf p a
-
-at_place : {X : Type 0} (xs : List X) (i : ℕ) → i < length xs → (x : X) × (slice_get xs i ≡ Some x)
-at_place [] i low = absurd (omega (arith, low))
-at_place (x ∷ xs) zero low = (x, refl)
-at_place (x ∷ xs) (suc i) low = at_place xs i (omega (arith, low))
-
-there_is_rule : (rs : List Rule) (t u : Tree) (a : Active) (found : Option (ℕ × Bool)) → rule_of_sides rs t u ≡ found → oriented t u found ≡ Some a
-    → (r : Rule) × (slice_get rs a.rule ≡ Some r)
-there_is_rule rs t u a None e f = cc
-there_is_rule rs t u a (Some (i, false)) e f =
-    let same : record { rule = i; left = t; right = u } ≡ a = cc in
-    let P : Active → Type 0 = λ b. (r : Rule) × (slice_get rs b.rule ≡ Some r) in
-    transport P same (at_place rs i (rule_within rs t u i false e))
-there_is_rule rs t u a (Some (i, true)) e f =
-    let same : record { rule = i; left = u; right = t } ≡ a = cc in
-    let P : Active → Type 0 = λ b. (r : Rule) × (slice_get rs b.rule ≡ Some r) in
-    transport P same (at_place rs i (rule_within rs t u i true e))
-
-pub has_rule : (rs : Rules) (p : Pair) (a : Active) → IsRuleSet rs → is_pair_over rs.symbols p ≡ true → active_pair rs.rules p ≡ Some a → HasRule rs.rules p a
-has_rule rs p a set over is =
-    let found = there_is_rule rs.rules p.left p.right a (rule_of_sides rs.rules p.left p.right) refl is in
-    let sound = sound_rule rs.symbols rs.rules p set.fitting set.each over a found.0 is found.1 in
-    record { rule = found.0; there = found.1; is_rule = sound.is_rule; left = sound.left; right = sound.right; sides = active_sides_of rs.rules p a is }
-
 pub products_are : (rs : List Rule) (p : Pair) (a : Active) (h : HasRule rs p a) (u : ℕ → ℕ) → products_with rs u a ≡ products (copied h.rule u) a.left a.right
 products_are rs p a h u = ap (λ o. option_map_or (λ r. products (copied r u) a.left a.right) o []) h.there
 
-pub count_is : (rs : List Rule) (p : Pair) (a : Active) (h : HasRule rs p a) → count_of rs a.rule ≡ h.rule.names
-count_is rs p a h = ap (λ o. option_map_or (λ (r : Rule). r.names) o 0) h.there
-
 -- ---- the names of the products
-
-agent_arguments : (s k : ℕ) (t : Tree) → is_agent_of s k t ≡ true → flat_map names (arguments t) ≡ names t
-agent_arguments s k (name m) e = cc
-agent_arguments s k (agent z ts) e = names-arguments ts
-
-agent_length : (s k : ℕ) (t : Tree) → is_agent_of s k t ≡ true → length (arguments t) ≡ k
-agent_length s k (name m) e = cc
-agent_length s k (agent z ts) e = (unsigned_Decides (length (list_of ts)) k).0 (and_parts (z == s) (length (list_of ts) == k) e).1
-
-in_against : (n : ℕ) (ts us : List Tree) → length ts ≡ length us
-    → occurrences n (flat_map pair_names (against ts us)) ≡ occurrences n (flat_map names ts) + occurrences n (flat_map names us)
-in_against n [] [] e = refl
-in_against n [] (u ∷ us) e = absurd (omega (arith, e))
-in_against n (t ∷ ts) [] e = absurd (omega (arith, e))
-in_against n (t ∷ ts) (u ∷ us) e =
-    let rest = in_against n ts us (omega (arith, e)) in
-    let a = occurrences-append n (names t ++ names u) (flat_map pair_names (against ts us)) in
-    let b = occurrences-append n (names t) (names u) in
-    let c = occurrences-append n (names t) (flat_map names ts) in
-    let d = occurrences-append n (names u) (flat_map names us) in
-    omega (arith, rest, a, b, c, d)
-
-lengths_renamed : (f : ℕ → ℕ) (ts : List Tree) → length (map (renamed f) ts) ≡ length ts
-lengths_renamed f [] = refl
-lengths_renamed f (t ∷ ts) = ap suc (lengths_renamed f ts)
 
 -- the names of an active equation are in its products as often as in it; and so are those of the rule's copy
 pub in_products : (rs : List Rule) (p : Pair) (a : Active) (h : HasRule rs p a) (u : ℕ → ℕ) (n : ℕ)
@@ -146,23 +82,6 @@ mapped_at u m k (j ∷ ks) apart all low =
     let rest = mapped_at u m k ks apart all.1 low in
     omega (arith, first, own, test, rest)
 
-paired_at : (all ns : List ℕ) (n : ℕ) → list_all (λ m. occurrences m all == 2) ns ≡ true → 1 ≤ occurrences n ns → occurrences n all ≡ 2
-paired_at all [] n each some = absurd (let nothing : occurrences n [] ≡ 0 = refl in omega (arith, some, nothing))
-paired_at all (m ∷ ns) n each some =
-    let both = and_parts (occurrences m all == 2) (list_all (λ k. occurrences k all == 2) ns) each in
-    here (m == n) refl both.0 (paired_at all ns n both.1)
-  where
-    here : (b : Bool) → (m == n) ≡ b → (occurrences m all == 2) ≡ true → (1 ≤ occurrences n ns → occurrences n all ≡ 2) → occurrences n all ≡ 2
-    here true e two later = let same = (unsigned_Decides m n).0 e in ap (λ k. occurrences k all) (sym same) ∙ (unsigned_Decides (occurrences m all) 2).0 two
-    here false e two later =
-        let first = occurrences-cons n m ns in
-        let other : ◌≡◌ {A = ℕ} (cond (m == n) 1 0) 0 = rw e refl in
-        later (omega (arith, first, other, some))
-
--- no name of a rule occurs in it once
-never_once : (r : Rule) → IsRule r → (n : ℕ) → occurrences n (rule_names r) ≡ 1 → ⊥
-never_once r is n once = let two = paired_at (rule_names r) (rule_names r) n is.paired (omega (arith, once)) in omega (arith, two, once)
-
 -- nor in its copy, and there at most twice
 pub copy_never_once : (r : Rule) → IsRule r → (u : ℕ → ℕ) (k : ℕ) → Apart r.names u → k < r.names → occurrences (u k) (map u (rule_names r)) ≡ 1 → ⊥
 copy_never_once r is u k apart low once = never_once r is k (sym (mapped_at u r.names k (rule_names r) apart (rule_below r is) low) ∙ once)
@@ -177,19 +96,6 @@ pub copy_absent : (r : Rule) → IsRule r → (u : ℕ → ℕ) (n : ℕ) → ((
 copy_absent r is u n none = mapped_absent u r.names n (rule_names r) (rule_below r is) none
 
 -- ---- products renamed
-
-renamed_against : (f : ℕ → ℕ) (ts us : List Tree) → map (renamed_pair f) (against ts us) ≡ against (map (renamed f) ts) (map (renamed f) us)
-renamed_against f [] us = refl
-renamed_against f (a ∷ ts) [] = refl
-renamed_against f (a ∷ ts) (u ∷ us) = ap (λ es. record { left = renamed f a; right = renamed f u } ∷ es) (renamed_against f ts us)
-
-renamed_list : (f : ℕ → ℕ) (ts : Trees) → list_of (renamed_trees f ts) ≡ map (renamed f) (list_of ts)
-renamed_list f no_trees = refl
-renamed_list f (more_trees u ts) = ap (λ us. renamed f u ∷ us) (renamed_list f ts)
-
-renamed_arguments : (f : ℕ → ℕ) (t : Tree) → arguments (renamed f t) ≡ map (renamed f) (arguments t)
-renamed_arguments f (name m) = refl
-renamed_arguments f (agent z ts) = renamed_list f ts
 
 -- a renaming that keeps both sides, and takes the names of one copy to those of another
 pub renamed_products : (rs : List Rule) (p : Pair) (a : Active) (h : HasRule rs p a) (u v f : ℕ → ℕ) → renamed f a.left ≡ a.left → renamed f a.right ≡ a.right

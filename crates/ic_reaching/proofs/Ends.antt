@@ -14,7 +14,7 @@ use Rattle.ic_reaching.specs.OneNet.{raised, SameButNext}
 use Rattle.ic_reaching.specs.Reaching.{rules_fired, Reaches}
 use Rattle.ic_reaching.proofs.Given.{SettlingLaws, StepLaws, OrderLaws}
 use Rattle.ic_reaching.proofs.ButNext.{but_next, but_next_other_way, but_next_through, raised_names, raised_step, lowered_step}
-use Rattle.ic_reaching.proofs.Orders.{fired_alike, rules_fired-append}
+use Rattle.ic_reaching.specs.lemmas.Orders.{fired_alike, rules_fired-append}
 use Rattle.ic_reaching.proofs.Firing.{Sound, fired_at}
 use Rattle.ic_reaching.proofs.Reached.{chain_joined, names_chain, reached_sound, goes_on_so}
 

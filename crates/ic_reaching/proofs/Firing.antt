@@ -18,13 +18,14 @@ use Rattle.ic_round.specs.lemmas.ChainLemmas.{steps-over, steps-names}
 use Rattle.ic_round.specs.lemmas.NameStepLemmas.{name_step}
 use Rattle.ic_confluence.specs.Kinds.{Kind, naming, firing, StepOf}
 use Rattle.ic_confluence.specs.Sameness.{Same, through}
+use Rattle.ic_confluence.specs.lemmas.Actives.{HasRule, has_rule}
+use Rattle.ic_confluence.specs.lemmas.Counts.{All_from, below_next}
 use Rattle.ic_reaching.specs.OneNet.{raised, SameButNext}
 use Rattle.ic_reaching.specs.FreshNames.{AreFresh, Fires}
 use Rattle.ic_reaching.proofs.Given.{NetLaws, StepLaws}
 use Rattle.ic_reaching.proofs.ButNext.{but_next, but_next_other_way, but_next_through, raised_names}
-use Rattle.ic_reaching.proofs.Copies.{HasRule, has_rule}
-use Rattle.ic_reaching.proofs.FreshNets.{All_from, below_next, fronted, fired_with, any_fresh, far_fresh, fired_names}
-use Rattle.ic_reaching.proofs.Orders.{any_order, permuted, permuted_counts}
+use Rattle.ic_reaching.proofs.FreshNets.{fronted, fired_with, any_fresh, far_fresh, fired_names}
+use Rattle.ic_reaching.specs.lemmas.Orders.{any_order, permuted, permuted_counts}
 
 -- ---- what is asked of the steps
 

@@ -14,13 +14,14 @@ use Rattle.ic_settle.specs.lemmas.SubstitutionLaws.{All-front, All-back}
 use Rattle.ic_round.specs.Naming.{HasNames}
 use Rattle.ic_round.specs.lemmas.FreshNames.{apart_false}
 use Rattle.ic_confluence.specs.Sameness.{renamed_pair, renamed_in, Renames, Rearranges, Same, renaming, rearranging, through}
+use Rattle.ic_confluence.specs.lemmas.Counts.{All_from, below_next}
+use Rattle.ic_confluence.specs.lemmas.Puts.{OneToOne, undone_is_one_to_one, occurrences-renamed_in}
 use Rattle.ic_reaching.specs.OneNet.{raised, SameButNext, OneNet}
 use Rattle.ic_reaching.proofs.Given.{NetLaws}
 use Rattle.ic_reaching.proofs.ButNext.{but_next, but_next_other_way, but_next_through, next_is_no_matter, raised_names, steps_names}
 use Rattle.ic_reaching.proofs.Copies.{renamed_terms_stay, renamed_pairs_stay}
-use Rattle.ic_reaching.proofs.FreshNets.{All_from, below_next}
 use Rattle.ic_reaching.proofs.FarNames.{far, top_of, far_back, far_keeps, far_moves, far_above}
-use Rattle.ic_reaching.proofs.Renamings.{OneToOne, undone_is_one_to_one, occurrences-renamed_in, all_are, pairs-through, arranged_renamed}
+use Rattle.ic_reaching.proofs.Renamings.{all_are, pairs-through, arranged_renamed}
 use Rattle.ic_reaching.proofs.Beside.{Rest, rest_names, with_rest, ApartFrom, RestBelow, counts_of_rest, counts_beside, names_beside, steps_counts, singles_kept, singles_before, steps_beside}
 
 -- what the laws of the order of steps say of nets
@@ -107,10 +108,6 @@ same_frees laws keeps c d same frees = record {
   kept = λ n e. (laws.free c d same n).0 (frees.kept n e);
   only = λ n e. frees.only n ((laws.free c d same n).1 e);
 }
-
-not_kept : (keeps : ℕ → Bool) (n : ℕ) (b : Bool) → keeps n ≡ b → (keeps n ≡ true → ⊥) → keeps n ≡ false
-not_kept keeps n true e never = absurd (never e)
-not_kept keeps n false e never = e
 
 -- where a renaming is made between two that move names away, it keeps all that is below
 abbrev between : (ℕ → ℕ) → (ℕ → Bool) → ℕ → ℕ → ℕ

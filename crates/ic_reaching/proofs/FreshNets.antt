@@ -1,6 +1,5 @@
 -- Lemmas: which fresh names an interaction takes is no matter.
-use Rattle.std.proofs.Common.{◌≡◌, ℕ, ◌+◌, ◌≤◌, ◌<◌, ◌==◌, List, [], ◌∷◌, ◌++◌, cond, map, refl, sym, ap, ◌∙◌, eq-eqb, arith, inl, inr, subst as transport}
-use Rattle.std.proofs.lemmas.Bool.{cases_lt}
+use Rattle.std.proofs.Common.{◌≡◌, ℕ, ◌+◌, ◌≤◌, ◌<◌, List, ◌∷◌, ◌++◌, map, sym, ap, ◌∙◌, arith, subst as transport}
 use Rattle.std.proofs.lemmas.Grind.{flat_map-append}
 use Rattle.std.proofs.lemmas.List.{map-append}
 use Rattle.std.specs.List.{AllByRecursion, flat_map}
@@ -8,31 +7,20 @@ use Rattle.ic_term.specs.Tree.{Tree, names, Pair, pair_names}
 use Rattle.ic_term.specs.Configuration.{Configuration, configuration_names, names_in, occurrences}
 use Rattle.ic_rules.specs.Renaming.{renamed}
 use Rattle.ic_rules.specs.Rule.{Rule, rule_names}
-use Rattle.ic_settle.specs.lemmas.SubstitutionLaws.{occurrences-append, occurrences-cons, All-front, All-back}
+use Rattle.ic_settle.specs.lemmas.SubstitutionLaws.{occurrences-append, All-front, All-back}
 use Rattle.ic_round.specs.Firing.{Active, count_of}
 use Rattle.ic_round.specs.Naming.{HasNames}
 use Rattle.ic_round.specs.lemmas.FreshNames.{absent_above}
 use Rattle.ic_confluence.specs.Sameness.{renamed_pair, Same, renaming, through}
+use Rattle.ic_confluence.specs.lemmas.Actives.{HasRule, count_is}
+use Rattle.ic_confluence.specs.lemmas.Counts.{All_from, below_next}
 use Rattle.ic_reaching.specs.OneNet.{SameButNext}
 use Rattle.ic_reaching.specs.FreshNames.{products_with, AreFresh}
 use Rattle.ic_reaching.proofs.Given.{NetLaws}
 use Rattle.ic_reaching.proofs.Exchanges.{Apart, Disjoint, exchanged, to_other, stays, Among, first, second, neither, among, there_and_back}
-use Rattle.ic_reaching.proofs.Copies.{HasRule, count_is, in_products, copy_never_once, copy_twice, copy_absent, renamed_products, renamed_terms_stay, renamed_pairs_stay, sides_stay}
+use Rattle.ic_reaching.proofs.Copies.{in_products, copy_never_once, copy_twice, copy_absent, renamed_products, renamed_terms_stay, renamed_pairs_stay, sides_stay}
 
 -- ---- lists of names
-
-pub All_from : (P : ℕ → Type 0) (ns : List ℕ) → ((n : ℕ) → 1 ≤ occurrences n ns → P n) → AllByRecursion P ns
-All_from P [] each = tt
-All_from P (m ∷ ms) each = (
-  each m (let first = occurrences-cons m m ms in let one : ◌≡◌ {A = ℕ} (cond (m == m) 1 0) 1 = rw (eq-eqb m m refl) refl in omega (arith, first, one)),
-  All_from P ms (λ n some. each n (let more = occurrences-cons n m ms in omega (arith, more, some))),
-)
-
-pub below_next : (c : Configuration) → HasNames c → (n : ℕ) → 1 ≤ occurrences n (configuration_names c) → n < c.next
-below_next c named n some = elim (cases_lt n c.next) [
-  | inl low ↦ low
-  | inr high ↦ let none = absent_above n c.next (configuration_names c) named.below high in absurd (omega (arith, none, some))
-]
 
 pub absent_from : (c : Configuration) → HasNames c → (n : ℕ) → c.next ≤ n → occurrences n (configuration_names c) ≡ 0
 absent_from c named n high = absent_above n c.next (configuration_names c) named.below high

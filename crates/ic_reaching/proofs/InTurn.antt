@@ -17,7 +17,8 @@ use Rattle.ic_reaching.proofs.Given.{SettlingLaws}
 use Rattle.ic_reaching.proofs.Nets.{from_steps, from_next, net_other_way, net_through}
 use Rattle.ic_reaching.proofs.ButNext.{steps_joined}
 use Rattle.ic_reaching.proofs.FreshNets.{in_front, in_two}
-use Rattle.ic_reaching.proofs.Pieces.{pairs_absent, put_in, put_step, taken_names, taken_counts, in_any_order}
+use Rattle.ic_reaching.proofs.Pieces.{put_in, put_step, taken_names, taken_counts, in_any_order}
+use Rattle.ic_confluence.specs.lemmas.Puts.{pairs_absent}
 
 -- pieces in front of what they are put into
 abbrev pub in_pieces : List Binding → Configuration → Configuration

@@ -3,7 +3,6 @@ pub mod ButNext
 pub mod Nets
 pub mod Exchanges
 pub mod Copies
-pub mod Orders
 pub mod FreshNets
 pub mod Over
 pub mod Firing

@@ -1,116 +1,30 @@
 -- Lemmas: a term as a piece of its own.
-use Rattle.std.proofs.Common.{◌≡◌, ℕ, ◌+◌, ◌*◌, ◌≤◌, ◌<◌, ◌==◌, List, [], ◌∷◌, ◌++◌, Bool, true, false, cond, map, refl, sym, ap, ◌∙◌, eq-eqb, arith, inl, subst as transport}
+use Rattle.std.proofs.Common.{◌≡◌, ℕ, ◌*◌, ◌≤◌, ◌<◌, ◌==◌, List, [], ◌∷◌, Bool, true, false, cond, map, refl, sym, eq-eqb, arith, inl, subst as transport}
 use Rattle.std.proofs.lemmas.Bool.{true_from_ne_false}
 use Rattle.std.specs.Cmp.{unsigned_Decides}
 use Rattle.std.specs.List.{flat_map}
 use Rattle.std.specs.Prelude.{IsPermutation}
-use Rattle.ic_term.specs.Tree.{Tree, name, agent, Trees, no_trees, more_trees, names, names_of, Pair, pair_names}
+use Rattle.ic_term.specs.Tree.{Tree, names, Pair, pair_names}
 use Rattle.ic_term.specs.Configuration.{Configuration, configuration_names, names_in, occurrences}
-use Rattle.ic_settle.specs.Settling.{subst, subst_all, subst_pair, subst_in, occurs}
+use Rattle.ic_settle.specs.Settling.{subst, subst_pair, subst_in, occurs}
 use Rattle.ic_settle.specs.NameSteps.{NameStep}
-use Rattle.ic_settle.specs.lemmas.SubstitutionLaws.{occurrences-append, occurrences-cons, occurrences_none, subst-absent}
-use Rattle.ic_settle.specs.lemmas.WholeLaws.{whole, names_of-whole, subst_all-whole}
+use Rattle.ic_settle.specs.lemmas.SubstitutionLaws.{occurrences-append, occurrences-cons, occurrences_none}
+use Rattle.ic_settle.specs.lemmas.PutEach.{occurrences-exact_in as occurrences-put_in}
 use Rattle.ic_round.specs.Naming.{HasNames}
 use Rattle.ic_confluence.specs.Sameness.{turned, exchanged, kept, rearranging}
+use Rattle.ic_confluence.specs.lemmas.Counts.{occurrences-gone_in, All_from, below_next}
+use Rattle.ic_confluence.specs.lemmas.Puts.{terms_absent, pairs_absent}
 use Rattle.ic_reaching.specs.OneNet.{OneNet}
 use Rattle.ic_reaching.specs.Pieces.{piece}
 use Rattle.ic_reaching.proofs.Given.{NetLaws, SettlingLaws}
 use Rattle.ic_reaching.proofs.Nets.{from_same, from_step, from_next, net_other_way, net_through}
-use Rattle.ic_reaching.proofs.Orders.{permuted, rearranged_itself}
-use Rattle.ic_reaching.proofs.FreshNets.{All_from, below_next, in_front}
+use Rattle.ic_reaching.specs.lemmas.Orders.{permuted, rearranged_itself}
+use Rattle.ic_reaching.proofs.FreshNets.{in_front}
 use Rattle.ic_reaching.proofs.Firing.{names_in_front, counts_in_front}
 
 -- ---- how often names occur where a term is put for a name
 
-alone_itself : (n : ℕ) → occurrences n (n ∷ []) ≡ 1
-alone_itself n = rw (eq-eqb n n refl) refl
-
-alone_other : (n m : ℕ) → (m == n) ≡ false → occurrences n (m ∷ []) ≡ 0
-alone_other n m apart = rw apart refl
-
-none_at_other : (n x m : ℕ) → (x == n) ≡ false → (m == x) ≡ true → (m == n) ≡ false
-none_at_other n x m apart same = let equal = (unsigned_Decides m x).0 same in rw equal apart
-
-put_name : (n x m : ℕ) (u : Tree) → (x == n) ≡ false → (b : Bool) → (m == x) ≡ b
-    → occurrences n (names (cond b u (name m))) ≡ occurrences n (m ∷ []) + (0 + cond b 1 0) * occurrences n (names u)
-put_name n x m u apart true e = let none = alone_other n m (none_at_other n x m apart e) in omega (arith, none)
-put_name n x m u apart false e = omega arith
-
-put_more : (p m o k q r s t u a b : ℕ) → p ≡ m + o * k → q ≡ r + s * k → t ≡ p + q → a ≡ m + r → b ≡ o + s → u ≡ a + b * k → t ≡ u
-put_more p m o k q r s t u a b e f g h i j = rw (g, j, h, i, e, f) (omega arith)
-
--- another name occurs as often as before, and as often as in the term for each place where that is put
-mutual
-  occurrences-put : (n x : ℕ) (u t : Tree) → (x == n) ≡ false
-      → occurrences n (names (subst x u t)) ≡ occurrences n (names t) + occurrences x (names t) * occurrences n (names u)
-  occurrences-put n x u (name m) apart = put_name n x m u apart (m == x) refl
-  occurrences-put n x u (agent s ts) apart = occurrences-put_all n x u ts apart
-
-  occurrences-put_all : (n x : ℕ) (u : Tree) (ts : Trees) → (x == n) ≡ false
-      → occurrences n (names_of (subst_all x u ts)) ≡ occurrences n (names_of ts) + occurrences x (names_of ts) * occurrences n (names u)
-  occurrences-put_all n x u no_trees apart = omega arith
-  occurrences-put_all n x u (more_trees t ts) apart =
-      put_more _ (occurrences n (names t)) (occurrences x (names t)) (occurrences n (names u)) _ (occurrences n (names_of ts)) (occurrences x (names_of ts)) _ _
-      (occurrences n (names t ++ names_of ts)) (occurrences x (names t ++ names_of ts))
-      (occurrences-put n x u t apart) (occurrences-put_all n x u ts apart) (occurrences-append n (names (subst x u t)) (names_of (subst_all x u ts)))
-      (occurrences-append n (names t) (names_of ts)) (occurrences-append x (names t) (names_of ts)) refl
-
-gone_name : (x m : ℕ) (u : Tree) (b : Bool) → (m == x) ≡ b → occurrences x (names (cond b u (name m))) ≡ (0 + cond b 1 0) * occurrences x (names u)
-gone_name x m u true e = omega arith
-gone_name x m u false e = let none = alone_other x m e in omega (arith, none)
-
-gone_more : (p o k q s t b : ℕ) → p ≡ o * k → q ≡ s * k → t ≡ p + q → b ≡ o + s → t ≡ b * k
-gone_more p o k q s t b e f g h = rw (g, h, e, f) (omega arith)
-
--- the name itself is left only where the term has it
-mutual
-  occurrences-gone : (x : ℕ) (u t : Tree) → occurrences x (names (subst x u t)) ≡ occurrences x (names t) * occurrences x (names u)
-  occurrences-gone x u (name m) = gone_name x m u (m == x) refl
-  occurrences-gone x u (agent s ts) = occurrences-gone_all x u ts
-
-  occurrences-gone_all : (x : ℕ) (u : Tree) (ts : Trees) → occurrences x (names_of (subst_all x u ts)) ≡ occurrences x (names_of ts) * occurrences x (names u)
-  occurrences-gone_all x u no_trees = omega arith
-  occurrences-gone_all x u (more_trees t ts) =
-      gone_more _ (occurrences x (names t)) (occurrences x (names u)) _ (occurrences x (names_of ts)) _ (occurrences x (names t ++ names_of ts))
-      (occurrences-gone x u t) (occurrences-gone_all x u ts) (occurrences-append x (names (subst x u t)) (names_of (subst_all x u ts)))
-      (occurrences-append x (names t) (names_of ts))
-
--- the same in a whole configuration
-whole_names : (x : ℕ) (u : Tree) (ts : List Tree) (es : List Pair) → names_of (subst_all x u (whole ts es)) ≡ names_in (map (subst x u) ts) (map (subst_pair x u) es)
-whole_names x u ts es = ap names_of (subst_all-whole x u ts es) ∙ names_of-whole (map (subst x u) ts) (map (subst_pair x u) es)
-
-pub occurrences-put_in : (n x : ℕ) (u : Tree) (ts : List Tree) (es : List Pair) → (x == n) ≡ false
-    → occurrences n (names_in (map (subst x u) ts) (map (subst_pair x u) es)) ≡ occurrences n (names_in ts es) + occurrences x (names_in ts es) * occurrences n (names u)
-occurrences-put_in n x u ts es apart = rw (← whole_names x u ts es, ← names_of-whole ts es) (occurrences-put_all n x u (whole ts es) apart)
-
-pub occurrences-gone_in : (x : ℕ) (u : Tree) (ts : List Tree) (es : List Pair)
-    → occurrences x (names_in (map (subst x u) ts) (map (subst_pair x u) es)) ≡ occurrences x (names_in ts es) * occurrences x (names u)
-occurrences-gone_in x u ts es = rw (← whole_names x u ts es, ← names_of-whole ts es) (occurrences-gone_all x u (whole ts es))
-
 -- ---- where a name doesn't occur
-
-pair_absent : (x : ℕ) (u : Tree) (p : Pair) → occurrences x (pair_names p) ≡ 0 → subst_pair x u p ≡ p
-pair_absent x u p none =
-    let both = occurrences-append x (names p.left) (names p.right) in
-    let left : occurrences x (names p.left) ≡ 0 = omega (arith, both, none) in
-    let right : occurrences x (names p.right) ≡ 0 = omega (arith, both, none) in
-    λ i. record { left = subst-absent x u p.left left i; right = subst-absent x u p.right right i }
-
-pub terms_absent : (x : ℕ) (u : Tree) (ts : List Tree) → occurrences x (flat_map names ts) ≡ 0 → map (subst x u) ts ≡ ts
-terms_absent x u [] none = refl
-terms_absent x u (t ∷ ts) none =
-    let both = occurrences-append x (names t) (flat_map names ts) in
-    let here : occurrences x (names t) ≡ 0 = omega (arith, both, none) in
-    let rest : occurrences x (flat_map names ts) ≡ 0 = omega (arith, both, none) in
-    λ i. subst-absent x u t here i ∷ terms_absent x u ts rest i
-
-pub pairs_absent : (x : ℕ) (u : Tree) (es : List Pair) → occurrences x (flat_map pair_names es) ≡ 0 → map (subst_pair x u) es ≡ es
-pairs_absent x u [] none = refl
-pairs_absent x u (p ∷ es) none =
-    let both = occurrences-append x (pair_names p) (flat_map pair_names es) in
-    let here : occurrences x (pair_names p) ≡ 0 = omega (arith, both, none) in
-    let rest : occurrences x (flat_map pair_names es) ≡ 0 = omega (arith, both, none) in
-    λ i. pair_absent x u p here i ∷ pairs_absent x u es rest i
 
 pub occurs_some : (n : ℕ) (ns : List ℕ) → 1 ≤ occurrences n ns → occurs n ns ≡ true
 occurs_some n ns some = true_from_ne_false (occurs n ns) (λ e. let none = occurrences_none n ns e in absurd (omega (arith, none, some)))

@@ -13,7 +13,7 @@ use Rattle.ic_reaching.specs.FreshNames.{Fires}
 use Rattle.ic_reaching.proofs.Given.{NetLaws, SettlingLaws, StepLaws}
 use Rattle.ic_reaching.proofs.ButNext.{but_next, but_next_through}
 use Rattle.ic_reaching.proofs.Nets.{from_same, from_step, from_but_next, net_itself, net_through}
-use Rattle.ic_reaching.proofs.Orders.{permuted, rules_fired-append}
+use Rattle.ic_reaching.specs.lemmas.Orders.{permuted, rules_fired-append}
 use Rattle.ic_reaching.proofs.Over.{net_over}
 use Rattle.ic_reaching.proofs.FreshNets.{fronted, fired_with}
 use Rattle.ic_reaching.proofs.Firing.{Sound, sound_step, sound_steps, fires_after, fires_but_next, fires_in_front, fires_alike}

@@ -1,50 +1,15 @@
 -- Lemmas: terms, equations and configurations with their names turned into others one-to-one.
-use Rattle.std.proofs.Common.{◌≡◌, ℕ, ◌==◌, List, [], ◌∷◌, ◌++◌, Bool, true, false, cond, map, refl, sym, ap, ◌∙◌}
-use Rattle.std.proofs.lemmas.List.{map-append}
-use Rattle.std.specs.Cmp.{unsigned_Decides}
+use Rattle.std.proofs.Common.{◌≡◌, ℕ, List, [], ◌∷◌, ◌++◌, map, refl, ap, ◌∙◌}
 use Rattle.std.specs.List.{AllByRecursion, flat_map}
 use Rattle.ic_term.specs.Tree.{Tree, name, agent, Trees, no_trees, more_trees, names, names_of, Pair, pair_names}
-use Rattle.ic_term.specs.Configuration.{Configuration, configuration_names, occurrences}
+use Rattle.ic_term.specs.Configuration.{occurrences}
 use Rattle.ic_rules.specs.Renaming.{renamed, renamed_trees}
-use Rattle.ic_rules.specs.lemmas.RenamingLaws.{names-renamed, flat_names-renamed, Through, through-append}
-use Rattle.ic_settle.specs.Settling.{subst, subst_all}
-use Rattle.ic_settle.specs.lemmas.SubstitutionLaws.{occurrences-cons}
-use Rattle.ic_round.specs.lemmas.FreshNames.{apart_false}
-use Rattle.ic_confluence.specs.Sameness.{Rotated, Alike, itself, exchanged, rotated, in_turn, Rearranged, nothing, kept, swapped, one_by_one, renamed_pair, renamed_in}
-use Rattle.ic_reaching.proofs.Orders.{rearranged_itself}
-
-abbrev pub OneToOne : (ℕ → ℕ) → Type 0
-OneToOne f = (m n : ℕ) → f m ≡ f n → m ≡ n
-
-pub undone_is_one_to_one : (f g : ℕ → ℕ) → ((n : ℕ) → g (f n) ≡ n) → OneToOne f
-undone_is_one_to_one f g back m n same = sym (back m) ∙ (ap g same ∙ back n)
-
-same_test : (f : ℕ → ℕ) → OneToOne f → (m n : ℕ) (b : Bool) → (m == n) ≡ b → (f m == f n) ≡ b
-same_test f one m n true e = (unsigned_Decides (f m) (f n)).1 (ap f ((unsigned_Decides m n).0 e))
-same_test f one m n false e = apart_false (f m) (f n) (λ same. let yes = (unsigned_Decides m n).1 (one m n same) in let bad = sym yes ∙ e in cc)
-
-renamed_test : (f : ℕ → ℕ) → OneToOne f → (m n : ℕ) → (f m == f n) ≡ (m == n)
-renamed_test f one m n = same_test f one m n (m == n) refl
+use Rattle.ic_rules.specs.lemmas.RenamingLaws.{names-renamed, Through, through-append}
+use Rattle.ic_confluence.specs.Sameness.{Rotated, Alike, itself, exchanged, rotated, in_turn, Rearranged, nothing, kept, swapped, one_by_one, renamed_pair}
+use Rattle.ic_confluence.specs.lemmas.Puts.{OneToOne, occurrences-renamed, renamed-subst}
+use Rattle.ic_reaching.specs.lemmas.Orders.{rearranged_itself}
 
 -- ---- how often names occur
-
-occurrences-renamed : (f : ℕ → ℕ) → OneToOne f → (n : ℕ) (ns : List ℕ) → occurrences (f n) (map f ns) ≡ occurrences n ns
-occurrences-renamed f one n [] = refl
-occurrences-renamed f one n (m ∷ ns) =
-    rw (occurrences-cons (f n) (f m) (map f ns), occurrences-cons n m ns, renamed_test f one m n, occurrences-renamed f one n ns) refl
-
-flat_pair_names-renamed : (f : ℕ → ℕ) (es : List Pair) → flat_map pair_names (map (renamed_pair f) es) ≡ map f (flat_map pair_names es)
-flat_pair_names-renamed f [] = refl
-flat_pair_names-renamed f (p ∷ es) =
-    rw (names-renamed f p.left, names-renamed f p.right, flat_pair_names-renamed f es, map-append f (names p.left ++ names p.right) (flat_map pair_names es), map-append f (names p.left) (names p.right)) refl
-
-names-renamed_in : (f : ℕ → ℕ) (c : Configuration) → configuration_names (renamed_in f c) ≡ map f (configuration_names c)
-names-renamed_in f c =
-    rw (flat_names-renamed f c.interface, flat_pair_names-renamed f c.equations, map-append f (flat_map names c.interface) (flat_map pair_names c.equations)) refl
-
-pub occurrences-renamed_in : (f : ℕ → ℕ) → OneToOne f → (n : ℕ) (c : Configuration)
-    → occurrences (f n) (configuration_names (renamed_in f c)) ≡ occurrences n (configuration_names c)
-occurrences-renamed_in f one n c = ap (occurrences (f n)) (names-renamed_in f c) ∙ occurrences-renamed f one n (configuration_names c)
 
 -- ---- two renamings one after the other
 
@@ -73,20 +38,6 @@ pairs-through f g h (p ∷ es) all =
     λ i. record { left = left i; right = right i } ∷ pairs-through f g h es parts.1 i
 
 -- ---- a term put for a name, and all of it renamed
-
-renamed_name : (f : ℕ → ℕ) (x n : ℕ) (u : Tree) (b : Bool) → (f n == f x) ≡ b → renamed f (cond b u (name n)) ≡ cond (f n == f x) (renamed f u) (name (f n))
-renamed_name f x n u true e = rw e refl
-renamed_name f x n u false e = rw e refl
-
-mutual
-  renamed-subst : (f : ℕ → ℕ) → OneToOne f → (x : ℕ) (u t : Tree) → renamed f (subst x u t) ≡ subst (f x) (renamed f u) (renamed f t)
-  renamed-subst f one x u (name n) = renamed_name f x n u (n == x) (renamed_test f one n x)
-  renamed-subst f one x u (agent s ts) = ap (agent s) (renamed_trees-subst_all f one x u ts)
-
-  renamed_trees-subst_all : (f : ℕ → ℕ) → OneToOne f → (x : ℕ) (u : Tree) (ts : Trees)
-      → renamed_trees f (subst_all x u ts) ≡ subst_all (f x) (renamed f u) (renamed_trees f ts)
-  renamed_trees-subst_all f one x u no_trees = refl
-  renamed_trees-subst_all f one x u (more_trees t ts) = λ i. more_trees (renamed-subst f one x u t i) (renamed_trees-subst_all f one x u ts i)
 
 -- ---- equations that are rearranged, renamed
 

@@ -13,17 +13,18 @@ use Rattle.ic_round.specs.Naming.{HasNames}
 use Rattle.ic_round.specs.lemmas.FiredNames.{All-mono}
 use Rattle.ic_confluence.specs.Kinds.{Kind, StepOf, Chain}
 use Rattle.ic_confluence.specs.Sameness.{renamed_in, renaming}
+use Rattle.ic_confluence.specs.lemmas.Counts.{below_next}
+use Rattle.ic_confluence.specs.lemmas.Puts.{undone_is_one_to_one, occurrences-renamed_in}
 use Rattle.ic_reaching.specs.OneNet.{OneNet}
 use Rattle.ic_reaching.specs.Reaching.{Reaches}
 use Rattle.ic_reaching.specs.Beside.{together, IsApart}
 use Rattle.ic_reaching.proofs.Given.{SettlingLaws, StepLaws}
 use Rattle.ic_reaching.proofs.Nets.{from_same, from_next, net_other_way, net_through}
-use Rattle.ic_reaching.proofs.Orders.{permuted}
-use Rattle.ic_reaching.proofs.FreshNets.{below_next, absent_from}
+use Rattle.ic_reaching.specs.lemmas.Orders.{permuted}
+use Rattle.ic_reaching.proofs.FreshNets.{absent_from}
 use Rattle.ic_reaching.proofs.Firing.{Sound, sound_step}
 use Rattle.ic_reaching.proofs.Reached.{goes_to_net, reaches_joined}
 use Rattle.ic_reaching.proofs.FarNames.{far, top_of, far_back, far_keeps, far_moves, far_above}
-use Rattle.ic_reaching.proofs.Renamings.{undone_is_one_to_one, occurrences-renamed_in}
 use Rattle.ic_reaching.proofs.Beside.{Rest, rest_names, with_rest, ApartFrom, names_beside}
 use Rattle.ic_reaching.proofs.Frames.{ShapeLaws, frees_of, are_frees, beginning, net_singles}
 use Rattle.ic_reaching.proofs.Parts.{above, Few, at_end, few_of, apart_by, net_of_wholes, whole_reaches, names_above, rest_below_above}

@@ -3,3 +3,4 @@ pub mod Reaching
 pub mod FreshNames
 pub mod Pieces
 pub mod Beside
+pub mod lemmas

@@ -1,5 +1,5 @@
 use Rattle.ic_confluence.specs.Sameness.{through}
-use Rattle.ic_confluence.proofs.Equivalence.{Same-refl, Same-sym}
+use Rattle.ic_confluence.specs.lemmas.Equivalence.{Same-refl, Same-sym}
 use Rattle.ic_confluence.proofs.Order.{same_next}
 use Rattle.ic_confluence.proofs.laws.same_is_an_equivalence.Goals as goal
 

@@ -11,7 +11,7 @@ use Rattle.ic_settle.specs.Settling.{subst, subst_all, subst_pair, subst_in}
 use Rattle.ic_settle.specs.lemmas.SubstitutionLaws.{occurrences-append, occurrences-cons, subst-absent}
 use Rattle.ic_round.specs.lemmas.FreshNames.{apart_false}
 use Rattle.ic_confluence.specs.Sameness.{renamed_pair, renamed_in}
-use Rattle.ic_confluence.proofs.Counts.{in_pair, in_more}
+use Rattle.ic_confluence.specs.lemmas.Counts.{in_pair, in_more}
 
 -- ---- two terms put for two names
 

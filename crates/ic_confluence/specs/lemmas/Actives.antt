@@ -24,9 +24,9 @@ use Rattle.ic_round.specs.lemmas.FiredNames.{SidesOf, active_sides_of, names-arg
 use Rattle.ic_round.specs.lemmas.FreshNames.{absent_below, absent_above, from_base, below_top, rule_below, occurrences-shift}
 use Rattle.ic_rules.specs.lemmas.RenamingLaws.{flat_names-renamed}
 use Rattle.ic_confluence.specs.Sameness.{renamed_pair}
-use Rattle.ic_confluence.proofs.Counts.{in_pair}
-use Rattle.ic_confluence.proofs.Puts.{terms_absent}
-use Rattle.ic_confluence.proofs.Replacing.{in_both}
+use Rattle.ic_confluence.specs.lemmas.Counts.{in_pair}
+use Rattle.ic_confluence.specs.lemmas.Puts.{terms_absent}
+use Rattle.ic_confluence.specs.lemmas.Replacing.{in_both}
 
 -- ---- the rule of an active equation
 
@@ -38,7 +38,7 @@ pub record HasRule (rs : List Rule) (p : Pair) (a : Active) : Type 0 where
   pub right : is_agent_of rule.right (length rule.right_args) a.right ≡ true
   pub sides : SidesOf p a
 
-at_place : {X : Type 0} (xs : List X) (i : ℕ) → i < length xs → (x : X) × (slice_get xs i ≡ Some x)
+pub at_place : {X : Type 0} (xs : List X) (i : ℕ) → i < length xs → (x : X) × (slice_get xs i ≡ Some x)
 at_place [] i low = absurd (omega (arith, low))
 at_place (x ∷ xs) zero low = (x, refl)
 at_place (x ∷ xs) (suc i) low = at_place xs i (omega (arith, low))
@@ -69,15 +69,15 @@ count_is rs p a h = ap (λ o. option_map_or (λ (r : Rule). r.names) o 0) h.ther
 
 -- ---- the names of the products
 
-agent_arguments : (s k : ℕ) (t : Tree) → is_agent_of s k t ≡ true → flat_map names (arguments t) ≡ names t
+pub agent_arguments : (s k : ℕ) (t : Tree) → is_agent_of s k t ≡ true → flat_map names (arguments t) ≡ names t
 agent_arguments s k (name m) e = cc
 agent_arguments s k (agent z ts) e = names-arguments ts
 
-agent_length : (s k : ℕ) (t : Tree) → is_agent_of s k t ≡ true → length (arguments t) ≡ k
+pub agent_length : (s k : ℕ) (t : Tree) → is_agent_of s k t ≡ true → length (arguments t) ≡ k
 agent_length s k (name m) e = cc
 agent_length s k (agent z ts) e = (unsigned_Decides (length (list_of ts)) k).0 (and_parts (z == s) (length (list_of ts) == k) e).1
 
-in_against : (n : ℕ) (ts us : List Tree) → length ts ≡ length us
+pub in_against : (n : ℕ) (ts us : List Tree) → length ts ≡ length us
     → occurrences n (flat_map pair_names (against ts us)) ≡ occurrences n (flat_map names ts) + occurrences n (flat_map names us)
 in_against n [] [] e = refl
 in_against n [] (u ∷ us) e = absurd (omega (arith, e))
@@ -90,7 +90,7 @@ in_against n (t ∷ ts) (u ∷ us) e =
     let d = occurrences-append n (names u) (flat_map names us) in
     omega (arith, rest, a, b, c, d)
 
-lengths_renamed : (f : ℕ → ℕ) (ts : List Tree) → length (map (renamed f) ts) ≡ length ts
+pub lengths_renamed : (f : ℕ → ℕ) (ts : List Tree) → length (map (renamed f) ts) ≡ length ts
 lengths_renamed f [] = refl
 lengths_renamed f (t ∷ ts) = ap suc (lengths_renamed f ts)
 

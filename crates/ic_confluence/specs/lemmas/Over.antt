@@ -25,7 +25,7 @@ mutual
   over_put ss x u (name m) over some = put_back_name ss x m u (m == x) refl over some
   over_put ss x u (agent s ts) over some = over_put_all ss x u ts (and_parts (has_arity (length (list_of (subst_all x u ts))) (slice_get ss s)) (are_trees_over ss (subst_all x u ts)) over).1 some
 
-  over_put_all : (ss : List Symbol) (x : ℕ) (u : Tree) (ts : Trees) → are_trees_over ss (subst_all x u ts) ≡ true → 1 ≤ occurrences x (names_of ts) → is_tree_over ss u ≡ true
+  pub over_put_all : (ss : List Symbol) (x : ℕ) (u : Tree) (ts : Trees) → are_trees_over ss (subst_all x u ts) ≡ true → 1 ≤ occurrences x (names_of ts) → is_tree_over ss u ≡ true
   over_put_all ss x u no_trees over some = absurd (let nothing : occurrences x [] ≡ 0 = refl in omega (arith, some, nothing))
   over_put_all ss x u (more_trees t ts) over some =
       let both = and_parts (is_tree_over ss (subst x u t)) (are_trees_over ss (subst_all x u ts)) over in
@@ -40,7 +40,7 @@ mutual
       let both = and_parts (has_arity (length (list_of (subst_all x u ts))) (slice_get ss s)) (are_trees_over ss (subst_all x u ts)) over in
       and_both (ap (λ n. has_arity n (slice_get ss s)) (sym (list_of-subst_all x u ts)) ∙ both.0) (over_below_all ss x u ts both.1)
 
-  over_below_all : (ss : List Symbol) (x : ℕ) (u : Tree) (ts : Trees) → are_trees_over ss (subst_all x u ts) ≡ true → are_trees_over ss ts ≡ true
+  pub over_below_all : (ss : List Symbol) (x : ℕ) (u : Tree) (ts : Trees) → are_trees_over ss (subst_all x u ts) ≡ true → are_trees_over ss ts ≡ true
   over_below_all ss x u no_trees over = refl
   over_below_all ss x u (more_trees t ts) over =
       let both = and_parts (is_tree_over ss (subst x u t)) (are_trees_over ss (subst_all x u ts)) over in

@@ -7,8 +7,8 @@ use Rattle.ic_term.specs.Tree.{Tree, Pair, pair_names}
 use Rattle.ic_term.specs.Configuration.{names_in, occurrences}
 use Rattle.ic_settle.specs.lemmas.SubstitutionLaws.{occurrences-append}
 use Rattle.ic_confluence.specs.Sameness.{Alike, itself, Rearranged, kept, swapped, one_by_one}
-use Rattle.ic_confluence.proofs.Counts.{in_configuration, in_more}
-use Rattle.ic_confluence.proofs.Equivalence.{Rearranged-refl}
+use Rattle.ic_confluence.specs.lemmas.Counts.{in_configuration, in_more}
+use Rattle.ic_confluence.specs.lemmas.Equivalence.{Rearranged-refl}
 
 -- the second list is the first one with this equation replaced by these
 abbrev pub Replaced : Pair → List Pair → List Pair → List Pair → Type 0

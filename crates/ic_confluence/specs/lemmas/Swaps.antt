@@ -9,8 +9,8 @@ use Rattle.ic_settle.specs.Settling.{subst, subst_all, subst_pair}
 use Rattle.ic_settle.specs.lemmas.SubstitutionLaws.{occurrences-append, occurrences-cons}
 use Rattle.ic_round.specs.lemmas.FreshNames.{apart_false}
 use Rattle.ic_confluence.specs.Sameness.{renamed_pair, renamed_in, Renames}
-use Rattle.ic_confluence.proofs.Counts.{in_pair, in_more}
-use Rattle.ic_confluence.proofs.Puts.{not_both}
+use Rattle.ic_confluence.specs.lemmas.Counts.{in_pair, in_more}
+use Rattle.ic_confluence.specs.lemmas.Puts.{not_both}
 
 abbrev pub swap : ℕ → ℕ → ℕ → ℕ
 swap x y n = cond (n == x) y (cond (n == y) x n)

@@ -3,7 +3,7 @@ use Rattle.std.proofs.Common.{◌≡◌, ℕ, ◌≤◌, List, [], ◌∷◌, re
 use Rattle.ic_term.specs.Tree.{Pair}
 use Rattle.ic_term.specs.Configuration.{Configuration, configuration_names, occurrences}
 use Rattle.ic_confluence.specs.Sameness.{turned, Alike, itself, exchanged, rotated, in_turn, Rearranged, nothing, kept, swapped, one_by_one, renamed_in, Renames, Rearranges, Same, renaming, rearranging, through}
-use Rattle.ic_confluence.proofs.Puts.{undone_is_one_to_one, occurrences-renamed_in, renamed_in-back}
+use Rattle.ic_confluence.specs.lemmas.Puts.{undone_is_one_to_one, occurrences-renamed_in, renamed_in-back}
 
 pub Alike-sym : (p q : Pair) → Alike p q → Alike q p
 Alike-sym p q (itself r) = itself r

@@ -13,9 +13,6 @@ use Rattle.ic_round.specs.lemmas.FreshNames.{absent_above, apart_false}
 
 -- ---- names in lists
 
-pub alone_itself : (n : ℕ) → occurrences n (n ∷ []) ≡ 1
-alone_itself n = rw (eq-eqb n n refl) refl
-
 pub alone_other : (n m : ℕ) → (m == n) ≡ false → occurrences n (m ∷ []) ≡ 0
 alone_other n m apart = rw apart refl
 
@@ -106,10 +103,6 @@ mutual
 -- the same in a whole configuration
 whole_names : (x : ℕ) (u : Tree) (ts : List Tree) (es : List Pair) → names_of (subst_all x u (whole ts es)) ≡ names_in (map (subst x u) ts) (map (subst_pair x u) es)
 whole_names x u ts es = ap names_of (subst_all-whole x u ts es) ∙ names_of-whole (map (subst x u) ts) (map (subst_pair x u) es)
-
-pub occurrences-put_in : (n x : ℕ) (u : Tree) (ts : List Tree) (es : List Pair) → (x == n) ≡ false
-    → occurrences n (names_in (map (subst x u) ts) (map (subst_pair x u) es)) ≡ occurrences n (names_in ts es) + occurrences x (names_in ts es) * occurrences n (names u)
-occurrences-put_in n x u ts es apart = rw (← whole_names x u ts es, ← names_of-whole ts es) (occurrences-put_all n x u (whole ts es) apart)
 
 pub occurrences-gone_in : (x : ℕ) (u : Tree) (ts : List Tree) (es : List Pair)
     → occurrences x (names_in (map (subst x u) ts) (map (subst_pair x u) es)) ≡ occurrences x (names_in ts es) * occurrences x (names u)

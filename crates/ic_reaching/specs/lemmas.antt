@@ -1,0 +1,3 @@
+-- Lemmas on the definitions of specs/, for proofs of this crate and of those above. They are
+-- proved, so nothing in them is to be believed.
+pub mod Orders
