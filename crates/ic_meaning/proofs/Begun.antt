@@ -1,5 +1,5 @@
 -- Lemmas: what a plan of a configuration makes is the net of that.
-use Rattle.std.proofs.Common.{◌≡◌, ℕ, zero, suc, ◌+◌, ◌*◌, ◌-◌, ◌≤◌, ◌<◌, ◌==◌, List, [], ◌∷◌, ◌++◌, Bool, true, false, cond, Option, None, Some, length, map, slice_get, slice_index_or, sum_by, count_by, refl, sym, ap, ◌∙◌, eq-eqb, arith, zero-add, inl, inr, append_assoc, append-nil, subst as transport}
+use Rattle.std.proofs.Common.{◌≡◌, ℕ, zero, suc, ◌+◌, ◌*◌, ◌-◌, ◌≤◌, ◌<◌, ◌==◌, List, [], ◌∷◌, ◌++◌, Bool, true, false, cond, Option, None, Some, length, map, slice_get, slice_index_or, sum_by, count_by, refl, sym, ap, ◌∙◌, eq-eqb, arith, zero-add, inl, inr, append_assoc, append-nil, subst as transport, true≢false as true_false}
 use Rattle.std.proofs.lemmas.Bool.{ne_eqb, lt-ltb, le-ltb, cases_lt}
 use Rattle.std.proofs.lemmas.List.{length-append, get_or-append-add}
 use Rattle.std.proofs.lemmas.List.FromFn.{length-map-range_with_len, get_or-map-range_with_len}
@@ -30,9 +30,9 @@ use Rattle.ic_meaning.specs.Nets.{equations_of, net_of, IsPiece, ArePieces, AreN
 use Rattle.ic_meaning.specs.Plans.{held_with, held_made, linked_terms, equations_made, named_terms, first_made, StandsForNet}
 use Rattle.ic_meaning.proofs.Given.{NetLaws}
 use Rattle.ic_meaning.proofs.Once.{HoldOnce, made_once}
-use Rattle.ic_meaning.proofs.Orders.{all_front, all_back, all_parts}
+use Rattle.ic_meaning.specs.lemmas.Orders.{all_front, all_back, all_parts}
 use Rattle.ic_meaning.proofs.Reached.{idle_pieces, agent_pieces, link_pieces}
-use Rattle.ic_meaning.proofs.Terms.{same_word, word_itself, name_tag, agent_tag, place_term}
+use Rattle.ic_meaning.specs.lemmas.Terms.{same_word, word_itself, name_tag, agent_tag, place_term}
 use Rattle.ic_meaning.proofs.Made.{UsedFrom, used_from}
 use Rattle.ic_meaning.proofs.Registers.{register_back, register_front, held_in, registers_of, held_constant, held_later, all_at, place_below, counted}
 use Rattle.ic_meaning.proofs.Taken.{made_pieces, read_from, take_made}
@@ -224,9 +224,6 @@ given_none w a (suc count) other =
 given_constant : (arities : List ℕ) → length arities < GIVEN → is_constant_tag arities GIVEN ≡ true
 given_constant arities few =
     ap (λ (o : Option ℕ). option_map_or (λ k. k == 0) o true) (slice_get_past arities 4294967292 (omega arith))
-
-true_false : true ≡ false → ⊥
-true_false e = cc
 
 -- the term of a given name
 given_term : (n : Numbers) (i : ℕ) → AreNumbers n → i < length n.given → term n (record { tag = GIVEN; index = i }) ≡ name (slice_index_or n.given i 0)

@@ -14,6 +14,7 @@ use Rattle.ic_settle.specs.NameSteps.{Binds}
 use Rattle.ic_settle.specs.lemmas.SubstitutionLaws.{occurrences-append, occurrences-cons, occurrences_some}
 use Rattle.ic_settle.specs.lemmas.MiddleLaws.{occurrences-middle}
 use Rattle.ic_settle.specs.lemmas.WholeLaws.{whole, names_of-whole, subst_all-whole}
+use Rattle.ic_settle.specs.lemmas.StepLaws.{itself_once as name_itself}
 use Rattle.ic_round.specs.Naming.{HasNames}
 use Rattle.ic_round.specs.Firing.{Active, active_pair, oriented, rule_of_sides}
 use Rattle.ic_round.specs.Rounds.{IsQuiet}
@@ -21,8 +22,9 @@ use Rattle.ic_round.specs.Steps.{Step, interaction, indirection, collect}
 use Rattle.ic_reaching.specs.OneNet.{OneNet}
 use Rattle.ic_reaching.specs.Pieces.{piece_of}
 use Rattle.ic_meaning.proofs.Given.{NetLaws}
-use Rattle.ic_meaning.proofs.Terms.{flat_names}
-use Rattle.ic_meaning.proofs.Orders.{all_back, all_parts}
+use Rattle.ic_meaning.specs.lemmas.Terms.{flat_names}
+use Rattle.ic_meaning.specs.lemmas.Orders.{all_back, all_parts}
+use Rattle.ic_meaning.proofs.Wholes.{in_front}
 
 -- ---- how often names occur where a term is put for a name
 
@@ -120,9 +122,6 @@ pub record Bound (rs : List Rule) (total : ℕ → ℕ) (c : Configuration) (bs 
 -- an equation is of no rule, and its sides bind nothing elsewhere
 abbrev pub IsEnded : List Rule → (ℕ → ℕ) → Pair → Type 0
 IsEnded rs total e = (active_pair rs e ≡ None) × ((y : ℕ) → (e.left ≡ name y) ⊎ (e.right ≡ name y) → total y ≡ occurrences y (pair_names e))
-
-name_itself : (x : ℕ) → occurrences x (x ∷ []) ≡ 1
-name_itself x = rw (eq-eqb x x refl) refl
 
 all_at_middle : {X : Type 0} (P : X → Type 0) (before : List X) (x : X) (after : List X) → AllByRecursion P (before ++ x ∷ after) → P x
 all_at_middle P before x after all = (all_back P before (x ∷ after) all).0
@@ -382,13 +381,6 @@ put_stuck rs total b bs apart two (s ∷ ss) all = (
   },
   put_stuck rs total b bs apart two ss all.1,
 )
-
-in_front : (n : ℕ) (ts : List Tree) (e : Pair) (es : List Pair) → occurrences n (names_in ts (e ∷ es)) ≡ occurrences n (pair_names e) + occurrences n (names_in ts es)
-in_front n ts e es =
-    let a = occurrences-append n (flat_map names ts) (pair_names e ++ flat_map pair_names es) in
-    let b = occurrences-append n (pair_names e) (flat_map pair_names es) in
-    let c = occurrences-append n (flat_map names ts) (flat_map pair_names es) in
-    omega arith
 
 circles_inside : (n : ℕ) (ts : List Tree) (bs zs : List Binding) (ss : List Pair)
     → occurrences n (flat_map pair_names (map piece_of zs)) + occurrences n (flat_map pair_names ss) ≤ occurrences n (names_in ts (map piece_of bs ++ (map piece_of zs ++ ss)))

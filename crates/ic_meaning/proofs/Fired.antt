@@ -6,8 +6,10 @@ use Rattle.std.proofs.lemmas.List.Sorted.{IsPermutation-refl, IsPermutation-appe
 use Rattle.std.specs.Cmp.{unsigned_Decides}
 use Rattle.std.specs.List.{flat_map, AllByRecursion}
 use Rattle.std.specs.Prelude.{IsPermutation}
+use Rattle.std.proofs.lemmas.Grind.{flat_map-append as flat_parts}
 use Rattle.ic_term.specs.Tree.{Tree, name, agent, trees_of, list_of, names, names_of, Pair, pair_names}
 use Rattle.ic_term.specs.Configuration.{Configuration, configuration_names, occurrences}
+use Rattle.ic_term.specs.lemmas.TreeLaws.{list_of-trees_of}
 use Rattle.ic_rules.specs.Renaming.{renamed}
 use Rattle.ic_rules.specs.Rule.{Rule}
 use Rattle.ic_settle.specs.lemmas.SubstitutionLaws.{occurrences-append}
@@ -26,8 +28,7 @@ use Rattle.ic_meaning.specs.Words.{Numbers, AreNumbers, term}
 use Rattle.ic_meaning.specs.Nets.{equations_of, net_of}
 use Rattle.ic_meaning.specs.Plans.{Argument, arguments_from, matched, met_as}
 use Rattle.ic_meaning.proofs.Given.{NetLaws}
-use Rattle.ic_meaning.proofs.Orders.{flat_parts}
-use Rattle.ic_meaning.proofs.Terms.{word_itself, words_names, pieces_names, names_of-trees_of}
+use Rattle.ic_meaning.specs.lemmas.Terms.{word_itself, words_names, pieces_names, names_of-trees_of}
 use Rattle.ic_meaning.proofs.Filled.{filled_renamed}
 use Rattle.ic_meaning.proofs.Registers.{counted}
 use Rattle.ic_meaning.proofs.Wholes.{with_equations, brought, put_agent}
@@ -148,10 +149,6 @@ fresh_once (w ∷ ws) rest fresh (suc j) low =
         absurd (omega arith)
 
 -- ---- the products of a rule, against what registers hold
-
-pub list_of-trees_of : (ts : List Tree) → list_of (trees_of ts) ≡ ts
-list_of-trees_of [] = refl
-list_of-trees_of (t ∷ ts) = ap (λ us. t ∷ us) (list_of-trees_of ts)
 
 pub arguments_parts : (k : ℕ) (ts us : List Tree) → arguments_from k (ts ++ us) ≡ arguments_from k ts ++ arguments_from (k + length ts) us
 arguments_parts k [] us = let same : k ≡ k + 0 = omega arith in ap (λ (j : ℕ). arguments_from j us) same

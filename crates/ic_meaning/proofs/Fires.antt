@@ -4,8 +4,10 @@ use Rattle.std.proofs.lemmas.Bool.{and_parts}
 use Rattle.std.proofs.lemmas.List.{length-map}
 use Rattle.std.specs.Cmp.{unsigned_Decides}
 use Rattle.std.specs.List.{flat_map, AllByRecursion}
+use Rattle.std.proofs.lemmas.Grind.{flat_map-append as flat_parts}
 use Rattle.ic_term.specs.Tree.{Tree, name, agent, trees_of, list_of, Pair}
 use Rattle.ic_term.specs.Configuration.{Configuration}
+use Rattle.ic_term.specs.lemmas.TreeLaws.{list_of-trees_of}
 use Rattle.ic_rules.specs.Rule.{Rule}
 use Rattle.ic_rules.specs.RuleSet.{Rules}
 use Rattle.ic_round.specs.Firing.{Active, oriented}
@@ -18,12 +20,12 @@ use Rattle.ic_machine.specs.Plan.{Made, Planned, Plans, AreMade, made_each, link
 use Rattle.ic_meaning.specs.Words.{Numbers, AreNumbers, term}
 use Rattle.ic_meaning.specs.Nets.{equations_of, IsAgentOf}
 use Rattle.ic_meaning.specs.Plans.{met_as, linked_terms, IsPlanOf, IsOfRule}
-use Rattle.ic_meaning.proofs.Orders.{flat_parts, all_front, all_back}
-use Rattle.ic_meaning.proofs.Terms.{place_term}
+use Rattle.ic_meaning.specs.lemmas.Orders.{all_front, all_back}
+use Rattle.ic_meaning.specs.lemmas.Terms.{place_term}
 use Rattle.ic_meaning.proofs.Registers.{held_in, registers_of, held_later, held_is, held_elsewhere}
 use Rattle.ic_meaning.proofs.Taken.{made_pieces, ArePlaces}
 use Rattle.ic_meaning.proofs.Settings.{FreeWord}
-use Rattle.ic_meaning.proofs.Fired.{list_of-trees_of, agent_term}
+use Rattle.ic_meaning.proofs.Fired.{agent_term}
 
 -- ---- the rule of a plan
 

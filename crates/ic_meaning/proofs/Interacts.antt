@@ -30,8 +30,8 @@ use Rattle.ic_meaning.specs.Words.{Numbers, AreNumbers, term}
 use Rattle.ic_meaning.specs.Nets.{equations_of, net_of}
 use Rattle.ic_meaning.specs.Plans.{Argument, arguments_from, is_matched, matched, met_as, held_made, equations_made, StandsFor}
 use Rattle.ic_meaning.proofs.Given.{NetLaws}
-use Rattle.ic_meaning.proofs.Terms.{name_tag, agent_tag, names_of-trees_of}
-use Rattle.ic_meaning.proofs.Orders.{all_parts, all_front, all_back}
+use Rattle.ic_meaning.specs.lemmas.Terms.{name_tag, agent_tag, names_of-trees_of}
+use Rattle.ic_meaning.specs.lemmas.Orders.{all_parts, all_front, all_back}
 use Rattle.ic_meaning.proofs.Named.{so_far, so_far_held, so_far_own, with_arguments, put_arguments, matched_same, AreBelow, argument_names, Left}
 use Rattle.ic_meaning.proofs.Registers.{register_back, register_front, held_in, registers_of, held_constant, held_later, all_at}
 use Rattle.ic_meaning.proofs.Taken.{read_from}

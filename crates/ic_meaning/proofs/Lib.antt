@@ -1,7 +1,5 @@
-pub mod Terms
 pub mod Made
 pub mod Filled
-pub mod Orders
 pub mod Registers
 pub mod Given
 pub mod Named

@@ -15,32 +15,10 @@ use Rattle.ic_reaching.specs.OneNet.{OneNet}
 use Rattle.ic_meaning.specs.Plans.{Argument, arguments_from, is_name_in, is_matched, matched, filled}
 use Rattle.ic_meaning.proofs.Filled.{filled_same, subst_filled, filled_some, some_of_two}
 use Rattle.ic_meaning.proofs.Given.{NetLaws}
-use Rattle.ic_meaning.proofs.Terms.{flat_names}
+use Rattle.ic_meaning.specs.lemmas.Terms.{flat_names}
+use Rattle.ic_confluence.specs.lemmas.Puts.{terms_absent, pairs_absent}
 
 -- ---- where a name doesn't occur
-
-pub terms_absent : (x : ℕ) (u : Tree) (ts : List Tree) → occurrences x (flat_map names ts) ≡ 0 → map (subst x u) ts ≡ ts
-terms_absent x u [] none = refl
-terms_absent x u (t ∷ ts) none =
-    let both = occurrences-append x (names t) (flat_map names ts) in
-    let here : occurrences x (names t) ≡ 0 = omega (arith, both, none) in
-    let rest : occurrences x (flat_map names ts) ≡ 0 = omega (arith, both, none) in
-    λ i. subst-absent x u t here i ∷ terms_absent x u ts rest i
-
-pub pair_absent : (x : ℕ) (u : Tree) (p : Pair) → occurrences x (pair_names p) ≡ 0 → subst_pair x u p ≡ p
-pair_absent x u p none =
-    let both = occurrences-append x (names p.left) (names p.right) in
-    let left : occurrences x (names p.left) ≡ 0 = omega (arith, both, none) in
-    let right : occurrences x (names p.right) ≡ 0 = omega (arith, both, none) in
-    λ i. record { left = subst-absent x u p.left left i; right = subst-absent x u p.right right i }
-
-pub pairs_absent : (x : ℕ) (u : Tree) (es : List Pair) → occurrences x (flat_map pair_names es) ≡ 0 → map (subst_pair x u) es ≡ es
-pairs_absent x u [] none = refl
-pairs_absent x u (p ∷ es) none =
-    let both = occurrences-append x (pair_names p) (flat_map pair_names es) in
-    let here : occurrences x (pair_names p) ≡ 0 = omega (arith, both, none) in
-    let rest : occurrences x (flat_map pair_names es) ≡ 0 = omega (arith, both, none) in
-    λ i. pair_absent x u p here i ∷ pairs_absent x u es rest i
 
 -- ---- from which register a name is read
 

@@ -12,26 +12,9 @@ use Rattle.ic_machine.specs.Steps.{AreFresh, Step, turns, puts, meets, joins, fi
 use Rattle.ic_machine.specs.lemmas.Separation.{sum_of_parts}
 use Rattle.ic_machine.specs.lemmas.FiresKeep.{sum_of_pair, steps_keep}
 use Rattle.ic_meaning.specs.Nets.{holds, AreNetPieces}
-use Rattle.ic_meaning.proofs.Terms.{same_word}
+use Rattle.ic_meaning.specs.lemmas.Terms.{same_word}
 use Rattle.ic_meaning.proofs.Reached.{steps_pieces}
-
-holds_room : (w : Word) (p : Piece) → holds w p ≤ room w p
-holds_room w (equated l r) = omega arith
-holds_room w (idle x) = elim (word_eq w x) as (λ b. cond {A = ℕ} b 1 0 ≤ cond b 2 0) [
-  | true ↦ omega arith
-  | false ↦ omega arith
-]
-holds_room w (waits x u) = omega arith
-holds_room w (agent_of a ws) = omega arith
-
-all_hold_room : (w : Word) (ps : List Piece) → sum_by (holds w) ps ≤ sum_by (room w) ps
-all_hold_room w [] = omega arith
-all_hold_room w (p ∷ ps) =
-    let here = holds_room w p in
-    let rest = all_hold_room w ps in
-    let a = sum_by-cons (holds w) p ps in
-    let b = sum_by-cons (room w) p ps in
-    omega arith
+use Rattle.ic_meaning.specs.lemmas.Rooms.{all_hold_room}
 
 idle_hold : (w : Word) (vs : List Word) → sum_by (holds w) (map idle vs) ≡ count w vs
 idle_hold w [] = refl

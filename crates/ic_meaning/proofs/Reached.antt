@@ -12,6 +12,7 @@ use Rattle.ic_rules.specs.Rule.{Rule, IsRule}
 use Rattle.ic_rules.specs.RuleSet.{Rules, IsRuleSet, rule_for}
 use Rattle.ic_round.specs.Naming.{HasNames}
 use Rattle.ic_round.specs.lemmas.ActiveRules.{sides_fit, oriented_rule}
+use Rattle.ic_round.specs.lemmas.AnyOrder.{each_permuted as all_order}
 use Rattle.ic_reaching.specs.OneNet.{OneNet}
 use Rattle.ic_reaching.specs.Reaching.{Reaches}
 use Rattle.ic_arena.specs.declared.word.Word.{Word}
@@ -29,7 +30,7 @@ use Rattle.ic_meaning.specs.Words.{Numbers, AreNumbers, term}
 use Rattle.ic_meaning.specs.Nets.{equations_of, net_of, IsPiece, ArePieces}
 use Rattle.ic_meaning.specs.Plans.{arguments_from, met_as, linked_terms, StandsFor, ArePlansOf, rule_number}
 use Rattle.ic_meaning.proofs.Given.{NetLaws, ReachLaws}
-use Rattle.ic_meaning.proofs.Orders.{all_order, all_parts, all_back}
+use Rattle.ic_meaning.specs.lemmas.Orders.{all_parts, all_back}
 use Rattle.ic_meaning.proofs.Made.{UsedFrom, used_from}
 use Rattle.ic_meaning.proofs.Registers.{register_back, held_in, registers_of, place_below}
 use Rattle.ic_meaning.proofs.Taken.{made_pieces, take_made, ArePlaces}

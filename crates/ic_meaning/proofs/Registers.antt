@@ -15,7 +15,7 @@ use Rattle.ic_arena.specs.Tables.{register}
 use Rattle.ic_machine.specs.Plan.{constants}
 use Rattle.ic_machine.specs.Separate.{is_constant_tag}
 use Rattle.ic_meaning.specs.Words.{Numbers, AreNumbers, term}
-use Rattle.ic_meaning.proofs.Terms.{same_word, word_itself, word_names, constant_term}
+use Rattle.ic_meaning.specs.lemmas.Terms.{same_word, word_itself, word_names, constant_term}
 
 -- ---- words in a list
 

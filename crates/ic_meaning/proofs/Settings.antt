@@ -5,10 +5,12 @@ use Rattle.std.proofs.lemmas.List.{length-append}
 use Rattle.std.proofs.lemmas.Option.{slice_get_within}
 use Rattle.std.specs.Cmp.{unsigned_Decides}
 use Rattle.std.specs.List.{flat_map, list_all, AllByRecursion}
+use Rattle.std.proofs.lemmas.Grind.{flat_map-append as flat_parts}
 use Rattle.ic_term.specs.Tree.{Tree, name, names, Pair}
 use Rattle.ic_term.specs.Configuration.{Configuration, configuration_names, names_in, occurrences, one_above}
 use Rattle.ic_rules.specs.Rule.{Rule, rule_names, IsRule}
 use Rattle.ic_settle.specs.lemmas.SubstitutionLaws.{occurrences-append, occurrences-cons, All-front, All-back, All-append}
+use Rattle.ic_settle.specs.lemmas.StepLaws.{itself_once as occurs_once}
 use Rattle.ic_round.specs.Naming.{HasNames}
 use Rattle.ic_round.specs.lemmas.FreshNames.{rule_below, absent_above}
 use Rattle.ic_reaching.specs.FreshNames.{AreFresh}
@@ -18,8 +20,7 @@ use Rattle.ic_arena.specs.Tables.{register}
 use Rattle.ic_machine.specs.Separate.{is_constant_tag}
 use Rattle.ic_meaning.specs.Words.{Numbers, AreNumbers, term}
 use Rattle.ic_meaning.specs.Plans.{Argument, arguments_from, arguments_of, HasRegister, met_as}
-use Rattle.ic_meaning.proofs.Orders.{flat_parts}
-use Rattle.ic_meaning.proofs.Terms.{word_itself, place_term, occurs_once}
+use Rattle.ic_meaning.specs.lemmas.Terms.{word_itself, place_term}
 use Rattle.ic_meaning.proofs.Named.{Named, Left, arguments_names}
 use Rattle.ic_meaning.proofs.Registers.{register_back, register_front, once_at, place_below, register_names, held_in, registers_of, held_constant, held_later}
 

@@ -17,9 +17,9 @@ use Rattle.ic_machine.specs.declared.plan.Link.{Link}
 use Rattle.ic_machine.specs.Plan.{Made, AreMade, link_operands}
 use Rattle.ic_meaning.specs.Plans.{held_with, held_made, linked_terms}
 use Rattle.ic_meaning.proofs.Given.{NetLaws}
-use Rattle.ic_meaning.proofs.Terms.{flat_names, names_of-trees_of}
+use Rattle.ic_meaning.specs.lemmas.Terms.{flat_names, names_of-trees_of}
 use Rattle.ic_meaning.proofs.Made.{subst_made, subst_links, subst_held, times, held_names, read_names, UsedFrom, made_names}
-use Rattle.ic_meaning.proofs.Named.{terms_absent, pairs_absent}
+use Rattle.ic_confluence.specs.lemmas.Puts.{terms_absent, pairs_absent}
 
 -- the pieces of agents, at places with these names
 abbrev pub made_pieces : (ℕ → Tree) → List Made → List ℕ → List Pair

@@ -4,11 +4,13 @@ use Rattle.std.proofs.lemmas.Option.{slice_get_within}
 use Rattle.std.proofs.lemmas.List.Sorted.{IsPermutation-refl, IsPermutation-sym, IsPermutation-trans, IsPermutation-middle}
 use Rattle.std.specs.List.{flat_map, AllByRecursion}
 use Rattle.std.specs.Prelude.{IsPermutation}
+use Rattle.std.proofs.lemmas.Grind.{flat_map-append as flat_parts}
 use Rattle.ic_term.specs.Tree.{Tree, name, agent, trees_of, names, Pair, pair_names}
 use Rattle.ic_term.specs.Configuration.{Configuration, configured, names_in, occurrences, one_above}
 use Rattle.ic_settle.specs.Settling.{subst, subst_pair}
 use Rattle.ic_settle.specs.lemmas.SubstitutionLaws.{occurrences-append, subst-absent}
 use Rattle.ic_round.specs.Naming.{HasNames}
+use Rattle.ic_round.specs.lemmas.AnyOrder.{each_permuted as all_order}
 use Rattle.ic_confluence.specs.Sameness.{turned}
 use Rattle.ic_reaching.specs.OneNet.{OneNet}
 use Rattle.ic_arena.specs.declared.word.Word.{Word}
@@ -18,8 +20,8 @@ use Rattle.ic_machine.specs.Steps.{Turns, Puts, Meets, Joins}
 use Rattle.ic_meaning.specs.Words.{Numbers, AreNumbers, term}
 use Rattle.ic_meaning.specs.Nets.{equations_of, net_of, IsPiece, ArePieces, IsAgentOf}
 use Rattle.ic_meaning.proofs.Given.{NetLaws}
-use Rattle.ic_meaning.proofs.Orders.{flat_order, flat_parts, all_order}
-use Rattle.ic_meaning.proofs.Terms.{name_tag, agent_tag, place_term, constant_term}
+use Rattle.ic_meaning.specs.lemmas.Orders.{flat_order}
+use Rattle.ic_meaning.specs.lemmas.Terms.{name_tag, agent_tag, place_term, constant_term}
 
 -- ---- where fresh names begin
 
@@ -39,16 +41,6 @@ pub to_configured : NetLaws → (c : Configuration) (ts : List Tree) (es : List 
 to_configured laws c ts es next net =
     let d : Configuration = record { interface = ts; equations = es; next = next } in
     laws.through c d (configured ts es) net (laws.next d (one_above (names_in ts es)) net.names_too (configured_names ts es next net.names_too))
-
-pub raised_names : (ts : List Tree) (es : List Pair) (a b : ℕ) → a ≤ b → HasNames (record { interface = ts; equations = es; next = a })
-    → HasNames (record { interface = ts; equations = es; next = b })
-raised_names ts es a b high named = record { below = higher_all a b (names_in ts es) high named.below; twice = named.twice }
-
-pub to_raised : NetLaws → (c : Configuration) (ts : List Tree) (es : List Pair) (a b : ℕ) → a ≤ b → OneNet c (record { interface = ts; equations = es; next = a })
-    → OneNet c (record { interface = ts; equations = es; next = b })
-to_raised laws c ts es a b high net =
-    let d : Configuration = record { interface = ts; equations = es; next = a } in
-    laws.through c d (record d { next = b }) net (laws.next d b net.names_too (raised_names ts es a b high net.names_too))
 
 -- ---- some pieces brought to the front
 

@@ -1,5 +1,5 @@
 -- Lemmas: the terms of words, and how often names of places occur.
-use Rattle.std.proofs.Common.{◌≡◌, ℕ, suc, ◌+◌, ◌-◌, ◌≤◌, ◌<◌, ◌==◌, List, [], ◌∷◌, ◌++◌, Bool, true, false, cond, Option, None, Some, length, map, slice_get, sum_by, refl, sym, ap, ◌∙◌, eq-eqb, arith, add-one}
+use Rattle.std.proofs.Common.{◌≡◌, ℕ, suc, ◌+◌, ◌-◌, ◌≤◌, ◌<◌, ◌==◌, List, [], ◌∷◌, ◌++◌, Bool, true, false, cond, Option, None, Some, length, map, slice_get, sum_by, refl, sym, ap, ◌∙◌, eq-eqb, arith, add-one, true≢false as true_false}
 use Rattle.std.proofs.lemmas.Bool.{ne_eqb, and_parts}
 use Rattle.std.proofs.lemmas.List.Sums.{sum_by-cons}
 use Rattle.std.specs.Cmp.{unsigned_Decides}
@@ -8,6 +8,7 @@ use Rattle.std.specs.Option.{option_map_or}
 use Rattle.ic_term.specs.Tree.{Tree, name, agent, no_trees, trees_of, names, names_of, Pair, pair_names}
 use Rattle.ic_term.specs.Configuration.{occurrences}
 use Rattle.ic_settle.specs.lemmas.SubstitutionLaws.{occurrences-append}
+use Rattle.ic_settle.specs.lemmas.StepLaws.{itself_once as occurs_once}
 use Rattle.ic_arena.specs.declared.word.Word.{Word}
 use Rattle.ic_arena.specs.declared.word.TheConstants.{NAME, GIVEN}
 use Rattle.ic_arena.specs.Word.{word_eq, count, agent_word}
@@ -52,14 +53,8 @@ constant_term n s i sound low none =
 
 -- ---- how often the name of a place occurs
 
-pub occurs_once : (n : ℕ) → occurrences n (n ∷ []) ≡ 1
-occurs_once n = rw (eq-eqb n n refl) refl
-
 pub occurs_not : (n m : ℕ) → (m ≡ n → ⊥) → occurrences n (m ∷ []) ≡ 0
 occurs_not n m apart = rw (ne_eqb m n apart) refl
-
-true_false : true ≡ false → ⊥
-true_false e = cc
 
 apart_tags : (n : Numbers) (v w : Word) → is_constant_tag n.arities v.tag ≡ true → is_constant_tag n.arities w.tag ≡ false
     → word_eq w v ≡ false
