@@ -89,7 +89,7 @@ pub all_contained : {X : Type 0} (P : X → Type 0) (xs : List X) → ((x : X) �
 all_contained P [] each = tt
 all_contained P (x ∷ xs) each = (each x (contains_first x xs), all_contained P xs (λ y there. each y (contains_cons x y xs there)))
 
-after : (ps qs : List Piece) (p q : Piece) → IsPermutation ps (p ∷ qs) → Contains qs q → Contains ps q
+pub after : (ps qs : List Piece) (p q : Piece) → IsPermutation ps (p ∷ qs) → Contains qs q → Contains ps q
 after ps qs p q taken there = Contains-permutation (p ∷ qs) ps q (IsPermutation-sym ps (p ∷ qs) taken) (contains_cons p q qs there)
 
 pub step_pieces : (arities : List ℕ) (p : Piece) (s t : State) → Step arities s t → Contains t.pieces p → Contains s.pieces p

@@ -1,5 +1,5 @@
 -- Lemmas: the equations after those of a machine are circles.
-use Rattle.std.proofs.Common.{◌≡◌, ℕ, ◌+◌, ◌*◌, ◌==◌, List, [], ◌∷◌, ◌++◌, Bool, true, false, cond, length, take, drop, slice_index_or, refl, sym, ap, ◌∙◌, arith, append-nil, subst as transport}
+use Rattle.std.proofs.Common.{◌≡◌, ℕ, ◌+◌, ◌*◌, ◌==◌, List, [], ◌∷◌, ◌++◌, Bool, true, false, cond, length, take, drop, slice_index_or, refl, sym, ap, ◌∙◌, arith, append-nil, subst as transport, true≢false as true_false}
 use Rattle.std.specs.List.{flat_map, AllByRecursion}
 use Rattle.std.specs.Cmp.{unsigned_Decides}
 use Rattle.std.proofs.lemmas.Bool.{ne_eqb}
@@ -14,6 +14,7 @@ use Rattle.ic_arena.specs.declared.word.Word.{Word}
 use Rattle.ic_arena.specs.declared.word.TheConstants.{GIVEN}
 use Rattle.ic_arena.specs.Word.{word_eq}
 use Rattle.ic_machine.specs.Net.{Net, pieces}
+use Rattle.ic_machine.specs.lemmas.FiringKeeps.{all_of as all_so, all_append as all_parts}
 use Rattle.ic_flat.specs.Words.{forest, word_names}
 use Rattle.ic_flat.specs.Flat.{pairs_of}
 use Rattle.ic_meaning.specs.Words.{Numbers, AreNumbers}
@@ -24,9 +25,8 @@ use Rattle.ic_readback.specs.Reading.{number_of, flat_words, configuration_read,
 use Rattle.ic_readback.specs.inner.Expanding.{State, state}
 use Rattle.ic_readback.specs.inner.Writing.{Part}
 use Rattle.ic_readback.specs.lemmas.Rows.{over, over-nil, over-names, pairs-names, pairs-length}
-use Rattle.ic_readback.proofs.Words.{true_false}
 use Rattle.ic_readback.proofs.Ends.{first_state, sides_given, once_places, given_steps}
-use Rattle.ic_readback.proofs.Puttings.{token_names, EachName, each_both, Not, named_in, MendedSo, mended_so, mended_each, mended_places, equations_in, all_so, same_word, word_itself}
+use Rattle.ic_readback.proofs.Puttings.{token_names, EachName, each_both, Not, named_in, MendedSo, mended_so, mended_each, mended_places, equations_in, same_word, word_itself}
 use Rattle.ic_readback.proofs.Parts.{IsLeft, steps_untold, gathered_order, gathered_left, gathered_terms, gathered_numbered, gathered_places, steps_numbered, IsNumbered}
 use Rattle.ic_readback.proofs.Shapes.{IsTerm, mended_terms, sides_in, term_pair}
 use Rattle.ic_readback.proofs.Results.{ReadsNet, with_arities, rows_read, shape_of, result_counted}
@@ -114,10 +114,6 @@ done_circle n terms k ts d sound counted each is =
     let alone = is.alone in
     transport (AllByRecursion (IsCircle n (configuration_read n ts terms))) (sym (term_pair n d is.term))
     (record { place = d.place; left = ap name (place_number n d.place is.other); alone = omega arith }, tt)
-
-all_parts : {X : Type 0} (P : X → Type 0) (xs ys : List X) → AllByRecursion P xs → AllByRecursion P ys → AllByRecursion P (xs ++ ys)
-all_parts P [] ys a b = b
-all_parts P (x ∷ xs) ys a b = (a.0, all_parts P xs ys a.1 b)
 
 all_flat : {X Y : Type 0} (P : Y → Type 0) (f : X → List Y) (xs : List X) → AllByRecursion (λ x. AllByRecursion P (f x)) xs → AllByRecursion P (flat_map f xs)
 all_flat P f [] all = tt

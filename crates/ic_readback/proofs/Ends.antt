@@ -23,12 +23,12 @@ use Rattle.ic_flat.specs.Words.{forest, with_word}
 use Rattle.ic_flat.specs.Flat.{pairs_of}
 use Rattle.ic_meaning.specs.Words.{Numbers, term}
 use Rattle.ic_meaning.specs.Nets.{equations_of, net_of, holds, IsAgentOf}
+use Rattle.ic_meaning.specs.lemmas.Orders.{flat_order}
 use Rattle.ic_readback.specs.declared.token.Token.{Token}
 use Rattle.ic_readback.specs.declared.token.Token.TheVariants.{Name, Agent}
 use Rattle.ic_readback.specs.Reading.{number_of, flat_word, flat_words, configuration_read, AreGiven, sides_of}
 use Rattle.ic_readback.specs.inner.Expanding.{State, state, Steps, no_step, one_more, Left, none, circle, alone, IsIdle}
 use Rattle.ic_readback.specs.lemmas.Given.{NetLaws}
-use Rattle.ic_readback.specs.lemmas.Orders.{flat_order}
 use Rattle.ic_readback.specs.lemmas.Rows.{over, WholeOver, over-nil, over-append, whole-append, over-more, over-agent, pairs-more}
 use Rattle.ic_readback.specs.lemmas.RowNets.{net_of_row, row_of_piece, to_configured}
 use Rattle.ic_readback.proofs.Words.{row, whole_steps, given_step}

@@ -1,12 +1,11 @@
 -- Lemmas: what is left is read as terms by themselves.
 use Rattle.std.proofs.Common.{ℕ, ◌-◌, ◌≤◌, List, [], ◌∷◌, ◌++◌, sum_by, sym, arith, append_assoc, append-nil, subst as transport}
-use Rattle.std.specs.Prelude.{Contains, IsPermutation}
-use Rattle.std.proofs.lemmas.List.Sorted.{IsPermutation-sym, Contains-permutation}
+use Rattle.std.specs.Prelude.{Contains}
 use Rattle.ic_arena.specs.Piece.{Piece, waits, agent_of}
 use Rattle.ic_readback.specs.declared.token.Token.TheVariants.{Agent}
 use Rattle.ic_readback.specs.inner.Expanding.{state}
 use Rattle.ic_readback.specs.inner.Writing.{Part, part, Gathered, nothing, waited, alone as alone_part}
-use Rattle.ic_readback.proofs.Chains.{steps_pieces, steps_fewer, gone, contains_cons}
+use Rattle.ic_readback.proofs.Chains.{steps_pieces, steps_fewer, gone, after}
 
 pub gathered_on : (arities : List ℕ) (xs ys : List Part) (ps qs rs : List Piece) → Gathered arities xs ps qs → Gathered arities ys qs rs → Gathered arities (xs ++ ys) ps rs
 gathered_on arities xs ys ps qs rs first (nothing os) = transport (λ l. Gathered arities l ps os) (sym (append-nil xs)) first
@@ -16,9 +15,6 @@ gathered_on arities xs ys ps qs rs first (waited before x u us os ms ns ss rest 
 gathered_on arities xs ys ps qs rs first (alone_part before a vs us os ms ns ss rest is taken steps) =
     transport (λ l. Gathered arities l ps ss) (append_assoc xs before (part a us ∷ []))
     (alone_part (xs ++ before) a vs us ps ms ns ss (gathered_on arities xs before ps os ms first rest) is taken steps)
-
-after : (ps qs : List Piece) (p q : Piece) → IsPermutation ps (p ∷ qs) → Contains qs q → Contains ps q
-after ps qs p q taken there = Contains-permutation (p ∷ qs) ps q (IsPermutation-sym ps (p ∷ qs) taken) (contains_cons p q qs there)
 
 pub gathered_pieces : (arities : List ℕ) (p : Piece) (parts : List Part) (ps qs : List Piece) → Gathered arities parts ps qs → Contains qs p → Contains ps p
 gathered_pieces arities p parts ps qs (nothing os) there = there

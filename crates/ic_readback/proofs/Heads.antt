@@ -1,5 +1,5 @@
 -- Lemmas: what the terms that are read begin with.
-use Rattle.std.proofs.Common.{◌≡◌, ℕ, ◌+◌, ◌-◌, ◌≤◌, ◌==◌, List, [], ◌∷◌, ◌++◌, Bool, true, false, cond, Some, length, drop, map, slice_index_or, sum_by, refl, sym, ap, ◌∙◌, eq-eqb, arith, append_assoc, append-nil, subst as transport}
+use Rattle.std.proofs.Common.{◌≡◌, ℕ, ◌+◌, ◌-◌, ◌≤◌, ◌==◌, List, [], ◌∷◌, ◌++◌, Bool, true, false, cond, Some, length, drop, map, slice_index_or, sum_by, refl, sym, ap, ◌∙◌, arith, append_assoc, append-nil, subst as transport}
 use Rattle.std.specs.Prelude.{Contains}
 use Rattle.std.specs.List.{AllByRecursion}
 use Rattle.std.specs.Cmp.{unsigned_Decides}
@@ -15,6 +15,7 @@ use Rattle.ic_arena.specs.Piece.{Piece, equated, idle, waits, agent_of, room, us
 use Rattle.ic_machine.specs.declared.equation.Equation.{Equation}
 use Rattle.ic_machine.specs.Net.{Net, equated_of, pieces}
 use Rattle.ic_machine.specs.Separate.{IsSeparate, is_constant_tag}
+use Rattle.ic_machine.specs.lemmas.Balance.{equations_room as sides_room}
 use Rattle.ic_flat.specs.Words.{forest, IsWhole}
 use Rattle.ic_flat.specs.lemmas.WordLaws.{forest-append}
 use Rattle.ic_meaning.specs.Words.{Numbers}
@@ -29,6 +30,7 @@ use Rattle.ic_readback.proofs.Words.{balance_step, given_step}
 use Rattle.ic_readback.proofs.Ends.{first_state, sides_given}
 use Rattle.ic_readback.proofs.Puttings.{equations_in}
 use Rattle.ic_readback.proofs.Results.{ReadsNet, with_arities}
+use Rattle.ic_readback.proofs.StepNets.{some_first as first_some}
 
 -- ---- lists
 
@@ -84,12 +86,6 @@ agent_there arities w (agent_of a us ∷ ps) are other some nowhere = at (word_e
         let parts = sum_by-cons (room w) (agent_of a us) ps in
         let zero : ◌≡◌ {A = ℕ} (cond (word_eq w a) 1 0) 0 = rw e refl in
         rest (omega arith)
-
-first_some : (w : Word) (ws : List Word) → 1 ≤ count w (w ∷ ws)
-first_some w ws =
-    let parts = sum_by-cons (λ v. cond (word_eq w v) 1 0) w ws in
-    let itself : ◌≡◌ {A = ℕ} (cond (word_eq w w) 1 0) 1 = rw (eq-eqb w.tag w.tag refl, eq-eqb w.index w.index refl) refl in
-    omega arith
 
 -- ---- what a state keeps
 
@@ -191,13 +187,6 @@ sides_used w (e ∷ es) =
     let a = sum_by-cons (uses w) (equated_of e) (map equated_of es) in
     let b = sum_by-append (λ v. cond (word_eq w v) 1 0) (e.left ∷ e.right ∷ []) (sides_of es) in
     let rest = sides_used w es in
-    omega arith
-
-sides_room : (w : Word) (es : List Equation) → sum_by (room w) (map equated_of es) ≡ 0
-sides_room w [] = refl
-sides_room w (e ∷ es) =
-    let a = sum_by-cons (room w) (equated_of e) (map equated_of es) in
-    let rest = sides_room w es in
     omega arith
 
 all_after : {X : Type 0} (P : X → Type 0) (xs ys : List X) → AllByRecursion P (xs ++ ys) → AllByRecursion P ys

@@ -21,8 +21,8 @@ use Rattle.ic_readback.specs.inner.Writing.{Part, part, Writing, writing, Put, p
 use Rattle.ic_readback.specs.lemmas.Given.{NetLaws}
 use Rattle.ic_readback.specs.lemmas.Rows.{over, WholeOver, over-append, whole-append, over-more}
 use Rattle.ic_readback.specs.lemmas.RowNets.{net_of_row, put_row, row_of_piece}
-use Rattle.ic_readback.proofs.Puttings.{EachOpen, open_here, open_front, puts_open, equations_in, tokens_more}
-use Rattle.ic_readback.proofs.Shapes.{IsTerm, term_first, PutRow, put_terms, write_same, put_kept, mended_terms, row_parts, sides_in, sides_length, open_equations, term_pair}
+use Rattle.ic_readback.proofs.Puttings.{EachOpen, open_here, open_front, equations_in, tokens_more}
+use Rattle.ic_readback.proofs.Shapes.{IsTerm, term_first, PutRow, put_terms, write_same, put_kept, mended_terms, row_parts, sides_in, sides_length, open_equations, term_pair, put_open_terms}
 
 -- the net of what is written, and of the terms that are left
 abbrev pub net_put : Numbers → ℕ → List Token → Writing → ℕ → Configuration
@@ -60,9 +60,6 @@ put_net laws n terms k next O s t (put ts rest before after p unwritten) each ev
 put_net laws n terms k next O s t (write ts rest f parts shut) each even has =
     transport (λ l. OneNet (net_put n terms O (writing ts (f ∷ rest) parts) next) (net_of_row terms l (flat_map (open_equations n) parts) next)) (sym (write_same n O ts rest f parts))
     (laws.itself (net_put n terms O (writing ts (f ∷ rest) parts) next) has)
-
-put_open_terms : (n : Numbers) (s t : Writing) → Put s t → EachOpen (λ p. IsTerm n p.tokens) s.parts → EachOpen (λ p. IsTerm n p.tokens) t.parts
-put_open_terms n s t step each = puts_open (λ p. IsTerm n p.tokens) s t (one_put s t t step (no_put t)) each
 
 puts_net : NetLaws → (n : Numbers) (terms k next : ℕ) (O : List Token) (s t : Writing) → Puts s t → EachOpen (λ p. IsTerm n p.tokens) s.parts → PutRow n O s
     → length (put_terms n O s) ≡ terms + 2 * k → HasNames (net_put n terms O s next) → OneNet (net_put n terms O s next) (net_put n terms O t next)

@@ -1,5 +1,5 @@
 -- Lemmas: what one call does is a step.
-use Rattle.std.proofs.Common.{◌≡◌, ℕ, suc, ◌+◌, ◌-◌, ◌<◌, ◌==◌, List, [], ◌∷◌, ◌++◌, true, false, Option, None, Some, length, reverse, slice_get, refl, sym, ap, ◌∙◌, arith, subst as transport}
+use Rattle.std.proofs.Common.{◌≡◌, ℕ, suc, ◌+◌, ◌-◌, ◌<◌, ◌==◌, List, [], ◌∷◌, ◌++◌, true, false, Option, None, Some, length, reverse, slice_get, refl, sym, ap, ◌∙◌, arith, subst as transport, true≢false as true_false}
 use Rattle.std.specs.Prelude.{Contains, IsPermutation}
 use Rattle.std.specs.List.{AllByRecursion}
 use Rattle.std.specs.Option.{option_map_or}
@@ -17,9 +17,8 @@ use Rattle.ic_meaning.specs.Nets.{IsAgentOf}
 use Rattle.ic_readback.specs.declared.token.Token.{Token}
 use Rattle.ic_readback.specs.declared.token.Token.TheVariants.{Name, Agent}
 use Rattle.ic_readback.specs.inner.Expanding.{State, state, IsName, Step, follow, opened, plain, named, Steps}
-use Rattle.ic_readback.specs.lemmas.Orders.{all_order}
 use Rattle.ic_readback.proofs.Chains.{step_last}
-use Rattle.ic_readback.proofs.Words.{true_false}
+use Rattle.ic_round.specs.lemmas.AnyOrder.{each_permuted as all_order}
 
 pub all_there : {X : Type 0} (P : X → Type 0) (xs : List X) (x : X) → AllByRecursion P xs → Contains xs x → P x
 all_there P xs x all there = All-contains P xs x (All-from_recursion P xs all) there

@@ -21,7 +21,7 @@ use Rattle.ic_readback.specs.Reading.{flat_word, flat_words, AreGiven}
 use Rattle.ic_readback.specs.inner.Expanding.{State, state, IsName, Step, follow, opened, plain, named, Steps, no_step, one_more, Left, none, circle, alone}
 use Rattle.ic_readback.specs.inner.Reading.{HoldOnce}
 use Rattle.ic_readback.specs.inner.Writing.{Part, part, Gathered, nothing, waited, alone as alone_part}
-use Rattle.ic_readback.proofs.Chains.{contains_cons, contains_first, contained_sum, steps_pieces, gone}
+use Rattle.ic_readback.proofs.Chains.{contains_first, contained_sum, steps_pieces, gone, after as taken_after}
 use Rattle.ic_readback.proofs.Gathering.{gathered_pieces, gathered_fewer}
 use Rattle.ic_readback.specs.lemmas.Rows.{WholeOver, over-nil, whole-nil, over-agent}
 use Rattle.ic_readback.proofs.Words.{row, whole_steps, given_step}
@@ -100,9 +100,6 @@ steps_untold arities w s t (no_step a) there each = each
 steps_untold arities w s t (one_more a b c first rest) there each =
     steps_untold arities w b c rest there
     (step_untold arities w a b first (left_by w a.pieces c.pieces (λ p. steps_pieces arities p a c (one_more a b c first rest)) there) each)
-
-taken_after : (ps qs : List Piece) (p q : Piece) → IsPermutation ps (p ∷ qs) → Contains qs q → Contains ps q
-taken_after ps qs p q taken there = Contains-permutation (p ∷ qs) ps q (IsPermutation-sym ps (p ∷ qs) taken) (contains_cons p q qs there)
 
 taken_there : (ps qs : List Piece) (p : Piece) → IsPermutation ps (p ∷ qs) → Contains ps p
 taken_there ps qs p taken = Contains-permutation (p ∷ qs) ps p (IsPermutation-sym ps (p ∷ qs) taken) (contains_first p qs)

@@ -1,5 +1,5 @@
 -- Lemmas: terms that stood by themselves are put together.
-use Rattle.std.proofs.Common.{◌≡◌, ℕ, ◌+◌, ◌<◌, ◌==◌, List, [], ◌∷◌, ◌++◌, Bool, true, false, cond, length, sum_by, refl, sym, ap, ◌∙◌, arith, inl, inr, append_assoc, append-nil, eq-eqb, subst as transport}
+use Rattle.std.proofs.Common.{◌≡◌, ℕ, ◌+◌, ◌<◌, ◌==◌, List, [], ◌∷◌, ◌++◌, Bool, true, false, cond, length, sum_by, refl, sym, ap, ◌∙◌, arith, inl, inr, append_assoc, append-nil, eq-eqb, subst as transport, true≢false as true_false}
 use Rattle.std.specs.Cmp.{unsigned_Decides}
 use Rattle.std.proofs.lemmas.Bool.{and_parts}
 use Rattle.std.specs.List.{flat_map, AllByRecursion}
@@ -11,7 +11,7 @@ use Rattle.ic_arena.specs.Word.{word_eq, count}
 use Rattle.ic_readback.specs.declared.token.Token.{Token}
 use Rattle.ic_readback.specs.declared.token.Token.TheVariants.{Name, Agent}
 use Rattle.ic_readback.specs.inner.Writing.{Part, part, IsOpen, Writing, writing, Put, put, write, Puts, no_put, one_put, Mended, begun, passed, further, equation_tokens}
-use Rattle.ic_readback.proofs.Words.{true_false}
+use Rattle.ic_machine.specs.lemmas.FiringKeeps.{all_of as all_so}
 
 -- ---- how much is left
 
@@ -232,10 +232,6 @@ all_front P (x ∷ xs) ys all = (all.0, all_front P xs ys all.1)
 pub all_more : {X : Type 0} (P : X → Type 0) (xs : List X) (x : X) → AllByRecursion P xs → P x → AllByRecursion P (xs ++ x ∷ [])
 all_more P [] x all last = (last, tt)
 all_more P (y ∷ xs) x all last = (all.0, all_more P xs x all.1 last)
-
-pub all_so : {X : Type 0} (P Q : X → Type 0) (xs : List X) → ((x : X) → P x → Q x) → AllByRecursion P xs → AllByRecursion Q xs
-all_so P Q [] f all = tt
-all_so P Q (x ∷ xs) f all = (f x all.0, all_so P Q xs f all.1)
 
 pub order_front : (ps : List Part) (q : Part) → AreInOrder (ps ++ q ∷ []) → AreInOrder ps
 order_front [] q order = tt

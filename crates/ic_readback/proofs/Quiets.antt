@@ -1,22 +1,18 @@
 -- Lemmas: what is read of stuck pairs is quiet.
-use Rattle.std.proofs.Common.{◌≡◌, ℕ, zero, suc, ◌+◌, ◌*◌, ◌-◌, ◌≤◌, ◌<◌, ◌==◌, List, [], ◌∷◌, ◌++◌, Bool, true, false, Option, None, Some, IfSome, length, drop, slice_get, refl, sym, ap, ◌∙◌, eq-eqb, arith, inl, inr, append-nil, subst as transport}
+use Rattle.std.proofs.Common.{◌≡◌, ℕ, ◌+◌, ◌*◌, ◌-◌, ◌≤◌, ◌==◌, List, [], ◌∷◌, ◌++◌, Bool, true, false, Option, None, Some, length, drop, slice_get, refl, sym, ap, ◌∙◌, arith, inl, inr, append-nil, subst as transport}
 use Rattle.std.specs.Prelude.{◌⊎◌, ◌↔◌}
 use Rattle.std.specs.List.{flat_map, AllByRecursion}
 use Rattle.std.specs.Cmp.{unsigned_Decides}
-use Rattle.std.proofs.lemmas.Bool.{and_parts}
-use Rattle.std.proofs.lemmas.List.{length-map, length-drop}
+use Rattle.std.proofs.lemmas.List.{length-drop}
 use Rattle.std.proofs.lemmas.List.Concat.{flat_map-append}
-use Rattle.std.proofs.lemmas.Option.{slice_get_within}
 use Rattle.ic_term.specs.Tree.{Tree, name, agent, Trees, names, Pair, pair_names}
-use Rattle.ic_term.specs.Symbol.{Symbol, has_arity}
 use Rattle.ic_term.specs.Configuration.{Configuration, configuration_names, occurrences}
 use Rattle.ic_rules.specs.Rule.{Rule}
-use Rattle.ic_rules.specs.RuleSet.{Rules, IsRuleSet, rule_for, stands_turned}
-use Rattle.ic_rules.specs.lemmas.FitLaws.{rule_over_at}
-use Rattle.ic_rules.specs.lemmas.FindLaws.{rule_for-found}
+use Rattle.ic_rules.specs.RuleSet.{Rules, IsRuleSet}
 use Rattle.ic_settle.specs.Settling.{Binding}
 use Rattle.ic_settle.specs.NameSteps.{Binds}
 use Rattle.ic_settle.specs.lemmas.SubstitutionLaws.{occurrences-append, occurrences_some}
+use Rattle.ic_settle.specs.lemmas.StepLaws.{itself_once as name_itself}
 use Rattle.ic_round.specs.Firing.{Active, active_pair, oriented, rule_of_sides}
 use Rattle.ic_round.specs.Naming.{HasNames}
 use Rattle.ic_round.specs.Rounds.{IsQuiet}
@@ -24,79 +20,17 @@ use Rattle.ic_round.specs.Steps.{Step, interaction, indirection, collect}
 use Rattle.ic_arena.specs.declared.word.Word.{Word}
 use Rattle.ic_machine.specs.declared.equation.Equation.{Equation}
 use Rattle.ic_machine.specs.Net.{Net, IsStuck}
-use Rattle.ic_machine.specs.Plan.{Planned, Plans, number_of, plan_at, plan_of}
+use Rattle.ic_machine.specs.Plan.{Plans}
+use Rattle.ic_machine.specs.lemmas.FiringKeeps.{all_of as all_so}
 use Rattle.ic_flat.specs.Words.{forest}
 use Rattle.ic_flat.specs.Flat.{pairs_of}
 use Rattle.ic_meaning.specs.Words.{Numbers, AreNumbers}
-use Rattle.ic_meaning.specs.Plans.{IsPlanOf, IsOfRule, ArePlansOf}
+use Rattle.ic_meaning.specs.Plans.{ArePlansOf}
+use Rattle.ic_meaning.specs.lemmas.Ruleless.{no_rule}
 use Rattle.ic_readback.specs.declared.token.Token.{Token}
 use Rattle.ic_readback.specs.Reading.{flat_words, configuration_read, sides_of, HeadIs, BeginAs, IsCircle, AreCirclesAfter}
 use Rattle.ic_readback.proofs.Heads.{begin_after}
-use Rattle.ic_readback.proofs.Words.{true_false}
-use Rattle.ic_readback.proofs.Puttings.{all_so}
 use Rattle.ic_readback.proofs.Ends.{sides_long}
-
--- two symbols without a plan have no rule
-known_symbol : (ss : List Symbol) (s k : ℕ) → has_arity k (slice_get ss s) ≡ true → s < length ss
-known_symbol ss s k is = at (slice_get ss s) refl is
-  where
-    at : (o : Option Symbol) → slice_get ss s ≡ o → has_arity k o ≡ true → s < length ss
-    at None e h = absurd (true_false (sym h))
-    at (Some x) e h = slice_get_within ss s x e
-
-pub no_rule : (rs : Rules) (numbers : List ℕ) (p : Plans) (a b : ℕ) → IsRuleSet rs → ArePlansOf rs numbers p
-    → (a < length p.arities → b < length p.arities → plan_of p a b ≡ None) → rule_for rs.rules a b ≡ None
-no_rule rs numbers p a b set plans none = at (rule_for rs.rules a b) refl
-  where
-    count : length p.arities ≡ length rs.symbols
-    count = ap length plans.arities ∙ length-map rs.symbols (λ s. s.arity)
-
-    symbols_known : (turned : Bool) (r : Rule) → stands_turned a b turned r → (r.left < length p.arities) × (r.right < length p.arities) → (a < length p.arities) × (b < length p.arities)
-    symbols_known false r stands known =
-        let both = and_parts (r.left == a) (r.right == b) stands in
-        let left = (unsigned_Decides r.left a).0 both.0 in
-        let right = (unsigned_Decides r.right b).0 both.1 in
-        (transport (λ (k : ℕ). k < length p.arities) left known.0, transport (λ (k : ℕ). k < length p.arities) right known.1)
-    symbols_known true r stands known =
-        let both = and_parts (r.left == b) (r.right == a) stands.0 in
-        let left = (unsigned_Decides r.left b).0 both.0 in
-        let right = (unsigned_Decides r.right a).0 both.1 in
-        (transport (λ (k : ℕ). k < length p.arities) right known.1, transport (λ (k : ℕ). k < length p.arities) left known.0)
-
-    planned_so : plan_of p a b ≡ None → (i j : ℕ) (turned : Bool) → number_of p a b ≡ Some i → IsPlanOf rs numbers p i j turned → ⊥
-    planned_so absent i j turned e of =
-        let is : plan_of p a b ≡ Some of.plan = ap (plan_at p.plans) e ∙ of.plan_there in
-        some_none is absent
-      where
-        some_none : {x : Planned} {o : Option Planned} → o ≡ Some x → o ≡ None → ⊥
-        some_none e f = let both = sym e ∙ f in cc
-
-    with_number : plan_of p a b ≡ None → (o : Option ℕ) (j : ℕ) (turned : Bool) → number_of p a b ≡ o → IsOfRule rs numbers p o (Some (j, turned)) → ⊥
-    with_number absent None j turned e of = of
-    with_number absent (Some i) j turned e of = planned_so absent i j turned e of
-
-    with_rule : (j : ℕ) (turned : Bool) (o : Option Rule) → rule_for rs.rules a b ≡ Some (j, turned) → slice_get rs.rules j ≡ o → ⊥
-    with_rule j turned None e there = past rs.rules j (rule_for-found rs.rules a b j turned e).there there
-      where
-        some_apart : {r : Rule} → Some r ≡ None → ⊥
-        some_apart e = cc
-
-        past : (rs : List Rule) (j : ℕ) → j < length rs → slice_get rs j ≡ None → ⊥
-        past [] j low none = absurd (omega arith)
-        past (r ∷ rs) zero low none = some_apart none
-        past (r ∷ rs) (suc j) low none = past rs j (omega arith) none
-    with_rule j turned (Some r) e there =
-        let same_count = count in
-        let over = rule_over_at rs.symbols rs.rules j r set.fitting there in
-        let at_rule : IfSome (Some r) (stands_turned a b turned) = rw there at (rule_for-found rs.rules a b j turned e).of_pair in
-        let left = known_symbol rs.symbols r.left (length r.left_args) over.left in
-        let right = known_symbol rs.symbols r.right (length r.right_args) over.right in
-        let known = symbols_known turned r at_rule ((let h : r.left < length p.arities = omega arith in h), (let h : r.right < length p.arities = omega arith in h)) in
-        with_number (none known.0 known.1) (number_of p a b) j turned refl (transport (IsOfRule rs numbers p (number_of p a b)) e (plans.each a b known.0 known.1))
-
-    at : (q : Option (ℕ × Bool)) → rule_for rs.rules a b ≡ q → rule_for rs.rules a b ≡ None
-    at None e = e
-    at (Some (j, turned)) e = absurd (with_rule j turned (slice_get rs.rules j) e refl)
 
 -- ---- equations that no step is possible of
 
@@ -116,9 +50,6 @@ agent_name e = cc
 
 name_name : {x y : ℕ} → name x ≡ name y → x ≡ y
 name_name e = cc
-
-name_itself : (x : ℕ) → occurrences x (x ∷ []) ≡ 1
-name_itself x = rw (eq-eqb x x refl) refl
 
 some_side : (e : Pair) (y : ℕ) → (e.left ≡ name y) ⊎ (e.right ≡ name y) → 1 ≤ occurrences y (pair_names e)
 some_side e y (inl is) =

@@ -63,7 +63,7 @@ put_kept n O s t (write ts rest f parts shut) each row =
     let whole = whole-append W (flat_word n f ∷ []) F row.whole (row.rest.0, tt) in
     (record { whole = transport (λ V. WholeOver V F) (sym (written_last n O ts f)) whole; rest = row.rest.1 }, ap length (write_same n O ts rest f parts))
 
-put_open_terms : (n : Numbers) (s t : Writing) → Put s t → EachOpen (λ p. IsTerm n p.tokens) s.parts → EachOpen (λ p. IsTerm n p.tokens) t.parts
+pub put_open_terms : (n : Numbers) (s t : Writing) → Put s t → EachOpen (λ p. IsTerm n p.tokens) s.parts → EachOpen (λ p. IsTerm n p.tokens) t.parts
 put_open_terms n s t (put ts rest before after p unwritten) each = open_written (λ p. IsTerm n p.tokens) before after p each
 put_open_terms n s t (write ts rest f parts shut) each = each
 

@@ -16,15 +16,16 @@ use Rattle.ic_arena.specs.Piece.{Piece, waits, agent_of}
 use Rattle.ic_flat.specs.declared.word.Word.{Word as FlatWord}
 use Rattle.ic_meaning.specs.Words.{Numbers, term}
 use Rattle.ic_meaning.specs.Nets.{equations_of}
+use Rattle.ic_meaning.specs.lemmas.Terms.{name_tag, agent_tag, place_term}
+use Rattle.ic_meaning.specs.lemmas.Orders.{flat_order}
 use Rattle.ic_readback.specs.declared.token.Token.{Token}
 use Rattle.ic_readback.specs.declared.token.Token.TheVariants.{Name, Agent}
 use Rattle.ic_readback.specs.Reading.{number_of, flat_word, flat_words, AreGiven}
 use Rattle.ic_readback.specs.inner.Expanding.{State, state, Step, follow, opened, plain, named, Steps, no_step, one_more}
 use Rattle.ic_readback.specs.lemmas.Given.{NetLaws}
-use Rattle.ic_readback.specs.lemmas.Orders.{flat_order}
 use Rattle.ic_readback.specs.lemmas.Rows.{over, WholeOver, over-append, over-agent}
 use Rattle.ic_readback.specs.lemmas.RowNets.{net_of_row, put_row}
-use Rattle.ic_readback.proofs.Words.{row, name_tag, agent_tag, place_term, plain_term, named_term, whole_step, given_step}
+use Rattle.ic_readback.proofs.Words.{row, plain_term, named_term, whole_step, given_step}
 
 -- the net of a state: the terms of its row, and its pieces beside
 abbrev pub net_at : Numbers → ℕ → State → ℕ → Configuration
@@ -48,7 +49,7 @@ pub named_row : (n : Numbers) (ts : List Token) (w : Word) (us : List Tree)
 named_row n ts w us =
     ap (λ l. over l us) (map-append (flat_word n) ts (Name w ∷ [])) ∙ over-append (flat_words n ts) (flat_word n (Name w) ∷ []) us
 
-some_first : (w : Word) (ws : List Word) → 1 ≤ count w (w ∷ ws)
+pub some_first : (w : Word) (ws : List Word) → 1 ≤ count w (w ∷ ws)
 some_first w ws =
     let parts = sum_by-cons (λ v. cond (word_eq w v) 1 0) w ws in
     let itself : ◌≡◌ {A = ℕ} (cond (word_eq w w) 1 0) 1 = rw (eq-eqb w.tag w.tag refl, eq-eqb w.index w.index refl) refl in

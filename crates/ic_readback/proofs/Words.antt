@@ -1,5 +1,5 @@
 -- Lemmas: the terms of words that are put together.
-use Rattle.std.proofs.Common.{◌≡◌, ℕ, suc, ◌+◌, ◌-◌, ◌≤◌, ◌<◌, ◌==◌, List, [], ◌∷◌, ◌++◌, Bool, true, false, cond, Option, Some, length, map, slice_get, slice_index_or, sum_by, refl, sym, ap, ◌∙◌, arith, add-one, subst as transport}
+use Rattle.std.proofs.Common.{◌≡◌, ℕ, suc, ◌+◌, ◌-◌, ◌≤◌, ◌<◌, ◌==◌, List, [], ◌∷◌, ◌++◌, Bool, true, false, cond, Option, Some, length, map, slice_get, slice_index_or, sum_by, refl, sym, ap, ◌∙◌, arith, add-one, subst as transport, true≢false as true_false}
 use Rattle.std.proofs.lemmas.Bool.{ne_eqb}
 use Rattle.std.proofs.lemmas.List.{length-append, length-drop, length-map, map-append}
 use Rattle.std.proofs.lemmas.List.Sums.{sum_by-cons, sum_by-append}
@@ -9,7 +9,7 @@ use Rattle.std.specs.Cmp.{unsigned_Decides}
 use Rattle.std.specs.Option.{option_map_or}
 use Rattle.ic_term.specs.Tree.{Tree, name, agent, no_trees}
 use Rattle.ic_arena.specs.declared.word.Word.{Word}
-use Rattle.ic_arena.specs.declared.word.TheConstants.{NAME, GIVEN}
+use Rattle.ic_arena.specs.declared.word.TheConstants.{GIVEN}
 use Rattle.ic_arena.specs.Word.{word_eq, count}
 use Rattle.ic_arena.specs.Piece.{Piece, waits, agent_of, room, uses}
 use Rattle.ic_machine.specs.Separate.{is_constant_tag}
@@ -17,7 +17,6 @@ use Rattle.ic_flat.specs.declared.word.Word.{Word as FlatWord}
 use Rattle.ic_flat.specs.declared.word.Word.TheVariants.{Name as FlatName, Agent as FlatAgent}
 use Rattle.ic_flat.specs.Words.{arguments, with_word}
 use Rattle.ic_meaning.specs.Words.{Numbers, constant, term}
-use Rattle.ic_meaning.specs.Nets.{IsAgentOf}
 use Rattle.ic_readback.specs.declared.token.Token.TheVariants.{Name, Agent}
 use Rattle.ic_readback.specs.Reading.{number_of, flat_word, flat_words, AreGiven}
 use Rattle.ic_readback.specs.inner.Expanding.{State, Step, follow, opened, plain, named, Steps, no_step, one_more}
@@ -27,26 +26,11 @@ use Rattle.ic_readback.specs.lemmas.Rows.{over, WholeOver, over-append, whole-ap
 abbrev pub row : Numbers → State → List Tree
 row n s = over (flat_words n s.tokens) (map (term n) s.words)
 
-pub true_false : true ≡ false → ⊥
-true_false e = cc
-
 -- ---- tags
-
-pub name_tag : (arities : List ℕ) (tag : ℕ) → tag ≡ NAME → is_constant_tag arities tag ≡ false
-name_tag arities tag e = rw e refl
-
-pub agent_tag : (arities : List ℕ) (tag arity : ℕ) → IsAgentOf arities tag arity → is_constant_tag arities tag ≡ false
-agent_tag arities tag arity is =
-    ap (is_constant_tag arities) (is.is ∙ add-one is.symbol)
-    ∙ (ap (λ (o : Option ℕ). option_map_or (λ k. k == 0) o (suc is.symbol == GIVEN)) is.known
-    ∙ ne_eqb arity 0 (λ e. let some = is.some in omega (arith, some, e)))
 
 pub plain_tag : (arities : List ℕ) (tag s : ℕ) → tag ≡ s + 1 → slice_get arities s ≡ Some 0 → is_constant_tag arities tag ≡ true
 plain_tag arities tag s e known =
     ap (is_constant_tag arities) (e ∙ add-one s) ∙ ap (λ (o : Option ℕ). option_map_or (λ k. k == 0) o (suc s == GIVEN)) known
-
-pub place_term : (n : Numbers) (w : Word) → is_constant_tag n.arities w.tag ≡ false → term n w ≡ name (n.of_place w)
-place_term n w e = rw e refl
 
 pub plain_term : (n : Numbers) (w : Word) (s : ℕ) → length n.arities < GIVEN → w.tag ≡ s + 1 → slice_get n.arities s ≡ Some 0 → term n w ≡ agent s no_trees
 plain_term n w s few tag known =

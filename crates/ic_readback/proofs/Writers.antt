@@ -1,5 +1,5 @@
 -- Lemmas: what a writer has written.
-use Rattle.std.proofs.Common.{◌≡◌, ℕ, zero, suc, ◌+◌, ◌≤◌, ◌<◌, List, [], ◌∷◌, ◌++◌, ◌==◌, Bool, true, false, cond, Option, None, Some, length, map, reverse, slice_get, slice_index_or, refl, sym, ap, ◌∙◌, arith, inl, inr, append_assoc, append-nil, subst as transport}
+use Rattle.std.proofs.Common.{◌≡◌, ℕ, zero, suc, ◌+◌, ◌≤◌, ◌<◌, List, [], ◌∷◌, ◌++◌, ◌==◌, Bool, true, false, cond, Option, None, Some, length, map, reverse, slice_get, slice_index_or, refl, sym, ap, ◌∙◌, arith, inl, inr, append_assoc, append-nil, subst as transport, true≢false as true_false}
 use Rattle.std.specs.Prelude.{is_some}
 use Rattle.std.specs.Cmp.{unsigned_Decides}
 use Rattle.std.proofs.lemmas.Bool.{cases_lt}
@@ -17,10 +17,7 @@ use Rattle.ic_readback.specs.inner.Writing.{Part, part, part_of, IsOpen, IsOpenA
 use Rattle.ic_readback.specs.inner.Mending.{parts_left, places_left, SamePlaces, WroteOne, Wrote, Mends, HasWritten}
 use Rattle.ic_readback.proofs.Puttings.{put_last, load, put_load}
 use Rattle.ic_readback.proofs.Moves.{pushed}
-use Rattle.ic_readback.proofs.Words.{true_false}
-
-pub some_is : {X : Type 0} (x y : X) → Some x ≡ Some y → x ≡ y
-some_is x y e = cc
+use Rattle.ic_settle.specs.lemmas.Spots.{some_same as some_is}
 
 pub none_some : {X : Type 0} {x : X} → None ≡ Some x → ⊥
 none_some e = cc

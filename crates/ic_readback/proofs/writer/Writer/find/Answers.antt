@@ -3,9 +3,10 @@ use Rattle.std.proofs.lemmas.Option.{slice_get_within, slice_get-get_or}
 use Rattle.ic_arena.specs.declared.word.Word.{Word}
 use Rattle.ic_readback.specs.declared.loose.Loose.{Loose}
 use Rattle.ic_readback.specs.inner.Writing.{found, key_of}
-use Rattle.ic_readback.proofs.Writers.{some_is, none_some, open_found, same_at}
+use Rattle.ic_readback.proofs.Writers.{none_some, open_found, same_at}
 use Rattle.ic_readback.proofs.writer.Writer.find.Goals as goal
 use Rattle.ic_readback.proofs.writer.Writer.find.Goals.{then-term-via-then-term, then-term-via-else-term+then-term-name, then-term-via-else-term+else-term-name+then-term-name-2}
+use Rattle.ic_settle.specs.lemmas.Spots.{some_same as some_is}
 
 pub returns-in_err-index-clause-none : goal.returns-in_err-index-clause-none
 returns-in_err-index-clause-none c = λ none there.
