@@ -9,3 +9,4 @@ pub mod Onward
 pub mod Left
 pub mod Tidy
 pub mod Traced
+pub mod Again

@@ -14,7 +14,7 @@ use Rattle.ic_meaning.specs.Plans.{rule_number}
 use Rattle.ic_in_place.specs.declared.running.Bounds.{Bounds}
 use Rattle.ic_in_place.specs.declared.running.End.{End}
 use Rattle.ic_in_place.specs.declared.running.End.TheVariants.{Limit}
-use Rattle.ic_in_place.specs.Running.{Looked, no_look, one_more_look}
+use Rattle.ic_in_place.specs.Running.{IsFullNext, Looked, no_look, one_more_look}
 use Rattle.ic_in_place.specs.Holding.{AreCompiled}
 use Rattle.ic_in_place.specs.Reducing.{IsReached}
 use Rattle.ic_in_place_laws.specs.Nodes.{nodes_at}
@@ -159,24 +159,33 @@ item_few (x ∷ xs) zero = omega (arith, sum_by-cons (λ n. n) x xs)
 item_few (x ∷ xs) (suc i) = omega (arith, item_few xs i, sum_by-cons (λ n. n) x xs)
 
 -- a table is told to be full only where one has that many entries
+pub full_one : (rs : Rules) (numbers : List ℕ) (p : Plans) (c : Configuration) (given : List ℕ) (plan : Planned) (operands : List ℕ) (m : Net)
+    → IsRuleSet rs → AreCompiled rs numbers p c given plan operands → IsFullNext p m
+    → (2 ^ 32 ≤ m.names + 2048) ⊎ ((symbol : ℕ) × (2 ^ 32 ≤ slice_index_or m.agents symbol 0 + 2048))
+full_one rs numbers p c given plan operands m set compiled full =
+    let fired = active_fired p full.0.pair full.0.active in
+    let few = (fired_few rs numbers p fired.0 fired.1 set compiled.plans compiled.of_rules).1 in
+    let most : places_made full.0.active.plan ≤ 2048 = transport (λ (q : Planned). places_made q ≤ 2048) fired.2 few in
+    elim full.1 [
+      | inl names ↦ inl (omega (arith, most, names))
+      | inr agents ↦ (let many = agents.2 in inr (agents.0.symbol, omega (arith, most, many)))
+    ]
+
+-- so there are that many places
+pub full_places : (m : Net) (places : ℕ) → places ≡ m.names + sum m.agents
+    → (2 ^ 32 ≤ m.names + 2048) ⊎ ((symbol : ℕ) × (2 ^ 32 ≤ slice_index_or m.agents symbol 0 + 2048)) → 2 ^ 32 ≤ places + 2048
+full_places m places all full = elim full [
+  | inl names ↦ omega (arith, all, names)
+  | inr agents ↦ (let many = agents.1 in omega (arith, all, many, item_few m.agents agents.0))
+]
+
 pub table_full : (s : SystemParts) (bounds : Bounds) (answer : Configuration) (interactions places : ℕ) → IsRuleSet s.rules
     → (is : IsReached s bounds answer Limit interactions places)
     → (2 ^ 32 ≤ is.held.machine.names + 2048) ⊎ ((symbol : ℕ) × (2 ^ 32 ≤ slice_index_or is.held.machine.agents symbol 0 + 2048))
 table_full s bounds answer interactions places set is =
-    let full = is.full refl in
-    let p : Plans = is.held.plans in
-    let fired = active_fired p full.0.pair full.0.active in
-    let few = (fired_few s.rules is.held.rule_numbers p fired.0 fired.1 set is.held.compiled.plans is.held.compiled.of_rules).1 in
-    let plan : places_made full.0.active.plan ≤ 2048 = transport (λ (q : Planned). places_made q ≤ 2048) fired.2 few in
-    elim full.1 [
-      | inl names ↦ inl (omega (arith, plan, names))
-      | inr agents ↦ (let many = agents.2 in inr (agents.0.symbol, omega (arith, plan, many)))
-    ]
+    full_one s.rules is.held.rule_numbers is.held.plans s.config is.held.given is.held.plan is.held.operands is.held.machine set is.held.compiled (is.full refl)
 
--- so there are that many places
 pub places_full : (s : SystemParts) (bounds : Bounds) (answer : Configuration) (interactions places : ℕ) → IsRuleSet s.rules
     → IsReached s bounds answer Limit interactions places → 2 ^ 32 ≤ places + 2048
-places_full s bounds answer interactions places set is = elim (table_full s bounds answer interactions places set is) [
-  | inl names ↦ omega (arith, is.held.all, names)
-  | inr agents ↦ (let many = agents.1 in omega (arith, is.held.all, many, item_few is.held.machine.agents agents.0))
-]
+places_full s bounds answer interactions places set is =
+    full_places is.held.machine places is.held.all (table_full s bounds answer interactions places set is)

@@ -1,18 +1,20 @@
 //! Laws of what a reduction tells, by however many threads it was made.
 
-ghost use Rattle.std.specs.Prelude.{◌≡◌, ◌≢◌, ◌⊎◌, ℕ, ◌+◌, ◌^◌, ◌<◌, ◌≤◌, List, [], true, false, Option, None, SomeIff, length};
+ghost use Rattle.std.specs.Prelude.{◌≡◌, ◌≢◌, ◌⊎◌, ℕ, ◌+◌, ◌^◌, ◌<◌, ◌≤◌, List, [], true, false, Option, None, SomeIff, length, slice_index_or, sum_by};
 ghost use Rattle.std.specs.List.{AllByRecursion};
 ghost use Rattle.std.specs.Arc.{arc_value};
 ghost use Rattle.std.specs.Option.{option_map};
 ghost use Rattle.ic_term.specs.Configuration.{Configuration};
 ghost use Rattle.ic_rules.specs.System.{SystemParts};
-ghost use Rattle.ic_round.specs.Rounds.{IsQuiet};
-ghost use Rattle.ic_machine.specs.Net.{IsPair};
+ghost use Rattle.ic_round.specs.Rounds.{IsQuiet, iterate};
+ghost use Rattle.ic_machine.specs.Net.{equations_in, pieces, IsPair};
 ghost use Rattle.ic_confluence.specs.Kinds.{Kind, Chain};
-ghost use Rattle.ic_reaching.specs.Reaching.{Reaches};
+ghost use Rattle.ic_reaching.specs.OneNet.{OneNet, SameButNext};
+ghost use Rattle.ic_reaching.specs.Reaching.{Reaches, rules_fired};
 ghost use Rattle.ic_naming.specs.Naming.{renumbered};
 ghost use Rattle.ic_streams.specs.Streams.{line_of};
 ghost use Rattle.ic_by_rounds.specs.Stuck.{stuck_text};
+ghost use Rattle.ic_by_rounds.specs.Tracing.{rows_of};
 ghost use Rattle.ic_in_place.specs.declared.running.Bounds.{Bounds};
 ghost use Rattle.ic_in_place.specs.declared.running.End.TheVariants.{Quiet, Steps, Nodes, Limit, Memory};
 ghost use Rattle.ic_in_place.specs.declared.stream.Asked.{Asked};
@@ -60,23 +62,37 @@ pub fn what_is_told_beside_the_line()
     ic_in_place::laws::name_steps_are_those_of_every_order();
 }
 
-/// Which equations are left. They are those of the machine that has all in the end, pending or set aside; at a quiet end none
-/// is pending. There, and where as many interactions were made as may be, they are the answer's that are no circles. Where
-/// memory ran out some are pending, each between agents or free names.
+/// Which equations are left. They are those of the machine that has all in the end, pending or set aside, and its pieces have
+/// no other one; at a quiet end none is pending. There, and where as many interactions were made as may be, they are those of
+/// the answer that are no circles, however its equations are parted. Where memory ran out some are pending, each between agents
+/// or free names.
 pub fn equations_are_those_of_the_last_machine()
     ensures left { (s : SystemParts) (bounds : Bounds) (asked : Asked) (outcome : Outcome)
         (line : List ℕ) → (is : EndsOf s bounds asked outcome line) → outcome.left
         ≡ length is.places.machine.pending + length is.places.machine.aside }
+    ensures all { (s : SystemParts) (bounds : Bounds) (asked : Asked) (outcome : Outcome)
+        (line : List ℕ) → (is : EndsOf s bounds asked outcome line)
+        → outcome.left ≡ equations_in (pieces is.places.machine) }
     ensures quiet { (s : SystemParts) (bounds : Bounds) (asked : Asked) (outcome : Outcome)
         (line : List ℕ) → (is : EndsOf s bounds asked outcome line) → outcome.end ≡ Quiet
         → is.places.machine.pending ≡ [] }
     ensures ends { (s : SystemParts) (bounds : Bounds) (asked : Asked) (outcome : Outcome)
         (line : List ℕ) → (is : EndsOf s bounds asked outcome line)
         → (outcome.end ≡ Quiet) ⊎ (outcome.end ≡ Steps) → HasEnds is.answer outcome.left }
+    ensures no_circles { (s : SystemParts) (bounds : Bounds) (asked : Asked) (outcome : Outcome)
+        (line : List ℕ) → (is : EndsOf s bounds asked outcome line)
+        → (outcome.end ≡ Quiet) ⊎ (outcome.end ≡ Steps) → (together : IsPutTogether is.answer)
+        → outcome.left ≡ length together.ends }
+    ensures circles { (s : SystemParts) (bounds : Bounds) (asked : Asked) (outcome : Outcome)
+        (line : List ℕ) → (is : EndsOf s bounds asked outcome line)
+        → (outcome.end ≡ Quiet) ⊎ (outcome.end ≡ Steps) → (together : IsPutTogether is.answer)
+        → outcome.left + length together.circles ≡ length is.answer.equations }
     ensures memory { (s : SystemParts) (bounds : Bounds) (asked : Asked) (outcome : Outcome)
         (line : List ℕ) → (is : EndsOf s bounds asked outcome line) → outcome.end ≡ Memory
         → (is.places.machine.pending ≢ []) × AllByRecursion IsPair is.places.machine.pending }
-{}
+{
+    ic_machine::laws::equations_are_made_by_plans();
+}
 
 /// Where places and equations that are left were too many, or a table would be full, one more interaction is possible.
 pub fn a_stop_of_several_comes_before_an_interaction()
@@ -91,3 +107,51 @@ pub fn a_stop_of_several_comes_before_an_interaction()
 {
     ic_meaning::laws::steps_of_pieces_are_steps_of_the_net();
 }
+
+/// A reduction may be cut and gone on with, by however many threads each time. What is reached from an answer, or from what is
+/// one net with it, is reached from the beginning, and the interactions add up. Where it ends quiet, it is the net of every
+/// order, wherever fresh names begin.
+pub fn a_reduction_cut_by_several_goes_on()
+    ensures reached { (s t : SystemParts) (bounds more : Bounds) (asked then : Asked)
+        (cut last : Outcome) (line after : List ℕ) → (first : EndsOf s bounds asked cut line)
+        → t.rules ≡ s.rules → OneNet first.answer t.config
+        → (second : EndsOf t more then last after)
+        → (fired : List ℕ) × Reaches s.rules.rules s.config second.answer fired
+        × (length fired ≡ cut.interactions + last.interactions) }
+    ensures every_order { (s t : SystemParts) (bounds more : Bounds) (asked then : Asked)
+        (cut last : Outcome) (line after : List ℕ) (e : Configuration) (kinds : List Kind)
+        → (first : EndsOf s bounds asked cut line)
+        → t.rules ≡ s.rules → OneNet first.answer t.config
+        → (second : EndsOf t more then last after) → last.end ≡ Quiet
+        → Chain s.rules.rules kinds s.config e → IsQuiet s.rules.rules e
+        → SameButNext second.answer e
+        × (length (rules_fired kinds) ≡ cut.interactions + last.interactions) }
+{
+    ic_reaching::laws::what_is_reached_is_one_net();
+    ic_reaching::laws::what_is_reached_goes_on();
+    ic_reaching::laws::what_is_reached_quiet_is_the_end_of_every_order();
+}
+
+/// Where a reduction by however many threads ends quiet, and so many rounds do, the pairs that the rounds fire are together the
+/// interactions that are told.
+pub fn rounds_fire_as_many_pairs_as_several()
+    ensures { (s : SystemParts) (bounds : Bounds) (asked : Asked) (outcome : Outcome)
+        (line : List ℕ) (n : ℕ) → EndsOf s bounds asked outcome line → outcome.end ≡ Quiet
+        → IsQuiet s.rules.rules (iterate s.rules.rules n s.config)
+        → sum_by (λ row. row.pairs) (rows_of s.rules.rules s.config n) ≡ outcome.interactions }
+{
+    ic_in_place::laws::by_however_many_threads_the_end_is_that_of_every_order();
+    ic_by_rounds::laws::rows_count_interactions();
+}
+
+/// A table is told to be full only where one has 2^32 entries, that of names or that of a symbol's agents, less those of one
+/// rule. So there are that many places.
+pub fn a_full_table_of_several_is_full()
+    ensures one_table { (s : SystemParts) (bounds : Bounds) (asked : Asked) (outcome : Outcome)
+        (line : List ℕ) → (is : EndsOf s bounds asked outcome line) → outcome.end ≡ Limit
+        → (2 ^ 32 ≤ is.places.machine.names + 2048)
+        ⊎ ((symbol : ℕ) × (2 ^ 32 ≤ slice_index_or is.places.machine.agents symbol 0 + 2048)) }
+    ensures places { (s : SystemParts) (bounds : Bounds) (asked : Asked) (outcome : Outcome)
+        (line : List ℕ) → EndsOf s bounds asked outcome line → outcome.end ≡ Limit
+        → 2 ^ 32 ≤ outcome.places + 2048 }
+{}

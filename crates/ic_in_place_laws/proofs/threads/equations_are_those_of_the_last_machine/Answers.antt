@@ -1,3 +1,6 @@
+use Rattle.std.proofs.Common.{◌+◌, length, sym, ap, ◌∙◌}
+use Rattle.std.proofs.lemmas.List.{length-append}
+use Rattle.ic_in_place_laws.proofs.Left.{same_ends}
 use Rattle.ic_in_place_laws.proofs.threads.equations_are_those_of_the_last_machine.Goals as goal
 
 pub returns-clause-left : goal.returns-clause-left
@@ -11,3 +14,18 @@ returns-clause-ends c = λ s bounds asked outcome line is end. is.reached.ends e
 
 pub returns-clause-memory : goal.returns-clause-memory
 returns-clause-memory c = λ s bounds asked outcome line is memory. let left = is.places.left_pairs memory in (left.some, left.pairs)
+
+pub returns-clause-all : goal.returns-clause-all
+returns-clause-all c = λ s bounds asked outcome line is.
+    is.places.equations ∙ c.equations_are_made_by_plans.ensures.all is.places.machine is.places.tables
+
+pub returns-clause-no_circles : goal.returns-clause-no_circles
+returns-clause-no_circles c = λ s bounds asked outcome line is end together.
+    let ends = is.reached.ends end in
+    sym ends.1 ∙ same_ends is.answer ends.0 together
+
+pub returns-clause-circles : goal.returns-clause-circles
+returns-clause-circles c = λ s bounds asked outcome line is end together.
+    let ends = is.reached.ends end in
+    (λ i. (sym ends.1 ∙ same_ends is.answer ends.0 together) i + length together.circles)
+    ∙ sym (ap length together.parts ∙ length-append together.ends together.circles)
