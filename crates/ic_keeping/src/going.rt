@@ -1,6 +1,6 @@
 //! A reduction that goes on from a state, and is kept after each piece that has gone further.
 
-ghost use Rattle.std.specs.Prelude.{◌≡◌, ◌≢◌, ◌⊎◌, ◌↔◌, ◌<◌, ◌+◌, ◌*◌, ◌≤◌, List, [], Ok, Err, IfOk, IfErr, IsNone, IsTrue, OnOk, OnErr, length, max, true, false, if◌then◌else◌};
+ghost use Rattle.std.specs.Prelude.{◌≡◌, ◌≢◌, ◌⊎◌, ◌↔◌, ◌<◌, ◌+◌, ◌*◌, ◌≤◌, List, [], Ok, Err, IfOk, IfErr, IsErr, IsNone, IsTrue, OnOk, OnErr, length, max, true, false, if◌then◌else◌};
 ghost use Rattle.std.specs.Arc.{arc_value};
 ghost use Rattle.ic_rules.specs.System.{SystemParts};
 ghost use Rattle.std.specs.List.{list_all};
@@ -62,6 +62,8 @@ fn rules_of(alloc: Global, text: &[u8]) -> Result<Arc<RuleSet>, KeepingFault>
         → IfOk result (λ rules. arc_value rules ≡ s.rules) }
     ensures sound { (s : SystemParts) → ReadsSystemWithin Limits.Wide text.now (Ok s)
         → OnOk result (IsSound s) }
+    ensures read { OnOk result ((s : SystemParts)
+        × ReadsSystemWithin Limits.Wide text.now (Ok s)) }
     ensures refused { (s : SystemParts) → ReadsSystemWithin Limits.Wide text.now (Ok s)
         → IfErr result (λ fault. fault ≡ KeepingFault.Memory) }
     ensures unkept { IfErr result (λ fault. (cause : KeepFault)
@@ -434,6 +436,9 @@ pub fn go_on<D: Disk, C: Clock, V: Watch>(
         keeper.old keeper.new }
     // Before anything was kept it may find that the state is none of a reduction, and not after.
     ensures unsound { IfErr result (λ fault. fault ≡ KeepingFault.Unsound → keeper.new ≡ keeper.old) }
+    // A state whose text is read as no system is refused, and nothing is kept.
+    ensures none { ((s : SystemParts) → ¬ ReadsSystemWithin Limits.Wide state.text.items (Ok s))
+        → IsErr result × (keeper.new ≡ keeper.old) }
     // From a state of a reduction it fails only where memory runs out, at a limit, or where a keep is refused: a disk has
     // failed, or there were as many keeps as are counted.
     ensures refused { (s : SystemParts) → IsStateOf s (kept_by state)

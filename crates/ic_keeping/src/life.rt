@@ -1,11 +1,11 @@
 //! One life of a reduction that is kept: from the state that two files hold until it ends.
 
-ghost use Rattle.std.specs.Prelude.{◌≡◌, ◌≢◌, ◌⊎◌, ◌↔◌, ◌≤◌, ℕ, IfOk, IfErr, IsTrue, max, true};
+ghost use Rattle.std.specs.Prelude.{◌≡◌, ◌≢◌, ◌⊎◌, ◌↔◌, ◌≤◌, ℕ, IfOk, IfErr, IsErr, IsTrue, max, true};
 ghost use Rattle.ic_disk.specs.Time.{OneMore};
 ghost use Rattle.ic_frames.specs.declared.faults.KeepFault.{KeepFault};
 ghost use Rattle.ic_frames.specs.declared.faults.OpenCause.{OpenCause};
 ghost use Rattle.ic_kept.specs.Course.{HoldOne};
-ghost use Rattle.ic_kept.specs.Held.{Answers};
+ghost use Rattle.ic_kept.specs.Held.{Answers, Hold};
 ghost use Rattle.ic_kept.specs.Keeper.{Keeps, KeepsModel, newest_of, other_of};
 ghost use Rattle.ic_kept.specs.Opening.{InSomeOrder, OnlyReads};
 ghost use Rattle.ic_rules.specs.System.{SystemParts};
@@ -83,6 +83,12 @@ pub fn live<D: Disk, C: Clock, V: Watch>(
         → IfErr result (λ fault. ((cause : OpenCause) × (fault.cause ≡ KeepingFault.Open cause))
         ⊎ (fault.cause ≡ KeepingFault.Unsound)
         → InSomeOrder (OnlyReads D.keeps D.content D.image D.clock D.left)
+        first second fault.first fault.second) }
+    // Files that hold no state at all are refused and only read.
+    ensures none { IsTrue (D.keeps first) → IsTrue (D.keeps second)
+        → ((k : Kept) → IsKept k → ¬ Hold (state_bytes k) (D.content first) (D.content second))
+        → IsErr result × IfErr result (λ fault. InSomeOrder
+        (OnlyReads D.keeps D.content D.image D.clock D.left)
         first second fault.first fault.second) }
     ensures device { IfErr result (λ fault. fault.cause ≡ KeepingFault.Open OpenCause.Device
         → OneMore (D.failures first) (D.failures fault.first)

@@ -1,8 +1,12 @@
 use Rattle.std.proofs.Common.{⊎_elim, inl, inr, ◌≡◌, List, [], ℕ, Ok, Vec, Global, if◌then◌else◌, refl, sym, ap, subst, arith, ◌∙◌}
 use Rattle.std.proofs.lemmas.Result.{err_from_is_err_and}
+use Rattle.std.specs.List.{list_all}
 use Rattle.std.specs.Option.{option_map}
+use Rattle.std.specs.Prelude.{IsTrue}
+use Rattle.std.specs.Result.{is_err}
 use Rattle.ic_by_rounds.specs.Stuck.{stuck_text}
 use Rattle.ic_flat.specs.Flat.{configuration_of}
+use Rattle.ic_flat.specs.Words.{is_word_over}
 use Rattle.ic_in_place.specs.declared.running.End.TheVariants.{Quiet}
 use Rattle.ic_in_place.specs.Reductions.{is_written}
 use Rattle.ic_kept.specs.lemmas.CourseLaws.{kept_after}
@@ -208,3 +212,38 @@ pub returns-in_err-now_ended-clause-failed : goal.returns-in_err-now_ended-claus
 returns-in_err-now_ended-clause-failed g c =
     let e = err_from_is_err_and c.from_residual-in_err-now_ended.result c.from_residual-in_err-now_ended.ensures.1 in
     rw (e.1, e.2) (λ cause same. fails_on cause c.args.keeper.now c.loop.keeper c.keep_further.new.keeper c.loop.invariant.ready (c.in_err-now_ended.ensures.failed cause same))
+
+pub returns-in_err-rules-clause-none : goal.returns-in_err-rules-clause-none
+returns-in_err-rules-clause-none g c none =
+    let e = err_from_is_err_and c.from_residual.result c.from_residual.ensures.1 in
+    (ap is_err e.1, refl)
+
+pub returns-in_err-run-clause-none : goal.returns-in_err-run-clause-none
+returns-in_err-run-clause-none g c none =
+    let read = c.in_ok-rules.ensures.read in
+    absurd (none read.0 (subst (λ (text : List ℕ). ReadsSystemWithin Wide text (Ok read.0)) c.deref.ensures.value read.1))
+
+pub returns-in_err-now_ended-clause-none : goal.returns-in_err-now_ended-clause-none
+returns-in_err-now_ended-clause-none g c none =
+    let read = c.in_ok-rules.ensures.read in
+    absurd (none read.0 (subst (λ (text : List ℕ). ReadsSystemWithin Wide text (Ok read.0)) c.deref.ensures.value read.1))
+
+pub returns-in_err-told-clause-none : goal.returns-in_err-told-clause-none
+returns-in_err-told-clause-none g c none =
+    let read = c.in_ok-rules.ensures.read in
+    absurd (none read.0 (subst (λ (text : List ℕ). ReadsSystemWithin Wide text (Ok read.0)) c.deref.ensures.value read.1))
+
+pub returns-then-ends_run-clause-none : goal.returns-then-ends_run-clause-none
+returns-then-ends_run-clause-none g c none =
+    let read = c.in_ok-rules.ensures.read in
+    absurd (none read.0 (subst (λ (text : List ℕ). ReadsSystemWithin Wide text (Ok read.0)) c.deref.ensures.value read.1))
+
+pub returns-clause-none : goal.returns-clause-none
+returns-clause-none g c none =
+    let read = c.in_ok-rules.ensures.read in
+    absurd (none read.0 (subst (λ (text : List ℕ). ReadsSystemWithin Wide text (Ok read.0)) c.deref.ensures.value read.1))
+
+pub tell-requires-clause-over : goal.tell-requires-clause-over
+tell-requires-clause-over g c =
+    let symbols = c.symbols.ensures.symbols ∙ ap (λ (r : Rules). r.symbols) c.deref-then-ends_run.ensures in
+    subst (λ (ss : List Symbol). IsTrue (list_all (is_word_over ss) c.run_piece.new.state.words.items)) (sym symbols) c.in_ok-run.ensures.over

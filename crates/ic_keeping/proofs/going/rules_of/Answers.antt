@@ -17,3 +17,6 @@ returns-in-Err-clause-refused c s reads = ⊎_elim
     let one = c.one_system_reading.ensures.answer Wide c.args.text.now (Err c.in-Err.misread.fault) (Ok s) (c.in-Err.ensures.refused other) reads in
     cc (one))
     c.unread.ensures.memory
+
+pub returns-in-Ok-clause-read : goal.returns-in-Ok-clause-read
+returns-in-Ok-clause-read c = (c.in-Ok.system, c.in-Ok.ensures.read)

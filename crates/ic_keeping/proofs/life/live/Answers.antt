@@ -1,4 +1,4 @@
-use Rattle.std.proofs.Common.{◌≡◌, ◌∙◌, ⊎_elim, inl, inr, Bool, true, false, sym}
+use Rattle.std.proofs.Common.{◌≡◌, ◌∙◌, ⊎_elim, inl, inr, Bool, true, false, refl, sym}
 use Rattle.ic_frames.specs.declared.faults.KeepFault.TheVariants.{Broken}
 use Rattle.ic_kept.specs.Opening.{OnlyReads}
 use Rattle.std.proofs.lemmas.Result.{err_from_is_err_and}
@@ -115,3 +115,18 @@ returns-in-Err-clause-reads g c keeps keeps_too why =
 
 pub returns-in-Err-clause-device : goal.returns-in-Err-clause-device
 returns-in-Err-clause-device g c same = absurd (c.in-Err.ensures.unopened _ same)
+
+pub returns-in-Ok-clause-none : goal.returns-in-Ok-clause-none
+returns-in-Ok-clause-none g c keeps keeps_too none =
+    let found = c.in_ok-keeper.ensures in
+    absurd (none (kept_by c.in_ok-keeper.state) found.sound (found.found keeps keeps_too))
+
+pub returns-in-Err-clause-none : goal.returns-in-Err-clause-none
+returns-in-Err-clause-none g c keeps keeps_too none =
+    let found = c.in_ok-keeper.ensures in
+    absurd (none (kept_by c.in_ok-keeper.state) found.sound (found.found keeps keeps_too))
+
+pub returns-in_err-keeper-clause-none : goal.returns-in_err-keeper-clause-none
+returns-in_err-keeper-clause-none g c keeps keeps_too none =
+    let e = err_from_is_err_and c.from_residual.result c.from_residual.ensures.1 in
+    rw (e.1, e.2) (refl, c.in_err-keeper.ensures.reads keeps keeps_too)
