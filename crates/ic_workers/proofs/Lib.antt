@@ -20,6 +20,7 @@ pub mod Coming
 pub mod Led
 pub mod Gathered
 pub mod Whole
+pub mod Holding
 pub mod Begun
 pub mod Known
 pub mod Ending

@@ -87,7 +87,7 @@ alone_no_cuts arities cuts q placed = no_times cuts (λ c.
     let few = placed.once.0 c in
     omega (arith, moved, both, own, few))
 
-alone_no_ends : (arities cuts : List ℕ) (q : Part) → ArePlaced arities cuts (q ∷ []) → q.borders.ends ≡ []
+pub alone_no_ends : (arities cuts : List ℕ) (q : Part) → ArePlaced arities cuts (q ∷ []) → q.borders.ends ≡ []
 alone_no_ends arities cuts q placed =
     let none = alone_no_cuts arities cuts q placed in
     let long = length_permutation (cuts ++ cuts) (cuts_of (q ∷ [])) placed.ends in

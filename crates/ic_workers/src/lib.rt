@@ -7,6 +7,7 @@
 mod desk;
 mod kept;
 mod laws;
+pub mod parts;
 mod policy;
 mod stream;
 pub mod telling;
