@@ -15,7 +15,7 @@ use Rattle.ic_machine.specs.Runs.{Ran, Starts, Way, first_registers}
 use Rattle.ic_machine.specs.Steps.{Fires, Step, turns, puts, meets, joins, fires, Steps, no_step, one_more}
 use Rattle.ic_machine.specs.lemmas.Balance.{no_front, no_back}
 use Rattle.ic_machine.specs.lemmas.FiresKeep.{sum_of_pair}
-use Rattle.ic_machine.specs.lemmas.Separation.{sum_of_parts}
+use Rattle.ic_machine.specs.lemmas.Separation.{fewer, sum_of_parts}
 
 -- one for an equation
 abbrev one : Piece → ℕ
@@ -25,21 +25,15 @@ one p = cond (is_equation p) 1 0
 
 step_equations : (p : Plans) (is : List ℕ) (xs ys : List Piece) → is ≡ [] → Step p is xs ys → equations_in ys ≤ equations_in xs
 step_equations p is xs ys e (turns a b t) =
-    let x = sum_of_parts one a (equated t.left t.right ∷ []) t.rest t.given in
-    let y = sum_of_parts one b (equated t.right t.left ∷ []) t.rest t.result in
-    omega arith
+    fewer one a (equated t.left t.right ∷ []) b (equated t.right t.left ∷ []) t.rest t.given t.result (omega arith)
 step_equations p is xs ys e (puts a b t) =
-    let x = sum_of_parts one a (equated t.named t.other ∷ idle t.named ∷ []) t.rest t.given in
-    let y = sum_of_parts one b (waits t.named t.other ∷ []) t.rest t.result in
-    omega arith
+    fewer one a (equated t.named t.other ∷ idle t.named ∷ []) b (waits t.named t.other ∷ []) t.rest t.given t.result (omega arith)
 step_equations p is xs ys e (meets a b t) =
-    let x = sum_of_parts one a (equated t.named t.other ∷ waits t.named t.waiting ∷ []) t.rest t.given in
-    let y = sum_of_parts one b (equated t.waiting t.other ∷ []) t.rest t.result in
-    omega arith
+    fewer one a (equated t.named t.other ∷ waits t.named t.waiting ∷ []) b (equated t.waiting t.other ∷ []) t.rest t.given t.result
+    (omega arith)
 step_equations p is xs ys e (joins a b t) =
-    let x = sum_of_parts one a (waits t.named t.between ∷ waits t.between t.waiting ∷ []) t.rest t.given in
-    let y = sum_of_parts one b (waits t.named t.waiting ∷ []) t.rest t.result in
-    omega arith
+    fewer one a (waits t.named t.between ∷ waits t.between t.waiting ∷ []) b (waits t.named t.waiting ∷ []) t.rest t.given t.result
+    (omega arith)
 step_equations p is xs ys e (fires i a b t) = cc
 
 steps_equations : (p : Plans) (is : List ℕ) (xs ys : List Piece) → is ≡ [] → Steps p is xs ys → equations_in ys ≤ equations_in xs

@@ -42,19 +42,14 @@ pub pair_order : (n h0 h1 h2 l r f rest : List Piece) (x : Piece) → IsPermutat
 pair_order n h0 h1 h2 l r f rest x first second =
     let g : List Piece = (f ++ x ∷ []) ++ rest in
     let y : List Piece = f ++ rest in
-    let last : IsPermutation g (x ∷ y) =
-    subst (λ (z : List Piece). IsPermutation z (x ∷ y)) (sym (append_assoc f (x ∷ []) rest))
+    let last = subst (λ (z : List Piece). IsPermutation z (x ∷ y)) (sym (append_assoc f (x ∷ []) rest))
     (IsPermutation-middle f x rest) in
-    let heaps : IsPermutation h0 (l ++ (r ++ h2)) =
-    IsPermutation-trans h0 (l ++ h1) (l ++ (r ++ h2)) first (IsPermutation-append_right l h1 (r ++ h2) second) in
-    let apart : (l ++ (r ++ h2)) ++ g ≡ l ++ (r ++ (h2 ++ g)) =
-    append_assoc l (r ++ h2) g ∙ ap (λ (z : List Piece). l ++ z) (append_assoc r h2 g) in
-    let one : IsPermutation (n ++ (h0 ++ g)) (n ++ (l ++ (r ++ (h2 ++ g)))) =
-    subst (λ (z : List Piece). IsPermutation (n ++ (h0 ++ g)) (n ++ z)) apart
+    let heaps = IsPermutation-trans h0 (l ++ h1) (l ++ (r ++ h2)) first (IsPermutation-append_right l h1 (r ++ h2) second) in
+    let apart = append_assoc l (r ++ h2) g ∙ ap (λ (z : List Piece). l ++ z) (append_assoc r h2 g) in
+    let one = subst (λ (z : List Piece). IsPermutation (n ++ (h0 ++ g)) (n ++ z)) apart
     (IsPermutation-append_right n (h0 ++ g) ((l ++ (r ++ h2)) ++ g)
     (IsPermutation-append_left g h0 (l ++ (r ++ h2)) heaps)) in
-    let two : IsPermutation (n ++ (l ++ (r ++ (h2 ++ g)))) (l ++ (r ++ (n ++ (h2 ++ g)))) =
-    IsPermutation-trans (n ++ (l ++ (r ++ (h2 ++ g)))) (l ++ (n ++ (r ++ (h2 ++ g)))) (l ++ (r ++ (n ++ (h2 ++ g))))
+    let two = IsPermutation-trans (n ++ (l ++ (r ++ (h2 ++ g)))) (l ++ (n ++ (r ++ (h2 ++ g)))) (l ++ (r ++ (n ++ (h2 ++ g))))
     (to_front n l (r ++ (h2 ++ g)))
     (IsPermutation-append_right l (n ++ (r ++ (h2 ++ g))) (r ++ (n ++ (h2 ++ g))) (to_front n r (h2 ++ g))) in
     let front : List Piece = l ++ (r ++ (n ++ h2)) in
@@ -62,8 +57,7 @@ pair_order n h0 h1 h2 l r f rest x first second =
     append_assoc l (r ++ (n ++ h2)) z
     ∙ ap (λ (v : List Piece). l ++ v) (append_assoc r (n ++ h2) z
     ∙ ap (λ (v : List Piece). r ++ v) (append_assoc n h2 z)) in
-    let three : IsPermutation (l ++ (r ++ (n ++ (h2 ++ g)))) (x ∷ (l ++ (r ++ (n ++ (h2 ++ y))))) =
-    subst (λ (z : List Piece). IsPermutation z (x ∷ (l ++ (r ++ (n ++ (h2 ++ y)))))) (join g)
+    let three = subst (λ (z : List Piece). IsPermutation z (x ∷ (l ++ (r ++ (n ++ (h2 ++ y)))))) (join g)
     (subst (λ (z : List Piece). IsPermutation (front ++ g) (x ∷ z)) (join y)
     (IsPermutation-trans (front ++ g) (front ++ (x ∷ y)) (x ∷ (front ++ y))
     (IsPermutation-append_right front g (x ∷ y) last) (IsPermutation-middle front x y))) in
@@ -96,22 +90,19 @@ fire_way q i a b p front e k m ns h0 h1 h2 r0 r1 r2 names made rest end l r la r
     let right : Word = agent_word b e.right.index in
     let regs : List Word = constants (length q.arities) ++ (l.args ++ (r.args ++ (names ++ made))) in
     let mid : List Piece = pieces_made p (r2 ++ (names ++ made)) names made ++ others in
-    let filled : r2 ++ (names ++ made) ≡ regs =
-    ap (λ (z : List Word). z ++ (names ++ made)) r.pushed
+    let filled = ap (λ (z : List Word). z ++ (names ++ made)) r.pushed
     ∙ (append_assoc r1 r.args (names ++ made)
     ∙ (ap (λ (z : List Word). z ++ (r.args ++ (names ++ made))) l.pushed
     ∙ (append_assoc r0 l.args (r.args ++ (names ++ made))
     ∙ ap (λ (z : List Word). z ++ (l.args ++ (r.args ++ (names ++ made)))) first))) in
-    let order : IsPermutation xs (equated_of e ∷ (agent_with e.left l.args ++ (agent_with e.right r.args ++ others))) =
-    subst (λ (z : List Piece). IsPermutation (names_pieces 0 ns ++ (heaps_pieces 0 h0 ++ (z ++ rest)))
+    let order = subst (λ (z : List Piece). IsPermutation (names_pieces 0 ns ++ (heaps_pieces 0 h0 ++ (z ++ rest)))
     (equated_of e ∷ (agent_with e.left l.args ++ (agent_with e.right r.args ++ others))))
     (sym (map-append equated_of front (e ∷ [])))
     (pair_order (names_pieces 0 ns) (heaps_pieces 0 h0) (heaps_pieces 0 h1) (heaps_pieces 0 h2)
     (agent_with e.left l.args) (agent_with e.right r.args) (map equated_of front) rest (equated_of e)
     (taken_first (agent_with e.left l.args) (heaps_pieces 0 h0) (heaps_pieces 0 h1) l.gone)
     (taken_first (agent_with e.right r.args) (heaps_pieces 0 h1) (heaps_pieces 0 h2) r.gone)) in
-    let given : IsPermutation xs (equated left right ∷ (agent_with left l.args ++ (agent_with right r.args ++ others))) =
-    subst (λ (v : Word). IsPermutation xs (equated left v ∷ (agent_with left l.args ++ (agent_with v r.args ++ others))))
+    let given = subst (λ (v : Word). IsPermutation xs (equated left v ∷ (agent_with left l.args ++ (agent_with v r.args ++ others))))
     (as_agent e.right b ra)
     (subst (λ (v : Word). IsPermutation xs (equated v e.right ∷ (agent_with v l.args ++ (agent_with e.right r.args ++ others))))
     (as_agent e.left a la) order) in
@@ -204,14 +195,10 @@ pub held_uses : (w : Word) (ns : List Word) (hs : List Blocks) (front : List Equ
     ≡ sum_by (uses w) (names_pieces 0 ns) + (sum_by (uses w) (heaps_pieces 0 hs)
     + (sum_by (uses w) (map equated_of front) + count w (e.left ∷ e.right ∷ [])))
 held_uses w ns hs front e =
-    let a = sum_by-append (uses w) (names_pieces 0 ns) (heaps_pieces 0 hs ++ (map equated_of (front ++ e ∷ []) ++ [])) in
-    let b = sum_by-append (uses w) (heaps_pieces 0 hs) (map equated_of (front ++ e ∷ []) ++ []) in
-    let c = sum_by-append (uses w) (map equated_of (front ++ e ∷ [])) [] in
     let d = ap (sum_by (uses w)) (map-append equated_of front (e ∷ [])) in
-    let f = sum_by-append (uses w) (map equated_of front) (equated_of e ∷ []) in
     let none : sum_by (uses w) [] ≡ 0 = refl in
     let one : sum_by (uses w) (equated_of e ∷ []) ≡ count w (e.left ∷ e.right ∷ []) = omega arith in
-    omega arith
+    omega (arith, sum_by-append {X = Piece})
 
 -- the left agent of a pair, if it has arguments, has room
 pub left_there : (ns : List Word) (hs : List Blocks) (front : List Equation) (e : Equation) (a k : ℕ)
@@ -249,49 +236,37 @@ right_there ns hs gs front e b j k r0 r1 l s tag arity some =
     let none : sum_by (room w) [] ≡ 0 = refl in
     omega arith
 
--- how often a word is named by the tables of agents, before their arguments were taken out
-pub args_uses : (w : Word) (e : Equation) (j k : ℕ) (h0 h1 h2 : List Blocks) (r0 r1 r2 : List Word)
+module _ (ns : List Word) (front : List Equation) (e : Equation) (j k : ℕ) (h0 h1 h2 : List Blocks) (r0 r1 r2 : List Word)
     (l : Taken e.left j (heaps_pieces 0 h0) (heaps_pieces 0 h1) r0 r1)
     (r : Taken e.right k (heaps_pieces 0 h1) (heaps_pieces 0 h2) r1 r2)
-    → sum_by (uses w) (heaps_pieces 0 h0) ≡ count w (l.args ++ r.args) + sum_by (uses w) (heaps_pieces 0 h2)
-args_uses w e j k h0 h1 h2 r0 r1 r2 l r =
-    let both : count w (l.args ++ r.args) ≡ count w l.args + count w r.args =
-    sum_by-append (λ v. cond (word_eq w v) 1 0) l.args r.args in
-    let a = replaced_sum (uses w) (agent_with e.left l.args) [] (heaps_pieces 0 h0) (heaps_pieces 0 h1) l.gone in
-    let b = replaced_sum (uses w) (agent_with e.right r.args) [] (heaps_pieces 0 h1) (heaps_pieces 0 h2) r.gone in
-    let c = agent_uses w e.left l.args in
-    let d = agent_uses w e.right r.args in
-    let none : sum_by (uses w) [] ≡ 0 = refl in
-    omega arith
+    (s : IsSeparate (arities_of h0) [] (names_pieces 0 ns ++ (heaps_pieces 0 h0 ++ (map equated_of (front ++ e ∷ []) ++ [])))) where
+  -- how often a word is named by the tables of agents, before their arguments were taken out
+  args_uses : (w : Word) → sum_by (uses w) (heaps_pieces 0 h0) ≡ count w (l.args ++ r.args) + sum_by (uses w) (heaps_pieces 0 h2)
+  args_uses w =
+      let both = sum_by-append (λ (v : Word). cond {A = ℕ} (word_eq w v) 1 0) l.args r.args in
+      let a = replaced_sum (uses w) (agent_with e.left l.args) [] (heaps_pieces 0 h0) (heaps_pieces 0 h1) l.gone in
+      let b = replaced_sum (uses w) (agent_with e.right r.args) [] (heaps_pieces 0 h1) (heaps_pieces 0 h2) r.gone in
+      let none : sum_by (uses w) [] ≡ 0 = refl in
+      omega (arith, agent_uses w e.left l.args, agent_uses w e.right r.args)
 
--- no argument is a mark
-pub args_words : (ns : List Word) (front : List Equation) (e : Equation) (j k : ℕ) (h0 h1 h2 : List Blocks)
-    (r0 r1 r2 : List Word) (l : Taken e.left j (heaps_pieces 0 h0) (heaps_pieces 0 h1) r0 r1)
-    (r : Taken e.right k (heaps_pieces 0 h1) (heaps_pieces 0 h2) r1 r2)
-    → IsSeparate (arities_of h0) []
-    (names_pieces 0 ns ++ (heaps_pieces 0 h0 ++ (map equated_of (front ++ e ∷ []) ++ [])))
-    → length h0 < GIVEN → AllByRecursion (λ w. w.tag < IDLE) (l.args ++ r.args)
-args_words ns front e j k h0 h1 h2 r0 r1 r2 l r s few =
-    all_counted (λ w. w.tag < IDLE) (l.args ++ r.args) (λ v h.
-    let used = held_uses v ns h0 front e in
-    let args = args_uses v e j k h0 h1 h2 r0 r1 r2 l r in
-    no_mark ns h0 (front ++ e ∷ []) v s few (omega arith))
+  -- no argument is a mark
+  pub args_words : length h0 < GIVEN → AllByRecursion (λ w. w.tag < IDLE) (l.args ++ r.args)
+  args_words few =
+      all_counted (λ w. w.tag < IDLE) (l.args ++ r.args) (λ v h.
+      let used = held_uses v ns h0 front e in
+      let args = args_uses v in
+      no_mark ns h0 (front ++ e ∷ []) v s few (omega arith))
 
--- each name is named by the arguments at most as often as there is room
-pub args_named : (ns : List Word) (front : List Equation) (e : Equation) (j k : ℕ) (h0 h1 h2 : List Blocks)
-    (r0 r1 r2 : List Word) (l : Taken e.left j (heaps_pieces 0 h0) (heaps_pieces 0 h1) r0 r1)
-    (r : Taken e.right k (heaps_pieces 0 h1) (heaps_pieces 0 h2) r1 r2)
-    → IsSeparate (arities_of h0) []
-    (names_pieces 0 ns ++ (heaps_pieces 0 h0 ++ (map equated_of (front ++ e ∷ []) ++ [])))
-    → (i : ℕ) → count (name_word i) (l.args ++ r.args) + sum_by (uses (name_word i)) (names_pieces 0 ns)
-    ≤ sum_by (room (name_word i)) (names_pieces 0 ns)
-args_named ns front e j k h0 h1 h2 r0 r1 r2 l r s i =
-    let w : Word = name_word i in
-    let each = s.each w refl in
-    let only = name_room w ns h0 (front ++ e ∷ []) [] refl in
-    let used = held_uses w ns h0 front e in
-    let args = args_uses w e j k h0 h1 h2 r0 r1 r2 l r in
-    omega arith
+  -- each name is named by the arguments at most as often as there is room
+  pub args_named : (i : ℕ) → count (name_word i) (l.args ++ r.args) + sum_by (uses (name_word i)) (names_pieces 0 ns)
+      ≤ sum_by (room (name_word i)) (names_pieces 0 ns)
+  args_named i =
+      let w : Word = name_word i in
+      let each = s.each w refl in
+      let only = name_room w ns h0 (front ++ e ∷ []) [] refl in
+      let used = held_uses w ns h0 front e in
+      let args = args_uses w in
+      omega arith
 
 -- The tables are separate, where some got more memory.
 pub fire_separate : (ns ms : List Word) (h0 h1 : List Blocks) (ps front : List Equation) (e : Equation)
@@ -302,14 +277,10 @@ pub fire_separate : (ns ms : List Word) (h0 h1 : List Blocks) (ps front : List E
     (names_pieces 0 ms ++ (heaps_pieces 0 h1 ++ (map equated_of (front ++ e ∷ []) ++ [])))
 fire_separate ns ms h0 h1 ps front e names same last s =
     let after : List Piece = names_pieces 0 ns ++ (heaps_pieces 0 h0 ++ (map equated_of (front ++ e ∷ []) ++ [])) in
-    let one : IsSeparate (arities_of h0) [] after =
-    subst (λ (l : List Equation). IsSeparate (arities_of h0) []
+    let one = subst (λ (l : List Equation). IsSeparate (arities_of h0) []
     (names_pieces 0 ns ++ (heaps_pieces 0 h0 ++ (map equated_of l ++ [])))) last s in
-    let two : IsSeparate (arities_of h1) [] after =
-    subst (λ (l : List ℕ). IsSeparate l [] after) (sym (same_arities h0 h1 same)) one in
-    let three : IsSeparate (arities_of h1) []
-    (names_pieces 0 ns ++ (heaps_pieces 0 h1 ++ (map equated_of (front ++ e ∷ []) ++ []))) =
-    subst (λ (l : List Piece). IsSeparate (arities_of h1) []
+    let two = subst (λ (l : List ℕ). IsSeparate l [] after) (sym (same_arities h0 h1 same)) one in
+    let three = subst (λ (l : List Piece). IsSeparate (arities_of h1) []
     (names_pieces 0 ns ++ (l ++ (map equated_of (front ++ e ∷ []) ++ [])))) (sym (same_pieces h0 h1 0 same)) two in
     subst (λ (l : List Word). IsSeparate (arities_of h1) []
     (names_pieces 0 l ++ (heaps_pieces 0 h1 ++ (map equated_of (front ++ e ∷ []) ++ [])))) (sym names) three

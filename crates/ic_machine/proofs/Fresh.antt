@@ -41,8 +41,7 @@ fresh_push [] w rest h none new = (none, refl, tt)
 fresh_push (v ∷ vs) w rest h none new =
     let counted : count w (v ∷ vs) ≡ cond (word_eq w v) 1 0 + count w vs =
     sum_by-cons (λ x. cond (word_eq w x) 1 0) v vs in
-    let same : ◌≡◌ {A = ℕ} (cond (word_eq v w) 1 0) (cond (word_eq w v) 1 0) =
-    ap (λ (b : Bool). cond b 1 0) (word_eq_sym v w) in
+    let same = ap (λ (b : Bool). cond {A = ℕ} b 1 0) (word_eq_sym v w) in
     let pushed : count v (vs ++ w ∷ []) ≡ count v vs + count v (w ∷ []) =
     sum_by-append (λ x. cond (word_eq v x) 1 0) vs (w ∷ []) in
     let apart : count v vs ≡ 0 = h.1 in
@@ -100,9 +99,7 @@ pub opened_more : (n : ℕ) (old mid new before after : List Word) (name : ℕ)
 opened_more n old mid new before after name o r free =
     let w : Word = name_word name in
     let none : sum_by (room w) (names_pieces 0 mid) ≡ 0 = free_room mid name free in
-    let same : sum_by (room w) (map idle o.names ++ names_pieces 0 old) ≡ sum_by (room w) (names_pieces 0 mid) =
-    sum_by-IsPermutation (room w) (names_pieces 0 mid) (map idle o.names ++ names_pieces 0 old) o.pieces in
-    let parts = sum_by-append (room w) (map idle o.names) (names_pieces 0 old) in
+    let same = sum_by-IsPermutation (room w) (names_pieces 0 mid) (map idle o.names ++ names_pieces 0 old) o.pieces in
     let twice = idle_room w o.names in
     record {
       names = o.names ++ w ∷ [];
@@ -113,7 +110,7 @@ opened_more n old mid new before after name o r free =
           (sym (map-append idle o.names (w ∷ [])))
           (pushed_order (map idle o.names) (names_pieces 0 old) (idle w) (names_pieces 0 mid) (names_pieces 0 new)
           o.pieces (put_first (idle w) (names_pieces 0 mid) (names_pieces 0 new) r));
-      fresh = fresh_push o.names w (names_pieces 0 old) o.fresh (omega arith) (omega arith);
+      fresh = fresh_push o.names w (names_pieces 0 old) o.fresh (omega (arith, sum_by-append {X = Piece})) (omega (arith, sum_by-append {X = Piece}));
     }
 
 -- no name is opened yet
@@ -143,8 +140,7 @@ pub read_as_before : (rs more : List Word) (ops : List ℕ) → AllByRecursion (
     → map (register (rs ++ more)) ops ≡ map (register rs) ops
 read_as_before rs more [] h = refl
 read_as_before rs more (k ∷ ops) h =
-    let first : register (rs ++ more) k ≡ register rs k =
-    get_or-append rs more (name_word 0) k h.0 in
+    let first = get_or-append rs more (name_word 0) k h.0 in
     rw (first, read_as_before rs more ops h.1) refl
 
 pub made_as_before : (rs more : List Word) (ms : List Made) (ws : List Word)
@@ -179,9 +175,7 @@ pub makes_more : (ms : List Made) (m : Made) (xs ys zs : List Piece) (before aft
     → sum_by (room w) ys ≡ 0 → w.tag ≡ m.symbol + 1
     → Makes (ms ++ m ∷ []) xs zs before (after ++ w ∷ [])
 makes_more ms m xs ys zs before after w o earlier now r none agent =
-    let same : sum_by (room w) (made_each after ms o.places ++ xs) ≡ sum_by (room w) ys =
-    sum_by-IsPermutation (room w) ys (made_each after ms o.places ++ xs) o.pieces in
-    let parts = sum_by-append (room w) (made_each after ms o.places) xs in
+    let same = sum_by-IsPermutation (room w) ys (made_each after ms o.places ++ xs) o.pieces in
     let once = made_room w after ms o.places o.count in
     let moved : made_each after ms o.places ++ made_at after m w ∷ []
     ≡ made_each (after ++ w ∷ []) (ms ++ m ∷ []) (o.places ++ w ∷ []) =
@@ -198,7 +192,7 @@ makes_more ms m xs ys zs before after w o earlier now r none agent =
       pieces = subst (λ (l : List Piece). IsPermutation zs (l ++ xs)) moved
           (pushed_order (made_each after ms o.places) xs (made_at after m w) ys zs o.pieces
           (put_first (made_at after m w) ys zs r));
-      fresh = fresh_push o.places w xs o.fresh (omega arith) (omega arith);
+      fresh = fresh_push o.places w xs o.fresh (omega (arith, sum_by-append {X = Piece})) (omega (arith, sum_by-append {X = Piece}));
     }
 
 -- no agent is made yet
@@ -283,10 +277,8 @@ pub earlier_within : (arities : List ℕ) (filled i n : ℕ) (ms : List Make) �
     → i ≤ length ms → n ≡ filled + i
     → AllByRecursion (λ k. k < n) (flat_map (λ m. m.operands) (map made_of (take i ms)))
 earlier_within arities filled i n ms h le e =
-    let parts : map made_of ms ≡ map made_of (take i ms) ++ map made_of (drop i ms) =
-    ap (map made_of) (sym (take-append-drop i ms)) ∙ map-append made_of (take i ms) (drop i ms) in
-    let front : AreMade arities filled (map made_of (take i ms)) =
-    planned_front arities filled (map made_of (take i ms)) (map made_of (drop i ms))
+    let parts = ap (map made_of) (sym (take-append-drop i ms)) ∙ map-append made_of (take i ms) (drop i ms) in
+    let front = planned_front arities filled (map made_of (take i ms)) (map made_of (drop i ms))
     (subst (λ (l : List Made). AreMade arities filled l) parts h) in
     let len : length (map made_of (take i ms)) ≡ i = length-map (take i ms) made_of ∙ length-take-le i ms le in
     all_of (λ k. k < filled + length (map made_of (take i ms))) (λ k. k < n)

@@ -120,8 +120,7 @@ fires_uses p i kind xs ys f =
     let old = sum_of_pair (λ x. cond (is_at kind x) 1 0) xs (equated left right) (agent_with left f.left_args) (agent_with right f.right_args) f.rest f.given in
     let new = sum_by-IsPermutation (λ x. cond (is_at kind x) 1 0) ys (pieces_made f.plan rs f.names f.made ++ f.rest) f.result in
     let both = sum_by-append (λ x. cond (is_at kind x) 1 0) (pieces_made f.plan rs f.names f.made) f.rest in
-    let made : in_use kind (pieces_made f.plan rs f.names f.made) ≡ takes kind f.plan =
-    made_takes kind f.plan rs f.names f.made f.names_count f.name_tags f.made_tags in
+    let made = made_takes kind f.plan rs f.names f.made f.names_count f.name_tags f.made_tags in
     let is : takes_by kind p i ≡ takes kind f.plan = ap (λ o. option_map_or (takes kind) o 0) f.has_plan in
     omega (arith, old, new, both, made, is)
 

@@ -3,7 +3,7 @@ use Rattle.std.proofs.Common.{◌≡◌, ℕ, zero, suc, ◌+◌, ◌-◌, ◌*�
 use Rattle.std.specs.List.{AllByRecursion}
 use Rattle.std.proofs.Math.Nat.{suc-mul, zero-mul}
 use Rattle.std.proofs.lemmas.Bool.Decides.{leb_tells}
-use Rattle.std.proofs.lemmas.List.{append-nil, drop-drop, length-drop, length-map, length-take-le}
+use Rattle.std.proofs.lemmas.List.{drop-drop, length-drop, length-map, length-take-le}
 use Rattle.std.proofs.lemmas.List.Sums.{sum_by-append}
 use Rattle.ic_arena.specs.declared.word.Word.{Word}
 use Rattle.ic_arena.specs.declared.word.TheConstants.{FREE}
@@ -42,17 +42,14 @@ blocks_room s k i j (suc m) (suc n) o ws e f h =
     let ih : sum_by (room (agent_word s j)) (blocks_from s k (i + 1) n (drop k ws))
     ≡ sum_by (room (agent_word s j)) (block_piece (agent_word s j) (take k (drop (m * k) (drop k ws)))) =
     blocks_room s k (i + 1) j m n (m * k) (drop k ws) next refl (omega arith) in
-    let at : drop (m * k) (drop k ws) ≡ drop o ws =
-    drop-drop (m * k) k ws ∙ ap (λ (x : ℕ). drop x ws) far in
+    let at = drop-drop (m * k) k ws ∙ ap (λ (x : ℕ). drop x ws) far in
     let one : sum_by (room (agent_word s j)) (blocks_from s k i 1 ws)
     ≡ sum_by (room (agent_word s j)) (block_piece (agent_word s i) (take k ws)) =
     sum_by-append (room (agent_word s j)) (block_piece (agent_word s i) (take k ws)) []
     ∙ omega arith in
     let whole = sum_by-append (room (agent_word s j)) (block_piece (agent_word s i) (take k ws))
     (blocks_from s k (i + 1) n (drop k ws)) in
-    let moved : sum_by (room (agent_word s j)) (block_piece (agent_word s j) (take k (drop (m * k) (drop k ws))))
-    ≡ sum_by (room (agent_word s j)) (block_piece (agent_word s j) (take k (drop o ws))) =
-    ap (λ (l : List Word). sum_by (room (agent_word s j)) (block_piece (agent_word s j) (take k l))) at in
+    let moved = ap (λ (l : List Word). sum_by (room (agent_word s j)) (block_piece (agent_word s j) (take k l))) at in
     omega arith
 
 -- a block that has room is that of an agent
@@ -92,8 +89,7 @@ block_length b j sound there =
     let fits : (j + 1) * b.arity ≤ b.count * b.arity = mul_le_left (j + 1) b.count b.arity (omega arith) in
     let one : (j + 1) * b.arity ≡ j * b.arity + b.arity = next j b.arity in
     let whole : length b.words ≡ b.count * b.arity = sound.whole in
-    let len : length (drop (j * b.arity) b.words) ≡ length b.words - j * b.arity =
-    length-drop (j * b.arity) b.words in
+    let len = length-drop (j * b.arity) b.words in
     length-take-le b.arity (drop (j * b.arity) b.words) (omega arith)
   where
     next : (j k : ℕ) → (j + 1) * k ≡ j * k + k
@@ -160,14 +156,6 @@ replaced_before b old new xs ys r = record {
   after = ap (λ (l : List Piece). l ++ b) r.after
       ∙ (append_assoc r.front (new ++ r.back) b
       ∙ ap (λ (l : List Piece). r.front ++ l) (append_assoc new r.back b));
-}
-
-pub nothing_replaced : (xs : List Piece) → Replaced [] [] xs xs
-nothing_replaced xs = record {
-  front = xs;
-  back = [];
-  before = sym (append-nil xs);
-  after = sym (append-nil xs);
 }
 
 -- what changes in one table changes in all
@@ -309,8 +297,7 @@ pub room_same : (hs gs : List Blocks) (n : ℕ) (m : Made)
     → ((s : ℕ) → SameSize (table hs s) (table gs s)) → HasRoom hs n m → HasRoom gs n m
 room_same hs gs n m same h =
     let z = same m.symbol in
-    let big : n * (table gs m.symbol).arity ≡ n * (table hs m.symbol).arity =
-    ap (λ (x : ℕ). n * x) z.arity in
+    let big = ap (λ (x : ℕ). n * x) z.arity in
     let fits : length (table hs m.symbol).words + n * (table hs m.symbol).arity ≤ (table hs m.symbol).capacity = h.0 in
     let few : (table hs m.symbol).count + n < 2 ^ 32 = h.1 in
     let len : length (table gs m.symbol).words ≡ length (table hs m.symbol).words = z.len in
@@ -329,6 +316,14 @@ table_read hs s b h e =
     by_default [] s b d h = absurd (omega arith)
     by_default (g ∷ gs) zero b d h = refl
     by_default (g ∷ gs) (suc s) b d h = by_default gs s b d (omega arith)
+
+-- the table that is read by the tag of an agent
+pub tag_read : (hs : List Blocks) (t : ℕ) (b : Blocks) → 1 ≤ t → t ≤ length hs → b ≡ slice_index_or hs (t - 1) b
+    → (t ≡ (t - 1) + 1) × (t - 1 < length hs) × (b ≡ table hs (t - 1)) × (b.arity ≡ (table hs (t - 1)).arity)
+tag_read hs t b some le is =
+    let below : t - 1 < length hs = omega arith in
+    let same : b ≡ table hs (t - 1) = table_read hs (t - 1) b below is in
+    (omega arith, below, same, ap (λ (x : Blocks). x.arity) same)
 
 -- an agent that has room is in the table of its symbol
 pub agent_block : (hs : List Blocks) (w : Word) (s : ℕ) → w.tag ≡ s + 1
@@ -368,15 +363,12 @@ pub taken_args : (hs : List Blocks) (w : Word) (s : ℕ) (b b' : Blocks) (before
     (blocks_pieces k b) (blocks_pieces k b'))
     → Taken w (table hs s).arity (heaps_pieces 0 hs) (heaps_pieces 0 (slice_set hs s b')) before after
 taken_args hs w s b b' before after tag lt same sound h pushed freed =
-    let there : 1 ≤ sum_by (room (agent_word s w.index)) (blocks_pieces s b) =
-    subst (λ (x : Blocks). 1 ≤ sum_by (room (agent_word s w.index)) (blocks_pieces s x)) (sym same)
+    let there = subst (λ (x : Blocks). 1 ≤ sum_by (room (agent_word s w.index)) (blocks_pieces s x)) (sym same)
     (agent_block hs w s tag h) in
     let below : w.index < b.count = in_block s w.index b there in
-    let piece : block_piece (agent_word s w.index) (block_at b w.index) ≡ agent_with w (block_at b w.index) =
-    its_block s w.index b there
+    let piece = its_block s w.index b there
     ∙ ap (λ (v : Word). agent_with v (block_at b w.index)) (sym (as_agent w s tag)) in
-    let gone : Replaced (agent_with w (block_at b w.index)) [] (blocks_pieces s b) (blocks_pieces s b') =
-    subst (λ (l : List Piece). Replaced l [] (blocks_pieces s b) (blocks_pieces s b')) piece (freed s) in
+    let gone = subst (λ (l : List Piece). Replaced l [] (blocks_pieces s b) (blocks_pieces s b')) piece (freed s) in
     record {
       args = block_at b w.index;
       count = block_length b w.index sound below ∙ ap (λ (x : Blocks). x.arity) same;

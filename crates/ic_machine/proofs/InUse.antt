@@ -108,27 +108,24 @@ blocks_elsewhere kind s b h = none_counted kind (blocks_pieces s b)
 heaps_elsewhere : (kind base : ℕ) (hs : List Blocks) → kind ≤ base → in_use kind (heaps_pieces base hs) ≡ 0
 heaps_elsewhere kind base [] h = refl
 heaps_elsewhere kind base (b ∷ bs) h =
-    let a = sum_by-append (λ x. cond (is_at kind x) 1 0) (blocks_pieces base b) (heaps_pieces (base + 1) bs) in
     let here : in_use kind (blocks_pieces base b) ≡ 0 = blocks_elsewhere kind base b (λ e. omega arith) in
     let rest : in_use kind (heaps_pieces (base + 1) bs) ≡ 0 = heaps_elsewhere kind (base + 1) bs (omega arith) in
-    omega arith
+    omega (arith, sum_by-append {X = Piece})
 
 heaps_in_use : (kind base i s : ℕ) (hs : List Blocks) → s ≡ base + i → kind ≡ s + 1
     → in_use kind (heaps_pieces base hs) ≡ length (blocks_pieces s (table hs i))
 heaps_in_use kind base i s [] e f = refl
 heaps_in_use kind base zero s (b ∷ bs) e f =
-    let a = sum_by-append (λ x. cond (is_at kind x) 1 0) (blocks_pieces base b) (heaps_pieces (base + 1) bs) in
     let same : s ≡ base = omega arith in
     let here : in_use kind (blocks_pieces base b) ≡ length (blocks_pieces base b) = blocks_in_use kind base b (omega arith) in
     let there : length (blocks_pieces s b) ≡ length (blocks_pieces base b) = ap (λ (x : ℕ). length (blocks_pieces x b)) same in
     let rest : in_use kind (heaps_pieces (base + 1) bs) ≡ 0 = heaps_elsewhere kind (base + 1) bs (omega arith) in
-    omega arith
+    omega (arith, sum_by-append {X = Piece})
 heaps_in_use kind base (suc i) s (b ∷ bs) e f =
-    let a = sum_by-append (λ x. cond (is_at kind x) 1 0) (blocks_pieces base b) (heaps_pieces (base + 1) bs) in
     let here : in_use kind (blocks_pieces base b) ≡ 0 = blocks_elsewhere kind base b (λ q. omega arith) in
     let rest : in_use kind (heaps_pieces (base + 1) bs) ≡ length (blocks_pieces s (table bs i)) =
     heaps_in_use kind (base + 1) i s bs (omega arith) f in
-    omega arith
+    omega (arith, sum_by-append {X = Piece})
 
 -- ---- what tables hold
 
@@ -160,21 +157,13 @@ made_in_use kind p n ns ns' hs hs' r0 r1 r2 ps rest o m =
     let a : List Piece = made_each r2 p.made m.places in
     let l : List Piece = map (linked r2) p.links in
     let held : List Piece = names_pieces 0 ns ++ (heaps_pieces 0 hs ++ (map equated_of ps ++ map equated_of rest)) in
-    let s1 = sum_by-append f (i ++ (a ++ l)) held in
-    let s2 = sum_by-append f i (a ++ l) in
-    let s3 = sum_by-append f a l in
-    let s4 = sum_by-append f (names_pieces 0 ns) (heaps_pieces 0 hs ++ (map equated_of ps ++ map equated_of rest)) in
-    let s5 = sum_by-append f (heaps_pieces 0 hs) (map equated_of ps ++ map equated_of rest) in
-    let s6 = sum_by-append f (map equated_of ps) (map equated_of rest) in
     let z1 : sum_by f l ≡ 0 = links_at_none kind r2 p.links in
     let z2 : sum_by f (map equated_of ps) ≡ 0 = equations_at_none kind ps in
     let z3 : sum_by f (map equated_of rest) ≡ 0 = equations_at_none kind rest in
     let n1 = sum_by-IsPermutation f (names_pieces 0 ns') (i ++ names_pieces 0 ns) o.pieces in
-    let n2 = sum_by-append f i (names_pieces 0 ns) in
     let h1 = sum_by-IsPermutation f (heaps_pieces 0 hs') (a ++ heaps_pieces 0 hs) m.pieces in
-    let h2 = sum_by-append f a (heaps_pieces 0 hs) in
     let end : sum_by f (names_pieces 0 ns') + sum_by f (heaps_pieces 0 hs') ≡ used_at kind ns' hs' = tables_in_use kind ns' hs' in
-    omega arith
+    omega (arith, sum_by-append {X = Piece})
 
 -- ---- how many places tables have
 
@@ -196,13 +185,6 @@ pub net_size : (m : Inside) (kind : ℕ) → places_of kind (net_of m) ≡ size_
 net_size m zero = refl
 net_size m (suc s) = get_or-map (λ b. b.count) m.tables.heaps.items s
     (record { arity = 0; count = 0; words = []; capacity = 0 })
-
--- the tables of a net, where only what is pending differs
-pub size_net : (m : Inside) (t : Tables) → t.names ≡ m.tables.names → t.heaps ≡ m.tables.heaps → (kind : ℕ)
-    → size_at kind t ≡ places_of kind (net_of m)
-size_net m t names heaps zero = ap (λ n. length n.entries) names
-size_net m t names heaps (suc s) =
-    ap (λ h. (table h.items s).count) heaps ∙ sym (net_size m (suc s))
 
 pub same_places : (a b : Net) → b.names ≡ a.names → b.agents ≡ a.agents → (kind : ℕ) → places_of kind b ≡ places_of kind a
 same_places a b names agents zero = names

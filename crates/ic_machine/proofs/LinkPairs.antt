@@ -65,10 +65,8 @@ entered_first r l ws entries h = record {
 
 sum_of_two : (f : Piece → ℕ) (ns ps : List Piece) → sum_by f (ns ++ (ps ++ [])) ≡ sum_by f ns + sum_by f ps
 sum_of_two f ns ps =
-    let a = sum_by-append f ns (ps ++ []) in
-    let b = sum_by-append f ps [] in
     let c : sum_by f [] ≡ 0 = refl in
-    omega arith
+    omega (arith, sum_by-append {X = Piece})
 
 -- and the others after them
 pub entered_on : (r l : Word) (ws old new : List Word) (ps qs : List Equation)
@@ -97,9 +95,7 @@ entered_on r l ws old new ps qs steps pushed h = record {
       let g = sum_of_two (room w) (names_pieces 0 new) (map equated_of qs) in
       let none = equations_room w ps in
       let none_after = equations_room w qs in
-      let more : sum_by (uses w) (map equated_of qs)
-      ≡ sum_by (uses w) (map equated_of ps) + sum_by (uses w) (map equated_of pushed.more) =
-      ap (λ (x : List Equation). sum_by (uses w) (map equated_of x)) pushed.after
+      let more = ap (λ (x : List Equation). sum_by (uses w) (map equated_of x)) pushed.after
       ∙ (ap (sum_by (uses w)) (map-append equated_of ps pushed.more)
       ∙ sum_by-append (uses w) (map equated_of ps) (map equated_of pushed.more)) in
       omega arith;
@@ -115,11 +111,8 @@ entered arities ws others entries hs words s = record {
       let n : List Piece = names_pieces 0 entries in
       let h : List Piece = heaps_pieces 0 hs in
       let before = s.each w refl in
-      let a = sum_by-append (is_word w) ws others in
-      let u = sum_by-append (uses w) n h in
-      let r = sum_by-append (room w) n h in
       let agents : sum_by (room w) h ≡ 0 = tables_elsewhere w 0 hs (λ k le lt q. omega arith) in
-      omega arith;
+      omega (arith, sum_by-append {X = Word}, sum_by-append {X = Piece});
 }
 
 -- equations between words name no more than the words do
@@ -150,9 +143,7 @@ stack_equated arities i ws e xs s = record {
       let a = sum_by-append (is_word w) i (ws ++ e) in
       let b = sum_by-append (is_word w) ws e in
       let d = sum_by-append (is_word w) i e in
-      let u = sum_by-append (uses w) fs xs in
-      let r = sum_by-append (room w) fs xs in
-      omega arith;
+      omega (arith, sum_by-append {X = Piece});
 }
 
 -- the sides of equations, read from the top of the stack
@@ -164,8 +155,7 @@ sides_pairs (r ∷ (l ∷ ws)) (suc n) h =
     let e : Equation = record { left = l; right = r } in
     let rest : sides_of (reverse (pairs_on ws)) ≡ reverse ws = sides_pairs ws n (omega arith) in
     let last : reverse (pairs_on (r ∷ (l ∷ ws))) ≡ reverse (pairs_on ws) ++ e ∷ [] = reverse-append (e ∷ []) (pairs_on ws) in
-    let both : sides_of (reverse (pairs_on ws) ++ e ∷ []) ≡ sides_of (reverse (pairs_on ws)) ++ l ∷ r ∷ [] =
-    sides_append (reverse (pairs_on ws)) e in
+    let both = sides_append (reverse (pairs_on ws)) e in
     let whole : reverse (r ∷ (l ∷ ws)) ≡ reverse ws ++ (l ∷ r ∷ []) = reverse-append (r ∷ (l ∷ [])) ws in
     ap sides_of last ∙ (both ∙ (ap (λ (x : List Word). x ++ l ∷ r ∷ []) rest ∙ sym whole))
   where
@@ -176,8 +166,7 @@ sides_pairs (r ∷ (l ∷ ws)) (suc n) h =
 -- pending equations, those set aside, names and agents, in the order in which they are linked
 order_linked : (n p h a : List Piece) → IsPermutation (n ++ (p ++ (h ++ a))) (p ++ (a ++ (n ++ h)))
 order_linked n p h a =
-    let inner : IsPermutation (n ++ (h ++ a)) (a ++ (n ++ h)) =
-    subst (λ (l : List Piece). IsPermutation l (a ++ (n ++ h))) (append_assoc n h a) (IsPermutation-append_comm (n ++ h) a) in
+    let inner = subst (λ (l : List Piece). IsPermutation l (a ++ (n ++ h))) (append_assoc n h a) (IsPermutation-append_comm (n ++ h) a) in
     IsPermutation-trans (n ++ (p ++ (h ++ a))) (p ++ (n ++ (h ++ a))) (p ++ (a ++ (n ++ h)))
     (to_front n p (h ++ a)) (IsPermutation-append_right p (n ++ (h ++ a)) (a ++ (n ++ h)) inner)
 
@@ -193,8 +182,7 @@ all_linked p ws ps qs us n m h steps =
     let start : List Piece = fs ++ (map equated_of ps ++ (a ++ (n ++ h))) in
     let mid : List Piece = es ++ (n ++ (map equated_of ps ++ (h ++ a))) in
     let end : List Piece = m ++ (map equated_of qs ++ (h ++ a)) in
-    let first : IsPermutation start mid =
-    IsPermutation-append fs es (map equated_of ps ++ (a ++ (n ++ h))) (n ++ (map equated_of ps ++ (h ++ a)))
+    let first = IsPermutation-append fs es (map equated_of ps ++ (a ++ (n ++ h))) (n ++ (map equated_of ps ++ (h ++ a)))
     (IsPermutation-sym es fs (IsPermutation-map equated_of (pairs_on ws) (reverse (pairs_on ws)) (IsPermutation-reverse (pairs_on ws))))
     (IsPermutation-sym (n ++ (map equated_of ps ++ (h ++ a))) (map equated_of ps ++ (a ++ (n ++ h))) (order_linked n (map equated_of ps) h a)) in
     steps_to p [] start end (map equated_of qs ++ (a ++ (m ++ h)))

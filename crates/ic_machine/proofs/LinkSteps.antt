@@ -75,16 +75,13 @@ pub joined : (p : Plans) (x y u : Word) (ns mid ms rest : List Piece) → Replac
 joined p x y u ns mid ms rest gone put =
     let left : List Piece = gone.front ++ gone.back in
     let others : List Piece = put.front ++ put.back in
-    let taken : IsPermutation ns (waits y u ∷ mid) =
-    IsPermutation-trans ns (waits y u ∷ left) (waits y u ∷ mid) (replaced_before (waits y u ∷ []) [] ns mid gone)
+    let taken = IsPermutation-trans ns (waits y u ∷ left) (waits y u ∷ mid) (replaced_before (waits y u ∷ []) [] ns mid gone)
     (IsPermutation-cons (waits y u) left mid
     (IsPermutation-sym mid left (replaced_after (waits y u ∷ []) [] ns mid gone))) in
-    let both : IsPermutation ns (waits y u ∷ waits x y ∷ others) =
-    IsPermutation-trans ns (waits y u ∷ mid) (waits y u ∷ waits x y ∷ others) taken
+    let both = IsPermutation-trans ns (waits y u ∷ mid) (waits y u ∷ waits x y ∷ others) taken
     (IsPermutation-cons (waits y u) mid (waits x y ∷ others)
     (replaced_before (waits x y ∷ []) (waits x u ∷ []) mid ms put)) in
-    let given : IsPermutation ns (waits x y ∷ waits y u ∷ others) =
-    IsPermutation-trans ns (waits y u ∷ waits x y ∷ others) (waits x y ∷ waits y u ∷ others) both
+    let given = IsPermutation-trans ns (waits y u ∷ waits x y ∷ others) (waits x y ∷ waits y u ∷ others) both
     (IsPermutation-middle (waits y u ∷ []) (waits x y) others) in
     one_step p [] (ns ++ rest) (ms ++ rest)
     (joins (ns ++ rest) (ms ++ rest) (record {

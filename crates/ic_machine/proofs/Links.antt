@@ -78,8 +78,7 @@ pub linked_on : (p : Plans) (start : List Piece) (first : Piece) (ls ns ps ms qs
     → ((others : List Piece) → Steps p [] (first ∷ (ns ++ (ps ++ others))) (ms ++ (qs ++ others)))
     → Steps p [] start (ls ++ (ms ++ (qs ++ rest)))
 linked_on p start first ls ns ps ms qs rest before link =
-    let after : Steps p [] start (first ∷ (ns ++ (ps ++ (ls ++ rest)))) =
-    steps_to p [] start ((first ∷ ls) ++ (ns ++ (ps ++ rest))) (first ∷ (ns ++ (ps ++ (ls ++ rest)))) before
+    let after = steps_to p [] start ((first ∷ ls) ++ (ns ++ (ps ++ rest))) (first ∷ (ns ++ (ps ++ (ls ++ rest)))) before
     (IsPermutation-cons first (ls ++ (ns ++ (ps ++ rest))) (ns ++ (ps ++ (ls ++ rest))) (to_back ls ns ps rest)) in
     steps_to p [] start (ms ++ (qs ++ (ls ++ rest))) (ls ++ (ms ++ (qs ++ rest)))
     (steps_through p [] [] start (first ∷ (ns ++ (ps ++ (ls ++ rest)))) (ms ++ (qs ++ (ls ++ rest)))
@@ -98,10 +97,8 @@ pushed_twice us bs cs p q = record {
 sum_of_held : (f : Piece → ℕ) (ns ps : List Piece)
     → sum_by f (ns ++ (ps ++ [])) ≡ sum_by f ns + sum_by f ps
 sum_of_held f ns ps =
-    let a = sum_by-append f ns (ps ++ []) in
-    let b = sum_by-append f ps [] in
     let c : sum_by f [] ≡ 0 = refl in
-    omega arith
+    omega (arith, sum_by-append {X = Piece})
 
 -- what is left to be linked, after the first
 pub links_on : (l : Link) (ls : List Link) (rs old new : List Word) (ps qs : List Equation)
@@ -127,9 +124,7 @@ links_on l ls rs old new ps qs steps pushed links = record {
       let g = sum_of_held (room w) (names_pieces 0 new) (map equated_of qs) in
       let none = equations_room w ps in
       let none_after = equations_room w qs in
-      let more : sum_by (uses w) (map equated_of qs)
-      ≡ sum_by (uses w) (map equated_of ps) + sum_by (uses w) (map equated_of pushed.more) =
-      ap (λ (x : List Equation). sum_by (uses w) (map equated_of x)) pushed.after
+      let more = ap (λ (x : List Equation). sum_by (uses w) (map equated_of x)) pushed.after
       ∙ (ap (sum_by (uses w)) (map-append equated_of ps pushed.more)
       ∙ sum_by-append (uses w) (map equated_of ps) (map equated_of pushed.more)) in
       omega arith;
@@ -192,8 +187,7 @@ pub on_neither : (p : Plans) (start : List Piece) (e : Equation) (ns rest : List
     → Steps p [] start (equated_of e ∷ (ns ++ (map equated_of ps ++ rest))) → qs ≡ ps ++ e ∷ []
     → Steps p [] start (ns ++ (map equated_of qs ++ rest))
 on_neither p start e ns rest ps qs before is =
-    let pushed : map equated_of ps ++ equated_of e ∷ [] ≡ map equated_of qs =
-    sym (ap (map equated_of) is ∙ map-append equated_of ps (e ∷ [])) in
+    let pushed = sym (ap (map equated_of) is ∙ map-append equated_of ps (e ∷ [])) in
     steps_through p [] [] start (equated_of e ∷ (ns ++ (map equated_of ps ++ rest))) (ns ++ (map equated_of qs ++ rest))
     before
     (subst (λ (l : List Piece). Steps p [] (equated_of e ∷ (ns ++ (map equated_of ps ++ rest))) (ns ++ (l ++ rest)))

@@ -37,11 +37,9 @@ to_middle a b c rest =
 pub made_order : (i m l n h p r : List Piece)
     → IsPermutation ((i ++ (m ++ l)) ++ (n ++ (h ++ (p ++ r)))) (l ++ ((i ++ n) ++ (p ++ ((m ++ h) ++ r))))
 made_order i m l n h p r =
-    let left : (i ++ (m ++ l)) ++ (n ++ (h ++ (p ++ r))) ≡ i ++ (m ++ (l ++ (n ++ (h ++ (p ++ r))))) =
-    append_assoc i (m ++ l) (n ++ (h ++ (p ++ r)))
+    let left = append_assoc i (m ++ l) (n ++ (h ++ (p ++ r)))
     ∙ ap (λ (x : List Piece). i ++ x) (append_assoc m l (n ++ (h ++ (p ++ r)))) in
-    let right : l ++ ((i ++ n) ++ (p ++ ((m ++ h) ++ r))) ≡ l ++ (i ++ (n ++ (p ++ (m ++ (h ++ r))))) =
-    ap (λ (x : List Piece). l ++ x) (append_assoc i n (p ++ ((m ++ h) ++ r))
+    let right = ap (λ (x : List Piece). l ++ x) (append_assoc i n (p ++ ((m ++ h) ++ r))
     ∙ ap (λ (x : List Piece). i ++ (n ++ (p ++ x))) (append_assoc m h r)) in
     let inner : IsPermutation (m ++ (l ++ (n ++ (h ++ (p ++ r))))) (l ++ (n ++ (p ++ (m ++ (h ++ r))))) =
     IsPermutation-trans (m ++ (l ++ (n ++ (h ++ (p ++ r))))) (l ++ (m ++ (n ++ (h ++ (p ++ r)))))
@@ -52,9 +50,7 @@ made_order i m l n h p r =
     (to_front m n (h ++ (p ++ r)))
     (IsPermutation-append_right n (m ++ (h ++ (p ++ r))) (p ++ (m ++ (h ++ r)))
     (to_middle m h p r)))) in
-    let outer : IsPermutation (i ++ (m ++ (l ++ (n ++ (h ++ (p ++ r))))))
-    (l ++ (i ++ (n ++ (p ++ (m ++ (h ++ r)))))) =
-    IsPermutation-trans (i ++ (m ++ (l ++ (n ++ (h ++ (p ++ r))))))
+    let outer = IsPermutation-trans (i ++ (m ++ (l ++ (n ++ (h ++ (p ++ r))))))
     (i ++ (l ++ (n ++ (p ++ (m ++ (h ++ r)))))) (l ++ (i ++ (n ++ (p ++ (m ++ (h ++ r))))))
     (IsPermutation-append_right i (m ++ (l ++ (n ++ (h ++ (p ++ r))))) (l ++ (n ++ (p ++ (m ++ (h ++ r))))) inner)
     (to_front i l (n ++ (p ++ (m ++ (h ++ r))))) in
@@ -66,28 +62,22 @@ pub name_room : (w : Word) (ns : List Word) (hs : List Blocks) (ps rest : List E
     → sum_by (room w) (names_pieces 0 ns ++ (heaps_pieces 0 hs ++ (map equated_of ps ++ map equated_of rest)))
     ≡ sum_by (room w) (names_pieces 0 ns)
 name_room w ns hs ps rest h =
-    let a = sum_by-append (room w) (names_pieces 0 ns) (heaps_pieces 0 hs ++ (map equated_of ps ++ map equated_of rest)) in
-    let b = sum_by-append (room w) (heaps_pieces 0 hs) (map equated_of ps ++ map equated_of rest) in
-    let c = sum_by-append (room w) (map equated_of ps) (map equated_of rest) in
     let d = equations_room w ps in
     let e = equations_room w rest in
     let f : sum_by (room w) (heaps_pieces 0 hs) ≡ 0 =
     tables_elsewhere w 0 hs (λ i le lt q. omega arith) in
-    omega arith
+    omega (arith, sum_by-append {X = Piece})
 
 -- and an agent in the tables of agents alone
 pub agent_room_only : (w : Word) (ns : List Word) (hs : List Blocks) (ps rest : List Equation) → 0 < w.tag
     → sum_by (room w) (names_pieces 0 ns ++ (heaps_pieces 0 hs ++ (map equated_of ps ++ map equated_of rest)))
     ≡ sum_by (room w) (heaps_pieces 0 hs)
 agent_room_only w ns hs ps rest h =
-    let a = sum_by-append (room w) (names_pieces 0 ns) (heaps_pieces 0 hs ++ (map equated_of ps ++ map equated_of rest)) in
-    let b = sum_by-append (room w) (heaps_pieces 0 hs) (map equated_of ps ++ map equated_of rest) in
-    let c = sum_by-append (room w) (map equated_of ps) (map equated_of rest) in
     let d = equations_room w ps in
     let e = equations_room w rest in
     let f : sum_by (room w) (names_pieces 0 ns) ≡ 0 =
     names_elsewhere w 0 ns (λ i le. other_tag w (name_word i) (λ q. omega arith)) in
-    omega arith
+    omega (arith, sum_by-append {X = Piece})
 
 all_map : (P Q : Word → Type 0) (ws : List Word) → ((w : Word) → P w → Q w) → AllByRecursion P ws
     → AllByRecursion Q ws
@@ -132,14 +122,12 @@ made_steps q p n ns ns' ns'' hs hs' r0 r1 r2 ps ps' rest o m link =
     let x' : List Piece = names_pieces 0 ns' in
     let start : List Piece = (i ++ (a ++ l)) ++ (x ++ (h ++ (ps ++ rest))) in
     let mid : List Piece = l ++ ((i ++ x) ++ (ps ++ ((a ++ h) ++ rest))) in
-    let tables : IsPermutation mid (l ++ (x' ++ (ps ++ (h' ++ rest)))) =
-    IsPermutation-append_right l ((i ++ x) ++ (ps ++ ((a ++ h) ++ rest))) (x' ++ (ps ++ (h' ++ rest)))
+    let tables = IsPermutation-append_right l ((i ++ x) ++ (ps ++ ((a ++ h) ++ rest))) (x' ++ (ps ++ (h' ++ rest)))
     (IsPermutation-append (i ++ x) x' (ps ++ ((a ++ h) ++ rest)) (ps ++ (h' ++ rest))
     (IsPermutation-sym x' (i ++ x) o.pieces)
     (IsPermutation-append_right ps ((a ++ h) ++ rest) (h' ++ rest)
     (IsPermutation-append_left rest (a ++ h) h' (IsPermutation-sym h' (a ++ h) m.pieces)))) in
-    let before : IsPermutation start (l ++ (x' ++ (ps ++ (h' ++ rest)))) =
-    IsPermutation-trans start mid (l ++ (x' ++ (ps ++ (h' ++ rest)))) (made_order i a l x h ps rest) tables in
+    let before = IsPermutation-trans start mid (l ++ (x' ++ (ps ++ (h' ++ rest)))) (made_order i a l x h ps rest) tables in
     steps_to q [] start (names_pieces 0 ns'' ++ (ps' ++ (h' ++ rest))) (names_pieces 0 ns'' ++ (h' ++ (ps' ++ rest)))
     (steps_from q [] start (l ++ (x' ++ (ps ++ (h' ++ rest)))) (names_pieces 0 ns'' ++ (ps' ++ (h' ++ rest)))
     before (link (h' ++ rest)))
@@ -192,10 +180,8 @@ plan_links arities p args names made ns ns' plan en em agents words order named 
       let none : count w made ≡ 0 = no_name w made refl agents in
       let u = sum_by-IsPermutation (uses w) (names_pieces 0 ns') (map idle names ++ names_pieces 0 ns) order in
       let r = sum_by-IsPermutation (room w) (names_pieces 0 ns') (map idle names ++ names_pieces 0 ns) order in
-      let ua = sum_by-append (uses w) (map idle names) (names_pieces 0 ns) in
-      let ra = sum_by-append (room w) (map idle names) (names_pieces 0 ns) in
       let ui = idle_uses w names in
       let ri = idle_room w names in
       let before = named i in
-      omega arith;
+      omega (arith, sum_by-append {X = Piece});
 }

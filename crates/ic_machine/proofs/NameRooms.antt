@@ -54,11 +54,9 @@ not_free ws i h free =
 pub replaced_length : (old new xs ys : List Piece) → Replaced old new xs ys
     → length ys + length old ≡ length xs + length new
 replaced_length old new xs ys r =
-    let a : length xs ≡ length r.front + (length old + length r.back) =
-    ap length r.before ∙ (length-append r.front (old ++ r.back)
+    let a = ap length r.before ∙ (length-append r.front (old ++ r.back)
     ∙ ap (λ (n : ℕ). length r.front + n) (length-append old r.back)) in
-    let b : length ys ≡ length r.front + (length new + length r.back) =
-    ap length r.after ∙ (length-append r.front (new ++ r.back)
+    let b = ap length r.after ∙ (length-append r.front (new ++ r.back)
     ∙ ap (λ (n : ℕ). length r.front + n) (length-append new r.back)) in
     omega arith
 

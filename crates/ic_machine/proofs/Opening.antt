@@ -44,8 +44,7 @@ opened_entry ws vs i j u is word r =
     let nothing : sum_by f [] ≡ 0 = refl in
     let old : sum_by f (names_pieces 0 ws) ≡ sum_by f (entry_piece i (entry ws i)) =
     names_sum f ws 0 i i (sym (zero-add i)) (λ k w apart. entry_apart i k u w (ne_eqb k i apart)) in
-    let there : sum_by f (entry_piece i (entry ws i)) ≡ 1 =
-    ap (λ (w : Word). sum_by f (entry_piece i w)) (sym is) ∙ (ap (sum_by f) (waiting_piece i u word) ∙ own) in
+    let there = ap (λ (w : Word). sum_by f (entry_piece i w)) (sym is) ∙ (ap (sum_by f) (waiting_piece i u word) ∙ own) in
     let its : sum_by f (names_pieces 0 vs) ≡ sum_by f (entry_piece i (entry vs i)) =
     names_sum f vs 0 i i (sym (zero-add i)) (λ k w apart. entry_apart i k u w (ne_eqb k i apart)) in
     entry_is i u (entry vs i) (omega arith)
@@ -108,21 +107,16 @@ circle_hand arities x y u old new h rest anew s = record {
       let rx = sum_of_parts (room w) old (waits x u ∷ []) anew.others anew.waited in
       let uy = sum_of_parts (uses w) new (waits x y ∷ idle y ∷ []) anew.others anew.waits_now in
       let ry = sum_of_parts (room w) new (waits x y ∷ idle y ∷ []) anew.others anew.waits_now in
-      let u1 = sum_by-append (uses w) old h in
-      let r1 = sum_by-append (room w) old h in
-      let u2 = sum_by-append (uses w) new h in
-      let r2 = sum_by-append (room w) new h in
-      omega arith;
+      omega (arith, sum_by-append {X = Piece});
 }
 
 -- a name that is free is at no place
 pub free_nowhere : (ws : List Word) (hs : List Blocks) (i : ℕ) → (entry ws i).tag ≡ FREE
     → sum_by (room (name_word i)) (names_pieces 0 ws ++ heaps_pieces 0 hs) ≡ 0
 free_nowhere ws hs i free =
-    let both = sum_by-append (room (name_word i)) (names_pieces 0 ws) (heaps_pieces 0 hs) in
     let names = free_room ws i free in
     let agents : sum_by (room (name_word i)) (heaps_pieces 0 hs) ≡ 0 = tables_elsewhere (name_word i) 0 hs (λ k le lt q. omega arith) in
-    omega arith
+    omega (arith, sum_by-append {X = Piece})
 
 -- ---- cuts, one after another
 
@@ -176,8 +170,7 @@ marked_block b a m o at sound lt free =
     let some : 1 ≤ b.arity = block_some b sound (omega arith) in
     let len : length (block_at b m) ≡ b.arity = block_length b m sound lt in
     let none : m * b.arity + 0 ≡ m * b.arity = omega arith in
-    let first : slice_index_or (block_at b m) 0 (name_word 0) ≡ first_word b m =
-    get_or-take b.arity (drop (m * b.arity) b.words) 0 (name_word 0) some
+    let first = get_or-take b.arity (drop (m * b.arity) b.words) 0 (name_word 0) some
     ∙ (get_or-drop (m * b.arity) b.words 0 (name_word 0) ∙ ap (λ (k : ℕ). slice_index_or b.words k (name_word 0)) none) in
     ap (λ (k : ℕ). block_piece a (take b.arity (drop k b.words))) at
     ∙ block_free a (block_at b m) (name_word 0) (omega arith) (ap (λ (w : Word). w.tag) first ∙ free)

@@ -48,43 +48,22 @@ reordered arities vs us ps fewer s = record {
 -- what is left where the words in hand are dropped
 pub hand_left : (arities : List ℕ) (ws es others : List Word) (ps : List Piece) → IsSeparate arities (ws ++ (es ++ others)) ps
     → IsSeparate arities others ps
-hand_left arities ws es others ps = reordered arities (ws ++ (es ++ others)) others ps (λ w.
-    let a = count_append w ws (es ++ others) in
-    let b = count_append w es others in
-    omega arith)
+hand_left arities ws es others ps = reordered arities (ws ++ (es ++ others)) others ps (λ w. omega (arith, count_append))
 
 -- the words in hand by themselves
 pub hand_alone : (arities : List ℕ) (ws es others : List Word) (ps : List Piece) → IsSeparate arities (ws ++ (es ++ others)) ps
     → IsSeparate arities (ws ++ (es ++ [])) ps
-hand_alone arities ws es others ps = reordered arities (ws ++ (es ++ others)) (ws ++ (es ++ [])) ps (λ w.
-    let a = count_append w ws (es ++ others) in
-    let b = count_append w es others in
-    let c = count_append w ws (es ++ []) in
-    let d = count_append w es [] in
-    let none : count w [] ≡ 0 = refl in
-    omega arith)
+hand_alone arities ws es others ps = reordered arities (ws ++ (es ++ others)) (ws ++ (es ++ [])) ps (λ w. omega (arith, sum_by-append {X = Word}))
 
 -- some words in hand wait among the others
 pub hand_first : (arities : List ℕ) (first later es others : List Word) (ps : List Piece)
     → IsSeparate arities ((first ++ later) ++ (es ++ others)) ps → IsSeparate arities (first ++ (es ++ (later ++ others))) ps
-hand_first arities first later es others ps = reordered arities ((first ++ later) ++ (es ++ others)) (first ++ (es ++ (later ++ others))) ps (λ w.
-    let a = count_append w (first ++ later) (es ++ others) in
-    let b = count_append w first later in
-    let c = count_append w es others in
-    let d = count_append w first (es ++ (later ++ others)) in
-    let e = count_append w es (later ++ others) in
-    let f = count_append w later others in
-    omega arith)
+hand_first arities first later es others ps = reordered arities ((first ++ later) ++ (es ++ others)) (first ++ (es ++ (later ++ others))) ps (λ w. omega (arith, sum_by-append {X = Word}))
 
 -- and are next
 pub hand_next : (arities : List ℕ) (later es others : List Word) (ps : List Piece) → IsSeparate arities (es ++ (later ++ others)) ps
     → IsSeparate arities (later ++ (es ++ others)) ps
-hand_next arities later es others ps = reordered arities (es ++ (later ++ others)) (later ++ (es ++ others)) ps (λ w.
-    let a = count_append w es (later ++ others) in
-    let b = count_append w later others in
-    let c = count_append w later (es ++ others) in
-    let d = count_append w es others in
-    omega arith)
+hand_next arities later es others ps = reordered arities (es ++ (later ++ others)) (later ++ (es ++ others)) ps (λ w. grind (arith, sum_by-append {X = Word}))
 
 -- the names of ends of cuts, where there is one more
 pub ends_named : (w : Word) (bs cs : List CutEnd) (e : CutEnd) → IsPermutation cs (e ∷ bs)
@@ -93,8 +72,7 @@ ends_named w bs cs e h =
     let moved : count w (end_word e ∷ map end_word bs) ≡ count w (map end_word cs) =
     sum_by-IsPermutation (λ (v : Word). cond {A = ℕ} (word_eq w v) 1 0) (map end_word cs) (end_word e ∷ map end_word bs)
     (IsPermutation-map end_word cs (e ∷ bs) h) in
-    let both = count_append w (end_word e ∷ []) (map end_word bs) in
-    omega arith
+    omega (arith, count_append w (end_word e ∷ []) (map end_word bs))
 
 -- an end of a cut is named
 pub end_named : (bs : List CutEnd) (e : CutEnd) → Contains bs e → 1 ≤ count (end_word e) (map end_word bs)
@@ -120,17 +98,14 @@ pub named_there : (arities : List ℕ) (i : ℕ) (ws : List Word) (ns : List Wor
 named_there arities i ws ns hs named s =
     let w : Word = name_word i in
     let before = s.each w refl in
-    let r = sum_by-append (room w) (names_pieces 0 ns) (heaps_pieces 0 hs) in
     let none : sum_by (room w) (heaps_pieces 0 hs) ≡ 0 = tables_elsewhere w 0 hs (λ k le lt q. omega arith) in
-    omega arith
+    omega (arith, sum_by-append {X = Piece})
 
 -- the last word of a stack is named
 pub last_named : (w : Word) (ss rest : List Word) → 1 ≤ count w ((ss ++ w ∷ []) ++ rest)
 last_named w ss rest =
-    let a = count_append w (ss ++ w ∷ []) rest in
-    let b = count_append w ss (w ∷ []) in
     let own = one_named w in
-    omega arith
+    omega (arith, sum_by-append {X = Word})
 
 -- an agent with arguments that is named outside has room
 pub agent_there : (arities : List ℕ) (a : Word) (ws : List Word) (ns : List Word) (hs : List Blocks) → 1 ≤ a.tag
@@ -164,44 +139,22 @@ pub name_in_hand : (arities : List ℕ) (i : ℕ) (es fs : List Word) (h : List 
 name_in_hand arities i es fs h bs cs ws vs ss ts others (followed xs ys zs us rs u taken) s = record {
   each = λ w place.
       let before = s.each w place in
-      let a = count_append w (rs ++ name_word i ∷ []) (map end_word zs ++ others) in
-      let b = count_append w rs (name_word i ∷ []) in
-      let c = count_append w (rs ++ u ∷ []) (map end_word zs ++ others) in
-      let d = count_append w rs (u ∷ []) in
       let ux = sum_of_parts (uses w) (names_pieces 0 xs) (waits (name_word i) u ∷ []) (names_pieces 0 ys) taken in
       let rx = sum_of_parts (room w) (names_pieces 0 xs) (waits (name_word i) u ∷ []) (names_pieces 0 ys) taken in
-      let u1 = sum_by-append (uses w) (names_pieces 0 xs) h in
-      let r1 = sum_by-append (room w) (names_pieces 0 xs) h in
-      let u2 = sum_by-append (uses w) (names_pieces 0 ys) h in
-      let r2 = sum_by-append (room w) (names_pieces 0 ys) h in
-      omega arith;
+      omega (arith, sum_by-append {X = Word}, sum_by-append {X = Piece});
 }
 name_in_hand arities i es fs h bs cs ws vs ss ts others (begun xs ys zs us rs c more) s =
     reordered arities ((rs ++ name_word i ∷ []) ++ (map end_word ys ++ others)) (rs ++ (map end_word zs ++ others)) (names_pieces 0 xs ++ h) (λ w.
-    let a = count_append w (rs ++ name_word i ∷ []) (map end_word ys ++ others) in
-    let b = count_append w rs (name_word i ∷ []) in
-    let d = count_append w (map end_word ys) others in
-    let e = count_append w rs (map end_word zs ++ others) in
-    let f = count_append w (map end_word zs) others in
     let g = ends_named w ys zs (record { cut = c; name = i }) more in
-    omega arith) s
+    omega (arith, sum_by-append {X = Word})) s
 name_in_hand arities i es fs h bs cs ws vs ss ts others (ended xs ys zs qs us rs c taken less) s = record {
   each = λ w place.
       let before = s.each w place in
-      let a = count_append w (rs ++ name_word i ∷ []) (map end_word zs ++ others) in
-      let b = count_append w rs (name_word i ∷ []) in
-      let d = count_append w (map end_word zs) others in
-      let e = count_append w rs (map end_word qs ++ others) in
-      let f = count_append w (map end_word qs) others in
       let g = ends_named w qs zs (record { cut = c; name = i }) less in
       let two = both_or_none (word_eq w (name_word i)) in
       let ux = sum_of_parts (uses w) (names_pieces 0 xs) (idle (name_word i) ∷ []) (names_pieces 0 ys) taken in
       let rx = sum_of_parts (room w) (names_pieces 0 xs) (idle (name_word i) ∷ []) (names_pieces 0 ys) taken in
-      let u1 = sum_by-append (uses w) (names_pieces 0 xs) h in
-      let r1 = sum_by-append (room w) (names_pieces 0 xs) h in
-      let u2 = sum_by-append (uses w) (names_pieces 0 ys) h in
-      let r2 = sum_by-append (room w) (names_pieces 0 ys) h in
-      omega arith;
+      omega (arith, sum_by-append {X = Word}, sum_by-append {X = Piece});
 }
   where
     both_or_none : (b : Bool) → ◌≡◌ {A = ℕ} (cond b 2 0) (cond b 1 0 + cond b 1 0)
@@ -272,20 +225,16 @@ pub name_lighter : (i : ℕ) (es fs : List Word) (h : List Piece) (bs cs : List 
     → sum_by weight (names_pieces 0 fs ++ h) + length ts < sum_by weight (names_pieces 0 es ++ h) + length (ss ++ name_word i ∷ [])
 name_lighter i es fs h bs cs ws vs ss ts (followed xs ys zs us rs u taken) =
     let a = sum_of_parts weight (names_pieces 0 xs) (waits (name_word i) u ∷ []) (names_pieces 0 ys) taken in
-    let b = sum_by-append weight (names_pieces 0 xs) h in
-    let c = sum_by-append weight (names_pieces 0 ys) h in
     let d = length-append rs (name_word i ∷ []) in
     let e = length-append rs (u ∷ []) in
-    omega arith
+    omega (arith, sum_by-append {X = Piece})
 name_lighter i es fs h bs cs ws vs ss ts (begun xs ys zs us rs c more) =
     let d = length-append rs (name_word i ∷ []) in
     omega arith
 name_lighter i es fs h bs cs ws vs ss ts (ended xs ys zs qs us rs c taken less) =
     let a = sum_of_parts weight (names_pieces 0 xs) (idle (name_word i) ∷ []) (names_pieces 0 ys) taken in
-    let b = sum_by-append weight (names_pieces 0 xs) h in
-    let e = sum_by-append weight (names_pieces 0 ys) h in
     let d = length-append rs (name_word i ∷ []) in
-    omega arith
+    omega (arith, sum_by-append {X = Piece})
 
 -- ---- the word that waits for an end of a cut was taken out
 
@@ -296,17 +245,10 @@ pub shipped_hand : (arities : List ℕ) (e : CutEnd) (u : Word) (es fs : List Wo
 shipped_hand arities e u es fs h bs cs others taken less s = record {
   each = λ w place.
       let before = s.each w place in
-      let a = count_append w (map end_word bs) others in
       let b = ends_named w cs bs e less in
-      let c = count_append w (u ∷ []) (map end_word cs ++ others) in
-      let d = count_append w (map end_word cs) others in
       let ux = sum_of_parts (uses w) (names_pieces 0 es) (waits (end_word e) u ∷ []) (names_pieces 0 fs) taken in
       let rx = sum_of_parts (room w) (names_pieces 0 es) (waits (end_word e) u ∷ []) (names_pieces 0 fs) taken in
-      let u1 = sum_by-append (uses w) (names_pieces 0 es) h in
-      let r1 = sum_by-append (room w) (names_pieces 0 es) h in
-      let u2 = sum_by-append (uses w) (names_pieces 0 fs) h in
-      let r2 = sum_by-append (room w) (names_pieces 0 fs) h in
-      omega arith;
+      omega (arith, count_append w (u ∷ []) (map end_word cs ++ others), sum_by-append {X = Word}, sum_by-append {X = Piece});
 }
 
 -- ---- an agent was packed
@@ -330,24 +272,17 @@ agent_in_hand arities a n xs ys ws vs ss ts rest p s = by_tag (is_constant_tag a
         subst (λ (l : List Word). IsSeparate arities (l ++ rest) (n ++ ys)) (sym same.2)
         (subst (λ (l : List Piece). IsSeparate arities (ss ++ rest) (n ++ l)) (sym same.0)
         (reordered arities ((ss ++ a ∷ []) ++ rest) (ss ++ rest) (n ++ xs) (λ w.
-        let c = count_append w (ss ++ a ∷ []) rest in
-        let d = count_append w ss (a ∷ []) in
-        let f = count_append w ss rest in
-        omega arith) s))
+        omega (arith, sum_by-append {X = Word})) s))
     by_tag false e =
         let all = p.opened e in
         let args : List Word = all.0 in
         subst (λ (l : List Word). IsSeparate arities (l ++ rest) (n ++ ys)) (sym all.4) (record {
           each = λ w place.
               let before = s.each w place in
-              let c = count_append w (ss ++ a ∷ []) rest in
-              let d = count_append w ss (a ∷ []) in
-              let f = count_append w (ss ++ reverse args) rest in
-              let g = count_append w ss (reverse args) in
               let turned = count_reversed w args in
               let ux = sum_of_parts (uses w) (n ++ xs) (agent_of a args ∷ []) (n ++ ys) (first_agent n xs ys (agent_of a args) all.2) in
               let rx = sum_of_parts (room w) (n ++ xs) (agent_of a args ∷ []) (n ++ ys) (first_agent n xs ys (agent_of a args) all.2) in
-              omega arith;
+              omega (arith, sum_by-append {X = Word});
         })
 
 pub agent_goes : (arities : List ℕ) (first : Side) (root : Word) (before : List Word) (a : Word) (n xs ys : List Piece) (bs : List CutEnd)
@@ -374,8 +309,7 @@ agent_goes arities first root before a n xs ys bs ws vs ss ts p g = by_tag (is_c
         let new : Side = record { places = n ++ ys; ends = bs } in
         let all = p.opened e in
         let args : List Word = all.0 in
-        let stack : reverse ts ≡ args ++ reverse ss =
-        ap reverse all.4 ∙ (reverse-append ss (reverse args) ∙ ap (λ (l : List Word). l ++ reverse ss) (reverse-reverse args)) in
+        let stack = ap reverse all.4 ∙ (reverse-append ss (reverse args) ∙ ap (λ (l : List Word). l ++ reverse ss) (reverse-reverse args)) in
         record {
           more = g.more ++ spelled_agent a ∷ [];
           written = written_on before g.more ws vs (spelled_agent a) g.written all.3;
@@ -411,9 +345,8 @@ agent_lighter arities a n xs ys ws vs ss ts p = by_tag (is_constant_tag arities 
 
 pub spells_push : (c k : ℕ) (ws : List Word) → spells_cut c (ws ++ name_word k ∷ []) ≡ spells_cut c ws + times c (k ∷ [])
 spells_push c k ws =
-    let both = sum_by-append (λ (w : Word). cond {A = ℕ} (w.tag == NAME && w.index == c) 1 0) ws (name_word k ∷ []) in
     let one = by_case (k == c) in
-    omega arith
+    omega (arith, sum_by-append {X = Word})
   where
     by_case : (b : Bool) → ◌≡◌ {A = ℕ} (cond (true && b) 1 0) (cond b 1 0)
     by_case true = refl
@@ -421,10 +354,9 @@ spells_push c k ws =
 
 pub spells_other : (c : ℕ) (a : Word) (ws : List Word) → (a.tag ≡ NAME → ⊥) → spells_cut c (ws ++ a ∷ []) ≡ spells_cut c ws
 spells_other c a ws other =
-    let both = sum_by-append (λ (w : Word). cond {A = ℕ} (w.tag == NAME && w.index == c) 1 0) ws (a ∷ []) in
     let tag : (a.tag == NAME && a.index == c) ≡ false = rw (ne_eqb a.tag NAME other) (false-and (a.index == c)) in
     let none : spells_cut c (a ∷ []) ≡ 0 = rw tag refl in
-    omega arith
+    omega (arith, sum_by-append {X = Word})
 
 -- the worth of what is left where an end of a cut is taken out
 pub removed_worth : (c k name : ℕ) (old new : Ends) → IsPermutation old.ends (record { cut = k; name = name } ∷ new.ends)
@@ -466,13 +398,6 @@ agent_worth arities a xs ys b ws vs ss ts other p = λ c. ap (λ (n : ℕ). wort
     by_tag c false e = ap (spells_cut c) (p.opened e).3 ∙ spells_other c (spelled_agent a) ws other
 
 -- ---- a whole tree
-
-pub way_begun : (arities : List ℕ) (s : Side) (root : Word) (words : List Word) → IsUnderWay arities s s root words words (root ∷ [])
-way_begun arities s root words = record {
-  more = [];
-  written = sym (append-nil words);
-  spells = λ rest ts all. all;
-}
 
 pub way_ended : (arities : List ℕ) (first now : Side) (root : Word) (before words stack : List Word) → stack ≡ []
     → IsUnderWay arities first now root before words stack → PacksTree arities root first now before words
@@ -582,8 +507,7 @@ one_out x (y ∷ f) b (z ∷ g) c e =
 pub freed_then : (x g : Piece) (old mid new : List Piece) → Replaced (x ∷ []) (g ∷ []) old mid → Replaced (g ∷ []) [] mid new
     → IsPermutation old (x ∷ new)
 freed_then x g old mid new p q =
-    let same : IsPermutation (p.front ++ p.back) (q.front ++ q.back) =
-    one_out g p.front p.back q.front q.back (sym p.after ∙ q.before) in
+    let same = one_out g p.front p.back q.front q.back (sym p.after ∙ q.before) in
     subst (λ (l : List Piece). IsPermutation old (x ∷ l)) (sym q.after)
     (IsPermutation-trans old (x ∷ (p.front ++ p.back)) (x ∷ (q.front ++ q.back)) (replaced_before (x ∷ []) (g ∷ []) old mid p)
     (IsPermutation-cons x (p.front ++ p.back) (q.front ++ q.back) same))

@@ -1,7 +1,6 @@
 -- How the number of a pair of symbols is found: none, and one more.
-use Rattle.std.proofs.Common.{◌≡◌, ℕ, zero, suc, ◌+◌, ◌*◌, ◌^◌, ◌/◌, ◌%◌, ◌<◌, ◌==◌, ◌&&◌, Bool, true, false, cond, List, [], ◌∷◌, ◌++◌, Option, None, Some, length, set, slice_index_or, nat_lt, refl, sym, ap, ◌∙◌, arith}
+use Rattle.std.proofs.Common.{◌≡◌, ℕ, ◌+◌, ◌*◌, ◌^◌, ◌/◌, ◌%◌, ◌<◌, ◌==◌, ◌&&◌, Bool, true, false, cond, List, [], ◌∷◌, ◌++◌, Option, None, Some, length, set, slice_index_or, nat_lt, refl, sym, ap, ◌∙◌, arith}
 use Rattle.std.specs.Cmp.{unsigned_Decides}
-use Rattle.std.specs.List.{AllByRecursion}
 use Rattle.std.specs.HashMap.{get}
 use Rattle.std.proofs.lemmas.Bool.{and_from, and_parts, false_from_ne_true, ltb-true, ltb-false, lt-ltb}
 use Rattle.std.proofs.lemmas.List.{get_or-set_same, get_or-set_other}
@@ -9,21 +8,6 @@ use Rattle.std.proofs.lemmas.Nat.{mul-add-lt, div-mul-add, mod-mul-add}
 use Rattle.ic_machine.specs.Plan.{place_of}
 use Rattle.ic_machine.specs.inner.PairIndex.{Keyed, key_of, number_in, IsIndex}
 use Rattle.ic_machine.specs.lemmas.PairLaws.{pair_same, place_pushed, same_pair}
-
--- no entry is a number
-pub none_read : (es : List (Option ℕ)) (i : ℕ) → AllByRecursion (λ e. e ≡ None) es → slice_index_or es i None ≡ None
-none_read [] i all = refl
-none_read (e ∷ es) zero all = all.0
-none_read (e ∷ es) (suc i) all = none_read es i all.1
-
-pub none_in : (rows : ℕ) (es : List (Option ℕ)) (others : Keyed) (a b : ℕ) → AllByRecursion (λ e. e ≡ None) es
-    → ((k : ℕ) → get (λ m n. m == n) others k ≡ None) → number_in rows es others a b ≡ None
-none_in rows es others a b all none = by (nat_lt a rows && nat_lt b rows) (nat_lt b (2 ^ 32))
-  where
-    by : (c d : Bool) → cond c (slice_index_or es (a * rows + b) None) (cond d (get (λ m n. m == n) others (key_of a b)) None) ≡ None
-    by true d = none_read es (a * rows + b) all
-    by false true = none (key_of a b)
-    by false false = refl
 
 -- two pairs of one place, in rows of this length
 one_place : (rows a b x y : ℕ) → b < rows → y < rows → x * rows + y ≡ a * rows + b → (x ≡ a) × (y ≡ b)

@@ -8,7 +8,7 @@ use Rattle.std.proofs.lemmas.List.Sums.{sum_by-append, sum_by-cons}
 use Rattle.ic_arena.specs.declared.word.Word.{Word}
 use Rattle.ic_arena.specs.declared.word.TheConstants.{GIVEN}
 use Rattle.ic_arena.specs.Word.{count}
-use Rattle.ic_arena.specs.Piece.{Piece, room, uses}
+use Rattle.ic_arena.specs.Piece.{Piece, uses}
 use Rattle.ic_machine.specs.declared.equation.Equation.{Equation}
 use Rattle.ic_machine.specs.declared.machine.Machine.TheInside.{Inside}
 use Rattle.ic_machine.specs.declared.tables.Tables.{Tables}
@@ -22,7 +22,7 @@ use Rattle.ic_machine.specs.inner.Moving.{places_in, AreInHand, AreLeft, HasMore
 use Rattle.ic_machine.specs.lemmas.Balance.{equations_room}
 use Rattle.ic_machine.specs.lemmas.Spelled.{spells_from, spells_none, spells_on}
 use Rattle.ic_machine.proofs.Heaps.{as_many}
-use Rattle.ic_machine.proofs.Packing.{count_append, reordered}
+use Rattle.ic_machine.proofs.Packing.{reordered}
 
 -- ---- sizes
 
@@ -48,17 +48,6 @@ same_names t few = record {
   pending = refl;
   registers = refl;
   spare = refl;
-}
-
-pub as_many_names : (a b : Tables) → length a.names.entries < 2 ^ 32 → IsAsLarge a b → HasMoreNames a b
-as_many_names a b few p = record {
-  names = let same = p.names in omega arith;
-  few = let same = p.names in omega arith;
-  blocks = p.blocks;
-  arities = p.arities;
-  pending = p.pending;
-  registers = p.registers;
-  spare = p.spare;
 }
 
 pub more_names_on : (a b c : Tables) → HasMoreNames a b → HasMoreNames b c → HasMoreNames a c
@@ -114,9 +103,8 @@ pub equations_use : (w : Word) (es : List Equation) → sum_by (uses w) (map equ
 equations_use w [] = refl
 equations_use w (e ∷ es) =
     let a = sum_by-cons (uses w) (equated_of e) (map equated_of es) in
-    let b = count_append w (e.left ∷ e.right ∷ []) (sides_of es) in
     let later = equations_use w es in
-    omega arith
+    omega (arith, sum_by-append {X = Word})
 
 -- some of the pending equations are taken in hand
 pub to_hand : (arities : List ℕ) (interface ends : List Word) (given rest aside : List Equation) (ps : List Piece)
@@ -125,23 +113,13 @@ pub to_hand : (arities : List ℕ) (interface ends : List Word) (given rest asid
 to_hand arities interface ends given rest aside ps s = record {
   each = λ w place.
       let before = s.each w place in
-      let u1 = sum_by-append (uses w) (map equated_of (given ++ rest)) (map equated_of aside ++ ps) in
-      let u2 = sum_by-append (uses w) (map equated_of aside) ps in
       let u3 = ap (sum_by (uses w)) (map-append equated_of given rest) in
-      let u4 = sum_by-append (uses w) (map equated_of given) (map equated_of rest) in
-      let r1 = sum_by-append (room w) (map equated_of (given ++ rest)) (map equated_of aside ++ ps) in
-      let r2 = sum_by-append (room w) (map equated_of aside) ps in
       let a = equations_use w given in
       let b = equations_use w rest in
       let c = equations_use w aside in
       let none = equations_room w (given ++ rest) in
       let nothing = equations_room w aside in
-      let n1 = count_append w interface ends in
-      let n2 = count_append w (sides_of given) (ends ++ (interface ++ (sides_of rest ++ sides_of aside))) in
-      let n3 = count_append w ends (interface ++ (sides_of rest ++ sides_of aside)) in
-      let n4 = count_append w interface (sides_of rest ++ sides_of aside) in
-      let n5 = count_append w (sides_of rest) (sides_of aside) in
-      omega arith;
+      omega (arith, sum_by-append {X = Piece}, sum_by-append {X = Word});
 }
 
 -- what is left of them is among the pieces
@@ -151,19 +129,11 @@ pub from_hand : (arities : List ℕ) (interface ends : List Word) (rest aside : 
 from_hand arities interface ends rest aside ps s = record {
   each = λ w place.
       let before = s.each w place in
-      let u1 = sum_by-append (uses w) (map equated_of rest) (map equated_of aside ++ ps) in
-      let u2 = sum_by-append (uses w) (map equated_of aside) ps in
-      let r1 = sum_by-append (room w) (map equated_of rest) (map equated_of aside ++ ps) in
-      let r2 = sum_by-append (room w) (map equated_of aside) ps in
       let b = equations_use w rest in
       let c = equations_use w aside in
       let none = equations_room w rest in
       let nothing = equations_room w aside in
-      let n1 = count_append w interface ends in
-      let n3 = count_append w ends (interface ++ (sides_of rest ++ sides_of aside)) in
-      let n4 = count_append w interface (sides_of rest ++ sides_of aside) in
-      let n5 = count_append w (sides_of rest) (sides_of aside) in
-      omega arith;
+      omega (arith, sum_by-append {X = Piece}, sum_by-append {X = Word});
 }
 
 -- the same without ends of cuts
@@ -268,13 +238,7 @@ all_hand m n b es us is bordered pending aside =
     subst (λ (l : List Equation). IsSeparate a (e ++ (sides_of l ++ (sides_of us ++ i))) (places_in m.tables)) (sym pending)
     (subst (λ (l : List Equation). IsSeparate a (e ++ (p ++ (sides_of l ++ i))) (places_in m.tables)) (sym aside)
     (reordered a (e ++ (i ++ (p ++ q))) (e ++ (p ++ (q ++ i))) (places_in m.tables) (λ w.
-    let c1 = count_append w e (i ++ (p ++ q)) in
-    let c2 = count_append w i (p ++ q) in
-    let c3 = count_append w p q in
-    let c4 = count_append w e (p ++ (q ++ i)) in
-    let c5 = count_append w p (q ++ i) in
-    let c6 = count_append w q i in
-    omega arith) (machine_hand m n b 0 is bordered)))
+    omega (arith, sum_by-append {X = Word})) (machine_hand m n b 0 is bordered)))
 
 -- a machine of which all was taken out
 pub empty_sound : (m : Inside) (t : Tables) (aside : Vec Equation Global) → IsSound m → t.pending.items ≡ [] → aside.items ≡ []
@@ -297,9 +261,7 @@ empty_bordered m t aside b pending none hand =
     (sym pending)
     (subst (λ (l : List Equation). IsSeparate (arities_of t.heaps.items) (i ++ e) (map equated_of l ++ places_in t)) (sym none)
     (reordered (arities_of t.heaps.items) (e ++ i) (i ++ e) (places_in t) (λ w.
-    let a = count_append w e i in
-    let c = count_append w i e in
-    omega arith) hand))
+    omega (arith, sum_by-append {X = Word})) hand))
 
 -- what is spelled of sides whose pieces stand in another order
 pub packs_from : (arities : List ℕ) (es : List Equation) (a b c : Side) (us vs : List Word) → IsPermutation c.places a.places

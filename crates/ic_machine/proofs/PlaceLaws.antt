@@ -10,7 +10,7 @@ use Rattle.ic_machine.specs.Net.{Net, in_use, is_at, pieces, places_of}
 use Rattle.ic_machine.specs.Runs.{Ran, Starts, Way, greatest}
 use Rattle.ic_machine.specs.Steps.{Step, turns, puts, meets, joins, fires, Steps, no_step, one_more}
 use Rattle.ic_machine.specs.lemmas.Balance.{no_front, no_back}
-use Rattle.ic_machine.specs.lemmas.Separation.{sum_of_parts}
+use Rattle.ic_machine.specs.lemmas.Separation.{fewer}
 
 -- ---- steps that fire nothing take no place more
 
@@ -19,21 +19,15 @@ used kind p = cond (is_at kind p) 1 0
 
 step_uses : (p : Plans) (is : List ℕ) (kind : ℕ) (xs ys : List Piece) → is ≡ [] → Step p is xs ys → in_use kind ys ≤ in_use kind xs
 step_uses p is kind xs ys e (turns a b t) =
-    let x = sum_of_parts (used kind) a (equated t.left t.right ∷ []) t.rest t.given in
-    let y = sum_of_parts (used kind) b (equated t.right t.left ∷ []) t.rest t.result in
-    omega arith
+    fewer (used kind) a (equated t.left t.right ∷ []) b (equated t.right t.left ∷ []) t.rest t.given t.result (omega arith)
 step_uses p is kind xs ys e (puts a b t) =
-    let x = sum_of_parts (used kind) a (equated t.named t.other ∷ idle t.named ∷ []) t.rest t.given in
-    let y = sum_of_parts (used kind) b (waits t.named t.other ∷ []) t.rest t.result in
-    omega arith
+    fewer (used kind) a (equated t.named t.other ∷ idle t.named ∷ []) b (waits t.named t.other ∷ []) t.rest t.given t.result (omega arith)
 step_uses p is kind xs ys e (meets a b t) =
-    let x = sum_of_parts (used kind) a (equated t.named t.other ∷ waits t.named t.waiting ∷ []) t.rest t.given in
-    let y = sum_of_parts (used kind) b (equated t.waiting t.other ∷ []) t.rest t.result in
-    omega arith
+    fewer (used kind) a (equated t.named t.other ∷ waits t.named t.waiting ∷ []) b (equated t.waiting t.other ∷ []) t.rest t.given t.result
+    (omega arith)
 step_uses p is kind xs ys e (joins a b t) =
-    let x = sum_of_parts (used kind) a (waits t.named t.between ∷ waits t.between t.waiting ∷ []) t.rest t.given in
-    let y = sum_of_parts (used kind) b (waits t.named t.waiting ∷ []) t.rest t.result in
-    omega arith
+    fewer (used kind) a (waits t.named t.between ∷ waits t.between t.waiting ∷ []) b (waits t.named t.waiting ∷ []) t.rest t.given t.result
+    (omega arith)
 step_uses p is kind xs ys e (fires i a b t) = cc
 
 pub steps_use : (p : Plans) (is : List ℕ) (kind : ℕ) (xs ys : List Piece) → is ≡ [] → Steps p is xs ys → in_use kind ys ≤ in_use kind xs

@@ -1,5 +1,5 @@
 -- Lemmas: an agent that is put into a block, with its arguments from the top of a stack.
-use Rattle.std.proofs.Common.{◌≡◌, ℕ, zero, suc, ◌+◌, ◌-◌, ◌<◌, ◌≤◌, ◌==◌, inl, inr, Bool, true, false, cond, List, [], ◌∷◌, ◌++◌, Option, None, Some, length, map, max, take, drop, reverse, slice_get, slice_set, zero-add, refl, ap, sym, subst, ◌∙◌, arith, sum_by}
+use Rattle.std.proofs.Common.{◌≡◌, ℕ, zero, suc, ◌+◌, ◌-◌, ◌<◌, ◌≤◌, ◌==◌, inl, inr, Bool, true, false, List, [], ◌∷◌, ◌++◌, Option, None, Some, length, map, max, take, drop, reverse, slice_get, slice_set, zero-add, refl, ap, sym, subst, ◌∙◌, arith, sum_by}
 use Rattle.std.specs.Cmp.{unsigned_Decides}
 use Rattle.std.specs.List.{AllByRecursion, range_with_len}
 use Rattle.std.specs.Option.{option_map_or}
@@ -8,8 +8,8 @@ use Rattle.std.proofs.lemmas.List.{length-drop, length-reverse, reverse-reverse,
 use Rattle.std.proofs.lemmas.List.Sums.{sum_by-append}
 use Rattle.ic_arena.specs.declared.word.Word.{Word}
 use Rattle.ic_arena.specs.declared.word.TheConstants.{GIVEN, IDLE, NAME}
-use Rattle.ic_arena.specs.Word.{agent_word, count, name_word, word_eq}
-use Rattle.ic_arena.specs.Piece.{Piece, agent_of, room, uses}
+use Rattle.ic_arena.specs.Word.{agent_word, count, name_word}
+use Rattle.ic_arena.specs.Piece.{Piece, agent_of, room}
 use Rattle.ic_arena.specs.Tables.{Blocks, Replaced, blocks_from, blocks_pieces, names_pieces, register}
 use Rattle.ic_machine.specs.Held.{IsTagOf}
 use Rattle.ic_machine.specs.Moving.{CutEnd, end_word, times}
@@ -61,8 +61,7 @@ makes_agent hs tag s b b' block ws vs us is lt same some p after =
     let arity : (table hs s).arity ≡ length p.arguments = ap (λ (x : Blocks). x.arity) (sym same) ∙ sym p.count in
     let put : Replaced [] (agent_of (agent_word s block) p.arguments ∷ []) (blocks_pieces s (table hs s)) (blocks_pieces s b') =
     subst (λ (x : Blocks). Replaced [] (agent_of (agent_word s block) p.arguments ∷ []) (blocks_pieces s x) (blocks_pieces s b')) same (p.made s) in
-    let all : Replaced [] (agent_of w p.arguments ∷ []) (heaps_pieces 0 hs) (heaps_pieces 0 (slice_set hs s b')) =
-    subst (λ (x : Word). Replaced [] (agent_of x p.arguments ∷ []) (heaps_pieces 0 hs) (heaps_pieces 0 (slice_set hs s b'))) place
+    let all = subst (λ (x : Word). Replaced [] (agent_of x p.arguments ∷ []) (heaps_pieces 0 hs) (heaps_pieces 0 (slice_set hs s b'))) place
     (table_replaced hs 0 s s b' [] (agent_of (agent_word s block) p.arguments ∷ []) (sym (zero-add s)) lt put) in
     record {
       arguments = p.arguments;
@@ -97,8 +96,7 @@ pub kept_dropped : (arities : List ℕ) (ws vs us : List Word) (xs ys : List Pie
 kept_dropped arities ws vs us xs ys f = record {
   each = λ w c.
       let a = f.each w c in
-      let b = sum_by-append (λ (v : Word). cond (word_eq w v) 1 0) vs us in
-      omega arith;
+      omega (arith, sum_by-append {X = Word});
 }
 
 pub all_front : (P : Word → Type 0) (ws vs : List Word) → AllByRecursion P (ws ++ vs) → AllByRecursion P ws
@@ -115,11 +113,8 @@ ends_roomy arities ws entries bs hs s i =
     let h : List Piece = heaps_pieces 0 hs in
     let before = s.each w refl in
     let same = ends_times i bs in
-    let a = sum_by-append (λ (v : Word). cond (word_eq w v) 1 0) ws (map end_word bs) in
-    let u = sum_by-append (uses w) n h in
-    let r = sum_by-append (room w) n h in
     let agents : sum_by (room w) h ≡ 0 = tables_elsewhere w 0 hs (λ k le lt q. omega arith) in
-    omega arith
+    omega (arith, sum_by-append {X = Word}, sum_by-append {X = Piece})
 
 none_past : (hs : List Blocks) (s : ℕ) → length hs ≤ s → slice_get (arities_of hs) s ≡ None
 none_past [] s h = refl

@@ -77,8 +77,7 @@ block_part s k i j zero (suc n) o ws e f h =
 block_part s k i j (suc m) (suc n) o ws e f h =
     let more : suc m * k ≡ m * k + k = suc-mul m k in
     let far : k + m * k ≡ o = omega arith in
-    let at : drop (m * k) (drop k ws) ≡ drop o ws =
-    drop-drop (m * k) k ws ∙ ap (λ (x : ℕ). drop x ws) far in
+    let at = drop-drop (m * k) k ws ∙ ap (λ (x : ℕ). drop x ws) far in
     part_after (block_piece (agent_word s i) (take k ws)) (block_piece (agent_word s j) (take k (drop o ws)))
     (blocks_from s k (i + 1) n (drop k ws))
     (subst (λ (l : List Word). IsPart (block_piece (agent_word s j) (take k l)) (blocks_from s k (i + 1) n (drop k ws))) at
@@ -114,16 +113,13 @@ agent_contained ns hs w s tag lt h =
     let piece = its_block s w.index b there in
     let part : IsPart (block_piece (agent_word s w.index) (block_at b w.index)) (blocks_pieces s b) =
     block_part s b.arity 0 w.index w.index b.count (w.index * b.arity) b.words (sym (zero-add w.index)) refl below in
-    let all : IsPart (block_piece (agent_word s w.index) (block_at b w.index)) (ns ++ heaps_pieces 0 hs) =
-    part_after ns (block_piece (agent_word s w.index) (block_at b w.index)) (heaps_pieces 0 hs)
+    let all = part_after ns (block_piece (agent_word s w.index) (block_at b w.index)) (heaps_pieces 0 hs)
     (part_of_part (block_piece (agent_word s w.index) (block_at b w.index)) (blocks_pieces s b) (heaps_pieces 0 hs) part
     (table_part hs 0 s s (sym (zero-add s)) lt)) in
     let same = blocks_room s b.arity 0 w.index w.index b.count (w.index * b.arity) b.words (sym (zero-add w.index)) refl below in
     let some : 1 ≤ sum_by (room (agent_word s w.index)) (agent_with (agent_word s w.index) (block_at b w.index)) =
     subst (λ (l : List Piece). 1 ≤ sum_by (room (agent_word s w.index)) l) piece (omega arith) in
-    let one : agent_with (agent_word s w.index) (block_at b w.index)
-    ≡ agent_of (agent_word s w.index) (block_at b w.index) ∷ [] =
-    with_some (agent_word s w.index) (block_at b w.index) some in
+    let one = with_some (agent_word s w.index) (block_at b w.index) some in
     part_contained (agent_of w (block_at b w.index)) (ns ++ heaps_pieces 0 hs)
     (subst (λ (v : Word). IsPart (agent_of v (block_at b w.index) ∷ []) (ns ++ heaps_pieces 0 hs))
     (sym (as_agent w s tag))
@@ -181,17 +177,14 @@ waiting_entry (w ∷ ws) b zero j e =
     names_elsewhere (name_word j) (b + 1) ws
     (λ k le. other_index (name_word j) (name_word k) (λ q. omega arith)) in
     let rest = waiting_few (name_word j) (names_pieces (b + 1) ws) in
-    let parts = sum_by-append (waiting_at (name_word j)) (entry_piece b w) (names_pieces (b + 1) ws) in
-    let here : sum_by (waiting_at (name_word j)) (entry_piece b w) ≡ sum_by (waiting_at (name_word j)) (entry_piece j w) =
-    ap (λ (k : ℕ). sum_by (waiting_at (name_word j)) (entry_piece k w)) (sym same) in
-    omega arith
+    let here = ap (λ (k : ℕ). sum_by (waiting_at (name_word j)) (entry_piece k w)) (sym same) in
+    omega (arith, sum_by-append {X = Piece})
 waiting_entry (w ∷ ws) b (suc i) j e =
     let none : sum_by (room (name_word j)) (entry_piece b w) ≡ 0 =
     entry_elsewhere (name_word j) b w (other_index (name_word j) (name_word b) (λ q. omega arith)) in
     let first = waiting_few (name_word j) (entry_piece b w) in
-    let parts = sum_by-append (waiting_at (name_word j)) (entry_piece b w) (names_pieces (b + 1) ws) in
     let ih = waiting_entry ws (b + 1) i j (omega arith) in
-    omega arith
+    omega (arith, sum_by-append {X = Piece})
 
 -- an entry that is a mark says of nothing that it waits
 marked_entry : (i : ℕ) (w : Word) → IDLE ≤ w.tag → w.tag ≤ FREE
@@ -208,13 +201,12 @@ nothing_waits ws hs i w h most there =
     let x : Word = name_word i in
     let own : ◌≡◌ {A = ℕ} (cond (word_eq x x) 1 0) 1 = ap (λ (b : Bool). cond b 1 0) (word_eq_refl x) in
     let counted = contained_few x (names_pieces 0 ws ++ heaps_pieces 0 hs) there.0 (waits x w) there.1 there.2 in
-    let parts = sum_by-append (waiting_at x) (names_pieces 0 ws) (heaps_pieces 0 hs) in
     let agents : sum_by (room x) (heaps_pieces 0 hs) ≡ 0 =
     tables_elsewhere x 0 hs (λ k le lt q. omega arith) in
     let few = waiting_few x (heaps_pieces 0 hs) in
     let names = waiting_entry ws 0 i i (sym (zero-add i)) in
     let none = marked_entry i (entry ws i) h most in
-    absurd (omega arith)
+    absurd (omega (arith, sum_by-append {X = Piece}))
 
 -- a word that waits stands among the pieces
 pub waiting_contained : (ws : List Word) (hs : List Blocks) (i : ℕ) → i < length ws → (entry ws i).tag < IDLE
@@ -234,5 +226,4 @@ pub agent_places : (ns : List Word) (hs : List Blocks) (w : Word) → 1 ≤ w.ta
 agent_places ns hs w h there =
     let none : sum_by (room w) (names_pieces 0 ns) ≡ 0 =
     names_elsewhere w 0 ns (λ i le. other_tag w (name_word i) (λ q. omega arith)) in
-    let parts = sum_by-append (room w) (names_pieces 0 ns) (heaps_pieces 0 hs) in
-    omega arith
+    omega (arith, sum_by-append {X = Piece})

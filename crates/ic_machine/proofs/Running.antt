@@ -1,5 +1,5 @@
 -- What a run leads to, from its parts.
-use Rattle.std.proofs.Common.{◌≡◌, ℕ, zero, suc, ◌+◌, ◌-◌, ◌<◌, List, [], ◌∷◌, ◌++◌, length, map, take, Option, None, Some, MatchOption, is_none, false, slice_get, IfSome, refl, ap, sym, subst, ◌∙◌, append_assoc, add-zero, arith, sum_by}
+use Rattle.std.proofs.Common.{◌≡◌, ℕ, zero, suc, ◌+◌, ◌-◌, ◌<◌, List, [], ◌∷◌, ◌++◌, length, map, take, Option, None, Some, MatchOption, is_none, false, slice_get, IfSome, refl, ap, sym, subst, ◌∙◌, append_assoc, arith, sum_by}
 use Rattle.std.specs.List.{AllByRecursion}
 use Rattle.std.specs.List.Sorted.{IsPermutation}
 use Rattle.std.proofs.Math.Seq.{take-append_seam}
@@ -10,23 +10,19 @@ use Rattle.ic_arena.specs.declared.word.Word.{Word}
 use Rattle.ic_arena.specs.Word.{count}
 use Rattle.ic_arena.specs.Piece.{Piece, room, uses}
 use Rattle.ic_machine.specs.declared.equation.Equation.{Equation}
-use Rattle.ic_machine.specs.Plan.{Planned, Plans, ArePlans, IsPlan, plan_at}
-use Rattle.ic_machine.specs.Net.{Net, equated_of, pieces, HasNext, IsStuck, IsPair}
-use Rattle.ic_machine.specs.Runs.{Counted, Ran, Way}
+use Rattle.ic_machine.specs.Plan.{Planned, Plans, IsPlan, plan_at}
+use Rattle.ic_machine.specs.Net.{equated_of, HasNext, IsStuck, IsPair}
+use Rattle.ic_machine.specs.Runs.{Way}
 use Rattle.ic_machine.specs.Separate.{IsSeparate}
 use Rattle.ic_machine.specs.Steps.{Steps, no_step}
 use Rattle.ic_machine.specs.inner.Pairs.{HasNumber, HasPlan, CanFire, IsLast, Passed}
 use Rattle.ic_machine.specs.inner.Tables.{IsNumbered}
 use Rattle.ic_machine.specs.lemmas.Balance.{equations_room}
-use Rattle.ic_machine.specs.lemmas.FiresKeep.{steps_keep}
 use Rattle.ic_machine.specs.lemmas.FiringKeeps.{all_append, all_of}
 use Rattle.ic_machine.specs.lemmas.Orders.{to_front}
-use Rattle.ic_machine.specs.lemmas.RunsOn.{counted_none, way_from, way_to}
+use Rattle.ic_machine.specs.lemmas.RunsOn.{way_from, way_to}
 use Rattle.ic_machine.specs.lemmas.Separation.{separate_in_order}
-use Rattle.ic_machine.specs.lemmas.StepsOn.{steps_to}
 use Rattle.ic_machine.proofs.Fresh.{all_front}
-use Rattle.ic_machine.proofs.InUse.{same_places}
-use Rattle.ic_machine.proofs.Links.{steps_from}
 
 -- what can't fire is set aside: the same pieces
 pub passed_order : (p : Plans) (ps us ps' us' : List Equation) (rest : List Piece) → Passed p ps us ps' us'
@@ -37,16 +33,13 @@ passed_order p ps us ps' us' rest h =
     let a : List Piece = map equated_of us in
     let r : List Piece = map equated_of h.rest in
     let m : List Piece = map equated_of h.more in
-    let before : map equated_of ps ++ (a ++ rest) ≡ f ++ (r ++ (a ++ rest)) =
-    ap (λ (l : List Equation). map equated_of l ++ (a ++ rest)) h.before
+    let before = ap (λ (l : List Equation). map equated_of l ++ (a ++ rest)) h.before
     ∙ (ap (λ (l : List Piece). l ++ (a ++ rest)) (map-append equated_of ps' h.rest)
     ∙ append_assoc f r (a ++ rest)) in
-    let after : f ++ (map equated_of us' ++ rest) ≡ f ++ (a ++ (m ++ rest)) =
-    ap (λ (l : List Equation). f ++ (map equated_of l ++ rest)) h.after
+    let after = ap (λ (l : List Equation). f ++ (map equated_of l ++ rest)) h.after
     ∙ (ap (λ (l : List Piece). f ++ (l ++ rest)) (map-append equated_of us h.more)
     ∙ ap (λ (l : List Piece). f ++ l) (append_assoc a m rest)) in
-    let moved : IsPermutation (f ++ (r ++ (a ++ rest))) (f ++ (a ++ (m ++ rest))) =
-    IsPermutation-append_right f (r ++ (a ++ rest)) (a ++ (m ++ rest))
+    let moved = IsPermutation-append_right f (r ++ (a ++ rest)) (a ++ (m ++ rest))
     (IsPermutation-trans (r ++ (a ++ rest)) (a ++ (r ++ rest)) (a ++ (m ++ rest)) (to_front r a rest)
     (IsPermutation-append_right a (r ++ rest) (m ++ rest)
     (IsPermutation-append_left rest r m (IsPermutation-map equated_of h.rest h.more h.order)))) in
@@ -85,16 +78,6 @@ held_order p a n h =
     (subst (λ (l : List Piece). IsPermutation ((p ++ a) ++ (n ++ h)) l) (append_assoc n h (p ++ a))
     (IsPermutation-append_comm (p ++ a) (n ++ h)))
 
--- steps of what the tables hold are steps of the net
-pub net_steps : (q : Plans) (is : List ℕ) (p p' a n n' h h' : List Piece)
-    → Steps q is (n ++ (h ++ (p ++ a))) (n' ++ (h' ++ (p' ++ a)))
-    → Steps q is (p ++ (a ++ (n ++ h))) (p' ++ (a ++ (n' ++ h')))
-net_steps q is p p' a n n' h h' s =
-    steps_to q is (p ++ (a ++ (n ++ h))) (n' ++ (h' ++ (p' ++ a))) (p' ++ (a ++ (n' ++ h')))
-    (steps_from q is (p ++ (a ++ (n ++ h))) (n ++ (h ++ (p ++ a))) (n' ++ (h' ++ (p' ++ a)))
-    (held_order p a n h) s)
-    (IsPermutation-sym (p' ++ (a ++ (n' ++ h'))) (n' ++ (h' ++ (p' ++ a))) (held_order p' a n' h'))
-
 -- The tables alone are separate, where the whole net is.
 pub held_separate : (arities : List ℕ) (i : List Word) (p n h : List Piece) (us : List Equation)
     → IsSeparate arities i (p ++ (map equated_of us ++ (n ++ h)))
@@ -104,20 +87,10 @@ held_separate arities i p n h us s = record {
       let before = s.each w c in
       let none = equations_room w us in
       let nothing : p ++ [] ≡ p = append-nil p in
-      let u1 = sum_by-append (uses w) p (map equated_of us ++ (n ++ h)) in
-      let u2 = sum_by-append (uses w) (map equated_of us) (n ++ h) in
-      let u3 = sum_by-append (uses w) n h in
-      let r1 = sum_by-append (room w) p (map equated_of us ++ (n ++ h)) in
-      let r2 = sum_by-append (room w) (map equated_of us) (n ++ h) in
-      let r3 = sum_by-append (room w) n h in
-      let v1 = sum_by-append (uses w) n (h ++ (p ++ [])) in
-      let v2 = sum_by-append (uses w) h (p ++ []) in
       let v3 = ap (sum_by (uses w)) nothing in
-      let t1 = sum_by-append (room w) n (h ++ (p ++ [])) in
-      let t2 = sum_by-append (room w) h (p ++ []) in
       let t3 = ap (sum_by (room w)) nothing in
       let z : count w [] ≡ 0 = refl in
-      omega arith;
+      omega (arith, sum_by-append {X = Piece});
 }
 
 -- what is known has an arity
@@ -197,38 +170,18 @@ passed_steps p ps us ps' us' rest h =
     no_step (map equated_of ps ++ (map equated_of us ++ rest)) (map equated_of ps' ++ (map equated_of us' ++ rest))
     (passed_order p ps us ps' us' rest h)
 
--- a pair fires, after equations were set aside
-pub passed_then : (p : Plans) (is : List ℕ) (ps us ps' us' qs : List Equation) (n h n' h' : List Piece)
-    → Passed p ps us ps' us'
-    → Steps p is (n ++ (h ++ (map equated_of ps' ++ map equated_of us')))
-    (n' ++ (h' ++ (map equated_of qs ++ map equated_of us')))
-    → Steps p is (map equated_of ps ++ (map equated_of us ++ (n ++ h)))
-    (map equated_of qs ++ (map equated_of us' ++ (n' ++ h')))
-passed_then p is ps us ps' us' qs n h n' h' passed s =
-    steps_from p is (map equated_of ps ++ (map equated_of us ++ (n ++ h)))
-    (map equated_of ps' ++ (map equated_of us' ++ (n ++ h)))
-    (map equated_of qs ++ (map equated_of us' ++ (n' ++ h')))
-    (passed_order p ps us ps' us' (n ++ h) passed)
-    (net_steps p is (map equated_of ps') (map equated_of qs) (map equated_of us') n n' h h' s)
-
--- the same of a way, on which a pair fires
-pub passed_way : (p : Plans) (is : List ℕ) (ms : List (List Piece)) (ps us ps' us' qs : List Equation) (n h n' h' : List Piece)
-    → Passed p ps us ps' us'
-    → Way p is ms (n ++ (h ++ (map equated_of ps' ++ map equated_of us')))
-    (n' ++ (h' ++ (map equated_of qs ++ map equated_of us')))
-    → Way p is ms (map equated_of ps ++ (map equated_of us ++ (n ++ h)))
-    (map equated_of qs ++ (map equated_of us' ++ (n' ++ h')))
-passed_way p is ms ps us ps' us' qs n h n' h' passed w =
+-- a way of what the tables hold is one of the net
+pub held_way : (p : Plans) (is : List ℕ) (ms : List (List Piece)) (ps us qs : List Equation) (n h n' h' : List Piece)
+    → Way p is ms (n ++ (h ++ (map equated_of ps ++ map equated_of us))) (n' ++ (h' ++ (map equated_of qs ++ map equated_of us)))
+    → Way p is ms (map equated_of ps ++ (map equated_of us ++ (n ++ h))) (map equated_of qs ++ (map equated_of us ++ (n' ++ h')))
+held_way p is ms ps us qs n h n' h' w =
     let start : List Piece = map equated_of ps ++ (map equated_of us ++ (n ++ h)) in
-    let mid : List Piece = map equated_of ps' ++ (map equated_of us' ++ (n ++ h)) in
-    let held : List Piece = n ++ (h ++ (map equated_of ps' ++ map equated_of us')) in
-    let after : List Piece = n' ++ (h' ++ (map equated_of qs ++ map equated_of us')) in
-    let end : List Piece = map equated_of qs ++ (map equated_of us' ++ (n' ++ h')) in
+    let held : List Piece = n ++ (h ++ (map equated_of ps ++ map equated_of us)) in
+    let after : List Piece = n' ++ (h' ++ (map equated_of qs ++ map equated_of us)) in
+    let end : List Piece = map equated_of qs ++ (map equated_of us ++ (n' ++ h')) in
     way_to p is ms start after end
-    (way_from p is ms start held after
-    (no_step start held (IsPermutation-trans start mid held (passed_order p ps us ps' us' (n ++ h) passed)
-    (held_order (map equated_of ps') (map equated_of us') n h))) w)
-    (IsPermutation-sym end after (held_order (map equated_of qs) (map equated_of us') n' h'))
+    (way_from p is ms start held after (no_step start held (held_order (map equated_of ps) (map equated_of us) n h)) w)
+    (IsPermutation-sym end after (held_order (map equated_of qs) (map equated_of us) n' h'))
 
 -- the last of some equations
 pub last_of : (es : List Equation) (n : ℕ) (e : Equation) → n + 1 ≡ length es → slice_get es n ≡ Some e
@@ -250,31 +203,9 @@ pub popped : (es new : List Equation) (n : ℕ) (e : Equation) → IsLast e es �
 popped es new n e last len rest =
     let whole : length es ≡ length last.front + 1 = ap length last.is ∙ length_push last.front e in
     let here : n ≡ length last.front = omega arith in
-    let front : new ≡ last.front =
-    rest ∙ (ap (λ (k : ℕ). take k es) here
+    let front = rest ∙ (ap (λ (k : ℕ). take k es) here
     ∙ (ap (take (length last.front)) last.is ∙ take-append_seam last.front (e ∷ []))) in
     last.is ∙ ap (λ (l : List Equation). l ++ e ∷ []) (sym front)
-
--- What a net leads to where equations are set aside alone.
-pub passed_ran : (p : Plans) (a b : Net) → Passed p a.pending a.aside b.pending b.aside → b.arities ≡ a.arities
-    → b.interface ≡ a.interface → b.places ≡ a.places → b.interactions ≡ a.interactions → b.counts ≡ a.counts
-    → b.names ≡ a.names → b.agents ≡ a.agents → Ran p a b
-passed_ran p a b h arities interface places interactions counts names agents = record {
-  fired = [];
-  moments = [];
-  places = same_places a b names agents;
-  symbols = ap length agents;
-  way = subst (λ (l : List Piece). Steps p [] (pieces a)
-      (map equated_of b.pending ++ (map equated_of b.aside ++ l))) (sym places)
-      (passed_steps p a.pending a.aside b.pending b.aside a.places h);
-  counted = interactions ∙ sym (add-zero a.interactions);
-  counts = subst (λ (l : List ℕ). Counted [] a.counts l) (sym counts) (counted_none a.counts);
-  arities = arities;
-  interface = interface;
-  more = h.more;
-  aside = h.after;
-  stuck = h.stuck;
-}
 
 -- the last of some equations, if there is one
 pub last_here : (es : List Equation) (e : Equation) → slice_get es (length es - 1) ≡ Some e
@@ -286,21 +217,6 @@ last_here [] e h = absurd (none_some e h)
 last_here (x ∷ xs) e h =
     let len : (length (x ∷ xs) - 1) + 1 ≡ length (x ∷ xs) = omega arith in
     (last_of (x ∷ xs) (length (x ∷ xs) - 1) e len h, len)
-
--- The net stays separate over steps of what the tables hold.
-pub held_steps_separate : (q : Plans) (is : List ℕ) (arities : List ℕ) (i : List Word) (ps us qs : List Equation)
-    (n h n' h' : List Piece) → ArePlans q → arities ≡ q.arities
-    → Steps q is (n ++ (h ++ (map equated_of ps ++ map equated_of us)))
-    (n' ++ (h' ++ (map equated_of qs ++ map equated_of us)))
-    → IsSeparate arities i (map equated_of ps ++ (map equated_of us ++ (n ++ h)))
-    → IsSeparate arities i (map equated_of qs ++ (map equated_of us ++ (n' ++ h')))
-held_steps_separate q is arities i ps us qs n h n' h' sound same steps s =
-    let before : List Piece = map equated_of ps ++ (map equated_of us ++ (n ++ h)) in
-    let after : List Piece = map equated_of qs ++ (map equated_of us ++ (n' ++ h')) in
-    subst (λ (a : List ℕ). IsSeparate a i after) (sym same)
-    (steps_keep q is i before after sound
-    (net_steps q is (map equated_of ps) (map equated_of qs) (map equated_of us) n n' h h' steps)
-    (subst (λ (a : List ℕ). IsSeparate a i before) same s))
 
 -- a pair that has a plan, and is the last, is the next
 abbrev pub next_pair : (p : Plans) (es : List Equation) (e : Equation) (plan : Planned) → IsLast e es → HasPlan p e plan

@@ -1,5 +1,6 @@
 -- What a machine keeps, where its parts change.
-use Rattle.std.proofs.Common.{◌≡◌, ℕ, zero, suc, ◌+◌, ◌^◌, ◌<◌, ◌≤◌, ◌==◌, List, [], ◌∷◌, ◌++◌, Bool, true, false, cond, count_by, slice_index_or, length, map, take, refl, ap, sym, subst, arith, vec_capacity}
+use Rattle.std.proofs.Common.{◌≡◌, ℕ, zero, suc, ◌+◌, ◌^◌, ◌<◌, ◌≤◌, ◌==◌, List, [], ◌∷◌, ◌++◌, Bool, true, false, cond, count_by, slice_index_or, length, map, take, refl, ap, sym, subst, add-zero, arith, vec_capacity}
+use Rattle.std.specs.Global.{Vec}
 use Rattle.std.specs.List.{AllByRecursion}
 use Rattle.std.proofs.Math.Seq.{take-append_seam, take-length}
 use Rattle.std.proofs.lemmas.List.FromFn.{length-map-range_with_len}
@@ -8,44 +9,56 @@ use Rattle.ic_arena.specs.Word.{agent_word}
 use Rattle.ic_arena.specs.Piece.{Piece}
 use Rattle.ic_arena.specs.Tables.{Blocks, names_pieces}
 use Rattle.ic_machine.specs.declared.equation.Equation.{Equation}
-use Rattle.ic_machine.specs.declared.tables.Tables.{Tables}
 use Rattle.ic_machine.specs.declared.machine.Machine.TheInside.{Inside}
 use Rattle.ic_machine.specs.declared.plan.Plan.{Plan}
 use Rattle.ic_machine.specs.Plan.{Plans, constants, planned}
-use Rattle.ic_machine.specs.Net.{equated_of}
-use Rattle.ic_machine.specs.Runs.{Counted}
+use Rattle.ic_machine.specs.Net.{Net, equated_of}
+use Rattle.ic_machine.specs.Runs.{Counted, Ran}
 use Rattle.ic_machine.specs.Separate.{IsSeparate}
 use Rattle.ic_machine.specs.inner.Firing.{heaps_pieces, arities_of}
-use Rattle.ic_machine.specs.inner.Machine.{IsSound}
+use Rattle.ic_machine.specs.inner.Machine.{IsSound, net_of}
 use Rattle.ic_machine.specs.inner.Pairs.{Passed}
-use Rattle.ic_machine.specs.inner.Tables.{HasSpare}
+use Rattle.ic_machine.specs.lemmas.RunsOn.{counted_none}
+use Rattle.ic_machine.proofs.InUse.{same_places}
 use Rattle.ic_machine.proofs.Spare.{passed_spare}
-use Rattle.ic_machine.proofs.Running.{passed_aside, passed_pairs, passed_separate}
+use Rattle.ic_machine.proofs.Running.{passed_aside, passed_pairs, passed_separate, passed_steps}
 
--- equations are set aside
-pub passed_sound : (p : Plans) (m n : Inside) → IsSound m
-    → Passed p m.tables.pending.items m.aside.items n.tables.pending.items n.aside.items
-    → n.interface.items ≡ m.interface.items → n.tables ≡ record m.tables { pending = n.tables.pending }
-    → n.counts.items ≡ m.counts.items → n.interactions ≡ m.interactions
-    → vec_capacity n.tables.pending ≡ vec_capacity m.tables.pending → IsSound n
-passed_sound p m n sound h interface tables counts interactions memory =
-    let names : n.tables.names.entries ≡ m.tables.names.entries = ap (λ (t : Tables). t.names.entries) tables in
-    let heaps : n.tables.heaps.items ≡ m.tables.heaps.items = ap (λ (t : Tables). t.heaps.items) tables in
-    let registers : n.tables.registers.items ≡ m.tables.registers.items = ap (λ (t : Tables). t.registers.items) tables in
-    record {
-      separate = rw (heaps, interface, names)
-          (passed_separate (arities_of m.tables.heaps.items) m.interface.items p m.tables.pending.items m.aside.items
-          n.tables.pending.items n.aside.items
-          (names_pieces 0 m.tables.names.entries ++ heaps_pieces 0 m.tables.heaps.items) h sound.separate);
-      pairs = passed_pairs p m.tables.pending.items m.aside.items n.tables.pending.items n.aside.items h sound.pairs;
-      aside = passed_aside p m.tables.pending.items m.aside.items n.tables.pending.items n.aside.items h sound.aside;
-      names = rw names sound.names;
-      symbols = rw heaps sound.symbols;
-      registers = rw (heaps, registers) sound.registers;
-      spare = subst HasSpare (sym tables)
-          (passed_spare p m.tables n.tables.pending m.aside.items n.aside.items h memory sound.spare);
-      counts = rw (counts, interactions) sound.counts;
-    }
+-- a machine of which equations were set aside
+abbrev pub set_aside : Inside → Vec Equation → Vec Equation → Inside
+set_aside m pending aside = record m { aside = aside; tables = record m.tables { pending = pending } }
+
+module _ (p : Plans) (m : Inside) (pending aside : Vec Equation)
+    (h : Passed p m.tables.pending.items m.aside.items pending.items aside.items) where
+  -- it keeps what it kept
+  pub passed_sound : IsSound m → vec_capacity pending ≡ vec_capacity m.tables.pending → IsSound (set_aside m pending aside)
+  passed_sound sound memory = record {
+    separate = passed_separate (arities_of m.tables.heaps.items) m.interface.items p m.tables.pending.items m.aside.items
+        pending.items aside.items (names_pieces 0 m.tables.names.entries ++ heaps_pieces 0 m.tables.heaps.items) h sound.separate;
+    pairs = passed_pairs p m.tables.pending.items m.aside.items pending.items aside.items h sound.pairs;
+    aside = passed_aside p m.tables.pending.items m.aside.items pending.items aside.items h sound.aside;
+    names = sound.names;
+    symbols = sound.symbols;
+    registers = sound.registers;
+    spare = passed_spare p m.tables pending m.aside.items aside.items h memory sound.spare;
+    counts = sound.counts;
+  }
+
+  -- nothing fires
+  pub passed_ran : (n : Net) → net_of m ≡ n → Ran p n (net_of (set_aside m pending aside))
+  passed_ran n is = subst (λ (o : Net). Ran p o (net_of (set_aside m pending aside))) is (record {
+    fired = [];
+    moments = [];
+    way = passed_steps p m.tables.pending.items m.aside.items pending.items aside.items (net_of m).places h;
+    places = same_places (net_of m) (net_of (set_aside m pending aside)) refl refl;
+    symbols = refl;
+    counted = sym (add-zero m.interactions);
+    counts = counted_none m.counts.items;
+    arities = refl;
+    interface = refl;
+    more = h.more;
+    aside = h.after;
+    stuck = h.stuck;
+  })
 
 -- the registers begin with the agents without arguments
 pub first_registers : (n m : ℕ) (rs : List Word) → m ≡ n → rs ≡ constants n → take m rs ≡ constants m

@@ -65,9 +65,6 @@ blocks_more hs gs n s same h =
     let few : (table hs s).count + n < 2 ^ 32 = h.1 in
     (omega arith, omega arith)
 
-pub grown_none : (b : Blocks) → IsGrown 0 b b
-grown_none b = record { arity = refl; count = omega arith; len = omega arith; capacity = refl }
-
 -- one more block in one table
 pub grown_set : (h0 hs : List Blocks) (i s : ℕ) (b : Blocks) → ((t : ℕ) → IsGrown i (table h0 t) (table hs t))
     → b.arity ≡ (table hs s).arity → b.count ≤ (table hs s).count + 1

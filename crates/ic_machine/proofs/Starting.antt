@@ -123,17 +123,12 @@ start_steps q p given t u made names heaps pending registers =
     let regs : List Word = constants (length q.arities) ++ (given_words given ++ (made.names ++ made.made)) in
     let whole : Steps q [] (pieces_made p (t.registers.items ++ (made.names ++ made.made)) made.names made.made ++ held t [])
     (n ++ (h ++ (e ++ []))) = made.steps q [] in
-    let empty : Steps q [] (pieces_made p (t.registers.items ++ (made.names ++ made.made)) made.names made.made ++ [])
-    (n ++ (h ++ (e ++ []))) =
-    subst (λ (l : List Piece). Steps q []
+    let empty = subst (λ (l : List Piece). Steps q []
     (pieces_made p (t.registers.items ++ (made.names ++ made.made)) made.names made.made ++ l) (n ++ (h ++ (e ++ []))))
     (nothing_held t names heaps pending) whole in
-    let alone : Steps q [] (pieces_made p (t.registers.items ++ (made.names ++ made.made)) made.names made.made)
-    (n ++ (h ++ (e ++ []))) =
-    subst (λ (l : List Piece). Steps q [] l (n ++ (h ++ (e ++ []))))
+    let alone = subst (λ (l : List Piece). Steps q [] l (n ++ (h ++ (e ++ []))))
     (append-nil (pieces_made p (t.registers.items ++ (made.names ++ made.made)) made.names made.made)) empty in
-    let start : Steps q [] (pieces_made p regs made.names made.made) (n ++ (h ++ (e ++ []))) =
-    subst (λ (l : List Word). Steps q [] (pieces_made p l made.names made.made) (n ++ (h ++ (e ++ []))))
+    let start = subst (λ (l : List Word). Steps q [] (pieces_made p l made.names made.made) (n ++ (h ++ (e ++ []))))
     (ap (λ (l : List Word). l ++ (made.names ++ made.made)) registers
     ∙ append_assoc (constants (length q.arities)) (given_words given) (made.names ++ made.made)) alone in
     steps_to q [] (pieces_made p regs made.names made.made) (n ++ (h ++ (e ++ []))) (e ++ ([] ++ (n ++ h))) start
@@ -145,9 +140,7 @@ pub places_at_start : (kind : ℕ) (p : Planned) (t u : Tables) (m : Inside) (re
     → ((s : ℕ) → (table t.heaps.items s).count ≡ 0) → t.registers.items ++ (made.names ++ made.made) ≡ regs
     → places_of kind (net_of m) ≡ in_use kind (pieces_made p regs made.names made.made)
 places_at_start kind p t u m regs made is names heaps pending counts filled =
-    let alone : pieces_made p (t.registers.items ++ (made.names ++ made.made)) made.names made.made ++ held t []
-    ≡ pieces_made p regs made.names made.made =
-    ap (λ (l : List Piece). pieces_made p (t.registers.items ++ (made.names ++ made.made)) made.names made.made ++ l)
+    let alone = ap (λ (l : List Piece). pieces_made p (t.registers.items ++ (made.names ++ made.made)) made.names made.made ++ l)
     (nothing_held t names heaps pending)
     ∙ (append-nil (pieces_made p (t.registers.items ++ (made.names ++ made.made)) made.names made.made)
     ∙ ap (λ (l : List Word). pieces_made p l made.names made.made) filled) in

@@ -20,6 +20,7 @@ use Rattle.ic_machine.specs.inner.Firing.{heaps_pieces}
 use Rattle.ic_machine.specs.inner.Tables.{HasRoomFor, HasSpare}
 use Rattle.ic_machine.specs.declared.tables.Tables.{Tables}
 use Rattle.ic_machine.specs.inner.Sweeping.{IsMark, IsThrough, IsRoomy}
+use Rattle.ic_machine.specs.lemmas.Separation.{balanced}
 use Rattle.ic_machine.specs.lemmas.Balance.{equations_room, steps_balance}
 use Rattle.ic_machine.specs.lemmas.FiringKeeps.{all_append}
 use Rattle.ic_machine.specs.lemmas.Orders.{replaced_sum}
@@ -27,9 +28,9 @@ use Rattle.ic_machine.specs.lemmas.RunsOn.{counted_none}
 use Rattle.ic_machine.proofs.Heaps.{tables_elsewhere}
 use Rattle.ic_machine.proofs.InUse.{same_places, tables_in_use}
 use Rattle.ic_machine.proofs.LinkSteps.{joined}
-use Rattle.ic_machine.proofs.NameRooms.{entry_past, has_entry, not_free, replaced_length, word_eq_refl}
+use Rattle.ic_machine.proofs.NameRooms.{has_entry, replaced_length, word_eq_refl}
 use Rattle.ic_machine.proofs.Reading.{waiting_contained}
-use Rattle.ic_machine.proofs.Running.{net_steps}
+use Rattle.ic_machine.proofs.Running.{held_way}
 use Rattle.ic_machine.proofs.Standing.{all_contained, one_block, sum_contained}
 
 -- a word that waits is no mark
@@ -122,19 +123,6 @@ named_entry ws i j roomy lt e =
     let enough = roomy j in
     has_entry ws j (omega (arith, used, enough))
 
-pub named_used : (ws : List Word) (i j : ℕ) → IsRoomy ws → i < length ws → entry ws i ≡ name_word j → (entry ws j).tag ≡ FREE → ⊥
-named_used ws i j roomy lt e free =
-    let used = entry_uses ws i j lt e in
-    let enough = roomy j in
-    not_free ws j (omega (arith, used, enough)) free
-
--- names after the last entry wait for nothing
-pub past_through : (ws : List Word) (i : ℕ) → length ws ≤ i → IsThrough ws i
-past_through ws i past j e apart =
-    let free : (entry ws i).tag ≡ FREE = entry_past ws i past in
-    let named : (entry ws i).tag ≡ NAME = ap (λ (w : Word). w.tag) e in
-    absurd (omega (arith, free, named))
-
 -- a word that waits is in the entry of a name
 abbrev waits_at : List Word → Piece → Type 0
 waits_at ws (equated l r) = Unit {0}
@@ -217,13 +205,9 @@ swept_ran p a b steps same = record {
 -- The net stays separate over steps that fire nothing, whatever the plans.
 pub swept_separate : (arities : List ℕ) (i : List Word) (xs ys : List Piece) → ((p : Plans) → Steps p [] xs ys)
     → IsSeparate arities i xs → IsSeparate arities i ys
-swept_separate arities i xs ys steps s = record {
-  each = λ w c.
-      let no_plans : Plans = record { arities = []; pairs = []; plans = [] } in
-      let before = s.each w c in
-      let balance = steps_balance no_plans [] w xs ys refl (steps no_plans) in
-      omega arith;
-}
+swept_separate arities i xs ys steps =
+    let no_plans : Plans = record { arities = []; pairs = []; plans = [] } in
+    balanced arities i xs ys (λ w. steps_balance no_plans [] w xs ys refl (steps no_plans))
 
 -- what is spare is there still
 pub swept_spare : (t : Tables) (ns : Entries) → length ns.entries ≡ length t.names.entries → ns.capacity ≡ t.names.capacity
@@ -248,16 +232,10 @@ separate_room arities interface ps us ns hs s i =
     let n : List Piece = names_pieces 0 ns in
     let h : List Piece = heaps_pieces 0 hs in
     let before = s.each w refl in
-    let u1 = sum_by-append (uses w) p (a ++ (n ++ h)) in
-    let u2 = sum_by-append (uses w) a (n ++ h) in
-    let u3 = sum_by-append (uses w) n h in
-    let r1 = sum_by-append (room w) p (a ++ (n ++ h)) in
-    let r2 = sum_by-append (room w) a (n ++ h) in
-    let r3 = sum_by-append (room w) n h in
     let none = equations_room w ps in
     let nothing = equations_room w us in
     let agents : sum_by (room w) h ≡ 0 = tables_elsewhere w 0 hs (λ k le lt q. omega arith) in
-    omega arith
+    omega (arith, sum_by-append {X = Piece})
 
 -- the names of a table of names and tables of agents
 pub names_used : (ns : List Word) (hs : List Blocks) → in_use NAME (names_pieces 0 ns ++ heaps_pieces 0 hs) ≡ length (names_pieces 0 ns)
@@ -270,5 +248,4 @@ pub net_swept : (p : Plans) (ps us : List Equation) (old new : List Word) (hs : 
     → Steps p [] (map equated_of ps ++ (map equated_of us ++ (names_pieces 0 old ++ heaps_pieces 0 hs)))
     (map equated_of ps ++ (map equated_of us ++ (names_pieces 0 new ++ heaps_pieces 0 hs)))
 net_swept p ps us old new hs steps =
-    net_steps p [] (map equated_of ps) (map equated_of ps) (map equated_of us) (names_pieces 0 old) (names_pieces 0 new)
-    (heaps_pieces 0 hs) (heaps_pieces 0 hs) (steps (heaps_pieces 0 hs ++ (map equated_of ps ++ map equated_of us)))
+    held_way p [] [] ps us ps (names_pieces 0 old) (heaps_pieces 0 hs) (names_pieces 0 new) (heaps_pieces 0 hs) (steps (heaps_pieces 0 hs ++ (map equated_of ps ++ map equated_of us)))

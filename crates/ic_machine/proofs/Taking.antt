@@ -39,11 +39,8 @@ name_freed ws ws' hs i word r =
     let not_free : ((entry ws i).tag == FREE) ≡ false = ne_eqb (entry ws i).tag FREE (λ e. omega arith) in
     let not_idle : ((entry ws i).tag == IDLE) ≡ false = ne_eqb (entry ws i).tag IDLE (λ e. omega arith) in
     let piece : entry_piece i (entry ws i) ≡ old = rw (not_free, not_idle) refl in
-    let before : sum_by (room x) (names_pieces 0 ws) ≡ sum_by (room x) old =
-    entry_room ws i ∙ ap (sum_by (room x)) piece in
-    let sums : sum_by (room x) (names_pieces 0 ws') + sum_by (room x) old
-    ≡ sum_by (room x) (names_pieces 0 ws) + sum_by (room x) [] =
-    replaced_sum (room x) old [] (names_pieces 0 ws) (names_pieces 0 ws') r in
+    let before = entry_room ws i ∙ ap (sum_by (room x)) piece in
+    let sums = replaced_sum (room x) old [] (names_pieces 0 ws) (names_pieces 0 ws') r in
     let none : sum_by (room x) [] ≡ 0 = refl in
     let agents : sum_by (room x) (heaps_pieces 0 hs) ≡ 0 = tables_elsewhere x 0 hs (λ k le lt q. omega arith) in
     sum_by-append (room x) (names_pieces 0 ws') (heaps_pieces 0 hs) ∙ omega arith
@@ -69,12 +66,10 @@ agent_room ws hs w s tag lt =
     let a : Word = agent_word s w.index in
     let none : sum_by (room w) (names_pieces 0 ws) ≡ 0 =
     names_elsewhere w 0 ws (λ i le. other_tag w (name_word i) (λ q. omega arith)) in
-    let table_is : sum_by (room w) (heaps_pieces 0 hs) ≡ sum_by (room w) (blocks_pieces s b) =
-    table_room w hs 0 s s (sym (zero-add s)) tag in
+    let table_is = table_room w hs 0 s s (sym (zero-add s)) tag in
     let block : sum_by (room a) (blocks_pieces s b) ≡ sum_by (room a) (block_piece a (block_at b w.index)) =
     blocks_room s b.arity 0 w.index w.index b.count (w.index * b.arity) b.words (sym (zero-add w.index)) refl lt in
-    let its : sum_by (room w) (blocks_pieces s b) ≡ sum_by (room w) (block_piece w (block_at b w.index)) =
-    subst (λ (v : Word). sum_by (room v) (blocks_pieces s b) ≡ sum_by (room v) (block_piece v (block_at b w.index)))
+    let its = subst (λ (v : Word). sum_by (room v) (blocks_pieces s b) ≡ sum_by (room v) (block_piece v (block_at b w.index)))
     (sym (as_agent w s tag)) block in
     sum_by-append (room w) (names_pieces 0 ws) (heaps_pieces 0 hs) ∙ omega arith
 
@@ -158,8 +153,7 @@ pub arguments_taken : (ws : List Word) (hs gs : List Blocks) (w : Word) (k : ℕ
 arguments_taken ws hs gs w k before mid after t some turned =
     let count : length t.args ≡ k = t.count in
     let one : agent_with w t.args ≡ agent_of w t.args ∷ [] = with_some t.args (omega arith) in
-    let gone : Replaced (agent_of w t.args ∷ []) [] (heaps_pieces 0 hs) (heaps_pieces 0 gs) =
-    subst (λ (l : List Piece). Replaced l [] (heaps_pieces 0 hs) (heaps_pieces 0 gs)) one t.gone in
+    let gone = subst (λ (l : List Piece). Replaced l [] (heaps_pieces 0 hs) (heaps_pieces 0 gs)) one t.gone in
     record {
       arguments = t.args;
       taken = taken_first (agent_of w t.args ∷ []) (names_pieces 0 ws ++ heaps_pieces 0 hs)

@@ -38,11 +38,7 @@ pub kept_before : (arities : List ℕ) (ws vs : List Word) (xs ys h : List Piece
 kept_before arities ws vs xs ys h f = record {
   each = λ w c.
       let a = f.each w c in
-      let ux = sum_by-append (uses w) xs h in
-      let uy = sum_by-append (uses w) ys h in
-      let rx = sum_by-append (room w) xs h in
-      let ry = sum_by-append (room w) ys h in
-      omega arith;
+      omega (arith, sum_by-append {X = Piece});
 }
 
 pub kept_after : (arities : List ℕ) (ws vs : List Word) (n xs ys : List Piece) → AreKept arities ws vs xs ys
@@ -50,11 +46,7 @@ pub kept_after : (arities : List ℕ) (ws vs : List Word) (n xs ys : List Piece)
 kept_after arities ws vs n xs ys f = record {
   each = λ w c.
       let a = f.each w c in
-      let ux = sum_by-append (uses w) n xs in
-      let uy = sum_by-append (uses w) n ys in
-      let rx = sum_by-append (room w) n xs in
-      let ry = sum_by-append (room w) n ys in
-      omega arith;
+      omega (arith, sum_by-append {X = Piece});
 }
 
 -- others beside the words
@@ -63,9 +55,7 @@ pub kept_on : (arities : List ℕ) (s ws vs : List Word) (xs ys : List Piece) �
 kept_on arities s ws vs xs ys f = record {
   each = λ w c.
       let a = f.each w c in
-      let x = sum_by-append (λ (v : Word). cond (word_eq w v) 1 0) s ws in
-      let y = sum_by-append (λ (v : Word). cond (word_eq w v) 1 0) s vs in
-      omega arith;
+      omega (arith, sum_by-append {X = Word});
 }
 
 pub kept_below : (arities : List ℕ) (ws vs e : List Word) (xs ys : List Piece) → AreKept arities ws vs xs ys
@@ -73,9 +63,7 @@ pub kept_below : (arities : List ℕ) (ws vs e : List Word) (xs ys : List Piece)
 kept_below arities ws vs e xs ys f = record {
   each = λ w c.
       let a = f.each w c in
-      let x = sum_by-append (λ (v : Word). cond (word_eq w v) 1 0) ws e in
-      let y = sum_by-append (λ (v : Word). cond (word_eq w v) 1 0) vs e in
-      omega arith;
+      omega (arith, sum_by-append {X = Word});
 }
 
 -- what is separate stays so, beside an interface and equations
@@ -85,13 +73,7 @@ separate_kept arities i ws vs es xs ys s f = record {
   each = λ w c.
       let before = s.each w c in
       let a = f.each w c in
-      let x = sum_by-append (λ (v : Word). cond (word_eq w v) 1 0) i ws in
-      let y = sum_by-append (λ (v : Word). cond (word_eq w v) 1 0) i vs in
-      let ux = sum_by-append (uses w) es xs in
-      let uy = sum_by-append (uses w) es ys in
-      let rx = sum_by-append (room w) es xs in
-      let ry = sum_by-append (room w) es ys in
-      omega arith;
+      omega (arith, sum_by-append {X = Word}, sum_by-append {X = Piece});
 }
 
 -- fewer words
@@ -99,8 +81,7 @@ pub separate_less : (arities : List ℕ) (i ws : List Word) (xs : List Piece) �
 separate_less arities i ws xs s = record {
   each = λ w c.
       let before = s.each w c in
-      let x = sum_by-append (λ (v : Word). cond (word_eq w v) 1 0) i ws in
-      omega arith;
+      omega (arith, sum_by-append {X = Word});
 }
 
 -- ---- names
@@ -114,9 +95,8 @@ ends_count w bs cs e perm =
 
 one_more_word : (w v : Word) (ws : List Word) → count w (ws ++ v ∷ []) ≡ count w ws + cond (word_eq w v) 1 0
 one_more_word w v ws =
-    let a = sum_by-append (λ (x : Word). cond (word_eq w x) 1 0) ws (v ∷ []) in
     let b = sum_by-cons (λ (x : Word). cond (word_eq w x) 1 0) v [] in
-    omega arith
+    omega (arith, sum_by-append {X = Word})
 
 pub made_first : (p : Piece) (xs ys : List Piece) → Replaced [] (p ∷ []) xs ys → IsPermutation ys (p ∷ xs)
 made_first p xs ys r =
@@ -128,21 +108,17 @@ pub name_kept : (arities : List ℕ) (e : CutEnd) (es fs : List Word) (bs cs : L
 name_kept arities e es fs bs cs ws (met xs ds ks perm) = record {
   each = λ w c.
       let n = ends_count w bs cs e perm in
-      let a = sum_by-append (λ (v : Word). cond (word_eq w v) 1 0) ws (map end_word bs) in
-      let b = sum_by-append (λ (v : Word). cond (word_eq w v) 1 0) (ws ++ end_word e ∷ []) (map end_word cs) in
       let d = one_more_word w (end_word e) ws in
-      omega arith;
+      omega (arith, sum_by-append {X = Word});
 }
 name_kept arities e es fs bs cs ws (begun xs ys ds ks perm r) = record {
   each = λ w c.
       let n = ends_count w cs bs e perm in
-      let a = sum_by-append (λ (v : Word). cond (word_eq w v) 1 0) ws (map end_word bs) in
-      let b = sum_by-append (λ (v : Word). cond (word_eq w v) 1 0) (ws ++ end_word e ∷ []) (map end_word cs) in
       let d = one_more_word w (end_word e) ws in
       let us = replaced_sum (uses w) [] (idle (end_word e) ∷ []) (names_pieces 0 es) (names_pieces 0 fs) r in
       let rs = replaced_sum (room w) [] (idle (end_word e) ∷ []) (names_pieces 0 es) (names_pieces 0 fs) r in
       let two = twice (word_eq w (end_word e)) in
-      omega arith;
+      omega (arith, sum_by-append {X = Word});
 }
 
 -- the same where the word was not put onto the stack
@@ -151,8 +127,7 @@ pub name_dropped : (arities : List ℕ) (e : CutEnd) (es fs : List Word) (bs cs 
 name_dropped arities e es fs bs cs u = record {
   each = λ w c.
       let a = (name_kept arities e es fs bs cs [] u).each w c in
-      let b = sum_by-append (λ (v : Word). cond (word_eq w v) 1 0) (end_word e ∷ []) (map end_word cs) in
-      omega arith;
+      omega (arith, sum_by-append {X = Word});
 }
 
 -- an end is gone, and no name else
@@ -160,15 +135,6 @@ pub end_dropped : (arities : List ℕ) (bs cs : List CutEnd) (e : CutEnd) (xs : 
     → AreKept arities (map end_word bs) (map end_word cs) xs xs
 end_dropped arities bs cs e xs perm = record {
   each = λ w c. let n = ends_count w bs cs e perm in omega arith;
-}
-
--- a name is opened that nothing names
-pub name_idle : (arities : List ℕ) (ws : List Word) (x : Word) (xs ys : List Piece) → Replaced [] (idle x ∷ []) xs ys → AreKept arities ws ws xs ys
-name_idle arities ws x xs ys r = record {
-  each = λ w c.
-      let us = replaced_sum (uses w) [] (idle x ∷ []) xs ys r in
-      let rs = replaced_sum (room w) [] (idle x ∷ []) xs ys r in
-      omega arith;
 }
 
 pub name_spelled : (arities : List ℕ) (e : CutEnd) (es fs : List Word) (bs cs : List CutEnd) (h : List Piece) (rest : Side) (ws ts : List Word)
@@ -229,7 +195,6 @@ pub agent_kept : (arities : List ℕ) (tag : ℕ) (xs ys : List Piece) (ws vs : 
 agent_kept arities tag xs ys ws vs m = record {
   each = λ w c.
       let a : count w ws ≡ count w (m.rest ++ reverse m.arguments) = ap (count w) m.before in
-      let b = sum_by-append (λ (v : Word). cond (word_eq w v) 1 0) m.rest (reverse m.arguments) in
       let turned = sum_by-IsPermutation (λ (v : Word). cond (word_eq w v) 1 0) m.arguments (reverse m.arguments) (IsPermutation-reverse m.arguments) in
       let d : count w vs ≡ count w (m.rest ++ m.place ∷ []) = ap (count w) m.after in
       let e = one_more_word w m.place m.rest in
@@ -237,7 +202,7 @@ agent_kept arities tag xs ys ws vs m = record {
       let rs = sum_by-IsPermutation (room w) ys (agent_of m.place m.arguments ∷ xs) m.made in
       let u = sum_by-cons (uses w) (agent_of m.place m.arguments) xs in
       let r = sum_by-cons (room w) (agent_of m.place m.arguments) xs in
-      omega arith;
+      omega (arith, sum_by-append {X = Word});
 }
 
 pub agent_spelled : (arities : List ℕ) (t : Word) (n xs ys : List Piece) (ends : List CutEnd) (rest : Side) (ws vs ts : List Word)
@@ -245,16 +210,12 @@ pub agent_spelled : (arities : List ℕ) (t : Word) (n xs ys : List Piece) (ends
     → Spells arities (record { places = n ++ xs; ends = ends }) rest (reverse ws) ts
     → Spells arities (record { places = n ++ ys; ends = ends }) rest (reverse vs) (t ∷ ts)
 agent_spelled arities t n xs ys ends rest ws vs ts m none s =
-    let roots : reverse ws ≡ m.arguments ++ reverse m.rest =
-    ap (λ (l : List Word). reverse l) m.before ∙ (reverse-append m.rest (reverse m.arguments)
+    let roots = ap (λ (l : List Word). reverse l) m.before ∙ (reverse-append m.rest (reverse m.arguments)
     ∙ ap (λ (l : List Word). l ++ reverse m.rest) (reverse-reverse m.arguments)) in
-    let after : reverse vs ≡ m.place ∷ reverse m.rest =
-    ap (λ (l : List Word). reverse l) m.after ∙ reverse-append m.rest (m.place ∷ []) in
+    let after = ap (λ (l : List Word). reverse l) m.after ∙ reverse-append m.rest (m.place ∷ []) in
     let spelled : spelled_agent m.place ≡ t = (λ i. record { tag = m.is i; index = sym none i }) in
-    let known : IsTagOf arities m.place.tag (length m.arguments) =
-    subst (λ (k : ℕ). IsTagOf arities k (length m.arguments)) (sym m.is) m.known in
-    let front : IsPermutation (n ++ ys) (agent_of m.place m.arguments ∷ (n ++ xs)) =
-    IsPermutation-trans (n ++ ys) (n ++ (agent_of m.place m.arguments ∷ xs)) (agent_of m.place m.arguments ∷ (n ++ xs))
+    let known = subst (λ (k : ℕ). IsTagOf arities k (length m.arguments)) (sym m.is) m.known in
+    let front = IsPermutation-trans (n ++ ys) (n ++ (agent_of m.place m.arguments ∷ xs)) (agent_of m.place m.arguments ∷ (n ++ xs))
     (IsPermutation-append_right n ys (agent_of m.place m.arguments ∷ xs) m.made)
     (IsPermutation-middle n (agent_of m.place m.arguments) xs) in
     let before : Spells arities (record { places = n ++ xs; ends = ends }) rest (m.arguments ++ reverse m.rest) ts =
@@ -289,8 +250,7 @@ top_words ws (suc n) h =
     let g : ℕ → ℕ = λ k. length ws - (k + 1) in
     let more : map g (range_with_len 0 (n + 1)) ≡ map g (range_with_len 0 n) ++ g n ∷ [] = map-range_with_len_more g 0 n n (omega arith) in
     let one : suc n ≡ n + 1 = omega arith in
-    let list : map g (range_with_len 0 (suc n)) ≡ map g (range_with_len 0 n) ++ g n ∷ [] =
-    ap (λ (k : ℕ). map g (range_with_len 0 k)) one ∙ more in
+    let list = ap (λ (k : ℕ). map g (range_with_len 0 k)) one ∙ more in
     let rest : map (register ws) (map g (range_with_len 0 n)) ≡ reverse (drop (length ws - n) ws) = top_words ws n (omega arith) in
     let next : suc m ≡ length ws - n = omega arith in
     let split : drop m ws ≡ register ws m ∷ drop (length ws - n) ws =
@@ -305,20 +265,6 @@ pub spells_one : (c : ℕ) (t : Word) (ts : List Word) → spells_cut c (t ∷ t
 spells_one c t ts =
     let a = sum_by-cons (λ (w : Word). cond (w.tag == NAME && w.index == c) 1 0) t ts in
     let b = sum_by-cons (λ (w : Word). cond (w.tag == NAME && w.index == c) 1 0) t [] in
-    omega arith
-
--- an agent spells no cut
-pub spells_no_cut : (c : ℕ) (t : Word) → (t.tag == NAME) ≡ false → spells_cut c (t ∷ []) ≡ 0
-spells_no_cut c t other =
-    let b = sum_by-cons (λ (w : Word). cond (w.tag == NAME && w.index == c) 1 0) t [] in
-    let none : ◌≡◌ {A = ℕ} (cond (t.tag == NAME && t.index == c) 1 0) 0 = ap (λ (s : Bool). cond (s && t.index == c) 1 0) other in
-    omega arith
-
--- a name spells the cut of its number
-pub spells_name : (c n : ℕ) → spells_cut c (name_word n ∷ []) ≡ times c (n ∷ [])
-spells_name c n =
-    let b = sum_by-cons (λ (w : Word). cond (w.tag == NAME && w.index == c) 1 0) (name_word n) [] in
-    let d = sum_by-cons (λ (m : ℕ). cond (m == c) 1 0) n [] in
     omega arith
 
 -- ---- a word at a time
@@ -376,10 +322,6 @@ agent_put (Ok x) arities t trees n xs ys ends ws vs other next unchanged made = 
         (plain_spelled arities t (record { places = n ++ xs; ends = ends }) rest ws vs ts e p.1 s)
     by false e rest ts s = agent_spelled arities t n xs ys ends rest ws vs ts (made e) (next.agent other e).3 s
 
-pub on_ok : {T E P : Type 0} (r : Result T E) → P → OnOk r P
-on_ok (Ok x) p = p
-on_ok (Err e) p = tt
-
 pub on_err : {T E P : Type 0} (r : Result T E) → P → OnErr r P
 on_err (Ok x) p = tt
 on_err (Err e) p = p
@@ -396,3 +338,30 @@ agent_put_either arities t xs ys ws vs unchanged made = by (is_constant_tag arit
         subst (λ (l : List Word). AreKept arities ws l xs ys) (sym p.1)
         (subst (λ (l : List Piece). AreKept arities ws (ws ++ t ∷ []) xs l) (sym p.0) (plain_kept arities ws t xs e))
     by false e = agent_kept arities t.tag xs ys ws vs (made e)
+
+-- a name is opened that nothing names
+pub name_idle : (arities : List ℕ) (ws : List Word) (x : Word) (xs ys : List Piece) → Replaced [] (idle x ∷ []) xs ys → AreKept arities ws ws xs ys
+name_idle arities ws x xs ys r = record {
+  each = λ w c.
+      let us = replaced_sum (uses w) [] (idle x ∷ []) xs ys r in
+      let rs = replaced_sum (room w) [] (idle x ∷ []) xs ys r in
+      omega arith;
+}
+
+-- an agent spells no cut
+pub spells_no_cut : (c : ℕ) (t : Word) → (t.tag == NAME) ≡ false → spells_cut c (t ∷ []) ≡ 0
+spells_no_cut c t other =
+    let b = sum_by-cons (λ (w : Word). cond (w.tag == NAME && w.index == c) 1 0) t [] in
+    let none : ◌≡◌ {A = ℕ} (cond (t.tag == NAME && t.index == c) 1 0) 0 = ap (λ (s : Bool). cond (s && t.index == c) 1 0) other in
+    omega arith
+
+-- a name spells the cut of its number
+pub spells_name : (c n : ℕ) → spells_cut c (name_word n ∷ []) ≡ times c (n ∷ [])
+spells_name c n =
+    let b = sum_by-cons (λ (w : Word). cond (w.tag == NAME && w.index == c) 1 0) (name_word n) [] in
+    let d = sum_by-cons (λ (m : ℕ). cond (m == c) 1 0) n [] in
+    omega arith
+
+pub on_ok : {T E P : Type 0} (r : Result T E) → P → OnOk r P
+on_ok (Ok x) p = p
+on_ok (Err e) p = tt

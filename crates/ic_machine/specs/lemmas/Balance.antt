@@ -9,7 +9,7 @@ use Rattle.ic_machine.specs.declared.equation.Equation.{Equation}
 use Rattle.ic_machine.specs.Plan.{Plans}
 use Rattle.ic_machine.specs.Net.{equated_of}
 use Rattle.ic_machine.specs.Steps.{Step, turns, puts, meets, joins, fires, Steps, no_step, one_more}
-use Rattle.ic_machine.specs.lemmas.Separation.{sum_of_parts, twice}
+use Rattle.ic_machine.specs.lemmas.Separation.{balances, twice}
 
 pub no_front : {X : Type 0} (xs ys : List X) → xs ++ ys ≡ [] → xs ≡ []
 no_front [] ys e = refl
@@ -22,30 +22,16 @@ no_back (x ∷ xs) ys e = cc
 pub step_balances : (p : Plans) (is : List ℕ) (w : Word) (xs ys : List Piece) → is ≡ [] → Step p is xs ys
     → sum_by (room w) xs + sum_by (uses w) ys ≡ sum_by (room w) ys + sum_by (uses w) xs
 step_balances p is w xs ys e (turns a b t) =
-    let ux = sum_of_parts (uses w) a (equated t.left t.right ∷ []) t.rest t.given in
-    let uy = sum_of_parts (uses w) b (equated t.right t.left ∷ []) t.rest t.result in
-    let rx = sum_of_parts (room w) a (equated t.left t.right ∷ []) t.rest t.given in
-    let ry = sum_of_parts (room w) b (equated t.right t.left ∷ []) t.rest t.result in
-    omega arith
+    balances w a (equated t.left t.right ∷ []) b (equated t.right t.left ∷ []) t.rest t.given t.result (omega arith)
 step_balances p is w xs ys e (puts a b t) =
-    let two = twice (word_eq w t.named) in
-    let ux = sum_of_parts (uses w) a (equated t.named t.other ∷ idle t.named ∷ []) t.rest t.given in
-    let uy = sum_of_parts (uses w) b (waits t.named t.other ∷ []) t.rest t.result in
-    let rx = sum_of_parts (room w) a (equated t.named t.other ∷ idle t.named ∷ []) t.rest t.given in
-    let ry = sum_of_parts (room w) b (waits t.named t.other ∷ []) t.rest t.result in
-    omega arith
+    balances w a (equated t.named t.other ∷ idle t.named ∷ []) b (waits t.named t.other ∷ []) t.rest t.given t.result
+    (omega (arith, twice (word_eq w t.named)))
 step_balances p is w xs ys e (meets a b t) =
-    let ux = sum_of_parts (uses w) a (equated t.named t.other ∷ waits t.named t.waiting ∷ []) t.rest t.given in
-    let uy = sum_of_parts (uses w) b (equated t.waiting t.other ∷ []) t.rest t.result in
-    let rx = sum_of_parts (room w) a (equated t.named t.other ∷ waits t.named t.waiting ∷ []) t.rest t.given in
-    let ry = sum_of_parts (room w) b (equated t.waiting t.other ∷ []) t.rest t.result in
-    omega arith
+    balances w a (equated t.named t.other ∷ waits t.named t.waiting ∷ []) b (equated t.waiting t.other ∷ []) t.rest t.given t.result
+    (omega arith)
 step_balances p is w xs ys e (joins a b t) =
-    let ux = sum_of_parts (uses w) a (waits t.named t.between ∷ waits t.between t.waiting ∷ []) t.rest t.given in
-    let uy = sum_of_parts (uses w) b (waits t.named t.waiting ∷ []) t.rest t.result in
-    let rx = sum_of_parts (room w) a (waits t.named t.between ∷ waits t.between t.waiting ∷ []) t.rest t.given in
-    let ry = sum_of_parts (room w) b (waits t.named t.waiting ∷ []) t.rest t.result in
-    omega arith
+    balances w a (waits t.named t.between ∷ waits t.between t.waiting ∷ []) b (waits t.named t.waiting ∷ []) t.rest t.given t.result
+    (omega arith)
 step_balances p is w xs ys e (fires i a b t) = cc
 
 pub steps_balance : (p : Plans) (is : List ℕ) (w : Word) (xs ys : List Piece) → is ≡ [] → Steps p is xs ys
@@ -55,10 +41,8 @@ steps_balance p is w xs ys e (no_step a b h) =
     let r = sum_by-IsPermutation (room w) a b h in
     omega arith
 steps_balance p is w xs ys e (one_more m n a b c t u) =
-    let first : sum_by (room w) a + sum_by (uses w) b ≡ sum_by (room w) b + sum_by (uses w) a =
-    steps_balance p m w a b (no_front m n e) t in
-    let last : sum_by (room w) b + sum_by (uses w) c ≡ sum_by (room w) c + sum_by (uses w) b =
-    step_balances p n w b c (no_back m n e) u in
+    let first = steps_balance p m w a b (no_front m n e) t in
+    let last = step_balances p n w b c (no_back m n e) u in
     omega arith
 
 -- equations give no room

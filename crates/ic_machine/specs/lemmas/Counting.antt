@@ -40,8 +40,7 @@ pub range_none : (f : ℕ → ℕ) (b n : ℕ) → ((k : ℕ) → b ≤ k → f 
     → sum_by f (range_with_len b n) ≡ 0
 range_none f b zero h = refl
 range_none f b (suc n) h =
-    let a : sum_by f (range_with_len b (suc n)) ≡ f b + sum_by f (range_with_len (b + 1) n) =
-    sum_by-cons f b (range_with_len (b + 1) n) in
+    let a = sum_by-cons f b (range_with_len (b + 1) n) in
     let here : f b ≡ 0 = h b (omega arith) in
     let ih : sum_by f (range_with_len (b + 1) n) ≡ 0 = range_none f (b + 1) n (λ k le. h k (omega arith)) in
     omega arith
@@ -50,10 +49,8 @@ pub range_le : (f g : ℕ → ℕ) (b n : ℕ) → ((k : ℕ) → b ≤ k → f 
     → sum_by f (range_with_len b n) ≤ sum_by g (range_with_len b n)
 range_le f g b zero h = omega arith
 range_le f g b (suc n) h =
-    let x : sum_by f (range_with_len b (suc n)) ≡ f b + sum_by f (range_with_len (b + 1) n) =
-    sum_by-cons f b (range_with_len (b + 1) n) in
-    let y : sum_by g (range_with_len b (suc n)) ≡ g b + sum_by g (range_with_len (b + 1) n) =
-    sum_by-cons g b (range_with_len (b + 1) n) in
+    let x = sum_by-cons f b (range_with_len (b + 1) n) in
+    let y = sum_by-cons g b (range_with_len (b + 1) n) in
     let here : f b ≤ g b = h b (omega arith) in
     let ih : sum_by f (range_with_len (b + 1) n) ≤ sum_by g (range_with_len (b + 1) n) =
     range_le f g (b + 1) n (λ k le. h k (omega arith)) in
@@ -69,13 +66,9 @@ range_parts f b zero m =
 range_parts f b (suc n) m =
     let e : suc n + m ≡ suc (n + m) = omega arith in
     let z : b + suc n ≡ (b + 1) + n = omega arith in
-    let x : sum_by f (range_with_len b (suc (n + m))) ≡ f b + sum_by f (range_with_len (b + 1) (n + m)) =
-    sum_by-cons f b (range_with_len (b + 1) (n + m)) in
-    let y : sum_by f (range_with_len b (suc n)) ≡ f b + sum_by f (range_with_len (b + 1) n) =
-    sum_by-cons f b (range_with_len (b + 1) n) in
-    let ih : sum_by f (range_with_len (b + 1) (n + m))
-    ≡ sum_by f (range_with_len (b + 1) n) + sum_by f (range_with_len ((b + 1) + n) m) =
-    range_parts f (b + 1) n m in
+    let x = sum_by-cons f b (range_with_len (b + 1) (n + m)) in
+    let y = sum_by-cons f b (range_with_len (b + 1) n) in
+    let ih = range_parts f (b + 1) n m in
     rw (e, z) (omega arith)
 
 -- one number, if it passes a test
@@ -92,9 +85,7 @@ pub picked : (p : ℕ → Bool) (o b n : ℕ) → b ≤ o → o < b + n
     → sum_by (one_at p o) (range_with_len b n) ≡ cond (p o) 1 0
 picked p o b zero le lt = absurd (omega arith)
 picked p o b (suc n) le lt =
-    let a : sum_by (one_at p o) (range_with_len b (suc n))
-    ≡ one_at p o b + sum_by (one_at p o) (range_with_len (b + 1) n) =
-    sum_by-cons (one_at p o) b (range_with_len (b + 1) n) in
+    let a = sum_by-cons (one_at p o) b (range_with_len (b + 1) n) in
     elim (eqb_tells o b) [
       | inl t ↦ (let here : one_at p o b ≡ cond (p o) 1 0 = same_at p o b t.1 t.0 in
           let rest : sum_by (one_at p o) (range_with_len (b + 1) n) ≡ 0 =
@@ -144,10 +135,8 @@ by_number p [] b n h = sym (range_none (λ k. cond (p k) 0 0) b n (λ k le. cond
 by_number p (o ∷ ops) b n h =
     let a : count_by p (o ∷ ops) ≡ cond (p o) 1 0 + count_by p ops =
     sum_by-cons (λ k. cond (p k) 1 0) o ops in
-    let first : sum_by (one_at p o) (range_with_len b n) ≡ cond (p o) 1 0 =
-    first_is p o b n h.0 in
-    let rest : count_by p ops ≡ sum_by (λ k. cond (p k) (count_by (λ m. m == k) ops) 0) (range_with_len b n) =
-    by_number p ops b n h.1 in
+    let first = first_is p o b n h.0 in
+    let rest = by_number p ops b n h.1 in
     let both : sum_by (λ k. one_at p o k + cond (p k) (count_by (λ m. m == k) ops) 0) (range_with_len b n)
     ≡ sum_by (one_at p o) (range_with_len b n)
     + sum_by (λ k. cond (p k) (count_by (λ m. m == k) ops) 0) (range_with_len b n) =
@@ -165,8 +154,7 @@ pub at_most : (p : ℕ → Bool) (a : ℕ → ℕ) (ops : List ℕ) (b n : ℕ)
     → ((k : ℕ) → b ≤ k → count_by (λ m. m == k) ops ≤ a k)
     → count_by p ops ≤ sum_by (λ k. cond (p k) (a k) 0) (range_with_len b n)
 at_most p a ops b n within few =
-    let e : count_by p ops ≡ sum_by (λ k. cond (p k) (count_by (λ m. m == k) ops) 0) (range_with_len b n) =
-    by_number p ops b n within in
+    let e = by_number p ops b n within in
     let l : sum_by (λ k. cond (p k) (count_by (λ m. m == k) ops) 0) (range_with_len b n)
     ≤ sum_by (λ k. cond (p k) (a k) 0) (range_with_len b n) =
     range_le (λ k. cond (p k) (count_by (λ m. m == k) ops) 0) (λ k. cond (p k) (a k) 0) b n
@@ -191,8 +179,7 @@ part_sum w before [] later a c b e h = sym (zero-mul c)
 part_sum w before (x ∷ part) later a c b e h =
     let f : ℕ → ℕ = λ k. cond (word_eq w (register (before ++ (x ∷ (part ++ later))) k)) (a k) 0 in
     let g : ℕ → ℕ = λ k. cond (word_eq w (register ((before ++ x ∷ []) ++ (part ++ later)) k)) (a k) 0 in
-    let s : sum_by f (range_with_len b (suc (length part))) ≡ f b + sum_by f (range_with_len (b + 1) (length part)) =
-    sum_by-cons f b (range_with_len (b + 1) (length part)) in
+    let s = sum_by-cons f b (range_with_len (b + 1) (length part)) in
     let at : register (before ++ (x ∷ (part ++ later))) b ≡ x =
     subst (λ (k : ℕ). register (before ++ (x ∷ (part ++ later))) k ≡ x) (sym e)
     (get_or-append_seam before x (part ++ later) _) in

@@ -11,7 +11,8 @@ use Rattle.ic_arena.specs.Tables.{register}
 use Rattle.ic_machine.specs.Plan.{Planned, Plans, ArePlans, IsPlan, constants, operands_of, pieces_made, plan_at, plan_of}
 use Rattle.ic_machine.specs.Separate.{IsSeparate}
 use Rattle.ic_machine.specs.Steps.{Fires, Step, turns, puts, meets, joins, fires, Steps, no_step, one_more}
-use Rattle.ic_machine.specs.lemmas.Separation.{sum_of_parts, separate_in_order, turns_keep, puts_keep, meets_keep, joins_keep}
+use Rattle.ic_machine.specs.lemmas.Balance.{step_balances}
+use Rattle.ic_machine.specs.lemmas.Separation.{balanced, separate_in_order, sum_of_parts}
 use Rattle.ic_machine.specs.lemmas.FiringKeeps.{uses_few, plan_uses, plan_room}
 
 pub agent_uses : (w a : Word) (ws : List Word) → sum_by (uses w) (agent_with a ws) ≡ count w ws
@@ -29,9 +30,7 @@ pub sum_of_pair : (f : Piece → ℕ) (xs : List Piece) (e : Piece) (ls ks rest 
 sum_of_pair f xs e ls ks rest h =
     let a = sum_by-IsPermutation f xs (e ∷ (ls ++ (ks ++ rest))) h in
     let b = sum_by-cons f e (ls ++ (ks ++ rest)) in
-    let c = sum_by-append f ls (ks ++ rest) in
-    let d = sum_by-append f ks rest in
-    omega arith
+    omega (arith, sum_by-append {X = Piece})
 
 pub fires_keep : (p : Plans) (n : ℕ) (i : List Word) (xs ys : List Piece) → ArePlans p
     → Fires p n xs ys → IsSeparate p.arities i xs → IsSeparate p.arities i ys
@@ -42,16 +41,11 @@ fires_keep p n i xs ys sound f s =
     let rs : List Word = constants (length p.arities)
     ++ (f.left_args ++ (f.right_args ++ (f.names ++ f.made))) in
     let is : plan_of p f.left f.right ≡ Some f.plan = ap (plan_at p.plans) f.number ∙ f.has_plan in
-    let of_pair : IfSome (plan_of p f.left f.right)
-    (IsPlan p.arities (length f.left_args + length f.right_args)) =
-    sound.each f.left f.right (length f.left_args) (length f.right_args) f.left_arity f.right_arity in
-    let plan_two : IsPlan p.arities (length f.left_args + length f.right_args) f.plan =
-    subst (λ (o : Option Planned). IfSome o
+    let of_pair = sound.each f.left f.right (length f.left_args) (length f.right_args) f.left_arity f.right_arity in
+    let plan_two = subst (λ (o : Option Planned). IfSome o
     (IsPlan p.arities (length f.left_args + length f.right_args))) is of_pair in
-    let plan : IsPlan p.arities (length args) f.plan =
-    subst (λ (k : ℕ). IsPlan p.arities k f.plan) (sym (length-append f.left_args f.right_args)) plan_two in
-    let same : constants (length p.arities) ++ (args ++ (f.names ++ f.made)) ≡ rs =
-    ap (λ (l : List Word). constants (length p.arities) ++ l)
+    let plan = subst (λ (k : ℕ). IsPlan p.arities k f.plan) (sym (length-append f.left_args f.right_args)) plan_two in
+    let same = ap (λ (l : List Word). constants (length p.arities) ++ l)
     (append_assoc f.left_args f.right_args (f.names ++ f.made)) in
     record {
       each = λ w place.
@@ -80,10 +74,10 @@ fires_keep p n i xs ys sound f s =
 
 pub step_keeps : (p : Plans) (is : List ℕ) (i : List Word) (xs ys : List Piece) → ArePlans p
     → Step p is xs ys → IsSeparate p.arities i xs → IsSeparate p.arities i ys
-step_keeps p is i xs ys sound (turns a b t) s = turns_keep p.arities i a b t s
-step_keeps p is i xs ys sound (puts a b t) s = puts_keep p.arities i a b t s
-step_keeps p is i xs ys sound (meets a b t) s = meets_keep p.arities i a b t s
-step_keeps p is i xs ys sound (joins a b t) s = joins_keep p.arities i a b t s
+step_keeps p is i xs ys sound (turns a b t) s = balanced p.arities i a b (λ w. step_balances p [] w a b refl (turns a b t)) s
+step_keeps p is i xs ys sound (puts a b t) s = balanced p.arities i a b (λ w. step_balances p [] w a b refl (puts a b t)) s
+step_keeps p is i xs ys sound (meets a b t) s = balanced p.arities i a b (λ w. step_balances p [] w a b refl (meets a b t)) s
+step_keeps p is i xs ys sound (joins a b t) s = balanced p.arities i a b (λ w. step_balances p [] w a b refl (joins a b t)) s
 step_keeps p is i xs ys sound (fires n a b t) s = fires_keep p n i a b sound t s
 
 pub steps_keep : (p : Plans) (is : List ℕ) (i : List Word) (xs ys : List Piece) → ArePlans p

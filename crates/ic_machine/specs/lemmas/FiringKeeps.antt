@@ -11,11 +11,11 @@ use Rattle.std.proofs.lemmas.List.Sums.{sum_by-cons, sum_by-append}
 use Rattle.ic_arena.specs.declared.word.Word.{Word}
 use Rattle.ic_arena.specs.declared.word.TheConstants.{GIVEN}
 use Rattle.ic_arena.specs.Word.{name_word, agent_word, word_eq, count}
-use Rattle.ic_arena.specs.Piece.{idle, room, uses}
+use Rattle.ic_arena.specs.Piece.{Piece, idle, room, uses}
 use Rattle.ic_arena.specs.Tables.{register}
 use Rattle.ic_arena.specs.lemmas.Rooms.{other_tag}
 use Rattle.ic_machine.specs.declared.plan.Link.{Link}
-use Rattle.ic_machine.specs.Plan.{Made, Planned, AreMade, IsPlan, allowance, constants, made_each, made_at, linked, link_operands, operands_of, pieces_made}
+use Rattle.ic_machine.specs.Plan.{Made, Planned, AreMade, IsPlan, allowance, constants, made_each, linked, link_operands, operands_of, pieces_made, made_at}
 use Rattle.ic_machine.specs.Separate.{is_constant_tag}
 use Rattle.ic_machine.specs.lemmas.Counting.{at_most, part_sum, range_parts}
 
@@ -57,9 +57,7 @@ pub links_uses : (w : Word) (rs : List Word) (ls : List Link)
     ≡ count_by (λ k. word_eq w (register rs k)) (flat_map link_operands ls)
 links_uses w rs [] = refl
 links_uses w rs (l ∷ ls) =
-    let a : sum_by (uses w) (map (linked rs) (l ∷ ls))
-    ≡ uses w (linked rs l) + sum_by (uses w) (map (linked rs) ls) =
-    sum_by-cons (uses w) (linked rs l) (map (linked rs) ls) in
+    let a = sum_by-cons (uses w) (linked rs l) (map (linked rs) ls) in
     let b : count_by (λ k. word_eq w (register rs k)) (link_operands l ++ flat_map link_operands ls)
     ≡ count_by (λ k. word_eq w (register rs k)) (link_operands l)
     + count_by (λ k. word_eq w (register rs k)) (flat_map link_operands ls) =
@@ -75,9 +73,7 @@ made_room w rs [] [] e = refl
 made_room w rs [] (v ∷ ws) e = absurd (omega arith)
 made_room w rs (m ∷ ms) [] e = absurd (omega arith)
 made_room w rs (m ∷ ms) (v ∷ ws) e =
-    let a : sum_by (room w) (made_each rs (m ∷ ms) (v ∷ ws))
-    ≡ room w (made_at rs m v) + sum_by (room w) (made_each rs ms ws) =
-    sum_by-cons (room w) (made_at rs m v) (made_each rs ms ws) in
+    let a = sum_by-cons (room w) (made_at rs m v) (made_each rs ms ws) in
     let b : count w (v ∷ ws) ≡ cond (word_eq w v) 1 0 + count w ws =
     sum_by-cons (λ x. cond (word_eq w x) 1 0) v ws in
     let ih : sum_by (room w) (made_each rs ms ws) ≡ count w ws = made_room w rs ms ws (omega arith) in
@@ -90,15 +86,12 @@ made_uses w rs [] [] e = refl
 made_uses w rs [] (v ∷ ws) e = absurd (omega arith)
 made_uses w rs (m ∷ ms) [] e = absurd (omega arith)
 made_uses w rs (m ∷ ms) (v ∷ ws) e =
-    let a : sum_by (uses w) (made_each rs (m ∷ ms) (v ∷ ws))
-    ≡ count w (map (register rs) m.operands) + sum_by (uses w) (made_each rs ms ws) =
-    sum_by-cons (uses w) (made_at rs m v) (made_each rs ms ws) in
+    let a = sum_by-cons (uses w) (made_at rs m v) (made_each rs ms ws) in
     let b : count_by (λ k. word_eq w (register rs k)) (m.operands ++ flat_map (λ m. m.operands) ms)
     ≡ count_by (λ k. word_eq w (register rs k)) m.operands
     + count_by (λ k. word_eq w (register rs k)) (flat_map (λ m. m.operands) ms) =
     sum_by-append (λ k. cond (word_eq w (register rs k)) 1 0) m.operands (flat_map (λ m. m.operands) ms) in
-    let c : count w (map (register rs) m.operands) ≡ count_by (λ k. word_eq w (register rs k)) m.operands =
-    counted_in w rs m.operands in
+    let c = counted_in w rs m.operands in
     let ih : sum_by (uses w) (made_each rs ms ws)
     ≡ count_by (λ k. word_eq w (register rs k)) (flat_map (λ m. m.operands) ms) =
     made_uses w rs ms ws (omega arith) in
@@ -109,24 +102,20 @@ pub plan_uses : (w : Word) (p : Planned) (rs names made : List Word) → length 
     → sum_by (uses w) (pieces_made p rs names made)
     ≡ count_by (λ k. word_eq w (register rs k)) (operands_of p)
 plan_uses w p rs names made e =
-    let a = sum_by-append (uses w) (map idle names) (made_each rs p.made made ++ map (linked rs) p.links) in
-    let b = sum_by-append (uses w) (made_each rs p.made made) (map (linked rs) p.links) in
     let c = idle_uses w names in
     let d = made_uses w rs p.made made e in
     let f = links_uses w rs p.links in
     let g = sum_by-append (λ k. cond (word_eq w (register rs k)) 1 0)
     (flat_map (λ (m : Made). m.operands) p.made) (flat_map link_operands p.links) in
-    omega arith
+    omega (arith, sum_by-append {X = Piece})
 
 pub plan_room : (w : Word) (p : Planned) (rs names made : List Word) → length made ≡ length p.made
     → sum_by (room w) (pieces_made p rs names made) ≡ count w names * 2 + count w made
 plan_room w p rs names made e =
-    let a = sum_by-append (room w) (map idle names) (made_each rs p.made made ++ map (linked rs) p.links) in
-    let b = sum_by-append (room w) (made_each rs p.made made) (map (linked rs) p.links) in
     let c = idle_room w names in
     let d = made_room w rs p.made made e in
     let f = links_room w rs p.links in
-    omega arith
+    omega (arith, sum_by-append {X = Piece})
 
 -- facts of each of a list
 pub all_both : {X : Type 0} (P Q R : X → Type 0) (xs : List X) → ((x : X) → P x → Q x → R x)
@@ -166,8 +155,7 @@ constant_register arities w others k lt none place =
     get_or-append (constants n) others (name_word 0) k inner
     ∙ get_or-map-range_with_len (λ s. agent_word s 0) 0 n k k (name_word 0) lt (zero-add k) in
     let differ : w.tag ≡ k + 1 → ⊥ = λ e.
-    let one : is_constant_tag arities w.tag ≡ is_constant_tag arities (suc k) =
-    ap (is_constant_tag arities) (e ∙ add-one k) in
+    let one = ap (is_constant_tag arities) (e ∙ add-one k) in
     let two : is_constant_tag arities (suc k) ≡ true =
     ap (λ (o : Option ℕ). option_map_or (λ m. m == 0) o (suc k == GIVEN)) none in
     true-false (sym two ∙ (sym one ∙ place)) in
@@ -203,16 +191,9 @@ few_of arities w z ops args names made below constant linear en place =
       | inr t ↦ absurd (not_both (test k) yes
           (constant_register arities w (args ++ (names ++ made)) k t.1 (constant t.1) place))
     ]) constant below in
-    let used : count_by test ops ≤ sum_by f (range_with_len n m) =
-    at_most test a ops n m within linear in
-    let parts : sum_by f (range_with_len n m)
-    ≡ sum_by f (range_with_len n (length args))
-    + sum_by f (range_with_len (n + length args) (length names + length made)) =
-    range_parts f n (length args) (length names + length made) in
-    let more : sum_by f (range_with_len (n + length args) (length names + length made))
-    ≡ sum_by f (range_with_len (n + length args) (length names))
-    + sum_by f (range_with_len (n + length args + length names) (length made)) =
-    range_parts f (n + length args) (length names) (length made) in
+    let used = at_most test a ops n m within linear in
+    let parts = range_parts f n (length args) (length names + length made) in
+    let more = range_parts f (n + length args) (length names) (length made) in
     let of_args : sum_by f (range_with_len n (length args)) ≡ count w args * 1 =
     part_sum w cs args (names ++ made) a 1 n (sym len)
     (λ k le lt. ap (λ (t : Bool). cond t 1 (cond (nat_lt k (n + length args + z)) 2 1))

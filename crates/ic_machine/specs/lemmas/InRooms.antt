@@ -125,11 +125,10 @@ fresh_in_room : (arities : List ℕ) (k : ℕ) (ws : List Word) (rest extra : Li
     → AreFresh (map (in_room arities k) ws) (pieces_in arities k rest ++ extra)
 fresh_in_room arities k [] rest extra outside places fresh = tt
 fresh_in_room arities k (w ∷ ws) rest extra outside places fresh =
-    let a = sum_by-append (room (in_room arities k w)) (pieces_in arities k rest) extra in
     let here = rooms_in_room arities k w rest in
     let none = outside w places.0 in
     let free = fresh.0 in (
-      omega arith,
+      omega (arith, sum_by-append {X = Piece}),
       count_in_room arities k w ws ∙ fresh.1,
       fresh_in_room arities k ws rest extra outside places.1 fresh.2,
     )
@@ -316,11 +315,9 @@ fires_in_room p k i xs ys extra sound outside f =
     let vs : List Word = map r f.left_args ++ (map r f.right_args ++ (map r f.names ++ map r f.made)) in
     let rs : List Word = constants n ++ ws in
     let is : plan_of p f.left f.right ≡ Some f.plan = ap (plan_at p.plans) f.number ∙ f.has_plan in
-    let plan : IsPlan p.arities (length f.left_args + length f.right_args) f.plan =
-    subst (λ (o : Option Planned). IfSome o (IsPlan p.arities (length f.left_args + length f.right_args))) is
+    let plan = subst (λ (o : Option Planned). IfSome o (IsPlan p.arities (length f.left_args + length f.right_args))) is
     (sound.each f.left f.right (length f.left_args) (length f.right_args) f.left_arity f.right_arity) in
-    let long : length ws ≡ length f.left_args + (length f.right_args + (length f.names + length f.made)) =
-    length-append f.left_args (f.right_args ++ (f.names ++ f.made))
+    let long = length-append f.left_args (f.right_args ++ (f.names ++ f.made))
     ∙ (ap (λ (m : ℕ). length f.left_args + m) (length-append f.right_args (f.names ++ f.made)
     ∙ ap (λ (m : ℕ). length f.right_args + m) (length-append f.names f.made))) in
     let many = f.names_count in
@@ -332,19 +329,16 @@ fires_in_room p k i xs ys extra sound outside f =
     (made_within p.arities (n + (length f.left_args + length f.right_args) + f.plan.names) f.plan.made plan.made))
     (all_of (λ m. m < n + (length f.left_args + length f.right_args) + f.plan.names + length f.plan.made) (λ m. m < n + length ws)
     (flat_map link_operands f.plan.links) (λ m lt. omega arith) plan.links) in
-    let renamed : map r ws ≡ vs =
-    map-append r f.left_args (f.right_args ++ (f.names ++ f.made))
+    let renamed = map-append r f.left_args (f.right_args ++ (f.names ++ f.made))
     ∙ ap (λ (l : List Word). map r f.left_args ++ l) (map-append r f.right_args (f.names ++ f.made)
     ∙ ap (λ (l : List Word). map r f.right_args ++ l) (map-append r f.names f.made)) in
-    let same : AllByRecursion (IsSame p.arities k rs (constants n ++ vs)) (operands_of f.plan) =
-    subst (λ (l : List Word). AllByRecursion (IsSame p.arities k rs (constants n ++ l)) (operands_of f.plan)) renamed
+    let same = subst (λ (l : List Word). AllByRecursion (IsSame p.arities k rs (constants n ++ l)) (operands_of f.plan)) renamed
     (all_used p.arities k ws (operands_of f.plan) within plan.constant) in
     let left_is = agent_in_room p.arities k left f.left_args
     ∙ ap (λ (w : Word). agent_with w (map r f.left_args)) (agent_word_in p.arities k f.left f.left_place) in
     let right_is = agent_in_room p.arities k right f.right_args
     ∙ ap (λ (w : Word). agent_with w (map r f.right_args)) (agent_word_in p.arities k f.right f.right_place) in
-    let places : AllByRecursion (IsPlace p.arities) (f.names ++ f.made) =
-    all_append (IsPlace p.arities) f.names f.made (names_are_places p.arities f.names f.name_tags)
+    let places = all_append (IsPlace p.arities) f.names f.made (names_are_places p.arities f.names f.name_tags)
     (made_are_places p.arities (n + (length f.left_args + length f.right_args) + f.plan.names) f.plan.made f.made plan.made f.made_tags) in
     let rest : List Piece = pieces_in p.arities k f.rest ++ extra in
     let left_word = agent_word_in p.arities k f.left f.left_place in
@@ -359,9 +353,7 @@ fires_in_room p k i xs ys extra sound outside f =
     ∷ (agent_with (agent_word f.left (agent_index p.arities k f.left f.left_place)) (map r f.left_args)
     ++ (agent_with (agent_word f.right (agent_index p.arities k f.right f.right_place)) (map r f.right_args) ++ rest)) =
     λ j. equated (left_word j) (right_word j) ∷ below j in
-    let after : pieces_in p.arities k (pieces_made f.plan rs f.names f.made ++ f.rest) ++ extra
-    ≡ pieces_made f.plan (constants n ++ vs) (map r f.names) (map r f.made) ++ rest =
-    two_in p.arities k (pieces_made f.plan rs f.names f.made) f.rest extra
+    let after = two_in p.arities k (pieces_made f.plan rs f.names f.made) f.rest extra
     ∙ ap (λ (l : List Piece). l ++ rest) (sym (planned_in p.arities k f.plan rs (constants n ++ vs) f.names f.made same)) in
     record {
       left = f.left;
@@ -468,10 +460,9 @@ outside_of arities k l ps low also apart = λ w place. all_outside arities k l l
 
 pub outside_both : (arities : List ℕ) (k : ℕ) (ps qs : List Piece) → IsOutside arities k ps → IsOutside arities k qs → IsOutside arities k (ps ++ qs)
 outside_both arities k ps qs first last = λ w place.
-    let a = sum_by-append (room (in_room arities k w)) ps qs in
     let b = first w place in
     let c = last w place in
-    omega arith
+    omega (arith, sum_by-append {X = Piece})
 
 -- ---- what a machine begins with
 
@@ -496,12 +487,10 @@ begins_in_room arities k given p operands interface ps stay start b =
     let vs : List Word = given_words given ++ (map r b.names ++ map r b.made) in
     let made_length : length b.made ≡ length p.made =
     sym (length-map b.made (λ (w : Word). w.tag)) ∙ (ap (length {A = ℕ}) b.made_tags ∙ length-map p.made (λ (m : Made). m.symbol + 1)) in
-    let long : length ws ≡ given + (length b.names + length b.made) =
-    length-append (given_words given) (b.names ++ b.made)
+    let long = length-append (given_words given) (b.names ++ b.made)
     ∙ (ap (λ (m : ℕ). m + length (b.names ++ b.made)) (given_count given) ∙ ap (λ (m : ℕ). given + m) (length-append b.names b.made)) in
     let many = b.names_count in
-    let renamed : map r ws ≡ vs =
-    map-append r (given_words given) (b.names ++ b.made)
+    let renamed = map-append r (given_words given) (b.names ++ b.made)
     ∙ (ap (λ (l : List Word). l ++ map r (b.names ++ b.made)) (all_stay arities k (given_words given) stay)
     ∙ ap (λ (l : List Word). given_words given ++ l) (map-append r b.names b.made)) in
     let within : AllByRecursion (λ m. m < n + length ws) (operands_of p) =
@@ -513,14 +502,11 @@ begins_in_room arities k given p operands interface ps stay start b =
     (flat_map link_operands p.links) (λ m lt. omega arith) start.plan.links) in
     let inside : AllByRecursion (λ m. m < n + length ws) operands =
     all_of (λ m. m < n + given + p.names + length p.made) (λ m. m < n + length ws) operands (λ m lt. omega arith) start.filled in
-    let same : AllByRecursion (IsSame arities k (constants n ++ ws) (constants n ++ vs)) (operands_of p) =
-    subst (λ (l : List Word). AllByRecursion (IsSame arities k (constants n ++ ws) (constants n ++ l)) (operands_of p)) renamed
+    let same = subst (λ (l : List Word). AllByRecursion (IsSame arities k (constants n ++ ws) (constants n ++ l)) (operands_of p)) renamed
     (all_used arities k ws (operands_of p) within start.plan.constant) in
-    let same_too : AllByRecursion (IsSame arities k (constants n ++ ws) (constants n ++ vs)) operands =
-    subst (λ (l : List Word). AllByRecursion (IsSame arities k (constants n ++ ws) (constants n ++ l)) operands) renamed
+    let same_too = subst (λ (l : List Word). AllByRecursion (IsSame arities k (constants n ++ ws) (constants n ++ l)) operands) renamed
     (all_used arities k ws operands inside start.constant) in
-    let places : AllByRecursion (IsPlace arities) (b.names ++ b.made) =
-    all_append (IsPlace arities) b.names b.made (names_are_places arities b.names b.name_tags)
+    let places = all_append (IsPlace arities) b.names b.made (names_are_places arities b.names b.name_tags)
     (made_are_places arities (n + given + p.names) p.made b.made start.plan.made b.made_tags) in
     record {
       names = map r b.names;

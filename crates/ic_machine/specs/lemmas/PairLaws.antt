@@ -134,8 +134,7 @@ plans_added p a b plan sound la lb none fits = record {
         let same = same_pair a b x y e in
         let place : place_of x y (p.pairs ++ (a, b) ∷ []) ≡ Some (length p.pairs) =
         place_pushed p.pairs a b new x y ∙ ap (λ c. cond c (Some (length p.pairs)) (number_of p x y)) e in
-        let there : plan_at plans (place_of x y (p.pairs ++ (a, b) ∷ [])) ≡ Some plan =
-        ap (plan_at plans) place ∙ there_last p.plans plan (length p.pairs) sound.counted in
+        let there = ap (plan_at plans) place ∙ there_last p.plans plan (length p.pairs) sound.counted in
         subst (λ (o : Option Planned). IfSome o (IsPlan p.arities (left + right))) (sym there)
         (fits left right (ap (slice_get p.arities) (sym same.0) ∙ first) (ap (slice_get p.arities) (sym same.1) ∙ second))
     at x y left right first second false e None is =
@@ -146,6 +145,5 @@ plans_added p a b plan sound la lb none fits = record {
         let place : place_of x y (p.pairs ++ (a, b) ∷ []) ≡ Some i =
         place_pushed p.pairs a b new x y ∙ ap (λ c. cond c (Some (length p.pairs)) (number_of p x y)) e ∙ is in
         let low = (numbered_pair p x y i sound is).2 in
-        let there : plan_at plans (place_of x y (p.pairs ++ (a, b) ∷ [])) ≡ plan_of p x y =
-        ap (plan_at plans) place ∙ there_front p.plans plan i low ∙ sym (ap (plan_at p.plans) is) in
+        let there = ap (plan_at plans) place ∙ there_front p.plans plan i low ∙ sym (ap (plan_at p.plans) is) in
         subst (λ (o : Option Planned). IfSome o (IsPlan p.arities (left + right))) (sym there) (sound.each x y left right first second)

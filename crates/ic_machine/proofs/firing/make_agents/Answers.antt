@@ -3,7 +3,7 @@ use Rattle.std.specs.List.{AllByRecursion}
 use Rattle.std.proofs.Math.Nat.{max-eq_left, suc-mul}
 use Rattle.std.proofs.lemmas.List.{length-map}
 use Rattle.ic_arena.specs.declared.word.Word.{Word}
-use Rattle.ic_arena.specs.declared.word.TheConstants.{GIVEN, IDLE}
+use Rattle.ic_arena.specs.declared.word.TheConstants.{IDLE, GIVEN}
 use Rattle.ic_arena.specs.Word.{agent_word}
 use Rattle.ic_arena.specs.Piece.{agent_of, room}
 use Rattle.ic_arena.specs.Tables.{Blocks, Replaced, blocks_pieces, register}
@@ -17,6 +17,7 @@ use Rattle.ic_machine.proofs.InUse.{greatest_on, one_longer, one_more}
 use Rattle.ic_machine.proofs.Spare.{grown_set}
 use Rattle.ic_machine.proofs.Standing.{blocks_few}
 use Rattle.ic_machine.proofs.firing.make_agents.Goals as goal
+use Rattle.ic_machine.proofs.firing.make_agents.Goals.{After-deref-in-loop-make}
 
 -- the symbol of an agent that is made has a table of its arity
 known : (h0 hs : List Blocks) (n : ℕ) (m : Made) → arities_of hs ≡ arities_of h0 → IsMadeOf (arities_of h0) n m
@@ -35,125 +36,82 @@ room_for_one : (hs : List Blocks) (n i : ℕ) (m : Made) → i < n → HasRoom h
 room_for_one hs n i m lt h =
     let some : n - i ≡ suc (n - suc i) = omega arith in
     let a : ℕ = (table hs m.symbol).arity in
-    let more : (n - i) * a ≡ (n - suc i) * a + a =
-    ap (λ (k : ℕ). k * a) some ∙ suc-mul (n - suc i) a in
+    let more = ap (λ (k : ℕ). k * a) some ∙ suc-mul (n - suc i) a in
     let fits : length (table hs m.symbol).words + (n - i) * a ≤ (table hs m.symbol).capacity = h.0 in
     let few : (table hs m.symbol).count + (n - i) < 2 ^ 32 = h.1 in
     (omega arith, omega arith)
 
 pub index_mut-heap-requires : goal.index_mut-heap-requires
 index_mut-heap-requires c =
-    let hs : List Blocks = c.loop-make.heaps.items in
     let h0 : List Blocks = c.args.heaps.now.items in
     let filled : ℕ = length c.args.registers.now.items in
-    let item : Make = c.make-item.result in
-    let planned = planned_now (arities_of h0) filled c.loop-make.make-index c.args.makes.now item
-    c.requires.made c.loop-make-test.true c.make-item.is in
-    let there : (item.symbol < length hs) × ((table hs item.symbol).arity ≡ length item.operands.items) =
-    known h0 hs (filled + c.loop-make.make-index) (made_of item) c.loop-make.invariant.arities planned in
-    let below : item.symbol < length hs = there.0 in
+    let there = known h0 c.loop-make.heaps.items (filled + c.loop-make.make-index) (made_of c.make-item.result)
+    c.loop-make.invariant.arities (planned_now (arities_of h0) filled c.loop-make.make-index c.args.makes.now c.make-item.result
+    c.requires.made c.loop-make-test.true c.make-item.is) in
+    let below : c.make-item.result.symbol < length c.loop-make.heaps.items = there.0 in
     let whole = c.loop-make.heaps.ok.0 in
     omega arith
 
+-- ---- the agent that is made next
+
+module _ (c : After-deref-in-loop-make) where
+  plan : IsMadeOf (arities_of c.args.heaps.now.items) (length c.args.registers.now.items + c.loop-make.make-index)
+      (made_of c.make-item.result)
+  plan =
+      planned_now (arities_of c.args.heaps.now.items) (length c.args.registers.now.items) c.loop-make.make-index
+      c.args.makes.now c.make-item.result c.requires.made c.loop-make-test.true c.make-item.is
+
+  there : (c.make-item.result.symbol < length c.loop-make.heaps.items)
+      × ((table c.loop-make.heaps.items c.make-item.result.symbol).arity ≡ length c.make-item.result.operands.items)
+  there =
+      known c.args.heaps.now.items c.loop-make.heaps.items _ (made_of c.make-item.result) c.loop-make.invariant.arities plan
+
+  same : c.index_mut-heap.result.now ≡ table c.loop-make.heaps.items c.make-item.result.symbol
+  same =
+      table_read c.loop-make.heaps.items c.make-item.result.symbol c.index_mut-heap.result.now there.0 c.index_mut-heap.ensures.value
+
+  one_fits : (length c.index_mut-heap.result.now.words + c.index_mut-heap.result.now.arity ≤ c.index_mut-heap.result.now.capacity)
+      × (c.index_mut-heap.result.now.count + 1 < 2 ^ 32)
+  one_fits =
+      let hs : List Blocks = c.loop-make.heaps.items in
+      let n : ℕ = length c.args.makes.now in
+      let i : ℕ = c.loop-make.make-index in
+      subst (λ (x : Blocks). (length x.words + x.arity ≤ x.capacity) × (x.count + 1 < 2 ^ 32)) (sym same)
+      (room_for_one hs n i (made_of c.make-item.result) c.loop-make-test.true (fact_now (HasRoom hs (n - i)) i c.args.makes.now
+      c.make-item.result c.loop-make.invariant.room c.loop-make-test.true c.make-item.is))
+
 pub put-block-requires-clause-arity : goal.put-block-requires-clause-arity
-put-block-requires-clause-arity c =
-    let hs : List Blocks = c.loop-make.heaps.items in
-    let h0 : List Blocks = c.args.heaps.now.items in
-    let filled : ℕ = length c.args.registers.now.items in
-    let item : Make = c.make-item.result in
-    let planned = planned_now (arities_of h0) filled c.loop-make.make-index c.args.makes.now item
-    c.requires.made c.loop-make-test.true c.make-item.is in
-    let there : (item.symbol < length hs) × ((table hs item.symbol).arity ≡ length item.operands.items) =
-    known h0 hs (filled + c.loop-make.make-index) (made_of item) c.loop-make.invariant.arities planned in
-    let same : c.index_mut-heap.result.now ≡ table hs item.symbol =
-    table_read hs item.symbol c.index_mut-heap.result.now there.0 c.index_mut-heap.ensures.value in
-    ap length c.deref.ensures ∙ sym (ap (λ (x : Blocks). x.arity) same ∙ there.1)
+put-block-requires-clause-arity c = ap length c.deref.ensures ∙ sym (ap (λ (x : Blocks). x.arity) (same c) ∙ (there c).1)
 
 pub put-block-requires-clause-some : goal.put-block-requires-clause-some
 put-block-requires-clause-some c =
-    let hs : List Blocks = c.loop-make.heaps.items in
-    let h0 : List Blocks = c.args.heaps.now.items in
-    let filled : ℕ = length c.args.registers.now.items in
-    let item : Make = c.make-item.result in
-    let planned = planned_now (arities_of h0) filled c.loop-make.make-index c.args.makes.now item
-    c.requires.made c.loop-make-test.true c.make-item.is in
-    let there : (item.symbol < length hs) × ((table hs item.symbol).arity ≡ length item.operands.items) =
-    known h0 hs (filled + c.loop-make.make-index) (made_of item) c.loop-make.invariant.arities planned in
-    let same : c.index_mut-heap.result.now ≡ table hs item.symbol =
-    table_read hs item.symbol c.index_mut-heap.result.now there.0 c.index_mut-heap.ensures.value in
-    let arity : c.index_mut-heap.result.now.arity ≡ length item.operands.items =
-    ap (λ (x : Blocks). x.arity) same ∙ there.1 in
-    let some : 1 ≤ length item.operands.items = planned.some in
+    let arity = ap (λ (x : Blocks). x.arity) (same c) ∙ (there c).1 in
+    let some : 1 ≤ length c.make-item.result.operands.items = (plan c).some in
     omega arith
 
 pub put-block-requires-clause-filled : goal.put-block-requires-clause-filled
 put-block-requires-clause-filled c =
-    let h0 : List Blocks = c.args.heaps.now.items in
     let filled : ℕ = length c.args.registers.now.items in
-    let item : Make = c.make-item.result in
-    let planned = planned_now (arities_of h0) filled c.loop-make.make-index c.args.makes.now item
-    c.requires.made c.loop-make-test.true c.make-item.is in
     let before = c.args.registers.now.ok.0 in
     let now = c.loop-make.registers.ok.0 in
     let len = c.loop-make.invariant.len in
-    let read : length c.deref-in-loop-make.result.now ≡ length c.loop-make.registers.items =
-    ap length c.deref-in-loop-make.ensures.value in
+    let read = ap length c.deref-in-loop-make.ensures.value in
     subst (λ (l : List ℕ). AllByRecursion (λ k. k < length c.deref-in-loop-make.result.now) l)
     (sym c.deref.ensures)
     (all_of (λ k. k < filled + c.loop-make.make-index) (λ k. k < length c.deref-in-loop-make.result.now)
-    item.operands.items (λ k lt. omega arith) planned.within)
+    c.make-item.result.operands.items (λ k lt. omega arith) (plan c).within)
 
 pub put-block-requires-clause-room : goal.put-block-requires-clause-room
-put-block-requires-clause-room c =
-    let hs : List Blocks = c.loop-make.heaps.items in
-    let h0 : List Blocks = c.args.heaps.now.items in
-    let filled : ℕ = length c.args.registers.now.items in
-    let i : ℕ = c.loop-make.make-index in
-    let item : Make = c.make-item.result in
-    let planned = planned_now (arities_of h0) filled i c.args.makes.now item
-    c.requires.made c.loop-make-test.true c.make-item.is in
-    let there : (item.symbol < length hs) × ((table hs item.symbol).arity ≡ length item.operands.items) =
-    known h0 hs (filled + i) (made_of item) c.loop-make.invariant.arities planned in
-    let same : c.index_mut-heap.result.now ≡ table hs item.symbol =
-    table_read hs item.symbol c.index_mut-heap.result.now there.0 c.index_mut-heap.ensures.value in
-    let memory : HasRoom hs (length c.args.makes.now - i) (made_of item) =
-    fact_now (HasRoom hs (length c.args.makes.now - i)) i c.args.makes.now item c.loop-make.invariant.room
-    c.loop-make-test.true c.make-item.is in
-    subst (λ (x : Blocks). length x.words + x.arity ≤ x.capacity) (sym same)
-    (room_for_one hs (length c.args.makes.now) i (made_of item) c.loop-make-test.true memory).0
+put-block-requires-clause-room c = (one_fits c).0
 
 pub put-block-requires-clause-few : goal.put-block-requires-clause-few
-put-block-requires-clause-few c =
-    let hs : List Blocks = c.loop-make.heaps.items in
-    let h0 : List Blocks = c.args.heaps.now.items in
-    let filled : ℕ = length c.args.registers.now.items in
-    let i : ℕ = c.loop-make.make-index in
-    let item : Make = c.make-item.result in
-    let planned = planned_now (arities_of h0) filled i c.args.makes.now item
-    c.requires.made c.loop-make-test.true c.make-item.is in
-    let there : (item.symbol < length hs) × ((table hs item.symbol).arity ≡ length item.operands.items) =
-    known h0 hs (filled + i) (made_of item) c.loop-make.invariant.arities planned in
-    let same : c.index_mut-heap.result.now ≡ table hs item.symbol =
-    table_read hs item.symbol c.index_mut-heap.result.now there.0 c.index_mut-heap.ensures.value in
-    let memory : HasRoom hs (length c.args.makes.now - i) (made_of item) =
-    fact_now (HasRoom hs (length c.args.makes.now - i)) i c.args.makes.now item c.loop-make.invariant.room
-    c.loop-make-test.true c.make-item.is in
-    subst (λ (x : Blocks). x.count + 1 < 2 ^ 32) (sym same)
-    (room_for_one hs (length c.args.makes.now) i (made_of item) c.loop-make-test.true memory).1
+put-block-requires-clause-few c = (one_fits c).1
 
 pub agent-requires : goal.agent-requires
 agent-requires c =
-    let hs : List Blocks = c.loop-make.heaps.items in
-    let h0 : List Blocks = c.args.heaps.now.items in
-    let filled : ℕ = length c.args.registers.now.items in
-    let item : Make = c.make-item.result in
-    let planned = planned_now (arities_of h0) filled c.loop-make.make-index c.args.makes.now item
-    c.requires.made c.loop-make-test.true c.make-item.is in
-    let there : (item.symbol < length hs) × ((table hs item.symbol).arity ≡ length item.operands.items) =
-    known h0 hs (filled + c.loop-make.make-index) (made_of item) c.loop-make.invariant.arities planned in
-    let below : item.symbol < length hs = there.0 in
-    let len : length hs ≡ length h0 = same_count h0 hs c.loop-make.invariant.arities in
-    let few : length h0 < GIVEN = c.requires.symbols in
+    let below = (there (goal.at.agent-requires c).After-deref-in-loop-make).0 in
+    let len = same_count c.args.heaps.now.items c.loop-make.heaps.items c.loop-make.invariant.arities in
+    let few : length c.args.heaps.now.items < GIVEN = c.requires.symbols in
     omega arith
 
 pub loop-make-preserved : goal.loop-make-preserved
@@ -173,18 +131,13 @@ loop-make-preserved c =
     let before = c.args.registers.now.ok.0 in
     let now = c.loop-make.registers.ok.0 in
     let len = c.loop-make.invariant.len in
-    let planned = planned_now (arities_of h0) (length r0) i ms item c.requires.made lt c.make-item.is in
-    let there : (s < length hs) × ((table hs s).arity ≡ length item.operands.items) =
-    known h0 hs (length r0 + i) (made_of item) c.loop-make.invariant.arities planned in
-    let below : s < length hs = there.0 in
+    let d = (goal.at.loop-make-preserved c).After-deref-in-loop-make in
+    let below : s < length hs = (there d).0 in
     let count : length hs ≡ length h0 = same_count h0 hs c.loop-make.invariant.arities in
     let few : length h0 < GIVEN = c.requires.symbols in
-    let same : b ≡ table hs s = table_read hs s b there.0 c.index_mut-heap.ensures.value in
-    let pushed : c.push_reserved.new.self.items ≡ rs ++ w ∷ [] =
-    c.push_reserved.ensures.items ∙ ap (λ (v : Word). rs ++ v ∷ []) c.agent.ensures in
-    let block : Replaced [] (agent_of w (map (register rs) item.operands.items) ∷ [])
-    (blocks_pieces s (table hs s)) (blocks_pieces s b') =
-    subst (λ (l : List ℕ). Replaced [] (agent_of w (map (register rs) l) ∷ [])
+    let same : b ≡ table hs s = same d in
+    let pushed = c.push_reserved.ensures.items ∙ ap (λ (v : Word). rs ++ v ∷ []) c.agent.ensures in
+    let block = subst (λ (l : List ℕ). Replaced [] (agent_of w (map (register rs) l) ∷ [])
     (blocks_pieces s (table hs s)) (blocks_pieces s b')) c.deref.ensures
     (subst (λ (l : List Word). Replaced [] (agent_of w (map (register l) c.deref.result.now) ∷ [])
     (blocks_pieces s (table hs s)) (blocks_pieces s b')) c.deref-in-loop-make.ensures.value
@@ -198,22 +151,16 @@ loop-make-preserved c =
     makes_more (map made_of (take i ms)) (made_of item) (heaps_pieces 0 h0) (heaps_pieces 0 hs)
     (heaps_pieces 0 (slice_set hs s b')) r0 rs w c.loop-make.invariant.made
     (earlier_within (arities_of h0) (length r0) i (length rs) ms c.requires.made (omega arith) (omega arith))
-    (all_of (λ k. k < length r0 + i) (λ k. k < length rs) item.operands.items (λ k le. omega arith) planned.within)
+    (all_of (λ k. k < length r0 + i) (λ k. k < length rs) item.operands.items (λ k le. omega arith) (plan d).within)
     (table_replaced hs 0 s s b' [] (agent_of w (map (register rs) item.operands.items) ∷ []) (sym (zero-add s))
-    there.0 block) none refl in
+    (there d).0 block) none refl in
     let arity : b'.arity ≡ (table hs s).arity = c.put-block.ensures.arity ∙ ap (λ (x : Blocks). x.arity) same in
-    let counted : b'.count ≡ max (table hs s).count (length (blocks_pieces s b')) =
-    subst (λ (x : Blocks). b'.count ≡ max x.count (length (blocks_pieces s b'))) same (c.put-block.ensures.count s) in
-    let longer : length (blocks_pieces s b') ≡ length (blocks_pieces s (table hs s)) + 1 =
-    one_longer (agent_of w (map (register rs) item.operands.items)) (blocks_pieces s (table hs s)) (blocks_pieces s b') block in
-    let in_use : length (blocks_pieces s (table hs s)) ≤ (table hs s).count =
-    blocks_few s (table hs s).arity 0 (table hs s).count (table hs s).words in
-    let fewer : b'.count ≤ (table hs s).count + 1 =
-    one_more b'.count (table hs s).count (length (blocks_pieces s (table hs s))) (length (blocks_pieces s b')) counted longer in_use in
-    let shorter : length b'.words ≤ length (table hs s).words + (table hs s).arity =
-    subst (λ (x : Blocks). length b'.words ≤ length x.words + x.arity) same c.put-block.ensures.len in
-    let capacity : b'.capacity ≡ (table hs s).capacity =
-    c.put-block.ensures.capacity ∙ ap (λ (x : Blocks). x.capacity) same in
+    let counted = subst (λ (x : Blocks). b'.count ≡ max x.count (length (blocks_pieces s b'))) same (c.put-block.ensures.count s) in
+    let longer = one_longer (agent_of w (map (register rs) item.operands.items)) (blocks_pieces s (table hs s)) (blocks_pieces s b') block in
+    let in_use = blocks_few s (table hs s).arity 0 (table hs s).count (table hs s).words in
+    let fewer = one_more b'.count (table hs s).count (length (blocks_pieces s (table hs s))) (length (blocks_pieces s b')) counted longer in_use in
+    let shorter = subst (λ (x : Blocks). length b'.words ≤ length x.words + x.arity) same c.put-block.ensures.len in
+    let capacity = c.put-block.ensures.capacity ∙ ap (λ (x : Blocks). x.capacity) same in
     let left : length ms - i ≡ suc (length ms - (i + 1)) = omega arith in
     record {
       made = subst (λ (l : List Made). Makes l (heaps_pieces 0 h0) (heaps_pieces 0 (slice_set hs s b')) r0

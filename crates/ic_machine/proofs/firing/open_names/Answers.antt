@@ -1,4 +1,4 @@
-use Rattle.std.proofs.Common.{◌≡◌, ◌+◌, ◌≤◌, ℕ, List, [], ◌∷◌, ◌++◌, length, refl, ap, sym, subst, ◌∙◌, arith}
+use Rattle.std.proofs.Common.{◌+◌, ◌≤◌, ℕ, List, [], ◌∷◌, ◌++◌, length, refl, ap, sym, subst, ◌∙◌, arith}
 use Rattle.std.proofs.Math.Nat.{max-eq_left}
 use Rattle.ic_arena.specs.declared.word.Word.{Word}
 use Rattle.ic_arena.specs.Word.{name_word}
@@ -18,12 +18,9 @@ loop-opened-preserved c =
     let new : List Word = c.open-name.new.self.entries in
     let before : List Word = c.args.registers.now.items in
     let after : List Word = c.loop-opened.registers.items in
-    let pushed : c.push_reserved.new.self.items ≡ after ++ name_word c.open-name.result ∷ [] =
-    c.push_reserved.ensures.items ∙ ap (λ (v : Word). after ++ v ∷ []) c.name.ensures in
-    let longer : length (names_pieces 0 new) ≡ length (names_pieces 0 mid) + 1 =
-    one_longer (idle (name_word c.open-name.result)) (names_pieces 0 mid) (names_pieces 0 new) c.open-name.ensures.opened in
-    let once : length new ≤ length mid + 1 =
-    one_more (length new) (length mid) (length (names_pieces 0 mid)) (length (names_pieces 0 new)) c.open-name.ensures.len longer
+    let pushed = c.push_reserved.ensures.items ∙ ap (λ (v : Word). after ++ v ∷ []) c.name.ensures in
+    let longer = one_longer (idle (name_word c.open-name.result)) (names_pieces 0 mid) (names_pieces 0 new) c.open-name.ensures.opened in
+    let once = one_more (length new) (length mid) (length (names_pieces 0 mid)) (length (names_pieces 0 new)) c.open-name.ensures.len longer
     (names_few 0 mid) in
     let few : length mid ≤ length old + n = c.loop-opened.invariant.few in
     record {

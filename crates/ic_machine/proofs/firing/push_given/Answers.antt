@@ -1,17 +1,9 @@
-use Rattle.std.proofs.Common.{◌≡◌, ◌+◌, ℕ, List, [], ◌∷◌, ◌++◌, refl, ap, sym, ◌∙◌, append_assoc, arith}
-use Rattle.std.proofs.lemmas.List.{append-nil}
+use Rattle.std.proofs.Common.{◌≡◌, ◌+◌, ℕ, List, [], ◌∷◌, ◌++◌, ap, sym, ◌∙◌, append_assoc, arith}
 use Rattle.std.proofs.lemmas.List.FromFn.{map-range_with_len_more}
 use Rattle.ic_arena.specs.declared.word.Word.{Word}
 use Rattle.ic_arena.specs.declared.word.TheConstants.{GIVEN}
 use Rattle.ic_machine.specs.Runs.{given_words}
 use Rattle.ic_machine.proofs.firing.push_given.Goals as goal
-
-pub loop-index-init : goal.loop-index-init
-loop-index-init c = record {
-  pushed = sym (append-nil c.args.registers.now.items);
-  len = omega arith;
-  capacity = refl;
-}
 
 pub loop-index-preserved : goal.loop-index-preserved
 loop-index-preserved c =

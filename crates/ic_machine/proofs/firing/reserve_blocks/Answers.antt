@@ -37,8 +37,7 @@ returns-in_err-reserve-clause-same c =
     let len : length hs ≡ length h0 = same_length h0 hs c.loop-make.invariant.same in
     let same : b ≡ table hs item.symbol =
     table_read hs item.symbol b (omega arith) c.index_mut-heap.ensures.value in
-    let memory : (table hs item.symbol).capacity ≤ c.reserve.new.self.capacity =
-    subst (λ (x : Blocks). x.capacity ≤ c.reserve.new.self.capacity) same c.reserve.ensures.capacity in
+    let memory = subst (λ (x : Blocks). x.capacity ≤ c.reserve.new.self.capacity) same c.reserve.ensures.capacity in
     same_set h0 hs item.symbol c.reserve.new.self c.loop-make.invariant.same
     (c.reserve.ensures.arity ∙ ap (λ (x : Blocks). x.arity) same)
     (c.reserve.ensures.count ∙ ap (λ (x : Blocks). x.count) same)
@@ -78,19 +77,16 @@ loop-make-preserved c =
     let len : length hs ≡ length h0 = same_length h0 hs c.loop-make.invariant.same in
     let lt : s < length hs = omega arith in
     let same : b ≡ table hs s = table_read hs s b lt c.index_mut-heap.ensures.value in
-    let memory : (table hs s).capacity ≤ b'.capacity =
-    subst (λ (x : Blocks). x.capacity ≤ b'.capacity) same c.reserve.ensures.capacity in
+    let memory = subst (λ (x : Blocks). x.capacity ≤ b'.capacity) same c.reserve.ensures.capacity in
     let arity : b'.arity ≡ (table hs s).arity = c.reserve.ensures.arity ∙ ap (λ (x : Blocks). x.arity) same in
     let count : b'.count ≡ (table hs s).count = c.reserve.ensures.count ∙ ap (λ (x : Blocks). x.count) same in
     let words : b'.words ≡ (table hs s).words = c.reserve.ensures.words ∙ ap (λ (x : Blocks). x.words) same in
-    let times : n * c.arity.result ≡ n * b'.arity =
-    ap (λ (k : ℕ). n * k) (c.arity.ensures.arity ∙ sym c.reserve.ensures.arity) in
+    let times = ap (λ (k : ℕ). n * k) (c.arity.ensures.arity ∙ sym c.reserve.ensures.arity) in
     let long : length b'.words ≡ length b.words = ap length c.reserve.ensures.words in
     let enough = c.in_ok-reserve.ensures.room in
     let fits : length b'.words + n * b'.arity ≤ b'.capacity = omega arith in
     let few : b'.count + n < 2 ^ 32 = omega (arith, c.count.ensures.count, c.reserve.ensures.count) in
-    let now : HasRoom (slice_set hs s b') n (made_of item) =
-    subst (λ (x : Blocks). (length x.words + n * x.arity ≤ x.capacity) × (x.count + n < 2 ^ 32))
+    let now = subst (λ (x : Blocks). (length x.words + n * x.arity ≤ x.capacity) × (x.count + n < 2 ^ 32))
     (sym (table_set hs s b' lt)) (fits, few) in
     let grown : AllByRecursion (HasRoom (slice_set hs s b') n) (map made_of (take i ms)) =
     all_of (HasRoom hs n) (HasRoom (slice_set hs s b') n) (map made_of (take i ms))

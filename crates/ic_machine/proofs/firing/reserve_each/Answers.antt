@@ -27,8 +27,7 @@ returns-then-is_err-clause-same c =
     let before = c.args.heaps.now.ok.0 in
     let lt : i < length hs = omega (arith, c.len-symbol-end.ensures, c.loop-symbol-test.true) in
     let same : b ≡ table hs i = table_read hs i b lt c.index_mut-heap.ensures.value in
-    let memory : (table hs i).capacity ≤ c.reserve.new.self.capacity =
-    subst (λ (x : Blocks). x.capacity ≤ c.reserve.new.self.capacity) same c.reserve.ensures.capacity in
+    let memory = subst (λ (x : Blocks). x.capacity ≤ c.reserve.new.self.capacity) same c.reserve.ensures.capacity in
     same_set h0 hs i c.reserve.new.self c.loop-symbol.invariant.same
     (c.reserve.ensures.arity ∙ ap (λ (x : Blocks). x.arity) same)
     (c.reserve.ensures.count ∙ ap (λ (x : Blocks). x.count) same)
@@ -46,13 +45,10 @@ loop-symbol-preserved c =
     let before = c.args.heaps.now.ok.0 in
     let lt : i < length hs = omega (arith, c.len-symbol-end.ensures, c.loop-symbol-test.true) in
     let same : b ≡ table hs i = table_read hs i b lt c.index_mut-heap.ensures.value in
-    let memory : (table hs i).capacity ≤ b'.capacity =
-    subst (λ (x : Blocks). x.capacity ≤ b'.capacity) same c.reserve.ensures.capacity in
-    let times : n * c.arity.result ≡ n * b'.arity =
-    ap (λ (k : ℕ). n * k) (c.arity.ensures.arity ∙ sym c.reserve.ensures.arity) in
+    let memory = subst (λ (x : Blocks). x.capacity ≤ b'.capacity) same c.reserve.ensures.capacity in
+    let times = ap (λ (k : ℕ). n * k) (c.arity.ensures.arity ∙ sym c.reserve.ensures.arity) in
     let long : length b'.words ≡ length b.words = ap length c.reserve.ensures.words in
-    let enough : length b.words + n * c.arity.result ≤ b'.capacity =
-    fine c.reserve.result (length b.words + n * c.arity.result ≤ b'.capacity) c.reserve.ensures.room
+    let enough = fine c.reserve.result (length b.words + n * c.arity.result ≤ b'.capacity) c.reserve.ensures.room
     (sym c.is_err.ensures.value ∙ c.if-is_err.false) in
     let fits : length b'.words + n * b'.arity ≤ b'.capacity = omega arith in
     let few : b'.count + n < 2 ^ 32 = omega (arith, c.count.ensures.count, c.reserve.ensures.count, c.if-more-count.false) in
@@ -66,7 +62,6 @@ loop-symbol-preserved c =
 
 pub returns-clause-room : goal.returns-clause-room
 returns-clause-room c = λ e s lt.
-    let len : length c.loop-symbol.heaps.items ≡ length c.args.heaps.now.items =
-    same_length c.args.heaps.now.items c.loop-symbol.heaps.items c.loop-symbol.invariant.same in
+    let len = same_length c.args.heaps.now.items c.loop-symbol.heaps.items c.loop-symbol.invariant.same in
     let before = c.args.heaps.now.ok.0 in
     c.loop-symbol.invariant.room s (omega (arith, c.len-symbol-end.ensures, c.loop-symbol-test.false))

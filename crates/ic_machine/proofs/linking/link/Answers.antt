@@ -6,7 +6,7 @@ use Rattle.ic_arena.specs.Tables.{Entries, Replaced, names_pieces}
 use Rattle.ic_machine.specs.declared.equation.Equation.{Equation}
 use Rattle.ic_machine.specs.Net.{equated_of}
 use Rattle.ic_machine.specs.Steps.{Steps, no_step}
-use Rattle.ic_machine.specs.inner.Linking.{Meeting, Pushed}
+use Rattle.ic_machine.specs.inner.Linking.{Meeting}
 use Rattle.ic_machine.proofs.Links.{meeting, meets_right, named_turned, side_room, steps_on}
 use Rattle.ic_machine.proofs.linking.link.Goals as goal
 
@@ -77,15 +77,6 @@ follow-preserved c =
       capacity = c.follow.invariant.capacity;
     }
 
-pub settle-requires-clause-named : goal.settle-requires-clause-named
-settle-requires-clause-named c = rw (c.in_default-taken.ensures.same, c.in_default.ensures.same) c.follow.invariant.named
-
-pub settle-requires-clause-left : goal.settle-requires-clause-left
-settle-requires-clause-left c = rw (c.in_default-taken.ensures.same, c.in_default.ensures.same) c.in_default.ensures.none
-
-pub settle-requires-clause-right : goal.settle-requires-clause-right
-settle-requires-clause-right c = rw c.in_default-taken.ensures.same c.in_default-taken.ensures.none
-
 pub returns-in_default-taken-clause-steps : goal.returns-in_default-taken-clause-steps
 returns-in_default-taken-clause-steps c = λ p rest.
     let l : Word = c.follow.left in
@@ -97,7 +88,3 @@ returns-in_default-taken-clause-steps c = λ p rest.
     (subst (λ (e : List Equation). Steps p [] (equated l r ∷ (ns ++ (map equated_of e ++ rest))) end) c.follow.invariant.pending
     (subst (λ (n : Entries). Steps p [] (equated l r ∷ (names_pieces 0 n.entries ++ (map equated_of c.follow.pending.items ++ rest))) end)
     (c.in_default-taken.ensures.same ∙ c.in_default.ensures.same) (c.settle.ensures.steps p rest)))
-
-pub returns-in_default-taken-clause-pushed : goal.returns-in_default-taken-clause-pushed
-returns-in_default-taken-clause-pushed c =
-    subst (λ (l : List Equation). Pushed l c.settle.new.pending.items) c.follow.invariant.pending c.settle.ensures.pushed

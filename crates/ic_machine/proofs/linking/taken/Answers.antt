@@ -35,13 +35,6 @@ free-requires-clause-waits c =
     (subst (λ (w : Word). 1 ≤ sum_by (room w) (names_pieces 0 ns)) is (c.requires.room c.if-word-ne-NAME.false))
     c.get-waiting.ensures c.if-waiting.false (omega arith))
 
-pub returns-then-word-ne-NAME-clause-none : goal.returns-then-word-ne-NAME-clause-none
-returns-then-word-ne-NAME-clause-none c = λ named. absurd (c.if-word-ne-NAME.true named)
-
-pub returns-then-waiting-clause-none : goal.returns-then-waiting-clause-none
-returns-then-waiting-clause-none c = λ named.
-    subst (λ (v : Word). v.tag ≡ IDLE) c.get-waiting.ensures c.if-waiting.true
-
 pub returns-clause-taken : goal.returns-clause-taken
 returns-clause-taken c =
     let ns : List Word = c.args.names.now.entries in

@@ -20,18 +20,14 @@ loop-pair-preserved c =
     let us : List Equation = c.loop-pair.aside.items in
     let new : List Equation = c.pop.new.self.items in
     let e : Equation = c.in-Some.pair.now in
-    let at : slice_get es (length es - 1) ≡ Some e =
-    subst (λ (l : List Equation). slice_get l (length l - 1) ≡ Some e) c.deref.ensures.value
+    let at = subst (λ (l : List Equation). slice_get l (length l - 1) ≡ Some e) c.deref.ensures.value
     (sym c.in-Some.ensures.value) in
     let last : IsLast e es × ((length es - 1) + 1 ≡ length es) = last_here es e at in
-    let rest : new ≡ take (length es - 1) es =
-    c.pop.ensures.rest ∙ ap (λ (k : ℕ). take (k - 1) es) c.loop-pair.pending.ok.0 in
+    let rest = c.pop.ensures.rest ∙ ap (λ (k : ℕ). take (k - 1) es) c.loop-pair.pending.ok.0 in
     let parts : es ≡ new ++ e ∷ [] = popped es new (length es - 1) e last.0 last.1 rest in
-    let pairs : AllByRecursion IsPair (new ++ e ∷ []) =
-    subst (λ (l : List Equation). AllByRecursion IsPair l) parts c.loop-pair.invariant.pairs in
+    let pairs = subst (λ (l : List Equation). AllByRecursion IsPair l) parts c.loop-pair.invariant.pairs in
     let fine : ◌≡◌ {A = Bool} true (not c.is_err.result) = sym (ap not c.if-is_err.false) in
-    let pushed : c.push.new.self.items ≡ us ++ e ∷ [] =
-    c.push.ensures.items
+    let pushed = c.push.ensures.items
     ∙ ap (λ (b : Bool). cond b (us ++ e ∷ []) us) (c.is_err.ensures.negation ∙ sym fine) in
     record {
       pairs = all_front IsPair new (e ∷ []) pairs;

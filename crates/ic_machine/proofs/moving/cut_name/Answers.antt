@@ -27,8 +27,7 @@ returns-clause-cuts c =
     let es : List Word = c.args.names.now.entries in
     let ms : List Word = c.put.new.self.entries in
     let fs : List Word = c.free.new.self.entries in
-    let gone : Replaced (waits (name_word n) mark ∷ []) [] (names_pieces 0 ms) (names_pieces 0 fs) =
-    subst (λ (w : Word). Replaced (waits (name_word n) w ∷ []) [] (names_pieces 0 ms) (names_pieces 0 fs))
+    let gone = subst (λ (w : Word). Replaced (waits (name_word n) w ∷ []) [] (names_pieces 0 ms) (names_pieces 0 fs))
     (put_entry es ms n mark c.put.ensures.put) c.free.ensures.freed in
     finishes es fs c.args.borders.now.ends c.remove.new.self.ends
     (freed_then (idle (name_word n)) (waits (name_word n) mark) (names_pieces 0 es) (names_pieces 0 ms) (names_pieces 0 fs) c.put.ensures.put gone)

@@ -1,21 +1,18 @@
-use Rattle.std.proofs.Common.{ℕ, List, [], ◌++◌, map, sym, subst, ◌∙◌, arith}
+use Rattle.std.proofs.Common.{ℕ, List, [], ◌++◌, map, sym, subst, ◌∙◌}
 use Rattle.std.proofs.lemmas.List.{append-nil}
 use Rattle.ic_arena.specs.declared.word.Word.{Word}
 use Rattle.ic_machine.specs.declared.tables.Tables.{Tables}
 use Rattle.ic_machine.specs.Moving.{Ends, Side, AreOpened, AreShipped, Packs, end_word, sides_of}
 use Rattle.ic_machine.specs.inner.Firing.{arities_of}
 use Rattle.ic_machine.specs.inner.Moving.{places_in, side_in, AreInHand, AreLeft}
-use Rattle.ic_machine.proofs.Packing.{few_kept, hand_alone, hand_left, hand_next, worth_on}
+use Rattle.ic_machine.proofs.Packing.{few_kept, hand_left, hand_next, worth_on}
 use Rattle.ic_machine.proofs.Parcels.{packs_then}
 use Rattle.ic_machine.proofs.moving.give_tables.Goals as goal
+use Rattle.ic_machine.proofs.moving.give_tables.Goals.{In_ok-pack_each}
 
 -- words are next
 next_words : (later others : List Word) (t : Tables) (b : Ends) → AreInHand [] (later ++ others) t b → AreInHand later others t b
 next_words later others t b = hand_next (arities_of t.heaps.items) later (map end_word b.ends) others (places_in t)
-
--- and nothing beside
-alone : (words others : List Word) (t : Tables) (b : Ends) → AreInHand words others t b → AreInHand words [] t b
-alone words others t b = hand_alone (arities_of t.heaps.items) words (map end_word b.ends) others (places_in t)
 
 -- no other words beside the sides
 whole : (first second : List Word) (t : Tables) (b : Ends) → AreInHand [] (first ++ second) t b → AreInHand [] (first ++ (second ++ [])) t b
@@ -24,49 +21,21 @@ whole first second t b = subst (λ (l : List Word). AreInHand [] (first ++ l) t 
 fewer_left : (words others : List Word) (t : Tables) → AreLeft (words ++ others) t → AreLeft others t
 fewer_left words others t = hand_left (arities_of t.heaps.items) words [] others (places_in t)
 
-none_over : (others : List Word) (t : Tables) (b : Ends) → AreInHand [] others t b → AreLeft others t
-none_over others t b = hand_left (arities_of t.heaps.items) [] (map end_word b.ends) others (places_in t)
-
-pub ship_each-requires-clause-named : goal.ship_each-requires-clause-named
-ship_each-requires-clause-named c =
-    alone [] (sides_of c.args.pending.now ++ sides_of c.args.aside.now) c.args.tables.now c.args.borders.now c.requires.named
-
-pub pack_each-requires-clause-numbers : goal.pack_each-requires-clause-numbers
-pack_each-requires-clause-numbers c =
-    few_kept c.args.borders.now c.ship_each.new.borders c.args.parcel.now.words.items c.ship_each.new.parcel.words.items
-    c.in_ok-ship_each.ensures.worth c.requires.numbers
-
-pub pack_each-requires-clause-named : goal.pack_each-requires-clause-named
-pack_each-requires-clause-named c =
+-- the sides of what was set aside are next
+second : (c : In_ok-pack_each) (others : List Word)
+    → AreInHand [] (sides_of c.args.pending.now ++ (sides_of c.args.aside.now ++ others)) c.args.tables.now c.args.borders.now
+    → AreInHand (sides_of c.args.aside.now) others c.pack_each.new.tables c.pack_each.new.borders
+second c others hand =
     let p : List Word = sides_of c.args.pending.now in
     let q : List Word = sides_of c.args.aside.now in
-    let t : Tables = c.ship_each.new.tables in
-    let b : Ends = c.ship_each.new.borders in
-    alone p q t b (next_words p q t b (c.in_ok-ship_each.ensures.named (p ++ q) c.requires.named))
-
-pub pack_each-requires-2-clause-numbers : goal.pack_each-requires-2-clause-numbers
-pack_each-requires-2-clause-numbers c =
-    few_kept c.args.borders.now c.pack_each.new.borders c.args.parcel.now.words.items c.pack_each.new.parcel.words.items
-    (worth_on c.args.borders.now c.ship_each.new.borders c.pack_each.new.borders c.args.parcel.now.words.items c.ship_each.new.parcel.words.items
-    c.pack_each.new.parcel.words.items c.in_ok-ship_each.ensures.worth c.in_ok-pack_each.ensures.worth) c.requires.numbers
+    next_words q others c.pack_each.new.tables c.pack_each.new.borders (c.in_ok-pack_each.ensures.named (q ++ others)
+    (next_words p (q ++ others) c.ship_each.new.tables c.ship_each.new.borders
+    (c.in_ok-ship_each.ensures.named (p ++ (q ++ others)) hand)))
 
 pub pack_each-requires-2-clause-named : goal.pack_each-requires-2-clause-named
 pack_each-requires-2-clause-named c =
-    let p : List Word = sides_of c.args.pending.now in
-    let q : List Word = sides_of c.args.aside.now in
-    let t : Tables = c.ship_each.new.tables in
-    let b : Ends = c.ship_each.new.borders in
-    let mid : Tables = c.pack_each.new.tables in
-    let end : Ends = c.pack_each.new.borders in
-    next_words q [] mid end (c.in_ok-pack_each.ensures.named (q ++ []) (next_words p (q ++ []) t b
-    (c.in_ok-ship_each.ensures.named (p ++ (q ++ [])) (whole p q c.args.tables.now c.args.borders.now c.requires.named))))
-
-pub pack_circles-requires-clause-few : goal.pack_circles-requires-clause-few
-pack_circles-requires-clause-few c =
-    let a = c.in_ok-ship_each.ensures.size.names in
-    let b = c.in_ok-pack_each.ensures.size.names in
-    let d = c.in_ok-pack_each-2.ensures.size.names in
-    omega (arith, c.requires.few)
+    second (goal.at.pack_each-requires-2-clause-named c).In_ok-pack_each []
+    (whole (sides_of c.args.pending.now) (sides_of c.args.aside.now) c.args.tables.now c.args.borders.now c.requires.named)
 
 pub pack_circles-requires-clause-numbers : goal.pack_circles-requires-clause-numbers
 pack_circles-requires-clause-numbers c =
@@ -78,13 +47,8 @@ pack_circles-requires-clause-numbers c =
 
 pub pack_circles-requires-clause-named : goal.pack_circles-requires-clause-named
 pack_circles-requires-clause-named c =
-    let p : List Word = sides_of c.args.pending.now in
-    let q : List Word = sides_of c.args.aside.now in
-    let t : Tables = c.ship_each.new.tables in
-    let b : Ends = c.ship_each.new.borders in
-    c.in_ok-pack_each-2.ensures.named []
-    (next_words q [] c.pack_each.new.tables c.pack_each.new.borders (c.in_ok-pack_each.ensures.named (q ++ []) (next_words p (q ++ []) t b
-    (c.in_ok-ship_each.ensures.named (p ++ (q ++ [])) (whole p q c.args.tables.now c.args.borders.now c.requires.named)))))
+    c.in_ok-pack_each-2.ensures.named [] (second (goal.at.pack_circles-requires-clause-named c).In_ok-pack_each []
+    (whole (sides_of c.args.pending.now) (sides_of c.args.aside.now) c.args.tables.now c.args.borders.now c.requires.named))
 
 pub returns-in_err-pack_each-clause-left : goal.returns-in_err-pack_each-clause-left
 returns-in_err-pack_each-clause-left c = λ others hand.
@@ -97,57 +61,28 @@ returns-in_err-pack_each-clause-left c = λ others hand.
 
 pub returns-in_err-pack_each-2-clause-left : goal.returns-in_err-pack_each-2-clause-left
 returns-in_err-pack_each-2-clause-left c = λ others hand.
-    let p : List Word = sides_of c.args.pending.now in
-    let q : List Word = sides_of c.args.aside.now in
-    let t : Tables = c.ship_each.new.tables in
-    let b : Ends = c.ship_each.new.borders in
-    c.in_err-pack_each-2.ensures.left others
-    (next_words q others c.pack_each.new.tables c.pack_each.new.borders (c.in_ok-pack_each.ensures.named (q ++ others)
-    (next_words p (q ++ others) t b (c.in_ok-ship_each.ensures.named (p ++ (q ++ others)) hand))))
+    let b = (goal.at.returns-in_err-pack_each-2-clause-left c).In_ok-pack_each in
+    c.in_err-pack_each-2.ensures.left others (second b others hand)
 
 pub returns-in_err-pack_circles-clause-left : goal.returns-in_err-pack_circles-clause-left
 returns-in_err-pack_circles-clause-left c = λ others hand.
-    let p : List Word = sides_of c.args.pending.now in
-    let q : List Word = sides_of c.args.aside.now in
-    let t : Tables = c.ship_each.new.tables in
-    let b : Ends = c.ship_each.new.borders in
-    c.in_err-pack_circles.ensures.left others
-    (c.in_ok-pack_each-2.ensures.named others
-    (next_words q others c.pack_each.new.tables c.pack_each.new.borders (c.in_ok-pack_each.ensures.named (q ++ others)
-    (next_words p (q ++ others) t b (c.in_ok-ship_each.ensures.named (p ++ (q ++ others)) hand)))))
+    let b = (goal.at.returns-in_err-pack_circles-clause-left c).In_ok-pack_each in
+    c.in_err-pack_circles.ensures.left others (c.in_ok-pack_each-2.ensures.named others (second b others hand))
 
 pub returns-then-not-is_idle-clause-left : goal.returns-then-not-is_idle-clause-left
 returns-then-not-is_idle-clause-left c = λ others hand.
-    let p : List Word = sides_of c.args.pending.now in
-    let q : List Word = sides_of c.args.aside.now in
-    let t : Tables = c.ship_each.new.tables in
-    let b : Ends = c.ship_each.new.borders in
-    c.in_ok-pack_circles.ensures.left others
-    (c.in_ok-pack_each-2.ensures.named others
-    (next_words q others c.pack_each.new.tables c.pack_each.new.borders (c.in_ok-pack_each.ensures.named (q ++ others)
-    (next_words p (q ++ others) t b (c.in_ok-ship_each.ensures.named (p ++ (q ++ others)) hand)))))
+    let b = (goal.at.returns-then-not-is_idle-clause-left c).In_ok-pack_each in
+    c.in_ok-pack_circles.ensures.left others (c.in_ok-pack_each-2.ensures.named others (second b others hand))
 
 pub returns-clause-named : goal.returns-clause-named
 returns-clause-named c = λ others hand.
-    let p : List Word = sides_of c.args.pending.now in
-    let q : List Word = sides_of c.args.aside.now in
-    let t : Tables = c.ship_each.new.tables in
-    let b : Ends = c.ship_each.new.borders in
-    c.in_ok-pack_circles.ensures.named others
-    (c.in_ok-pack_each-2.ensures.named others
-    (next_words q others c.pack_each.new.tables c.pack_each.new.borders (c.in_ok-pack_each.ensures.named (q ++ others)
-    (next_words p (q ++ others) t b (c.in_ok-ship_each.ensures.named (p ++ (q ++ others)) hand)))))
+    let b = (goal.at.returns-clause-named c).In_ok-pack_each in
+    c.in_ok-pack_circles.ensures.named others (c.in_ok-pack_each-2.ensures.named others (second b others hand))
 
 pub returns-clause-left : goal.returns-clause-left
 returns-clause-left c = λ others hand.
-    let p : List Word = sides_of c.args.pending.now in
-    let q : List Word = sides_of c.args.aside.now in
-    let t : Tables = c.ship_each.new.tables in
-    let b : Ends = c.ship_each.new.borders in
-    c.in_ok-pack_circles.ensures.left others
-    (c.in_ok-pack_each-2.ensures.named others
-    (next_words q others c.pack_each.new.tables c.pack_each.new.borders (c.in_ok-pack_each.ensures.named (q ++ others)
-    (next_words p (q ++ others) t b (c.in_ok-ship_each.ensures.named (p ++ (q ++ others)) hand)))))
+    let b = (goal.at.returns-clause-left c).In_ok-pack_each in
+    c.in_ok-pack_circles.ensures.left others (c.in_ok-pack_each-2.ensures.named others (second b others hand))
 
 pub returns-clause-gives : goal.returns-clause-gives
 returns-clause-gives c =

@@ -10,24 +10,8 @@ use Rattle.ic_machine.specs.Separate.{IsSeparate}
 use Rattle.ic_machine.specs.inner.Firing.{arities_of, heaps_pieces}
 use Rattle.ic_machine.specs.inner.Moving.{places_in, side_in, AreInHand, AreLeft, IsUnderWay, PacksAgent}
 use Rattle.ic_machine.proofs.NameRooms.{as_name}
-use Rattle.ic_machine.proofs.Packing.{agent_goes, agent_in_hand, agent_lighter, agent_there, agent_worth, few_kept, hand_left, last_named, name_goes, name_in_hand, name_lighter, named_there, way_begun, way_ended, worth_on}
-use Rattle.ic_machine.proofs.Parcels.{large}
+use Rattle.ic_machine.proofs.Packing.{agent_goes, agent_in_hand, agent_lighter, agent_there, agent_worth, hand_left, last_named, name_goes, name_in_hand, name_lighter, named_there, way_ended, worth_on}
 use Rattle.ic_machine.proofs.moving.pack.Goals as goal
-
-pub loop-next-init : goal.loop-next-init
-loop-next-init c =
-    let t : Tables = c.args.tables.now in
-    let b : Ends = c.args.borders.now in
-    let words : List Word = c.args.parcel.now.words.items in
-    let one : c.push.new.self.items ≡ c.args.word ∷ [] =
-    c.in_ok-push.ensures.items ∙ ap (λ (l : List Word). l ++ c.args.word ∷ []) c.clear.ensures.items in
-    record {
-      spells = subst (λ (l : List Word). IsUnderWay (arities_of t.heaps.items) (side_in t b) (side_in t b) c.args.word words words l) (sym one)
-          (way_begun (arities_of t.heaps.items) (side_in t b) c.args.word words);
-      named = λ others hand. subst (λ (l : List Word). AreInHand l others t b) (sym one) hand;
-      worth = λ k. refl;
-      size = large t;
-    }
 
 -- the name that is on top
 turned : (next : Word) (stack ss : List Word) → stack ≡ ss ++ next ∷ [] → next.tag ≡ NAME → stack ≡ ss ++ name_word next.index ∷ []
@@ -39,20 +23,11 @@ pack_name-requires-clause-there c =
     let i : ℕ = c.in-Some.next.index in
     let ss : List Word = c.pop.new.self.items in
     let rest : List Word = map end_word c.loop-next.borders.ends ++ [] in
-    let hand : IsSeparate (arities_of t.heaps.items) ((ss ++ name_word i ∷ []) ++ rest) (places_in t) =
-    subst (λ (l : List Word). IsSeparate (arities_of t.heaps.items) (l ++ rest) (places_in t))
+    let hand = subst (λ (l : List Word). IsSeparate (arities_of t.heaps.items) (l ++ rest) (places_in t))
     (turned c.in-Some.next c.loop-next.parcel.stack.items ss c.in-Some.ensures.items c.if-next-eq-NAME.true)
     (c.loop-next.invariant.named [] c.requires.named) in
     named_there (arities_of t.heaps.items) i ((ss ++ name_word i ∷ []) ++ rest) t.names.entries t.heaps.items
     (last_named (name_word i) ss rest) hand
-
-pub pack_name-requires-clause-numbers : goal.pack_name-requires-clause-numbers
-pack_name-requires-clause-numbers c =
-    few_kept c.args.borders.now c.loop-next.borders c.args.parcel.now.words.items c.loop-next.parcel.words.items
-    c.loop-next.invariant.worth c.requires.numbers
-
-pub pack_agent-requires-clause-some : goal.pack_agent-requires-clause-some
-pack_agent-requires-clause-some c = (let other : c.in-Some.next.tag ≡ 0 → ⊥ = c.if-next-eq-NAME.false in omega arith)
 
 pub pack_agent-requires-clause-there : goal.pack_agent-requires-clause-there
 pack_agent-requires-clause-there c = λ place.
@@ -61,8 +36,7 @@ pack_agent-requires-clause-there c = λ place.
     let ss : List Word = c.pop.new.self.items in
     let rest : List Word = map end_word c.loop-next.borders.ends ++ [] in
     let other : a.tag ≡ 0 → ⊥ = c.if-next-eq-NAME.false in
-    let hand : IsSeparate (arities_of t.heaps.items) ((ss ++ a ∷ []) ++ rest) (places_in t) =
-    subst (λ (l : List Word). IsSeparate (arities_of t.heaps.items) (l ++ rest) (places_in t)) c.in-Some.ensures.items
+    let hand = subst (λ (l : List Word). IsSeparate (arities_of t.heaps.items) (l ++ rest) (places_in t)) c.in-Some.ensures.items
     (c.loop-next.invariant.named [] c.requires.named) in
     agent_there (arities_of t.heaps.items) a ((ss ++ a ∷ []) ++ rest) t.names.entries t.heaps.items (omega arith) place
     (last_named a ss rest) hand
@@ -170,12 +144,6 @@ loop-next-smaller c =
 left_over : (words others : List Word) (t : Tables) (b : Ends) → AreInHand words others t b → AreLeft others t
 left_over words others t b = hand_left (arities_of t.heaps.items) words (map end_word b.ends) others (places_in t)
 
-pub returns-in_err-push-clause-left : goal.returns-in_err-push-clause-left
-returns-in_err-push-clause-left c = λ others hand. left_over (c.args.word ∷ []) others c.args.tables.now c.args.borders.now hand
-
-pub returns-in_err-push-clause-size : goal.returns-in_err-push-clause-size
-returns-in_err-push-clause-size c = large c.args.tables.now
-
 pub returns-in_err-pack_name-clause-left : goal.returns-in_err-pack_name-clause-left
 returns-in_err-pack_name-clause-left c = λ others hand.
     let t : Tables = c.loop-next.tables in
@@ -200,12 +168,6 @@ returns-clause-packs c =
     no_words c.loop-next.parcel.stack.items (omega (arith, c.in_default.ensures.cases.0, c.loop-next.parcel.stack.ok)) in
     way_ended (arities_of first.heaps.items) (side_in first c.args.borders.now) (side_in c.loop-next.tables c.loop-next.borders) c.args.word
     c.args.parcel.now.words.items c.loop-next.parcel.words.items c.loop-next.parcel.stack.items none c.loop-next.invariant.spells
-
-pub returns-clause-named : goal.returns-clause-named
-returns-clause-named c = λ others hand.
-    let none : c.loop-next.parcel.stack.items ≡ [] =
-    no_words c.loop-next.parcel.stack.items (omega (arith, c.in_default.ensures.cases.0, c.loop-next.parcel.stack.ok)) in
-    subst (λ (l : List Word). AreInHand l others c.loop-next.tables c.loop-next.borders) none (c.loop-next.invariant.named others hand)
 
 pub returns-clause-left : goal.returns-clause-left
 returns-clause-left c = λ others hand.

@@ -19,15 +19,6 @@ take-requires-clause-there c = λ some.
     let lt : s < length hs = omega arith in
     c.requires.there (agent_tag (arities_of hs) w.tag s (table hs s).arity tag (arity_at hs s lt) some)
 
-pub take-requires-clause-room : goal.take-requires-clause-room
-take-requires-clause-room c =
-    let hs : List Blocks = c.args.heaps.now.items in
-    let s : ℕ = c.args.agent.tag - 1 in
-    let lt : s < length hs = omega arith in
-    let same : c.index.result.now ≡ table hs s = table_read hs s c.index.result.now lt c.index.ensures in
-    let arity : c.index.result.now.arity ≡ (table hs s).arity = ap (λ (b : Blocks). b.arity) same in
-    omega (arith, c.in_ok-reserve-2.ensures.ok, c.arity-arity.ensures.arity)
-
 pub returns-then-len-agent-clause-packed : goal.returns-then-len-agent-clause-packed
 returns-then-len-agent-clause-packed c =
     let hs : List Blocks = c.args.heaps.now.items in
@@ -67,13 +58,11 @@ returns-clause-packed c =
     let before : List Word = c.args.parcel.now.stack.items in
     let mid : List Word = c.take.new.registers.items in
     let after : List Word = c.turn.new.words.items in
-    let taken : Taken w (table hs s).arity (heaps_pieces 0 hs) (heaps_pieces 0 gs) before mid =
-    subst (λ (l : List Word). Taken w (table hs s).arity (heaps_pieces 0 hs) (heaps_pieces 0 gs) l mid)
+    let taken = subst (λ (l : List Word). Taken w (table hs s).arity (heaps_pieces 0 hs) (heaps_pieces 0 gs) l mid)
     c.in_ok-reserve-2.ensures.items c.take.ensures.taken in
     let same_items : length c.reserve-2.new.self.items ≡ length before = ap length c.in_ok-reserve-2.ensures.items in
     let len : c.len-first.result ≡ length before = omega (arith, c.len-first.ensures, c.reserve-2.new.self.ok) in
-    let turned : after ≡ take (length before) mid ++ reverse (drop (length before) mid) =
-    subst (λ (n : ℕ). after ≡ take n mid ++ reverse (drop n mid)) len c.turn.ensures in
+    let turned = subst (λ (n : ℕ). after ≡ take n mid ++ reverse (drop n mid)) len c.turn.ensures in
     agent_packed hs gs w s (table hs s).arity ws c.push_reserved-2.new.self.items before mid after tag lt refl some taken turned
     (c.push_reserved-2.ensures.items ∙ ap (λ (l : List Word). l ++ spelled_agent w ∷ []) c.in_ok-reserve.ensures.items)
 

@@ -7,13 +7,11 @@ use Rattle.ic_arena.specs.Piece.{Piece, idle, room, waits}
 use Rattle.ic_arena.specs.Tables.{Entries, Replaced, entry, names_pieces}
 use Rattle.ic_machine.specs.declared.tables.Tables.{Tables}
 use Rattle.ic_machine.specs.Moving.{Ends, Side, none_opened, one_opened, end_word}
-use Rattle.ic_machine.specs.Separate.{IsSeparate}
 use Rattle.ic_machine.specs.inner.Firing.{arities_of, heaps_pieces}
-use Rattle.ic_machine.specs.inner.Moving.{places_in, side_in, AreInHand, AreLeft, HasMoreNames, IsAsLarge}
+use Rattle.ic_machine.specs.inner.Moving.{places_in, side_in, AreInHand, HasMoreNames, IsAsLarge}
 use Rattle.ic_machine.proofs.Opening.{circle_hand, free_nowhere, opened_entry, waits_anew, WaitsAnew}
 use Rattle.ic_machine.proofs.InUse.{one_longer, one_more}
-use Rattle.ic_machine.proofs.Packing.{hand_left}
-use Rattle.ic_machine.proofs.Parcels.{packs_from, same_names}
+use Rattle.ic_machine.proofs.Parcels.{packs_from}
 use Rattle.ic_machine.proofs.Standing.{names_few}
 use Rattle.ic_machine.proofs.moving.pack_circle.Goals as goal
 
@@ -22,32 +20,25 @@ opened : (es ms ns : List Word) (j : ℕ) → ms ≡ es → Replaced [] (idle (n
     → Replaced [] (idle (name_word j) ∷ []) (names_pieces 0 es) (names_pieces 0 ns)
 opened es ms ns j same o = subst (λ (l : List Word). Replaced [] (idle (name_word j) ∷ []) (names_pieces 0 l) (names_pieces 0 ns)) same o
 
--- the name waits for it
-anew : (es ns fs : List Word) (i j : ℕ) (u y : Word) → y ≡ name_word j → u ≡ entry es i → u.tag < IDLE
-    → Replaced [] (idle (name_word j) ∷ []) (names_pieces 0 es) (names_pieces 0 ns)
-    → Replaced (waits (name_word i) (entry ns i) ∷ []) (waits (name_word i) y ∷ []) (names_pieces 0 ns) (names_pieces 0 fs)
-    → WaitsAnew (name_word i) y u (names_pieces 0 es) (names_pieces 0 fs)
-anew es ns fs i j u y new is word o r =
-    subst (λ (x : Word). WaitsAnew (name_word i) x u (names_pieces 0 es) (names_pieces 0 fs)) (sym new)
-    (waits_anew (name_word i) (name_word j) u (names_pieces 0 es) (names_pieces 0 ns) (names_pieces 0 fs) o
-    (subst (λ (x : Word). Replaced (waits (name_word i) u ∷ []) (waits (name_word i) x ∷ []) (names_pieces 0 ns) (names_pieces 0 fs)) new
-    (subst (λ (v : Word). Replaced (waits (name_word i) v ∷ []) (waits (name_word i) y ∷ []) (names_pieces 0 ns) (names_pieces 0 fs))
-    (opened_entry es ns i j u is word o) r)))
+module _ (t : Tables) (ms ns : List Word) (fs : Entries) (i j : ℕ) (u y : Word) (same : ms ≡ t.names.entries)
+    (o : Replaced [] (idle (name_word j) ∷ []) (names_pieces 0 ms) (names_pieces 0 ns)) (new : y ≡ name_word j)
+    (is : u ≡ entry t.names.entries i) (word : u.tag < IDLE)
+    (r : Replaced (waits (name_word i) (entry ns i) ∷ []) (waits (name_word i) y ∷ []) (names_pieces 0 ns) (names_pieces 0 fs.entries)) where
+  -- the name waits for it
+  anew : WaitsAnew (name_word i) y u (names_pieces 0 t.names.entries) (names_pieces 0 fs.entries)
+  anew =
+      let es : List Word = t.names.entries in
+      let before : Replaced [] (idle (name_word j) ∷ []) (names_pieces 0 es) (names_pieces 0 ns) = opened es ms ns j same o in
+      subst (λ (x : Word). WaitsAnew (name_word i) x u (names_pieces 0 es) (names_pieces 0 fs.entries)) (sym new)
+      (waits_anew (name_word i) (name_word j) u (names_pieces 0 es) (names_pieces 0 ns) (names_pieces 0 fs.entries) before
+      (subst (λ (x : Word). Replaced (waits (name_word i) u ∷ []) (waits (name_word i) x ∷ []) (names_pieces 0 ns) (names_pieces 0 fs.entries)) new
+      (subst (λ (v : Word). Replaced (waits (name_word i) v ∷ []) (waits (name_word i) y ∷ []) (names_pieces 0 ns) (names_pieces 0 fs.entries))
+      (opened_entry es ns i j u is word before) r)))
 
-in_hand : (t : Tables) (ns : Entries) (b : Ends) (x y u : Word) (others : List Word)
-    → WaitsAnew x y u (names_pieces 0 t.names.entries) (names_pieces 0 ns.entries) → AreInHand [] others t b
-    → AreInHand (y ∷ u ∷ []) others (record t { names = ns }) b
-in_hand t ns b x y u others w hand =
-    circle_hand (arities_of t.heaps.items) x y u (names_pieces 0 t.names.entries) (names_pieces 0 ns.entries) (heaps_pieces 0 t.heaps.items)
-    (map end_word b.ends ++ others) w hand
-
-none_over : (others : List Word) (t : Tables) (b : Ends) → AreInHand [] others t b → AreLeft others t
-none_over others t b = hand_left (arities_of t.heaps.items) [] (map end_word b.ends) others (places_in t)
-
-pub replace-requires-clause-there : goal.replace-requires-clause-there
-replace-requires-clause-there c =
-    let same = ap (length {A = Word}) c.in_ok-reserve.ensures.entries in
-    omega (arith, c.requires.there, c.open.ensures.len)
+  in_hand : (b : Ends) (others : List Word) → AreInHand [] others t b → AreInHand (y ∷ u ∷ []) others (record t { names = fs }) b
+  in_hand b others =
+      circle_hand (arities_of t.heaps.items) (name_word i) y u (names_pieces 0 t.names.entries) (names_pieces 0 fs.entries)
+      (heaps_pieces 0 t.heaps.items) (map end_word b.ends ++ others) anew
 
 pub replace-requires-clause-waits : goal.replace-requires-clause-waits
 replace-requires-clause-waits c =
@@ -62,61 +53,19 @@ replace-requires-clause-waits c =
 names_then : (es ms ns fs : List Word) (j : ℕ) → ms ≡ es → Replaced [] (idle (name_word j) ∷ []) (names_pieces 0 ms) (names_pieces 0 ns)
     → length ns ≡ max (length ms) (length (names_pieces 0 ns)) → length fs ≡ length ns → (length es ≤ length fs) × (length fs ≤ length es + 1)
 names_then es ms ns fs j same o many len =
-    let longer : length (names_pieces 0 ns) ≡ length (names_pieces 0 ms) + 1 =
-    one_longer (idle (name_word j)) (names_pieces 0 ms) (names_pieces 0 ns) o in
-    let once : length ns ≤ length ms + 1 =
-    one_more (length ns) (length ms) (length (names_pieces 0 ms)) (length (names_pieces 0 ns)) many longer (names_few 0 ms) in
+    let longer = one_longer (idle (name_word j)) (names_pieces 0 ms) (names_pieces 0 ns) o in
+    let once = one_more (length ns) (length ms) (length (names_pieces 0 ms)) (length (names_pieces 0 ns)) many longer (names_few 0 ms) in
     let old = ap (length {A = Word}) same in
     (omega arith, omega arith)
 
 pub pack_equation-requires-clause-named : goal.pack_equation-requires-clause-named
 pack_equation-requires-clause-named c =
-    let t : Tables = c.args.tables.now in
-    let es : List Word = t.names.entries in
-    let ns : List Word = c.open.new.self.entries in
-    let fs : List Word = c.replace.new.self.entries in
-    in_hand t c.replace.new.self c.args.borders.now (name_word c.args.name) c.name-left.result c.get-right.result []
-    (anew es ns fs c.args.name c.open.result c.get-right.result c.name-left.result c.name-left.ensures c.get-right.ensures c.if-right-ge-IDLE.false
-    (opened es c.reserve.new.self.entries ns c.open.result c.in_ok-reserve.ensures.entries c.open.ensures.opened) c.replace.ensures.replaced)
-    c.requires.named
+    in_hand c.args.tables.now c.reserve.new.self.entries c.open.new.self.entries c.replace.new.self c.args.name c.open.result
+    c.get-right.result c.name-left.result c.in_ok-reserve.ensures.entries c.open.ensures.opened c.name-left.ensures
+    c.get-right.ensures c.if-right-ge-IDLE.false c.replace.ensures.replaced c.args.borders.now [] c.requires.named
 
 pub returns-then-right-ge-IDLE-clause-opened : goal.returns-then-right-ge-IDLE-clause-opened
 returns-then-right-ge-IDLE-clause-opened c = none_opened (side_in c.args.tables.now c.args.borders.now) c.args.parcel.now.words.items
-
-pub returns-then-right-ge-IDLE-clause-left : goal.returns-then-right-ge-IDLE-clause-left
-returns-then-right-ge-IDLE-clause-left c = λ others hand. none_over others c.args.tables.now c.args.borders.now hand
-
-pub returns-then-right-ge-IDLE-clause-size : goal.returns-then-right-ge-IDLE-clause-size
-returns-then-right-ge-IDLE-clause-size c = same_names c.args.tables.now c.requires.few
-
-pub returns-then-len-ge-MAX_ENTRIES-clause-left : goal.returns-then-len-ge-MAX_ENTRIES-clause-left
-returns-then-len-ge-MAX_ENTRIES-clause-left c = λ others hand. none_over others c.args.tables.now c.args.borders.now hand
-
-pub returns-then-len-ge-MAX_ENTRIES-clause-size : goal.returns-then-len-ge-MAX_ENTRIES-clause-size
-returns-then-len-ge-MAX_ENTRIES-clause-size c = same_names c.args.tables.now c.requires.few
-
-pub returns-in_err-reserve-clause-left : goal.returns-in_err-reserve-clause-left
-returns-in_err-reserve-clause-left c = λ others hand.
-    let t : Tables = c.args.tables.now in
-    subst (λ (l : List Word). IsSeparate (arities_of t.heaps.items) others (names_pieces 0 l ++ heaps_pieces 0 t.heaps.items))
-    (sym c.in_err-reserve.ensures.entries) (none_over others t c.args.borders.now hand)
-
--- a failed growth of the names
-grown : (t : Tables) (ns : Entries) → length t.names.entries < 2 ^ 32 → ns.entries ≡ t.names.entries → HasMoreNames t (record t { names = ns })
-grown t ns few same =
-    let len = ap (length {A = Word}) same in
-    record {
-      names = omega arith;
-      few = omega arith;
-      blocks = refl;
-      arities = refl;
-      pending = refl;
-      registers = refl;
-      spare = refl;
-    }
-
-pub returns-in_err-reserve-clause-size : goal.returns-in_err-reserve-clause-size
-returns-in_err-reserve-clause-size c = grown c.args.tables.now c.reserve.new.self c.requires.few c.in_err-reserve.ensures.entries
 
 -- what the tables kept
 more_names : (t : Tables) (ns : Entries) (new : Tables) → (length t.names.entries ≤ length ns.entries) × (length ns.entries ≤ length t.names.entries + 1)
@@ -133,14 +82,9 @@ more_names t ns new more few size = record {
 
 pub returns-in_err-pack_equation-clause-left : goal.returns-in_err-pack_equation-clause-left
 returns-in_err-pack_equation-clause-left c = λ others hand.
-    let t : Tables = c.args.tables.now in
-    let es : List Word = t.names.entries in
-    let ns : List Word = c.open.new.self.entries in
-    let fs : List Word = c.replace.new.self.entries in
-    c.in_err-pack_equation.ensures.left others
-    (in_hand t c.replace.new.self c.args.borders.now (name_word c.args.name) c.name-left.result c.get-right.result others
-    (anew es ns fs c.args.name c.open.result c.get-right.result c.name-left.result c.name-left.ensures c.get-right.ensures c.if-right-ge-IDLE.false
-    (opened es c.reserve.new.self.entries ns c.open.result c.in_ok-reserve.ensures.entries c.open.ensures.opened) c.replace.ensures.replaced) hand)
+    c.in_err-pack_equation.ensures.left others (in_hand c.args.tables.now c.reserve.new.self.entries c.open.new.self.entries c.replace.new.self c.args.name c.open.result
+    c.get-right.result c.name-left.result c.in_ok-reserve.ensures.entries c.open.ensures.opened c.name-left.ensures
+    c.get-right.ensures c.if-right-ge-IDLE.false c.replace.ensures.replaced c.args.borders.now others hand)
 
 pub returns-in_err-pack_equation-clause-size : goal.returns-in_err-pack_equation-clause-size
 returns-in_err-pack_equation-clause-size c =
@@ -155,7 +99,6 @@ returns-clause-opened c =
     let t : Tables = c.args.tables.now in
     let b : Ends = c.args.borders.now in
     let es : List Word = t.names.entries in
-    let ns : List Word = c.open.new.self.entries in
     let fs : List Word = c.replace.new.self.entries in
     let h : List Piece = heaps_pieces 0 t.heaps.items in
     let x : Word = name_word c.args.name in
@@ -164,11 +107,10 @@ returns-clause-opened c =
     let new : Side = side_in c.pack_equation.new.tables c.pack_equation.new.borders in
     let us : List Word = c.args.parcel.now.words.items in
     let vs : List Word = c.pack_equation.new.parcel.words.items in
-    let w : WaitsAnew x y u (names_pieces 0 es) (names_pieces 0 fs) =
-    anew es ns fs c.args.name c.open.result u y c.name-left.ensures c.get-right.ensures c.if-right-ge-IDLE.false
-    (opened es c.reserve.new.self.entries ns c.open.result c.in_ok-reserve.ensures.entries c.open.ensures.opened) c.replace.ensures.replaced in
-    let free : (entry es c.open.result).tag ≡ FREE =
-    subst (λ (l : List Word). (entry l c.open.result).tag ≡ FREE) c.in_ok-reserve.ensures.entries c.open.ensures.fresh in
+    let w = anew c.args.tables.now c.reserve.new.self.entries c.open.new.self.entries c.replace.new.self c.args.name c.open.result
+    c.get-right.result c.name-left.result c.in_ok-reserve.ensures.entries c.open.ensures.opened c.name-left.ensures
+    c.get-right.ensures c.if-right-ge-IDLE.false c.replace.ensures.replaced in
+    let free = subst (λ (l : List Word). (entry l c.open.result).tag ≡ FREE) c.in_ok-reserve.ensures.entries c.open.ensures.fresh in
     one_opened (side_in t b) (side_in t b) new us us vs (none_opened (side_in t b) us) (record {
       name = x;
       fresh = y;
@@ -187,25 +129,15 @@ returns-clause-opened c =
 
 pub returns-clause-named : goal.returns-clause-named
 returns-clause-named c = λ others hand.
-    let t : Tables = c.args.tables.now in
-    let es : List Word = t.names.entries in
-    let ns : List Word = c.open.new.self.entries in
-    let fs : List Word = c.replace.new.self.entries in
-    c.in_ok-pack_equation.ensures.named others
-    (in_hand t c.replace.new.self c.args.borders.now (name_word c.args.name) c.name-left.result c.get-right.result others
-    (anew es ns fs c.args.name c.open.result c.get-right.result c.name-left.result c.name-left.ensures c.get-right.ensures c.if-right-ge-IDLE.false
-    (opened es c.reserve.new.self.entries ns c.open.result c.in_ok-reserve.ensures.entries c.open.ensures.opened) c.replace.ensures.replaced) hand)
+    c.in_ok-pack_equation.ensures.named others (in_hand c.args.tables.now c.reserve.new.self.entries c.open.new.self.entries c.replace.new.self c.args.name c.open.result
+    c.get-right.result c.name-left.result c.in_ok-reserve.ensures.entries c.open.ensures.opened c.name-left.ensures
+    c.get-right.ensures c.if-right-ge-IDLE.false c.replace.ensures.replaced c.args.borders.now others hand)
 
 pub returns-clause-left : goal.returns-clause-left
 returns-clause-left c = λ others hand.
-    let t : Tables = c.args.tables.now in
-    let es : List Word = t.names.entries in
-    let ns : List Word = c.open.new.self.entries in
-    let fs : List Word = c.replace.new.self.entries in
-    c.in_ok-pack_equation.ensures.left others
-    (in_hand t c.replace.new.self c.args.borders.now (name_word c.args.name) c.name-left.result c.get-right.result others
-    (anew es ns fs c.args.name c.open.result c.get-right.result c.name-left.result c.name-left.ensures c.get-right.ensures c.if-right-ge-IDLE.false
-    (opened es c.reserve.new.self.entries ns c.open.result c.in_ok-reserve.ensures.entries c.open.ensures.opened) c.replace.ensures.replaced) hand)
+    c.in_ok-pack_equation.ensures.left others (in_hand c.args.tables.now c.reserve.new.self.entries c.open.new.self.entries c.replace.new.self c.args.name c.open.result
+    c.get-right.result c.name-left.result c.in_ok-reserve.ensures.entries c.open.ensures.opened c.name-left.ensures
+    c.get-right.ensures c.if-right-ge-IDLE.false c.replace.ensures.replaced c.args.borders.now others hand)
 
 pub returns-clause-size : goal.returns-clause-size
 returns-clause-size c =

@@ -1,5 +1,4 @@
-use Rattle.std.proofs.Common.{◌≡◌, ℕ, ◌+◌, ◌<◌, ◌≤◌, List, [], ◌∷◌, ◌++◌, length, map, take, drop, slice_index_or, refl, subst}
-use Rattle.std.proofs.lemmas.List.{at_drop_all, take_all}
+use Rattle.std.proofs.Common.{ℕ, ◌+◌, ◌<◌, List, [], ◌∷◌, ◌++◌, length, map, drop, slice_index_or, refl, subst}
 use Rattle.ic_arena.specs.declared.word.Word.{Word}
 use Rattle.ic_machine.specs.declared.equation.Equation.{Equation}
 use Rattle.ic_machine.specs.declared.tables.Tables.{Tables}
@@ -7,7 +6,7 @@ use Rattle.ic_machine.specs.Moving.{Ends, Packs, end_word, sides_of}
 use Rattle.ic_machine.specs.Separate.{IsSeparate}
 use Rattle.ic_machine.specs.inner.Firing.{arities_of}
 use Rattle.ic_machine.specs.inner.Moving.{places_in, side_in, AreInHand}
-use Rattle.ic_machine.proofs.Packing.{few_kept, hand_alone, hand_first, hand_left, hand_next, worth_on}
+use Rattle.ic_machine.proofs.Packing.{hand_alone, hand_first, hand_left, hand_next, worth_on}
 use Rattle.ic_machine.proofs.Parcels.{large, large_on, packs_more, packs_none, sides_from}
 use Rattle.ic_machine.proofs.moving.pack_each.Goals as goal
 
@@ -33,11 +32,6 @@ next_sides es i others t b lt hand =
     (sides_of (drop (i + 1) es)) (map end_word b.ends) others (places_in t)
     (subst (λ (l : List Word). IsSeparate (arities_of t.heaps.items) (l ++ (map end_word b.ends ++ others)) (places_in t))
     (sides_from es i none lt) hand)
-
-pub pack_equation-requires-clause-numbers : goal.pack_equation-requires-clause-numbers
-pack_equation-requires-clause-numbers c =
-    few_kept c.args.borders.now c.loop-equation.borders c.args.parcel.now.words.items c.loop-equation.parcel.words.items
-    c.loop-equation.invariant.worth c.requires.numbers
 
 pub pack_equation-requires-clause-named : goal.pack_equation-requires-clause-named
 pack_equation-requires-clause-named c =
@@ -85,32 +79,3 @@ returns-in_err-pack_equation-clause-left c = λ others hand.
     hand_left (arities_of new.heaps.items) later [] others (places_in new)
     (c.in_err-pack_equation.ensures.left (later ++ others)
     (next_sides es i others t c.loop-equation.borders c.loop-equation-test.true (c.loop-equation.invariant.named others hand)))
-
-pub returns-in_err-pack_equation-clause-size : goal.returns-in_err-pack_equation-clause-size
-returns-in_err-pack_equation-clause-size c =
-    large_on c.args.tables.now c.loop-equation.tables c.pack_equation.new.tables c.loop-equation.invariant.size c.in_err-pack_equation.ensures.size
-
--- all are packed
-all_taken : (es : List Equation) (i : ℕ) → length es ≤ i → take i es ≡ es
-all_taken es i past = take_all i es past
-
-none_left : (es : List Equation) (i : ℕ) → length es ≤ i → sides_of (drop i es) ≡ []
-none_left es i past = at_drop_all sides_of es i past
-
-pub returns-clause-packs : goal.returns-clause-packs
-returns-clause-packs c =
-    let first : Tables = c.args.tables.now in
-    subst (λ (l : List Equation). Packs (arities_of first.heaps.items) l (side_in first c.args.borders.now)
-    (side_in c.loop-equation.tables c.loop-equation.borders) c.args.parcel.now.words.items c.loop-equation.parcel.words.items)
-    (all_taken c.args.equations.now c.loop-equation.equation-index c.loop-equation-test.false) c.loop-equation.invariant.packs
-
-pub returns-clause-named : goal.returns-clause-named
-returns-clause-named c = λ others hand.
-    subst (λ (l : List Word). AreInHand l others c.loop-equation.tables c.loop-equation.borders)
-    (none_left c.args.equations.now c.loop-equation.equation-index c.loop-equation-test.false) (c.loop-equation.invariant.named others hand)
-
-pub returns-clause-left : goal.returns-clause-left
-returns-clause-left c = λ others hand.
-    let t : Tables = c.loop-equation.tables in
-    hand_left (arities_of t.heaps.items) (sides_of (drop c.loop-equation.equation-index c.args.equations.now))
-    (map end_word c.loop-equation.borders.ends) others (places_in t) (c.loop-equation.invariant.named others hand)

@@ -4,8 +4,8 @@ use Rattle.ic_machine.specs.declared.tables.Tables.{Tables}
 use Rattle.ic_machine.specs.Moving.{Ends, end_word}
 use Rattle.ic_machine.specs.inner.Firing.{arities_of}
 use Rattle.ic_machine.specs.inner.Moving.{places_in, side_in, AreInHand, PacksTree}
-use Rattle.ic_machine.proofs.Packing.{few_kept, hand_alone, hand_first, hand_left, hand_next, worth_on}
-use Rattle.ic_machine.proofs.Parcels.{large_on, tree_then}
+use Rattle.ic_machine.proofs.Packing.{hand_first, hand_left, hand_next}
+use Rattle.ic_machine.proofs.Parcels.{tree_then}
 use Rattle.ic_machine.proofs.moving.pack_equation.Goals as goal
 
 -- the left side alone, and the right one among the others
@@ -16,18 +16,6 @@ first_side l r others t b =
 -- the right side, after the left one
 second_side : (r : Word) (others : List Word) (t : Tables) (b : Ends) → AreInHand [] (r ∷ others) t b → AreInHand (r ∷ []) others t b
 second_side r others t b = hand_next (arities_of t.heaps.items) (r ∷ []) (map end_word b.ends) others (places_in t)
-
-pub pack-requires-clause-named : goal.pack-requires-clause-named
-pack-requires-clause-named c =
-    let t : Tables = c.args.tables.now in
-    let b : Ends = c.args.borders.now in
-    hand_alone (arities_of t.heaps.items) (c.args.equation.left ∷ []) (map end_word b.ends) (c.args.equation.right ∷ []) (places_in t)
-    (first_side c.args.equation.left c.args.equation.right [] t b c.requires.named)
-
-pub pack-requires-2-clause-numbers : goal.pack-requires-2-clause-numbers
-pack-requires-2-clause-numbers c =
-    few_kept c.args.borders.now c.pack.new.borders c.args.parcel.now.words.items c.pack.new.parcel.words.items
-    c.in_ok-pack.ensures.worth c.requires.numbers
 
 pub pack-requires-2-clause-named : goal.pack-requires-2-clause-named
 pack-requires-2-clause-named c =
@@ -48,10 +36,6 @@ returns-in_err-pack-2-clause-left c = λ others hand.
     (second_side c.args.equation.right others c.pack.new.tables c.pack.new.borders
     (c.in_ok-pack.ensures.named (c.args.equation.right ∷ others)
     (first_side c.args.equation.left c.args.equation.right others c.args.tables.now c.args.borders.now hand)))
-
-pub returns-in_err-pack-2-clause-size : goal.returns-in_err-pack-2-clause-size
-returns-in_err-pack-2-clause-size c =
-    large_on c.args.tables.now c.pack.new.tables c.pack-2.new.tables c.in_ok-pack.ensures.size c.in_err-pack-2.ensures.size
 
 pub returns-clause-packs : goal.returns-clause-packs
 returns-clause-packs c =
@@ -77,12 +61,3 @@ returns-clause-left c = λ others hand.
     (second_side c.args.equation.right others c.pack.new.tables c.pack.new.borders
     (c.in_ok-pack.ensures.named (c.args.equation.right ∷ others)
     (first_side c.args.equation.left c.args.equation.right others c.args.tables.now c.args.borders.now hand)))
-
-pub returns-clause-worth : goal.returns-clause-worth
-returns-clause-worth c =
-    worth_on c.args.borders.now c.pack.new.borders c.pack-2.new.borders c.args.parcel.now.words.items c.pack.new.parcel.words.items
-    c.pack-2.new.parcel.words.items c.in_ok-pack.ensures.worth c.in_ok-pack-2.ensures.worth
-
-pub returns-clause-size : goal.returns-clause-size
-returns-clause-size c =
-    large_on c.args.tables.now c.pack.new.tables c.pack-2.new.tables c.in_ok-pack.ensures.size c.in_ok-pack-2.ensures.size

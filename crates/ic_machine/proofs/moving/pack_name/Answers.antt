@@ -1,14 +1,14 @@
-use Rattle.std.proofs.Common.{◌≡◌, ℕ, ◌<◌, List, [], ◌∷◌, ◌++◌, ap, sym, subst, ◌∙◌, arith}
+use Rattle.std.proofs.Common.{ℕ, ◌<◌, List, [], ◌∷◌, ◌++◌, ap, sym, subst, ◌∙◌, arith}
 use Rattle.ic_arena.specs.declared.word.Word.{Word}
 use Rattle.ic_arena.specs.declared.word.TheConstants.{IDLE}
 use Rattle.ic_arena.specs.Word.{name_word}
 use Rattle.ic_arena.specs.Piece.{waits}
 use Rattle.ic_arena.specs.Tables.{Replaced, names_pieces}
-use Rattle.ic_machine.specs.Moving.{CutEnd, spells_cut}
+use Rattle.ic_machine.specs.Moving.{CutEnd}
 use Rattle.ic_machine.specs.inner.Moving.{PacksName, followed}
 use Rattle.ic_machine.proofs.Firings.{taken_first}
 use Rattle.ic_machine.proofs.NameRooms.{has_entry}
-use Rattle.ic_machine.proofs.Packing.{cuts_packed, spells_push, waiting_word}
+use Rattle.ic_machine.proofs.Packing.{cuts_packed, waiting_word}
 use Rattle.ic_machine.proofs.moving.pack_name.Goals as goal
 
 pub get-waiting-requires : goal.get-waiting-requires
@@ -23,15 +23,6 @@ free-requires-clause-waits c =
     (waiting_word c.args.names.now.entries c.args.name c.get-waiting.result c.requires.there c.get-waiting.ensures
     c.if-waiting.true (omega arith))
 
-pub cut_name-requires-clause-there : goal.cut_name-requires-clause-there
-cut_name-requires-clause-there c = has_entry c.args.names.now.entries c.args.name c.requires.there
-
-pub cut_name-requires-clause-idle : goal.cut_name-requires-clause-idle
-cut_name-requires-clause-idle c = subst (λ (v : Word). v.tag ≡ IDLE) c.get-waiting.ensures c.if-waiting.false
-
-pub cut_name-requires-clause-numbers : goal.cut_name-requires-clause-numbers
-cut_name-requires-clause-numbers c = λ k. let few = c.requires.numbers k in omega arith
-
 pub returns-then-waiting-clause-packed : goal.returns-then-waiting-clause-packed
 returns-then-waiting-clause-packed c =
     let n : ℕ = c.args.name in
@@ -41,11 +32,9 @@ returns-then-waiting-clause-packed c =
     let bs : List CutEnd = c.args.borders.now.ends in
     let ws : List Word = c.args.parcel.now.words.items in
     let ss : List Word = c.args.parcel.now.stack.items in
-    let gone : Replaced (waits (name_word n) u ∷ []) [] (names_pieces 0 es) (names_pieces 0 fs) =
-    subst (λ (v : Word). Replaced (waits (name_word n) v ∷ []) [] (names_pieces 0 es) (names_pieces 0 fs))
+    let gone = subst (λ (v : Word). Replaced (waits (name_word n) v ∷ []) [] (names_pieces 0 es) (names_pieces 0 fs))
     (sym c.get-waiting.ensures) c.free.ensures.freed in
-    let stack : c.push_reserved.new.self.items ≡ ss ++ u ∷ [] =
-    c.push_reserved.ensures.items ∙ ap (λ (l : List Word). l ++ u ∷ []) c.in_ok-reserve.ensures.items in
+    let stack = c.push_reserved.ensures.items ∙ ap (λ (l : List Word). l ++ u ∷ []) c.in_ok-reserve.ensures.items in
     subst (λ (l : List Word). PacksName n es fs bs bs ws ws ss l) (sym stack)
     (followed es fs bs ws ss u (taken_first (waits (name_word n) u ∷ []) (names_pieces 0 es) (names_pieces 0 fs) gone))
 
@@ -58,17 +47,6 @@ returns-clause-packed c =
     let cs : List CutEnd = c.cut_name.new.borders.ends in
     let ws : List Word = c.args.parcel.now.words.items in
     let ss : List Word = c.args.parcel.now.stack.items in
-    let words : c.push_reserved-2.new.self.items ≡ ws ++ name_word c.in_ok-cut.cut ∷ [] =
-    c.push_reserved-2.ensures.items ∙ ap (λ (l : List Word). l ++ name_word c.in_ok-cut.cut ∷ []) c.in_ok-reserve-2.ensures.items in
+    let words = c.push_reserved-2.ensures.items ∙ ap (λ (l : List Word). l ++ name_word c.in_ok-cut.cut ∷ []) c.in_ok-reserve-2.ensures.items in
     subst (λ (l : List Word). PacksName n es fs bs cs ws l ss ss) (sym words)
     (cuts_packed n c.in_ok-cut.cut es fs bs cs ws ss c.in_ok-cut.ensures.cuts)
-
-pub returns-clause-worth : goal.returns-clause-worth
-returns-clause-worth c = λ k.
-    let ws : List Word = c.args.parcel.now.words.items in
-    let words : c.push_reserved-2.new.self.items ≡ ws ++ name_word c.in_ok-cut.cut ∷ [] =
-    c.push_reserved-2.ensures.items ∙ ap (λ (l : List Word). l ++ name_word c.in_ok-cut.cut ∷ []) c.in_ok-reserve-2.ensures.items in
-    let spelled = ap (spells_cut k) words in
-    let more = spells_push k c.in_ok-cut.cut ws in
-    let kept = c.in_ok-cut.ensures.worth k in
-    omega arith

@@ -1,12 +1,12 @@
-use Rattle.std.proofs.Common.{◌≡◌, ℕ, ◌+◌, ◌<◌, Bool, true, false, List, [], ◌∷◌, ◌++◌, Ok, length, map, take, slice_index_or, refl, ap, sym, subst, ◌∙◌}
-use Rattle.std.proofs.lemmas.List.{take_all, take_more}
+use Rattle.std.proofs.Common.{◌≡◌, ℕ, ◌+◌, ◌<◌, Bool, true, false, List, [], ◌∷◌, ◌++◌, Ok, length, take, slice_index_or, refl, ap, sym, subst, ◌∙◌}
+use Rattle.std.proofs.lemmas.List.{take_more}
 use Rattle.ic_arena.specs.declared.word.Word.{Word}
 use Rattle.ic_machine.specs.declared.tables.Tables.{Tables}
-use Rattle.ic_machine.specs.Moving.{Ends, Side, AreShipped, no_more, shipped, passed, NothingWaits, Ships, end_word}
+use Rattle.ic_machine.specs.Moving.{Ends, Side, AreShipped, no_more, shipped, passed, NothingWaits, Ships}
 use Rattle.ic_machine.specs.inner.Firing.{arities_of}
-use Rattle.ic_machine.specs.inner.Moving.{places_in, side_in}
+use Rattle.ic_machine.specs.inner.Moving.{side_in}
 use Rattle.ic_machine.proofs.Opening.{shipped_on}
-use Rattle.ic_machine.proofs.Packing.{few_kept, hand_left, worth_on}
+use Rattle.ic_machine.proofs.Packing.{worth_on}
 use Rattle.ic_machine.proofs.Parcels.{large, large_on}
 use Rattle.ic_machine.proofs.moving.ship_each.Goals as goal
 
@@ -19,14 +19,6 @@ loop-cut-init c =
       worth = λ k. refl;
       size = large t;
     }
-
-pub ship_from-requires-clause-numbers : goal.ship_from-requires-clause-numbers
-ship_from-requires-clause-numbers c =
-    few_kept c.args.borders.now c.loop-cut.borders c.args.parcel.now.words.items c.loop-cut.parcel.words.items
-    c.loop-cut.invariant.worth c.requires.numbers
-
-pub ship_from-requires-clause-named : goal.ship_from-requires-clause-named
-ship_from-requires-clause-named c = c.loop-cut.invariant.named [] c.requires.named
 
 -- one more of the cuts
 more_shipped : (arities ns : List ℕ) (i n : ℕ) (a b c : Side) (us vs ws : List Word) → i < length ns → slice_index_or ns i 0 ≡ n
@@ -71,23 +63,3 @@ loop-cut-preserved c =
       worth = worth_on c.args.borders.now b end us vs ws c.loop-cut.invariant.worth c.in_ok-ship_from.ensures.worth;
       size = large_on first t new c.loop-cut.invariant.size c.in_ok-ship_from.ensures.size;
     }
-
-pub returns-in_err-ship_from-clause-left : goal.returns-in_err-ship_from-clause-left
-returns-in_err-ship_from-clause-left c = λ others hand. c.in_err-ship_from.ensures.left others (c.loop-cut.invariant.named others hand)
-
-pub returns-in_err-ship_from-clause-size : goal.returns-in_err-ship_from-clause-size
-returns-in_err-ship_from-clause-size c =
-    large_on c.args.tables.now c.loop-cut.tables c.ship_from.new.tables c.loop-cut.invariant.size c.in_err-ship_from.ensures.size
-
-pub returns-clause-ships : goal.returns-clause-ships
-returns-clause-ships c =
-    let first : Tables = c.args.tables.now in
-    subst (λ (l : List ℕ). AreShipped (arities_of first.heaps.items) l (side_in first c.args.borders.now)
-    (side_in c.loop-cut.tables c.loop-cut.borders) c.args.parcel.now.words.items c.loop-cut.parcel.words.items)
-    (take_all c.loop-cut.cut-index c.args.cuts.now c.loop-cut-test.false) c.loop-cut.invariant.ships
-
-pub returns-clause-left : goal.returns-clause-left
-returns-clause-left c = λ others hand.
-    let t : Tables = c.loop-cut.tables in
-    hand_left (arities_of t.heaps.items) [] (map end_word c.loop-cut.borders.ends) others (places_in t)
-    (c.loop-cut.invariant.named others hand)

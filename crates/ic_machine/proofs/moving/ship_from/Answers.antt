@@ -1,4 +1,4 @@
-use Rattle.std.proofs.Common.{◌≡◌, ℕ, ◌<◌, ◌≤◌, inl, inr, List, [], ◌∷◌, ◌++◌, Contains, length, map, refl, ap, sym, subst, ◌∙◌, append_assoc, arith}
+use Rattle.std.proofs.Common.{◌≡◌, ℕ, ◌<◌, ◌≤◌, inr, List, [], ◌∷◌, ◌++◌, Contains, length, map, refl, ap, sym, subst, ◌∙◌, append_assoc, arith}
 use Rattle.std.specs.List.Sorted.{IsPermutation}
 use Rattle.ic_arena.specs.declared.word.Word.{Word}
 use Rattle.ic_arena.specs.declared.word.TheConstants.{FREE, IDLE}
@@ -8,17 +8,12 @@ use Rattle.ic_arena.specs.Tables.{Entries, Replaced, entry, names_pieces}
 use Rattle.ic_machine.specs.declared.tables.Tables.{Tables}
 use Rattle.ic_machine.specs.Moving.{CutEnd, Ends, end_word}
 use Rattle.ic_machine.specs.inner.Firing.{arities_of, heaps_pieces}
-use Rattle.ic_machine.specs.inner.Moving.{places_in, side_in, AreInHand, AreLeft, IsAsLarge, PacksTree}
+use Rattle.ic_machine.specs.inner.Moving.{side_in, AreInHand, PacksTree}
 use Rattle.ic_machine.proofs.Firings.{taken_first}
 use Rattle.ic_machine.proofs.NameRooms.{has_entry}
-use Rattle.ic_machine.proofs.Packing.{count_append, end_named, few_kept, first_name, hand_left, named_there, shipped_hand, shipped_worth, worth_on}
-use Rattle.ic_machine.proofs.Parcels.{large}
+use Rattle.ic_machine.proofs.Packing.{count_append, end_named, few_kept, first_name, named_there, shipped_hand, shipped_worth, worth_on}
 use Rattle.ic_machine.proofs.Reading.{nothing_waits}
 use Rattle.ic_machine.proofs.moving.ship_from.Goals as goal
-
--- what is left where no word is in hand
-none_over : (others : List Word) (t : Tables) (b : Ends) → AreInHand [] others t b → AreLeft others t
-none_over others t b = hand_left (arities_of t.heaps.items) [] (map end_word b.ends) others (places_in t)
 
 -- the name of an end of a cut has an entry
 end_entry : (t : Tables) (b : Ends) (e : CutEnd) → Contains b.ends e → AreInHand [] [] t b → e.name < length t.names.entries
@@ -31,13 +26,6 @@ end_entry t b e there hand =
 pub get-waiting-requires : goal.get-waiting-requires
 get-waiting-requires c =
     end_entry c.args.tables.now c.args.borders.now (record { cut = c.args.cut; name = c.in-Some.name }) c.in-Some.ensures.found c.requires.named
-
-pub free-requires-clause-there : goal.free-requires-clause-there
-free-requires-clause-there c =
-    end_entry c.args.tables.now c.args.borders.now (record { cut = c.args.cut; name = c.in-Some.name }) c.in-Some.ensures.found c.requires.named
-
-pub free-requires-clause-waits : goal.free-requires-clause-waits
-free-requires-clause-waits c = subst (λ (v : Word). v.tag < IDLE) c.get-waiting.ensures c.if-waiting-ge-IDLE.false
 
 -- the word that waits, with what is left
 taken : (n : ℕ) (u : Word) (es fs : List Word) → u ≡ entry es n → Replaced (waits (name_word n) (entry es n) ∷ []) [] (names_pieces 0 es) (names_pieces 0 fs)
@@ -57,18 +45,6 @@ in_hand t ns b b' k n u others is freed less hand =
 written : (before mid after : List Word) (k : ℕ) → mid ≡ before → after ≡ mid ++ name_word k ∷ [] → after ≡ before ++ name_word k ∷ []
 written before mid after k same more = more ∙ ap (λ (l : List Word). l ++ name_word k ∷ []) same
 
--- what the names kept
-same_size : (t : Tables) (ns : Entries) (new : Tables) → length ns.entries ≡ length t.names.entries → IsAsLarge (record t { names = ns }) new
-    → IsAsLarge t new
-same_size t ns new len size = record {
-  names = size.names ∙ len;
-  blocks = size.blocks;
-  arities = size.arities;
-  pending = size.pending;
-  registers = size.registers;
-  spare = size.spare;
-}
-
 pub pack-requires-clause-numbers : goal.pack-requires-clause-numbers
 pack-requires-clause-numbers c =
     few_kept c.args.borders.now c.remove.new.self c.args.parcel.now.words.items c.push_reserved.new.self.items
@@ -82,15 +58,6 @@ pack-requires-clause-named c =
     in_hand c.args.tables.now c.free.new.self c.args.borders.now c.remove.new.self c.args.cut c.in-Some.name c.get-waiting.result []
     c.get-waiting.ensures c.free.ensures.freed c.remove.ensures.removed c.requires.named
 
-pub returns-in_default-clause-none : goal.returns-in_default-clause-none
-returns-in_default-clause-none c = λ e. inl c.in_default.ensures.none
-
-pub returns-in_default-clause-left : goal.returns-in_default-clause-left
-returns-in_default-clause-left c = λ others hand. none_over others c.args.tables.now c.args.borders.now hand
-
-pub returns-in_default-clause-size : goal.returns-in_default-clause-size
-returns-in_default-clause-size c = large c.args.tables.now
-
 pub returns-then-waiting-ge-IDLE-clause-none : goal.returns-then-waiting-ge-IDLE-clause-none
 returns-then-waiting-ge-IDLE-clause-none c = λ e. inr (
   c.in-Some.name,
@@ -100,26 +67,11 @@ returns-then-waiting-ge-IDLE-clause-none c = λ e. inr (
       (subst (λ (x : Word). x.tag ≤ FREE) c.get-waiting.ensures (omega arith)),
 )
 
-pub returns-then-waiting-ge-IDLE-clause-left : goal.returns-then-waiting-ge-IDLE-clause-left
-returns-then-waiting-ge-IDLE-clause-left c = λ others hand. none_over others c.args.tables.now c.args.borders.now hand
-
-pub returns-then-waiting-ge-IDLE-clause-size : goal.returns-then-waiting-ge-IDLE-clause-size
-returns-then-waiting-ge-IDLE-clause-size c = large c.args.tables.now
-
-pub returns-in_err-reserve-clause-left : goal.returns-in_err-reserve-clause-left
-returns-in_err-reserve-clause-left c = λ others hand. none_over others c.args.tables.now c.args.borders.now hand
-
-pub returns-in_err-reserve-clause-size : goal.returns-in_err-reserve-clause-size
-returns-in_err-reserve-clause-size c = large c.args.tables.now
-
 pub returns-in_err-pack-clause-left : goal.returns-in_err-pack-clause-left
 returns-in_err-pack-clause-left c = λ others hand.
     c.in_err-pack.ensures.left others
     (in_hand c.args.tables.now c.free.new.self c.args.borders.now c.remove.new.self c.args.cut c.in-Some.name c.get-waiting.result others
     c.get-waiting.ensures c.free.ensures.freed c.remove.ensures.removed hand)
-
-pub returns-in_err-pack-clause-size : goal.returns-in_err-pack-clause-size
-returns-in_err-pack-clause-size c = same_size c.args.tables.now c.free.new.self c.pack.new.tables c.free.ensures.len c.in_err-pack.ensures.size
 
 pub returns-clause-ships : goal.returns-clause-ships
 returns-clause-ships c = λ e.
@@ -162,6 +114,3 @@ returns-clause-worth c =
     c.remove.ensures.removed c.remove.ensures.numbers
     (written c.args.parcel.now.words.items c.reserve.new.self.items c.push_reserved.new.self.items c.args.cut c.in_ok-reserve.ensures.items
     c.push_reserved.ensures.items)) c.in_ok-pack.ensures.worth
-
-pub returns-clause-size : goal.returns-clause-size
-returns-clause-size c = same_size c.args.tables.now c.free.new.self c.pack.new.tables c.free.ensures.len c.in_ok-pack.ensures.size

@@ -29,8 +29,7 @@ loop-heap-preserved c =
     let i : ℕ = c.loop-heap.heap-index in
     let b : Blocks = c.heap-item.result in
     let front : List Blocks = take i hs in
-    let more : take (i + 1) hs ≡ front ++ b ∷ [] =
-    take_more hs i b c.loop-heap-test.true ∙ ap (λ (x : Blocks). front ++ x ∷ []) (sym c.heap-item.is) in
+    let more = take_more hs i b c.loop-heap-test.true ∙ ap (λ (x : Blocks). front ++ x ∷ []) (sym c.heap-item.is) in
     let grown = heaps_more 0 front b in
     let before = length-append ns (heaps_pieces 0 front) in
     let after = length-append ns (heaps_pieces 0 (front ++ b ∷ [])) in

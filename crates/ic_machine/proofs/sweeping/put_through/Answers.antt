@@ -1,18 +1,14 @@
-use Rattle.std.proofs.Common.{◌≡◌, ◌≢◌, inl, inr, ℕ, List, [], ◌∷◌, ◌++◌, refl, ap, sym, subst, ◌∙◌, arith}
-use Rattle.std.proofs.lemmas.Bool.Decides.{eqb_tells}
+use Rattle.std.proofs.Common.{◌≡◌, ◌≢◌, ℕ, List, [], ◌∷◌, ◌++◌, refl, sym, subst, ◌∙◌, arith}
 use Rattle.std.proofs.lemmas.List.Sorted.{IsPermutation-refl}
 use Rattle.ic_arena.specs.declared.word.Word.{Word}
-use Rattle.ic_arena.specs.declared.word.TheConstants.{FREE}
 use Rattle.ic_arena.specs.Word.{name_word}
 use Rattle.ic_arena.specs.Piece.{Piece, waits}
 use Rattle.ic_arena.specs.Tables.{Replaced, entry, names_pieces}
 use Rattle.ic_machine.specs.Steps.{no_step}
-use Rattle.ic_machine.specs.inner.Sweeping.{IsMark}
 use Rattle.ic_machine.proofs.Links.{steps_on}
 use Rattle.ic_machine.proofs.NameRooms.{as_name}
 use Rattle.ic_machine.proofs.Sweeps.{Joining, joining_fewer, joining_room, joining_steps, joining_through, named_entry}
 use Rattle.ic_machine.proofs.sweeping.put_through.Goals as goal
-use Rattle.ic_machine.proofs.sweeping.put_through.Goals.{then-between-ne-NAME-via-then-between-ne-NAME, then-between-ne-NAME-via-else-between-ne-NAME+then-between-name}
 
 pub join-init : goal.join-init
 join-init c = record {
@@ -33,54 +29,6 @@ get-waiting-requires c =
     let same = c.join.invariant.names in
     named_entry c.join.names.entries c.args.name c.get-between.result.index c.join.invariant.room (omega (arith, there, same))
     (sym c.get-between.ensures ∙ as_name c.get-between.result c.if-between-ne-NAME.false)
-
-pub get-between-requires : goal.get-between-requires
-get-between-requires c = omega (arith, c.requires.there, c.join.invariant.names)
-
--- returns at a word that is no name, or at the name itself
-pub returns-then-between-ne-NAME-clause-through : goal.returns-then-between-ne-NAME-clause-through
-returns-then-between-ne-NAME-clause-through c = λ j e apart.
-    let is : c.get-between.result ≡ name_word j = c.get-between.ensures ∙ e in
-    elim c.then-between-ne-NAME.branch [
-      | then-between-ne-NAME-via-then-between-ne-NAME w ↦ absurd (w.if-between-ne-NAME.true (ap (λ (v : Word). v.tag) is))
-      | then-between-ne-NAME-via-else-between-ne-NAME+then-between-name w ↦
-          absurd (apart (sym (ap (λ (v : Word). v.index) is) ∙ w.if-between-name.true))
-    ]
-
--- returns at a name for which nothing waits
-pub returns-then-waiting-ge-IDLE-clause-through : goal.returns-then-waiting-ge-IDLE-clause-through
-returns-then-waiting-ge-IDLE-clause-through c = λ j e apart.
-    let is : c.get-between.result ≡ name_word j = c.get-between.ensures ∙ e in
-    let at : c.get-between.result.index ≡ j = ap (λ (w : Word). w.index) is in
-    let mark : IsMark c.get-waiting.result = elim (eqb_tells c.get-waiting.result.tag FREE) [
-      | inl free ↦ inr free.1
-      | inr not ↦ inl (let other = not.1 in omega (arith, c.if-waiting-ge-IDLE.true, other))
-    ] in
-    subst (λ (k : ℕ). IsMark (entry c.join.names.entries k)) at (subst IsMark c.get-waiting.ensures mark)
-
-pub free-requires-clause-there : goal.free-requires-clause-there
-free-requires-clause-there c =
-    let there = c.requires.there in
-    let same = c.join.invariant.names in
-    named_entry c.join.names.entries c.args.name c.get-between.result.index c.join.invariant.room (omega (arith, there, same))
-    (sym c.get-between.ensures ∙ as_name c.get-between.result c.if-between-ne-NAME.false)
-
-pub free-requires-clause-waits : goal.free-requires-clause-waits
-free-requires-clause-waits c =
-    let tag = ap (λ (w : Word). w.tag) c.get-waiting.ensures in
-    omega (arith, c.if-waiting-ge-IDLE.false, tag)
-
-pub replace-requires-clause-there : goal.replace-requires-clause-there
-replace-requires-clause-there c = omega (arith, c.requires.there, c.join.invariant.names, c.free.ensures.len)
-
-pub replace-requires-clause-waits : goal.replace-requires-clause-waits
-replace-requires-clause-waits c =
-    let mid = c.free.ensures.others c.args.name (λ same. c.if-between-name.false (sym same)) in
-    let tag = ap (λ (w : Word). w.tag) (mid ∙ sym c.get-between.ensures) in
-    omega (arith, tag, c.if-between-ne-NAME.false)
-
-pub replace-requires-clause-word : goal.replace-requires-clause-word
-replace-requires-clause-word c = omega (arith, c.if-waiting-ge-IDLE.false)
 
 -- what one turn does
 joining : (c : goal.After-replace) → Joining c.args.name c.get-between.result.index c.get-waiting.result

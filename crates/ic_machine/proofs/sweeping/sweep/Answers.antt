@@ -1,12 +1,11 @@
-use Rattle.std.proofs.Common.{inl, inr, ℕ, List, ◌++◌, length, refl, sym, subst, ◌∙◌, arith}
-use Rattle.std.proofs.lemmas.Bool.Decides.{eqb_tells, leb_tells}
+use Rattle.std.proofs.Common.{inl, inr, ℕ, List, ◌++◌, refl, sym, subst, ◌∙◌, arith}
+use Rattle.std.proofs.lemmas.Bool.Decides.{eqb_tells}
 use Rattle.std.proofs.lemmas.List.Sorted.{IsPermutation-refl}
 use Rattle.ic_arena.specs.Piece.{Piece}
 use Rattle.ic_arena.specs.Tables.{names_pieces}
 use Rattle.ic_machine.specs.Steps.{no_step}
 use Rattle.ic_machine.specs.inner.Sweeping.{IsThrough}
 use Rattle.ic_machine.proofs.Links.{steps_on}
-use Rattle.ic_machine.proofs.Sweeps.{past_through}
 use Rattle.ic_machine.proofs.sweeping.sweep.Goals as goal
 
 pub loop-name-init : goal.loop-name-init
@@ -20,9 +19,6 @@ loop-name-init c = record {
   names = refl;
   memory = refl;
 }
-
-pub put_through-requires-clause-there : goal.put_through-requires-clause-there
-put_through-requires-clause-there c = omega (arith, c.len-name-end.ensures, c.loop-name-test.true, c.loop-name.invariant.names)
 
 pub loop-name-preserved : goal.loop-name-preserved
 loop-name-preserved c =
@@ -39,9 +35,3 @@ loop-name-preserved c =
       names = c.put_through.ensures.names ∙ c.loop-name.invariant.names;
       memory = c.put_through.ensures.memory ∙ c.loop-name.invariant.memory;
     }
-
-pub returns-clause-through : goal.returns-clause-through
-returns-clause-through c = λ i. elim (leb_tells (length c.loop-name.names.entries) i) [
-  | inl past ↦ past_through c.loop-name.names.entries i past.1
-  | inr there ↦ c.loop-name.invariant.through i (omega (arith, there.1, c.len-name-end.ensures, c.loop-name-test.false, c.loop-name.invariant.names))
-]

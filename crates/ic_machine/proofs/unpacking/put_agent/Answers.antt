@@ -2,7 +2,6 @@ use Rattle.std.proofs.Common.{◌≡◌, ◌+◌, ◌-◌, ◌<◌, ◌≤◌, �
 use Rattle.std.specs.List.{AllByRecursion, range_with_len}
 use Rattle.std.proofs.lemmas.List.FromFn.{length-map-range_with_len}
 use Rattle.ic_arena.specs.declared.word.Word.{Word}
-use Rattle.ic_arena.specs.declared.word.TheConstants.{IDLE}
 use Rattle.ic_arena.specs.Word.{agent_word}
 use Rattle.ic_arena.specs.Piece.{agent_of}
 use Rattle.ic_arena.specs.Tables.{blocks_pieces, register, Replaced}
@@ -33,9 +32,6 @@ put-block-requires-clause-filled c =
     subst (λ (l : List ℕ). AllByRecursion (λ k. k < n) l) (sym (c.deref.ensures.value ∙ places (goal.at.put-block-requires-clause-filled c).In_ok-fill))
     (below_top n 0 c.args.heap.now.arity some) in
     subst (λ (l : List Word). AllByRecursion (λ k. k < length l) c.deref.result.now) (sym c.deref-2.ensures.value) all
-
-pub put-block-requires-clause-words : goal.put-block-requires-clause-words
-put-block-requires-clause-words c = subst (λ (l : List Word). AllByRecursion (λ w. w.tag < IDLE) l) (sym c.deref-2.ensures.value) c.requires.words
 
 pub returns-clause-put : goal.returns-clause-put
 returns-clause-put c =

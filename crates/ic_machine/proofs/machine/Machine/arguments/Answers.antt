@@ -20,8 +20,7 @@ get-requires c =
     let tag : w.tag ≡ s + 1 = omega (arith, c.requires.some) in
     let lt : s < length hs = omega (arith, c.requires.some, c.requires.known) in
     let same : b ≡ table hs s = table_read hs s b lt c.index.ensures in
-    let room_there : 1 ≤ sum_by (room w) (heaps_pieces 0 hs) =
-    agent_places c.self.inside.tables.names.entries hs w c.requires.some
+    let room_there = agent_places c.self.inside.tables.names.entries hs w c.requires.some
     (subst (λ (n : Net). 1 ≤ sum_by (room w) n.places) (sym c.self.view_is) c.requires.there) in
     subst (λ (x : Blocks). w.index < x.count) (sym same)
     (in_block s w.index (table hs s) (agent_block hs w s tag room_there))
@@ -37,11 +36,9 @@ returns c =
     let tag : w.tag ≡ s + 1 = omega (arith, c.requires.some) in
     let lt : s < length hs = omega (arith, c.requires.some, c.requires.known) in
     let same : b ≡ table hs s = table_read hs s b lt c.index.ensures in
-    let room_there : 1 ≤ sum_by (room w) (heaps_pieces 0 hs) =
-    agent_places c.self.inside.tables.names.entries hs w c.requires.some
+    let room_there = agent_places c.self.inside.tables.names.entries hs w c.requires.some
     (subst (λ (n : Net). 1 ≤ sum_by (room w) n.places) (sym c.self.view_is) c.requires.there) in
-    let is : block_at (table hs s) w.index ≡ c.get.result.now =
-    sym (c.get.ensures ∙ ap (λ (x : Blocks). block_at x w.index) same) in
+    let is = sym (c.get.ensures ∙ ap (λ (x : Blocks). block_at x w.index) same) in
     subst (λ (n : Net). Contains n.places (agent_of w c.get.result.now)) c.self.view_is
     (subst (λ (l : List Word). Contains (names_pieces 0 c.self.inside.tables.names.entries ++ heaps_pieces 0 hs) (agent_of w l)) is
     (agent_contained (names_pieces 0 c.self.inside.tables.names.entries) hs w s tag lt room_there))

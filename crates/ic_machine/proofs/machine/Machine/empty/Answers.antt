@@ -20,8 +20,7 @@ invariant_of-result c =
     let n : ℕ = length q.arities in
     let known : arities_of hs ≡ q.arities = c.in_ok-tables.ensures.arities ∙ c.arities.ensures.arities in
     let many : length hs ≡ n = sym (length-map hs (λ x. x.arity)) ∙ ap length known in
-    let given : t.registers.items ≡ constants n =
-    c.in_ok-tables.ensures.registers ∙ ap (λ (l : List ℕ). constants (length l)) c.arities.ensures.arities in
+    let given = c.in_ok-tables.ensures.registers ∙ ap (λ (l : List ℕ). constants (length l)) c.arities.ensures.arities in
     let none : t.names.entries ≡ [] = c.in_ok-tables.ensures.names in
     record {
       separate = nothing_separate (arities_of hs) c.new-2.result.items t.pending.items c.new-3.result.items (names_pieces 0 t.names.entries)

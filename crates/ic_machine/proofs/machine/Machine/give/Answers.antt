@@ -1,39 +1,38 @@
-use Rattle.std.proofs.Common.{◌≡◌, ℕ, List, Global, Vec, map, take, drop, refl, sym, subst, ◌∙◌}
-use Rattle.ic_arena.specs.declared.word.Word.{Word}
+use Rattle.std.proofs.Common.{◌≡◌, List, map, take, drop, refl, sym, subst, ◌∙◌}
 use Rattle.ic_machine.specs.declared.equation.Equation.{Equation}
 use Rattle.ic_machine.specs.declared.machine.Machine.TheInside.{Inside}
 use Rattle.ic_machine.specs.declared.tables.Tables.{Tables}
-use Rattle.ic_machine.specs.Moving.{Ends, Packs, end_word, side_of, sides_of, AreBordered}
-use Rattle.ic_machine.specs.Net.{Net}
+use Rattle.ic_machine.specs.Moving.{end_word, sides_of}
 use Rattle.ic_machine.specs.inner.Firing.{arities_of}
-use Rattle.ic_machine.specs.inner.Machine.{net_of}
-use Rattle.ic_machine.specs.inner.Moving.{places_in, side_in, AreInHand}
+use Rattle.ic_machine.specs.inner.Moving.{places_in, AreInHand}
 use Rattle.ic_machine.proofs.Packing.{hand_alone}
 use Rattle.ic_machine.proofs.Parcels.{give_bordered, give_sound, items_of, machine_hand, same_sound, words_beside, words_of}
 use Rattle.ic_machine.proofs.machine.Machine.give.Goals as goal
+use Rattle.ic_machine.proofs.machine.Machine.give.Goals.{After-pack_each-arg-3-1}
 
--- the pairs that are given
-given_of : (es ps : List Equation) (v w : Vec Equation Global) (k : ℕ) → es ≡ v.items → v ≡ w → w.items ≡ take k ps → es ≡ take k ps
-given_of es ps v w k read value items = read ∙ (items_of v w value ∙ items)
+module _ (c : After-pack_each-arg-3-1) where
+  -- the pairs that are given
+  given : c.deref.result.now ≡ take c.args.pairs c.self.inside.tables.pending.items
+  given =
+      c.deref.ensures.value ∙ (items_of c.replace-given.result c.split_off.new.self c.replace-given.ensures.value
+      ∙ c.in_ok-rest.ensures.items)
 
--- those that stay
-rest_of : (ps : List Equation) (u v w : Vec Equation Global) (k : ℕ) → u ≡ v → v ≡ w → w.items ≡ drop k ps → u.items ≡ drop k ps
-rest_of ps u v w k same after tail = items_of u v same ∙ (items_of v w after ∙ tail)
+  -- those that stay
+  kept : c.replace-given.new.dest.items ≡ drop c.args.pairs c.self.inside.tables.pending.items
+  kept = items_of c.replace-given.new.dest c.in_ok-rest.rest c.replace-given.ensures.after ∙ c.in_ok-rest.ensures.tail
 
--- the given pairs in hand
-in_hand : (m : Inside) (n : Net) (b : Ends) (k : ℕ) (es : List Equation) → net_of m ≡ n → AreBordered n b → es ≡ take k m.tables.pending.items
-    → AreInHand (sides_of es) (words_beside m k) m.tables b
-in_hand m n b k es is bordered given =
-    subst (λ (l : List Equation). AreInHand (sides_of l) (words_beside m k) m.tables b) (sym given) (machine_hand m n b k is bordered)
+  -- the given pairs are in hand
+  hand : AreInHand (sides_of c.deref.result.now) (words_beside c.self.inside c.args.pairs) c.self.inside.tables c.args.borders.now
+  hand =
+      subst (λ (l : List Equation). AreInHand (sides_of l) (words_beside c.self.inside c.args.pairs) c.self.inside.tables
+      c.args.borders.now) (sym given)
+      (machine_hand c.self.inside c.args.self.now c.args.borders.now c.args.pairs c.self.view_is c.requires.bordered)
 
 pub pack_each-requires-clause-named : goal.pack_each-requires-clause-named
 pack_each-requires-clause-named c =
     let m : Inside = c.self.inside in
-    let es : List Equation = c.deref.result.now in
-    hand_alone (arities_of m.tables.heaps.items) (sides_of es) (map end_word c.args.borders.now.ends) (words_beside m c.args.pairs) (places_in m.tables)
-    (in_hand m c.args.self.now c.args.borders.now c.args.pairs es c.self.view_is c.requires.bordered
-    (given_of es m.tables.pending.items c.replace-given.result c.split_off.new.self c.args.pairs c.deref.ensures.value c.replace-given.ensures.value
-    c.in_ok-rest.ensures.items))
+    hand_alone (arities_of m.tables.heaps.items) (sides_of c.deref.result.now) (map end_word c.args.borders.now.ends)
+    (words_beside m c.args.pairs) (places_in m.tables) (hand c)
 
 pub invariant_of-self : goal.invariant_of-self
 invariant_of-self c =
@@ -43,55 +42,29 @@ invariant_of-self c =
 
 pub invariant_of-self-in_err-pack_each : goal.invariant_of-self-in_err-pack_each
 invariant_of-self-in_err-pack_each c =
+    let d = (goal.at.invariant_of-self-in_err-pack_each c).After-pack_each-arg-3-1 in
     let m : Inside = c.self.inside in
     let t : Tables = c.pack_each.new.tables in
-    let es : List Equation = c.deref.result.now in
     let size = c.in_err-pack_each.ensures.size in
-    give_sound m t c.args.pairs c.self.invariant
-    (rest_of m.tables.pending.items t.pending c.replace-given.new.dest c.in_ok-rest.rest c.args.pairs size.pending c.replace-given.ensures.after
-    c.in_ok-rest.ensures.tail) size.names size.arities (words_of t.registers m.tables.registers size.registers) size.spare
-    (c.in_err-pack_each.ensures.left (words_beside m c.args.pairs)
-    (in_hand m c.args.self.now c.args.borders.now c.args.pairs es c.self.view_is c.requires.bordered
-    (given_of es m.tables.pending.items c.replace-given.result c.split_off.new.self c.args.pairs c.deref.ensures.value c.replace-given.ensures.value
-    c.in_ok-rest.ensures.items)))
+    give_sound m t c.args.pairs c.self.invariant (items_of t.pending c.replace-given.new.dest size.pending ∙ kept d) size.names
+    size.arities (words_of t.registers m.tables.registers size.registers) size.spare
+    (c.in_err-pack_each.ensures.left (words_beside m c.args.pairs) (hand d))
 
 pub invariant_of-self-2 : goal.invariant_of-self-2
 invariant_of-self-2 c =
+    let d = (goal.at.invariant_of-self-2 c).After-pack_each-arg-3-1 in
     let m : Inside = c.self.inside in
     let t : Tables = c.pack_each.new.tables in
-    let es : List Equation = c.deref.result.now in
     let size = c.in_ok-pack_each.ensures.size in
-    give_sound m t c.args.pairs c.self.invariant
-    (rest_of m.tables.pending.items t.pending c.replace-given.new.dest c.in_ok-rest.rest c.args.pairs size.pending c.replace-given.ensures.after
-    c.in_ok-rest.ensures.tail) size.names size.arities (words_of t.registers m.tables.registers size.registers) size.spare
-    (c.in_ok-pack_each.ensures.left (words_beside m c.args.pairs)
-    (in_hand m c.args.self.now c.args.borders.now c.args.pairs es c.self.view_is c.requires.bordered
-    (given_of es m.tables.pending.items c.replace-given.result c.split_off.new.self c.args.pairs c.deref.ensures.value c.replace-given.ensures.value
-    c.in_ok-rest.ensures.items)))
-
-pub returns-clause-packs : goal.returns-clause-packs
-returns-clause-packs c =
-    let m : Inside = c.self.inside in
-    let k : ℕ = c.args.pairs in
-    let old : Ends = c.args.borders.now in
-    let new : Ends = c.pack_each.new.borders in
-    let t : Tables = c.pack_each.new.tables in
-    let us : List Word = c.args.parcel.now.words.items in
-    let vs : List Word = c.pack_each.new.parcel.words.items in
-    subst (λ (n : Net). Packs n.arities (take k n.pending) (side_of n old) (side_in t new) us vs) c.self.view_is
-    (subst (λ (l : List Equation). Packs (arities_of m.tables.heaps.items) l (side_in m.tables old) (side_in t new) us vs)
-    (given_of c.deref.result.now m.tables.pending.items c.replace-given.result c.split_off.new.self k c.deref.ensures.value c.replace-given.ensures.value
-    c.in_ok-rest.ensures.items) c.in_ok-pack_each.ensures.packs)
+    give_sound m t c.args.pairs c.self.invariant (items_of t.pending c.replace-given.new.dest size.pending ∙ kept d) size.names
+    size.arities (words_of t.registers m.tables.registers size.registers) size.spare
+    (c.in_ok-pack_each.ensures.left (words_beside m c.args.pairs) (hand d))
 
 pub returns-clause-bordered : goal.returns-clause-bordered
 returns-clause-bordered c =
+    let d = (goal.at.returns-clause-bordered c).After-pack_each-arg-3-1 in
     let m : Inside = c.self.inside in
     let t : Tables = c.pack_each.new.tables in
-    let es : List Equation = c.deref.result.now in
     give_bordered m t c.pack_each.new.borders c.args.pairs
-    (rest_of m.tables.pending.items t.pending c.replace-given.new.dest c.in_ok-rest.rest c.args.pairs c.in_ok-pack_each.ensures.size.pending
-    c.replace-given.ensures.after c.in_ok-rest.ensures.tail)
-    (c.in_ok-pack_each.ensures.named (words_beside m c.args.pairs)
-    (in_hand m c.args.self.now c.args.borders.now c.args.pairs es c.self.view_is c.requires.bordered
-    (given_of es m.tables.pending.items c.replace-given.result c.split_off.new.self c.args.pairs c.deref.ensures.value c.replace-given.ensures.value
-    c.in_ok-rest.ensures.items)))
+    (items_of t.pending c.replace-given.new.dest c.in_ok-pack_each.ensures.size.pending ∙ kept d)
+    (c.in_ok-pack_each.ensures.named (words_beside m c.args.pairs) (hand d))

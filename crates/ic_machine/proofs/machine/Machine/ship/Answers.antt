@@ -1,11 +1,11 @@
 use Rattle.std.proofs.Common.{◌≡◌, [], map, subst}
 use Rattle.ic_machine.specs.declared.machine.Machine.TheInside.{Inside}
 use Rattle.ic_machine.specs.declared.tables.Tables.{Tables}
-use Rattle.ic_machine.specs.Moving.{Ends, NothingWaits, Ships, end_word, side_of, AreBordered}
+use Rattle.ic_machine.specs.Moving.{Ends, NothingWaits, end_word, side_of, AreBordered}
 use Rattle.ic_machine.specs.Net.{Net}
 use Rattle.ic_machine.specs.inner.Firing.{arities_of}
 use Rattle.ic_machine.specs.inner.Machine.{net_of}
-use Rattle.ic_machine.specs.inner.Moving.{places_in, side_in, AreInHand}
+use Rattle.ic_machine.specs.inner.Moving.{places_in, AreInHand}
 use Rattle.ic_machine.proofs.Packing.{hand_alone}
 use Rattle.ic_machine.proofs.Parcels.{give_bordered, give_sound, items_of, machine_hand, words_beside, words_of}
 use Rattle.ic_machine.proofs.machine.Machine.ship.Goals as goal
@@ -37,11 +37,6 @@ invariant_of-self-2 c =
     give_sound m t 0 c.self.invariant (items_of t.pending m.tables.pending size.pending) size.names size.arities
     (words_of t.registers m.tables.registers size.registers) size.spare
     (c.in_ok-shipped.ensures.left (words_beside m 0) (in_hand m c.args.self.now c.args.borders.now c.self.view_is c.requires.bordered))
-
-pub returns-clause-ships : goal.returns-clause-ships
-returns-clause-ships c = λ e.
-    subst (λ (n : Net). Ships n.arities c.args.cut (side_of n c.args.borders.now) (side_in c.ship_from.new.tables c.ship_from.new.borders)
-    c.args.parcel.now.words.items c.ship_from.new.parcel.words.items) c.self.view_is (c.in_ok-shipped.ensures.ships e)
 
 pub returns-clause-none : goal.returns-clause-none
 returns-clause-none c = λ e.

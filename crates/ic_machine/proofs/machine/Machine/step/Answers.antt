@@ -1,363 +1,223 @@
-use Rattle.std.proofs.Common.{◌≡◌, ◌+◌, ◌<◌, ℕ, List, [], ◌∷◌, ◌++◌, Err, length, map, max, ap, sym, subst, refl, ◌∙◌, add-zero, arith}
-use Rattle.std.proofs.lemmas.List.{length-map}
+use Rattle.std.proofs.Common.{◌≡◌, ◌+◌, ◌^◌, ◌<◌, ◌≤◌, ℕ, List, [], ◌∷◌, Err, length, map, take, ap, sym, subst, refl, ◌∙◌, add-zero, arith}
+use Rattle.std.specs.Global.{Vec}
+use Rattle.std.specs.List.{AllByRecursion}
+use Rattle.std.proofs.lemmas.List.{append-nil, length-map}
 use Rattle.std.proofs.lemmas.List.Sorted.{IsPermutation-refl}
 use Rattle.std.proofs.lemmas.Result.{err_from_is_err_and}
 use Rattle.ic_arena.specs.declared.word.TheConstants.{GIVEN}
 use Rattle.ic_arena.specs.Piece.{Piece}
-use Rattle.ic_arena.specs.Tables.{Blocks, names_pieces}
-use Rattle.ic_machine.specs.declared.equation.Equation.{Equation}
+use Rattle.ic_arena.specs.Tables.{names_pieces}
 use Rattle.ic_machine.specs.declared.machine.Machine.TheInside.{Inside}
 use Rattle.ic_machine.specs.declared.machine.MachineFault.TheVariants.{Limit}
-use Rattle.ic_machine.specs.Plan.{Planned, Plans, planned}
-use Rattle.ic_machine.specs.Net.{Net, equated_of, in_use}
-use Rattle.ic_machine.specs.Runs.{Ran}
+use Rattle.ic_machine.specs.declared.tables.Tables.{Tables}
+use Rattle.ic_machine.specs.Plan.{ArePlans, Planned, Plans, constants, planned}
+use Rattle.ic_machine.specs.Net.{Net, equated_of, in_use, pieces, IsPair}
+use Rattle.ic_machine.specs.Runs.{Counted, Ran, Way, greatest}
 use Rattle.ic_machine.specs.Separate.{IsSeparate}
 use Rattle.ic_machine.specs.Steps.{Steps, no_step}
 use Rattle.ic_machine.specs.inner.Firing.{arities_of, heaps_pieces}
-use Rattle.ic_machine.specs.inner.Machine.{net_of}
-use Rattle.ic_machine.specs.inner.Pairs.{CanFire, HasPlan, IsLast}
-use Rattle.ic_machine.specs.inner.Tables.{IsNumbered, IsTooMuch}
-use Rattle.ic_machine.specs.lemmas.RunsOn.{counted_none, way_steps}
+use Rattle.ic_machine.specs.inner.Machine.{IsSound, net_of}
+use Rattle.ic_machine.specs.inner.Pairs.{CanFire, HasNumber, HasPlan, IsLast}
+use Rattle.ic_machine.specs.inner.Tables.{HasSpare, held, size_at}
+use Rattle.ic_machine.specs.lemmas.FiresKeep.{steps_keep}
+use Rattle.ic_machine.specs.lemmas.RunsOn.{counted_none, ran_on, ran_steps}
 use Rattle.ic_machine.proofs.Heaps.{as_many}
 use Rattle.ic_machine.proofs.AtPlaces.{tables_at_places}
-use Rattle.ic_machine.proofs.InUse.{net_size, size_net}
+use Rattle.ic_machine.proofs.InUse.{net_size}
 use Rattle.ic_machine.proofs.Limits.{full_net, same_fault}
-use Rattle.ic_machine.proofs.Running.{can_fire, held_separate, held_steps_separate, next_pair, numbered, numbered_plan, passed_aside, passed_pairs, passed_ran, passed_separate, passed_then, passed_way}
-use Rattle.ic_machine.proofs.Sound.{counts_below, counts_within, passed_sound}
-use Rattle.ic_machine.proofs.Spare.{passed_spare}
+use Rattle.ic_machine.proofs.Running.{can_fire, held_separate, held_way, next_pair, numbered, numbered_plan}
+use Rattle.ic_machine.proofs.Sound.{counts_below, counts_within, passed_ran, passed_sound, set_aside}
 use Rattle.ic_machine.proofs.machine.Machine.step.Goals as goal
+use Rattle.ic_machine.proofs.machine.Machine.step.Goals.{After-count, After-find_plan, After-plan_at, In_err-fire}
 
-pub invariant_of-self : goal.invariant_of-self
-invariant_of-self c =
-    let new : Inside = record c.self.inside { aside = c.find_plan.new.aside; tables = record c.self.inside.tables { pending = c.find_plan.new.pending } } in
-    passed_sound c.args.program.now c.self.inside new c.self.invariant c.find_plan.ensures.passed refl refl refl refl c.find_plan.ensures.memory
+-- ---- what the tables change to
 
-pub invariant_of-self-in_default : goal.invariant_of-self-in_default
-invariant_of-self-in_default c =
-    let new : Inside = record c.self.inside { aside = c.find_plan.new.aside; tables = record c.self.inside.tables { pending = c.find_plan.new.pending } } in
-    passed_sound c.args.program.now c.self.inside new c.self.invariant c.find_plan.ensures.passed refl refl refl refl c.find_plan.ensures.memory
+-- a machine whose tables and numbers change
+abbrev changed : Inside → Tables → ℕ → Vec ℕ → Inside
+changed m t k counts = record m { tables = t; interactions = k; counts = counts }
 
-pub returns-in_err-found-clause-ran : goal.returns-in_err-found-clause-ran
-returns-in_err-found-clause-ran c =
-    let new : Inside = record c.self.inside { aside = c.find_plan.new.aside; tables = record c.self.inside.tables { pending = c.find_plan.new.pending } } in
-    subst (λ (n : Net). Ran c.args.program.now n (net_of new)) c.self.view_is
-    (passed_ran c.args.program.now (net_of c.self.inside) (net_of new) c.find_plan.ensures.passed refl refl refl refl refl refl refl)
+module _ (q : Plans) (m : Inside) (t : Tables) (k : ℕ) (counts : Vec ℕ)
+    (arities : arities_of t.heaps.items ≡ arities_of m.tables.heaps.items) where
+  -- pairs fire in its tables
+  changed_ran : (is : List ℕ) (ms : List (List Piece))
+      → Way q is ms (held m.tables (map equated_of m.aside.items)) (held t (map equated_of m.aside.items))
+      → ((kind : ℕ) → size_at kind t ≡ greatest (size_at kind m.tables) (map (in_use kind) ms)) → k ≡ m.interactions + length is
+      → Counted is m.counts.items counts.items → Ran q (net_of m) (net_of (changed m t k counts))
+  changed_ran is ms way places counted each = record {
+    fired = is;
+    moments = ms;
+    way = held_way q is ms m.tables.pending.items m.aside.items t.pending.items
+        (names_pieces 0 m.tables.names.entries) (heaps_pieces 0 m.tables.heaps.items)
+        (names_pieces 0 t.names.entries) (heaps_pieces 0 t.heaps.items) way;
+    places = λ kind. net_size (changed m t k counts) kind
+        ∙ (places kind ∙ ap (λ (n : ℕ). greatest n (map (in_use kind) ms)) (sym (net_size m kind)));
+    symbols = length-map t.heaps.items (λ b. b.count)
+        ∙ (as_many m.tables.heaps.items t.heaps.items arities ∙ sym (length-map m.tables.heaps.items (λ b. b.count)));
+    counted = counted;
+    counts = each;
+    arities = arities;
+    interface = refl;
+    more = [];
+    aside = sym (append-nil m.aside.items);
+    stuck = tt;
+  }
 
-pub returns-in_default-clause-ran : goal.returns-in_default-clause-ran
-returns-in_default-clause-ran c =
-    let new : Inside = record c.self.inside { aside = c.find_plan.new.aside; tables = record c.self.inside.tables { pending = c.find_plan.new.pending } } in
-    subst (λ (n : Net). Ran c.args.program.now n (net_of new)) c.self.view_is
-    (passed_ran c.args.program.now (net_of c.self.inside) (net_of new) c.find_plan.ensures.passed refl refl refl refl refl refl refl)
+  -- it keeps what it kept
+  changed_sound : Ran q (net_of m) (net_of (changed m t k counts)) → IsSound m → ArePlans q
+      → arities_of m.tables.heaps.items ≡ q.arities → AllByRecursion IsPair t.pending.items → length t.names.entries < 2 ^ 32
+      → take (length t.heaps.items) t.registers.items ≡ constants (length t.heaps.items) → HasSpare t
+      → AllByRecursion (λ n. n ≤ k) counts.items → IsSound (changed m t k counts)
+  changed_sound ran sound plans known pairs few registers spare fired = record {
+    separate = subst (λ (a : List ℕ). IsSeparate a m.interface.items (pieces (net_of (changed m t k counts))))
+        (sym (arities ∙ known))
+        (steps_keep q ran.fired m.interface.items (pieces (net_of m)) (pieces (net_of (changed m t k counts))) plans
+        (ran_steps q (net_of m) (net_of (changed m t k counts)) ran)
+        (subst (λ (a : List ℕ). IsSeparate a m.interface.items (pieces (net_of m))) known sound.separate));
+    pairs = pairs;
+    aside = sound.aside;
+    names = few;
+    symbols = subst (λ (n : ℕ). n < GIVEN) (sym (as_many m.tables.heaps.items t.heaps.items arities)) sound.symbols;
+    registers = registers;
+    spare = spare;
+    counts = fired;
+  }
 
-pub returns-in_err-found-clause-separate : goal.returns-in_err-found-clause-separate
-returns-in_err-found-clause-separate c =
-    let new : Inside = record c.self.inside { aside = c.find_plan.new.aside; tables = record c.self.inside.tables { pending = c.find_plan.new.pending } } in
-    (passed_sound c.args.program.now c.self.inside new c.self.invariant c.find_plan.ensures.passed refl refl refl refl c.find_plan.ensures.memory).separate
+-- ---- what is known at each place
 
-pub returns-in_default-clause-separate : goal.returns-in_default-clause-separate
-returns-in_default-clause-separate c =
-    let new : Inside = record c.self.inside { aside = c.find_plan.new.aside; tables = record c.self.inside.tables { pending = c.find_plan.new.pending } } in
-    (passed_sound c.args.program.now c.self.inside new c.self.invariant c.find_plan.ensures.passed refl refl refl refl c.find_plan.ensures.memory).separate
+module _ (c : After-find_plan) where
+  mid_sound : IsSound (set_aside c.self.inside c.find_plan.new.pending c.find_plan.new.aside)
+  mid_sound = passed_sound c.args.program.now c.self.inside _ _ c.find_plan.ensures.passed c.self.invariant c.find_plan.ensures.memory
+
+  mid_ran : Ran c.args.program.now c.args.self.now (net_of (set_aside c.self.inside c.find_plan.new.pending c.find_plan.new.aside))
+  mid_ran = passed_ran c.args.program.now c.self.inside c.find_plan.new.pending c.find_plan.new.aside c.find_plan.ensures.passed _ c.self.view_is
+
+module _ (c : After-plan_at) where
+  known : arities_of c.self.inside.tables.heaps.items ≡ c.args.program.now.arities
+  known = ap (λ (n : Net). n.arities) c.self.view_is ∙ c.requires.arities
+
+  found : IsLast c.in-Some.pair c.find_plan.new.pending.items × HasNumber c.args.program.now c.in-Some.pair c.in-Some.number
+  found = rw c.in-Some.is at c.in_ok-found.ensures.found
+
+  has : HasPlan c.args.program.now c.in-Some.pair (planned c.plan_at.result.now)
+  has = numbered_plan c.args.program.now c.in-Some.pair c.in-Some.number (planned c.plan_at.result.now) found.1 c.plan_at.ensures
+
+-- nothing has fired
+failed : (c : In_err-fire) → let m : Inside = set_aside c.self.inside c.find_plan.new.pending c.find_plan.new.aside in
+    Ran c.args.program.now (net_of m) (net_of (changed m c.fire.new.self m.interactions m.counts))
+failed c =
+    let q : Plans = c.args.program.now in
+    let m : Inside = set_aside c.self.inside c.find_plan.new.pending c.find_plan.new.aside in
+    let start : List Piece = held m.tables (map equated_of m.aside.items) in
+    changed_ran q m c.fire.new.self m.interactions m.counts c.fire.ensures.arities [] []
+    (subst (λ (l : List Piece). Steps q [] start l) (sym (c.in_err-fire.ensures.same m.aside.items))
+    (no_step start start (IsPermutation-refl start))) c.in_err-fire.ensures.places (sym (add-zero m.interactions))
+    (counted_none m.counts.items)
+
+-- the pair has fired
+fired : (c : After-count) → let m : Inside = set_aside c.self.inside c.find_plan.new.pending c.find_plan.new.aside in
+    Ran c.args.program.now (net_of m) (net_of (changed m c.fire.new.self (m.interactions + 1) c.count.new.counts))
+unfolding found has
+fired c =
+    let at = goal.at.returns-clause-ran c in
+    let q : Plans = c.args.program.now in
+    let m : Inside = set_aside c.self.inside c.find_plan.new.pending c.find_plan.new.aside in
+    let i : ℕ = c.in-Some.number in
+    let sound = mid_sound at.After-find_plan in
+    let is = has at.After-plan_at in
+    let by = c.in_ok-fire.ensures.fires q i is.left is.right m.aside.items is.left_tag is.right_tag (sym (known at.After-plan_at))
+    (numbered q c.in-Some.pair i (planned c.plan_at.result.now) (found at.After-plan_at).1 c.plan_at.ensures) sound.pairs sound.aside in
+    changed_ran q m c.fire.new.self (m.interactions + 1) c.count.new.counts c.fire.ensures.arities (i ∷ []) (by.moment ∷ [])
+    by.way by.places refl c.count.ensures
+
+-- ---- the goals
+
+pub plan_at-requires : goal.plan_at-requires
+plan_at-requires c = (rw c.in-Some.is at c.in_ok-found.ensures.found).1.there
 
 pub fire-requires-clause-plan : goal.fire-requires-clause-plan
 fire-requires-clause-plan c =
-    let q : Plans = c.args.program.now in
-    let e : Equation = c.in-Some.pair in
-    let plan : Planned = planned c.plan_at.result.now in
-    let found = rw c.in-Some.is at c.in_ok-found.ensures.found in
-    let i : ℕ = c.in-Some.number in
-    let has : HasPlan q e plan = numbered_plan q e i plan found.1 c.plan_at.ensures in
-    let m : Inside = c.self.inside in
-    let hs : List Blocks = m.tables.heaps.items in
-    let known : arities_of hs ≡ q.arities = ap (λ (n : Net). n.arities) c.self.view_is ∙ c.requires.arities in
-    let us : List Equation = c.find_plan.new.aside.items in
-    let ps : List Equation = c.find_plan.new.pending.items in
-    let n : List Piece = names_pieces 0 m.tables.names.entries in
-    let h : List Piece = heaps_pieces 0 hs in
-    let separate : IsSeparate (arities_of hs) m.interface.items (map equated_of ps ++ (map equated_of us ++ (n ++ h))) =
-    passed_separate (arities_of hs) m.interface.items q m.tables.pending.items m.aside.items ps us (n ++ h)
-    c.find_plan.ensures.passed c.self.invariant.separate in
-    subst (λ (a : List ℕ). CanFire a e plan) (sym known) (can_fire q e plan has)
+    subst (λ (a : List ℕ). CanFire a c.in-Some.pair (planned c.plan_at.result.now)) (sym (known c))
+    (can_fire c.args.program.now c.in-Some.pair (planned c.plan_at.result.now) (has c))
 
 pub fire-requires-clause-separate : goal.fire-requires-clause-separate
 fire-requires-clause-separate c =
-    let q : Plans = c.args.program.now in
-    let e : Equation = c.in-Some.pair in
-    let plan : Planned = planned c.plan_at.result.now in
-    let found = rw c.in-Some.is at c.in_ok-found.ensures.found in
-    let i : ℕ = c.in-Some.number in
-    let has : HasPlan q e plan = numbered_plan q e i plan found.1 c.plan_at.ensures in
     let m : Inside = c.self.inside in
-    let hs : List Blocks = m.tables.heaps.items in
-    let known : arities_of hs ≡ q.arities = ap (λ (n : Net). n.arities) c.self.view_is ∙ c.requires.arities in
-    let us : List Equation = c.find_plan.new.aside.items in
-    let ps : List Equation = c.find_plan.new.pending.items in
-    let n : List Piece = names_pieces 0 m.tables.names.entries in
-    let h : List Piece = heaps_pieces 0 hs in
-    let separate : IsSeparate (arities_of hs) m.interface.items (map equated_of ps ++ (map equated_of us ++ (n ++ h))) =
-    passed_separate (arities_of hs) m.interface.items q m.tables.pending.items m.aside.items ps us (n ++ h)
-    c.find_plan.ensures.passed c.self.invariant.separate in
-    held_separate (arities_of hs) m.interface.items (map equated_of ps) n h us separate
+    held_separate (arities_of m.tables.heaps.items) m.interface.items (map equated_of c.find_plan.new.pending.items)
+    (names_pieces 0 m.tables.names.entries) (heaps_pieces 0 m.tables.heaps.items) c.find_plan.new.aside.items
+    (mid_sound (goal.at.fire-requires-clause-separate c).After-find_plan).separate
+
+pub fire-requires-clause-spare : goal.fire-requires-clause-spare
+fire-requires-clause-spare c = (mid_sound (goal.at.fire-requires-clause-spare c).After-find_plan).spare
+
+pub count-requires : goal.count-requires
+count-requires c =
+    let few = c.requires.few in
+    let same : c.self.inside.interactions ≡ c.args.self.now.interactions = ap (λ (n : Net). n.interactions) c.self.view_is in
+    counts_below c.self.inside.interactions c.self.inside.counts.items (omega arith) c.self.invariant.counts
+
+pub invariant_of-self : goal.invariant_of-self
+invariant_of-self c = mid_sound (goal.at.invariant_of-self c).After-find_plan
+
+pub invariant_of-self-in_default : goal.invariant_of-self-in_default
+invariant_of-self-in_default c = mid_sound (goal.at.invariant_of-self-in_default c).After-find_plan
 
 pub invariant_of-self-in_err-fire : goal.invariant_of-self-in_err-fire
 invariant_of-self-in_err-fire c =
-    let q : Plans = c.args.program.now in
-    let e : Equation = c.in-Some.pair in
-    let plan : Planned = planned c.plan_at.result.now in
-    let found = rw c.in-Some.is at c.in_ok-found.ensures.found in
-    let i : ℕ = c.in-Some.number in
-    let has : HasPlan q e plan = numbered_plan q e i plan found.1 c.plan_at.ensures in
-    let m : Inside = c.self.inside in
-    let hs : List Blocks = m.tables.heaps.items in
-    let known : arities_of hs ≡ q.arities = ap (λ (n : Net). n.arities) c.self.view_is ∙ c.requires.arities in
-    let us : List Equation = c.find_plan.new.aside.items in
-    let ps : List Equation = c.find_plan.new.pending.items in
-    let n : List Piece = names_pieces 0 m.tables.names.entries in
-    let h : List Piece = heaps_pieces 0 hs in
-    let separate : IsSeparate (arities_of hs) m.interface.items (map equated_of ps ++ (map equated_of us ++ (n ++ h))) =
-    passed_separate (arities_of hs) m.interface.items q m.tables.pending.items m.aside.items ps us (n ++ h)
-    c.find_plan.ensures.passed c.self.invariant.separate in
-    let after : Inside = record m { aside = c.find_plan.new.aside; tables = c.fire.new.self; interactions = m.interactions } in
-    let gs : List Blocks = after.tables.heaps.items in
-    let qs : List Equation = after.tables.pending.items in
-    let n' : List Piece = names_pieces 0 after.tables.names.entries in
-    let h' : List Piece = heaps_pieces 0 gs in
-    let same : arities_of gs ≡ arities_of hs = c.fire.ensures.arities in
-    let many : length gs ≡ length hs = as_many hs gs same in
-    let start : List Piece = n ++ (h ++ (map equated_of ps ++ map equated_of us)) in
-    let end : List Piece = n' ++ (h' ++ (map equated_of qs ++ map equated_of us)) in
-    let stays : end ≡ start = c.in_err-fire.ensures.same us in
-    let steps : Steps q [] start end =
-    subst (λ (l : List Piece). Steps q [] start l) (sym stays) (no_step start start (IsPermutation-refl start)) in
-    let whole : IsSeparate (arities_of hs) m.interface.items (map equated_of qs ++ (map equated_of us ++ (n' ++ h'))) =
-    held_steps_separate q ([]) (arities_of hs) m.interface.items ps us qs n h n' h' has.sound known steps separate in
-    record {
-      separate = subst (λ (a : List ℕ). IsSeparate a m.interface.items (map equated_of qs ++ (map equated_of us ++ (n' ++ h'))))
-          (sym same) whole;
-      pairs = c.fire.ensures.pairs (passed_pairs q m.tables.pending.items m.aside.items ps us c.find_plan.ensures.passed
-          c.self.invariant.pairs);
-      aside = passed_aside q m.tables.pending.items m.aside.items ps us c.find_plan.ensures.passed c.self.invariant.aside;
-      names = c.fire.ensures.few;
-      symbols = subst (λ (k : ℕ). k < GIVEN) (sym many) c.self.invariant.symbols;
-      registers = c.fire.ensures.registers;
-      spare = c.fire.ensures.spare;
-      counts = c.self.invariant.counts;
-    }
-
-pub returns-in_err-fire-clause-ran : goal.returns-in_err-fire-clause-ran
-returns-in_err-fire-clause-ran c =
-    let q : Plans = c.args.program.now in
-    let e : Equation = c.in-Some.pair in
-    let plan : Planned = planned c.plan_at.result.now in
-    let found = rw c.in-Some.is at c.in_ok-found.ensures.found in
-    let i : ℕ = c.in-Some.number in
-    let has : HasPlan q e plan = numbered_plan q e i plan found.1 c.plan_at.ensures in
-    let m : Inside = c.self.inside in
-    let hs : List Blocks = m.tables.heaps.items in
-    let known : arities_of hs ≡ q.arities = ap (λ (n : Net). n.arities) c.self.view_is ∙ c.requires.arities in
-    let us : List Equation = c.find_plan.new.aside.items in
-    let ps : List Equation = c.find_plan.new.pending.items in
-    let n : List Piece = names_pieces 0 m.tables.names.entries in
-    let h : List Piece = heaps_pieces 0 hs in
-    let separate : IsSeparate (arities_of hs) m.interface.items (map equated_of ps ++ (map equated_of us ++ (n ++ h))) =
-    passed_separate (arities_of hs) m.interface.items q m.tables.pending.items m.aside.items ps us (n ++ h)
-    c.find_plan.ensures.passed c.self.invariant.separate in
-    let after : Inside = record m { aside = c.find_plan.new.aside; tables = c.fire.new.self; interactions = m.interactions } in
-    let gs : List Blocks = after.tables.heaps.items in
-    let qs : List Equation = after.tables.pending.items in
-    let n' : List Piece = names_pieces 0 after.tables.names.entries in
-    let h' : List Piece = heaps_pieces 0 gs in
-    let same : arities_of gs ≡ arities_of hs = c.fire.ensures.arities in
-    let many : length gs ≡ length hs = as_many hs gs same in
-    let start : List Piece = n ++ (h ++ (map equated_of ps ++ map equated_of us)) in
-    let end : List Piece = n' ++ (h' ++ (map equated_of qs ++ map equated_of us)) in
-    let stays : end ≡ start = c.in_err-fire.ensures.same us in
-    let steps : Steps q [] start end =
-    subst (λ (l : List Piece). Steps q [] start l) (sym stays) (no_step start start (IsPermutation-refl start)) in
-    subst (λ (o : Net). Ran q o (net_of after)) c.self.view_is (record {
-      fired = [];
-      moments = [];
-      way = passed_then q ([]) m.tables.pending.items m.aside.items ps us qs n h n' h'
-          c.find_plan.ensures.passed steps;
-      places = λ kind. net_size after kind
-          ∙ (c.in_err-fire.ensures.places kind ∙ size_net m (record m.tables { pending = c.find_plan.new.pending }) refl refl kind);
-      symbols = length-map gs (λ b. b.count) ∙ (many ∙ sym (length-map hs (λ b. b.count)));
-      counted = sym (add-zero m.interactions);
-      counts = counted_none m.counts.items;
-      arities = same;
-      interface = refl;
-      more = c.find_plan.ensures.passed.more;
-      aside = c.find_plan.ensures.passed.after;
-      stuck = c.find_plan.ensures.passed.stuck;
-    })
-
-pub returns-in_err-fire-clause-separate : goal.returns-in_err-fire-clause-separate
-returns-in_err-fire-clause-separate c =
-    let q : Plans = c.args.program.now in
-    let e : Equation = c.in-Some.pair in
-    let plan : Planned = planned c.plan_at.result.now in
-    let found = rw c.in-Some.is at c.in_ok-found.ensures.found in
-    let i : ℕ = c.in-Some.number in
-    let has : HasPlan q e plan = numbered_plan q e i plan found.1 c.plan_at.ensures in
-    let m : Inside = c.self.inside in
-    let hs : List Blocks = m.tables.heaps.items in
-    let known : arities_of hs ≡ q.arities = ap (λ (n : Net). n.arities) c.self.view_is ∙ c.requires.arities in
-    let us : List Equation = c.find_plan.new.aside.items in
-    let ps : List Equation = c.find_plan.new.pending.items in
-    let n : List Piece = names_pieces 0 m.tables.names.entries in
-    let h : List Piece = heaps_pieces 0 hs in
-    let separate : IsSeparate (arities_of hs) m.interface.items (map equated_of ps ++ (map equated_of us ++ (n ++ h))) =
-    passed_separate (arities_of hs) m.interface.items q m.tables.pending.items m.aside.items ps us (n ++ h)
-    c.find_plan.ensures.passed c.self.invariant.separate in
-    let after : Inside = record m { aside = c.find_plan.new.aside; tables = c.fire.new.self; interactions = m.interactions } in
-    let gs : List Blocks = after.tables.heaps.items in
-    let qs : List Equation = after.tables.pending.items in
-    let n' : List Piece = names_pieces 0 after.tables.names.entries in
-    let h' : List Piece = heaps_pieces 0 gs in
-    let same : arities_of gs ≡ arities_of hs = c.fire.ensures.arities in
-    let many : length gs ≡ length hs = as_many hs gs same in
-    let start : List Piece = n ++ (h ++ (map equated_of ps ++ map equated_of us)) in
-    let end : List Piece = n' ++ (h' ++ (map equated_of qs ++ map equated_of us)) in
-    let stays : end ≡ start = c.in_err-fire.ensures.same us in
-    let steps : Steps q [] start end =
-    subst (λ (l : List Piece). Steps q [] start l) (sym stays) (no_step start start (IsPermutation-refl start)) in
-    let whole : IsSeparate (arities_of hs) m.interface.items (map equated_of qs ++ (map equated_of us ++ (n' ++ h'))) =
-    held_steps_separate q ([]) (arities_of hs) m.interface.items ps us qs n h n' h' has.sound known steps separate in
-    subst (λ (a : List ℕ). IsSeparate a m.interface.items (map equated_of qs ++ (map equated_of us ++ (n' ++ h'))))
-    (sym same) whole
+    let at = goal.at.invariant_of-self-in_err-fire c in
+    let m : Inside = set_aside c.self.inside c.find_plan.new.pending c.find_plan.new.aside in
+    let sound = mid_sound at.After-find_plan in
+    changed_sound c.args.program.now m c.fire.new.self m.interactions m.counts c.fire.ensures.arities (failed at.In_err-fire)
+    sound (found at.After-plan_at).1.sound (known at.After-plan_at) (c.fire.ensures.pairs sound.pairs) c.fire.ensures.few
+    c.fire.ensures.registers c.fire.ensures.spare c.self.invariant.counts
 
 pub invariant_of-self-2 : goal.invariant_of-self-2
 invariant_of-self-2 c =
-    let q : Plans = c.args.program.now in
-    let e : Equation = c.in-Some.pair in
-    let plan : Planned = planned c.plan_at.result.now in
-    let found = rw c.in-Some.is at c.in_ok-found.ensures.found in
-    let i : ℕ = c.in-Some.number in
-    let has : HasPlan q e plan = numbered_plan q e i plan found.1 c.plan_at.ensures in
-    let m : Inside = c.self.inside in
-    let hs : List Blocks = m.tables.heaps.items in
-    let known : arities_of hs ≡ q.arities = ap (λ (n : Net). n.arities) c.self.view_is ∙ c.requires.arities in
-    let us : List Equation = c.find_plan.new.aside.items in
-    let ps : List Equation = c.find_plan.new.pending.items in
-    let n : List Piece = names_pieces 0 m.tables.names.entries in
-    let h : List Piece = heaps_pieces 0 hs in
-    let separate : IsSeparate (arities_of hs) m.interface.items (map equated_of ps ++ (map equated_of us ++ (n ++ h))) =
-    passed_separate (arities_of hs) m.interface.items q m.tables.pending.items m.aside.items ps us (n ++ h)
-    c.find_plan.ensures.passed c.self.invariant.separate in
-    let after : Inside = record m { aside = c.find_plan.new.aside; tables = c.fire.new.self; interactions = m.interactions + 1; counts = c.count.new.counts } in
-    let gs : List Blocks = after.tables.heaps.items in
-    let qs : List Equation = after.tables.pending.items in
-    let n' : List Piece = names_pieces 0 after.tables.names.entries in
-    let h' : List Piece = heaps_pieces 0 gs in
-    let same : arities_of gs ≡ arities_of hs = c.fire.ensures.arities in
-    let many : length gs ≡ length hs = as_many hs gs same in
-    let number : IsNumbered q i has.left has.right plan = numbered q e i plan found.1 c.plan_at.ensures in
-    let start : List Piece = n ++ (h ++ (map equated_of ps ++ map equated_of us)) in
-    let end : List Piece = n' ++ (h' ++ (map equated_of qs ++ map equated_of us)) in
-    let by = c.in_ok-fire.ensures.fires q i has.left has.right us has.left_tag has.right_tag (sym known) number
-    (passed_pairs q m.tables.pending.items m.aside.items ps us c.find_plan.ensures.passed c.self.invariant.pairs)
-    (passed_aside q m.tables.pending.items m.aside.items ps us c.find_plan.ensures.passed c.self.invariant.aside) in
-    let steps : Steps q (i ∷ []) start end = way_steps q (i ∷ []) (by.moment ∷ []) start end by.way in
-    let whole : IsSeparate (arities_of hs) m.interface.items (map equated_of qs ++ (map equated_of us ++ (n' ++ h'))) =
-    held_steps_separate q (i ∷ []) (arities_of hs) m.interface.items ps us qs n h n' h' has.sound known steps separate in
-    record {
-      separate = subst (λ (a : List ℕ). IsSeparate a m.interface.items (map equated_of qs ++ (map equated_of us ++ (n' ++ h'))))
-          (sym same) whole;
-      pairs = c.fire.ensures.pairs (passed_pairs q m.tables.pending.items m.aside.items ps us c.find_plan.ensures.passed
-          c.self.invariant.pairs);
-      aside = passed_aside q m.tables.pending.items m.aside.items ps us c.find_plan.ensures.passed c.self.invariant.aside;
-      names = c.fire.ensures.few;
-      symbols = subst (λ (k : ℕ). k < GIVEN) (sym many) c.self.invariant.symbols;
-      registers = c.fire.ensures.registers;
-      spare = c.fire.ensures.spare;
-      counts = counts_within i m.interactions m.counts.items c.count.new.counts.items c.self.invariant.counts c.count.ensures;
-    }
+    let at = goal.at.invariant_of-self-2 c in
+    let m : Inside = set_aside c.self.inside c.find_plan.new.pending c.find_plan.new.aside in
+    let sound = mid_sound at.After-find_plan in
+    changed_sound c.args.program.now m c.fire.new.self (m.interactions + 1) c.count.new.counts c.fire.ensures.arities (fired c)
+    sound (found at.After-plan_at).1.sound (known at.After-plan_at) (c.fire.ensures.pairs sound.pairs) c.fire.ensures.few
+    c.fire.ensures.registers c.fire.ensures.spare
+    (counts_within c.in-Some.number m.interactions m.counts.items c.count.new.counts.items c.self.invariant.counts c.count.ensures)
+
+pub returns-in_err-found-clause-ran : goal.returns-in_err-found-clause-ran
+returns-in_err-found-clause-ran c = mid_ran (goal.at.returns-in_err-found-clause-ran c).After-find_plan
+
+pub returns-in_default-clause-ran : goal.returns-in_default-clause-ran
+returns-in_default-clause-ran c = mid_ran (goal.at.returns-in_default-clause-ran c).After-find_plan
+
+pub returns-in_err-fire-clause-ran : goal.returns-in_err-fire-clause-ran
+returns-in_err-fire-clause-ran c =
+    let at = goal.at.returns-in_err-fire-clause-ran c in
+    ran_on c.args.program.now c.args.self.now _ _ (mid_ran at.After-find_plan) (failed at.In_err-fire)
 
 pub returns-clause-ran : goal.returns-clause-ran
 returns-clause-ran c =
-    let q : Plans = c.args.program.now in
-    let e : Equation = c.in-Some.pair in
-    let plan : Planned = planned c.plan_at.result.now in
-    let found = rw c.in-Some.is at c.in_ok-found.ensures.found in
-    let i : ℕ = c.in-Some.number in
-    let has : HasPlan q e plan = numbered_plan q e i plan found.1 c.plan_at.ensures in
-    let m : Inside = c.self.inside in
-    let hs : List Blocks = m.tables.heaps.items in
-    let known : arities_of hs ≡ q.arities = ap (λ (n : Net). n.arities) c.self.view_is ∙ c.requires.arities in
-    let us : List Equation = c.find_plan.new.aside.items in
-    let ps : List Equation = c.find_plan.new.pending.items in
-    let n : List Piece = names_pieces 0 m.tables.names.entries in
-    let h : List Piece = heaps_pieces 0 hs in
-    let separate : IsSeparate (arities_of hs) m.interface.items (map equated_of ps ++ (map equated_of us ++ (n ++ h))) =
-    passed_separate (arities_of hs) m.interface.items q m.tables.pending.items m.aside.items ps us (n ++ h)
-    c.find_plan.ensures.passed c.self.invariant.separate in
-    let after : Inside = record m { aside = c.find_plan.new.aside; tables = c.fire.new.self; interactions = m.interactions + 1; counts = c.count.new.counts } in
-    let gs : List Blocks = after.tables.heaps.items in
-    let qs : List Equation = after.tables.pending.items in
-    let n' : List Piece = names_pieces 0 after.tables.names.entries in
-    let h' : List Piece = heaps_pieces 0 gs in
-    let same : arities_of gs ≡ arities_of hs = c.fire.ensures.arities in
-    let many : length gs ≡ length hs = as_many hs gs same in
-    let number : IsNumbered q i has.left has.right plan = numbered q e i plan found.1 c.plan_at.ensures in
-    let start : List Piece = n ++ (h ++ (map equated_of ps ++ map equated_of us)) in
-    let end : List Piece = n' ++ (h' ++ (map equated_of qs ++ map equated_of us)) in
-    let by = c.in_ok-fire.ensures.fires q i has.left has.right us has.left_tag has.right_tag (sym known) number
-    (passed_pairs q m.tables.pending.items m.aside.items ps us c.find_plan.ensures.passed c.self.invariant.pairs)
-    (passed_aside q m.tables.pending.items m.aside.items ps us c.find_plan.ensures.passed c.self.invariant.aside) in
-    subst (λ (o : Net). Ran q o (net_of after)) c.self.view_is (record {
-      fired = i ∷ [];
-      moments = by.moment ∷ [];
-      way = passed_way q (i ∷ []) (by.moment ∷ []) m.tables.pending.items m.aside.items ps us qs n h n' h'
-          c.find_plan.ensures.passed by.way;
-      places = λ kind. net_size after kind
-          ∙ (by.places kind ∙ ap (λ (k : ℕ). max k (in_use kind by.moment))
-          (size_net m (record m.tables { pending = c.find_plan.new.pending }) refl refl kind));
-      symbols = length-map gs (λ b. b.count) ∙ (many ∙ sym (length-map hs (λ b. b.count)));
-      counted = refl;
-      counts = c.count.ensures;
-      arities = same;
-      interface = refl;
-      more = c.find_plan.ensures.passed.more;
-      aside = c.find_plan.ensures.passed.after;
-      stuck = c.find_plan.ensures.passed.stuck;
-    })
+    ran_on c.args.program.now c.args.self.now _ _ (mid_ran (goal.at.returns-clause-ran c).After-find_plan) (fired c)
+
+pub returns-in_err-found-clause-separate : goal.returns-in_err-found-clause-separate
+returns-in_err-found-clause-separate c = (invariant_of-self c).separate
+
+pub returns-in_default-clause-separate : goal.returns-in_default-clause-separate
+returns-in_default-clause-separate c = (invariant_of-self-in_default c).separate
+
+pub returns-in_err-fire-clause-separate : goal.returns-in_err-fire-clause-separate
+returns-in_err-fire-clause-separate c = (invariant_of-self-in_err-fire c).separate
 
 pub returns-clause-separate : goal.returns-clause-separate
-returns-clause-separate c =
-    let q : Plans = c.args.program.now in
-    let e : Equation = c.in-Some.pair in
-    let plan : Planned = planned c.plan_at.result.now in
-    let found = rw c.in-Some.is at c.in_ok-found.ensures.found in
-    let i : ℕ = c.in-Some.number in
-    let has : HasPlan q e plan = numbered_plan q e i plan found.1 c.plan_at.ensures in
-    let m : Inside = c.self.inside in
-    let hs : List Blocks = m.tables.heaps.items in
-    let known : arities_of hs ≡ q.arities = ap (λ (n : Net). n.arities) c.self.view_is ∙ c.requires.arities in
-    let us : List Equation = c.find_plan.new.aside.items in
-    let ps : List Equation = c.find_plan.new.pending.items in
-    let n : List Piece = names_pieces 0 m.tables.names.entries in
-    let h : List Piece = heaps_pieces 0 hs in
-    let separate : IsSeparate (arities_of hs) m.interface.items (map equated_of ps ++ (map equated_of us ++ (n ++ h))) =
-    passed_separate (arities_of hs) m.interface.items q m.tables.pending.items m.aside.items ps us (n ++ h)
-    c.find_plan.ensures.passed c.self.invariant.separate in
-    let after : Inside = record m { aside = c.find_plan.new.aside; tables = c.fire.new.self; interactions = m.interactions + 1; counts = c.count.new.counts } in
-    let gs : List Blocks = after.tables.heaps.items in
-    let qs : List Equation = after.tables.pending.items in
-    let n' : List Piece = names_pieces 0 after.tables.names.entries in
-    let h' : List Piece = heaps_pieces 0 gs in
-    let same : arities_of gs ≡ arities_of hs = c.fire.ensures.arities in
-    let many : length gs ≡ length hs = as_many hs gs same in
-    let number : IsNumbered q i has.left has.right plan = numbered q e i plan found.1 c.plan_at.ensures in
-    let start : List Piece = n ++ (h ++ (map equated_of ps ++ map equated_of us)) in
-    let end : List Piece = n' ++ (h' ++ (map equated_of qs ++ map equated_of us)) in
-    let by = c.in_ok-fire.ensures.fires q i has.left has.right us has.left_tag has.right_tag (sym known) number
-    (passed_pairs q m.tables.pending.items m.aside.items ps us c.find_plan.ensures.passed c.self.invariant.pairs)
-    (passed_aside q m.tables.pending.items m.aside.items ps us c.find_plan.ensures.passed c.self.invariant.aside) in
-    let steps : Steps q (i ∷ []) start end = way_steps q (i ∷ []) (by.moment ∷ []) start end by.way in
-    let whole : IsSeparate (arities_of hs) m.interface.items (map equated_of qs ++ (map equated_of us ++ (n' ++ h'))) =
-    held_steps_separate q (i ∷ []) (arities_of hs) m.interface.items ps us qs n h n' h' has.sound known steps separate in
-    subst (λ (a : List ℕ). IsSeparate a m.interface.items (map equated_of qs ++ (map equated_of us ++ (n' ++ h'))))
-    (sym same) whole
+returns-clause-separate c = (invariant_of-self-2 c).separate
+
+pub returns-in_err-found-clause-pairs : goal.returns-in_err-found-clause-pairs
+returns-in_err-found-clause-pairs c = (invariant_of-self c).pairs
+
+pub returns-in_default-clause-pairs : goal.returns-in_default-clause-pairs
+returns-in_default-clause-pairs c = (invariant_of-self-in_default c).pairs
+
+pub returns-in_err-fire-clause-pairs : goal.returns-in_err-fire-clause-pairs
+returns-in_err-fire-clause-pairs c = (invariant_of-self-in_err-fire c).pairs
+
+pub returns-clause-pairs : goal.returns-clause-pairs
+returns-clause-pairs c = (invariant_of-self-2 c).pairs
 
 pub returns-in_err-found-clause-places : goal.returns-in_err-found-clause-places
 returns-in_err-found-clause-places c = tables_at_places c.self.inside.tables.names.entries c.self.inside.tables.heaps.items
@@ -373,56 +233,16 @@ returns-clause-places c = tables_at_places c.fire.new.self.names.entries c.fire.
 
 pub returns-in_err-fire-clause-limit : goal.returns-in_err-fire-clause-limit
 returns-in_err-fire-clause-limit c = λ e.
-    let q : Plans = c.args.program.now in
+    let at = goal.at.returns-in_err-fire-clause-limit c in
     let plan : Planned = planned c.plan_at.result.now in
-    let found = rw c.in-Some.is at c.in_ok-found.ensures.found in
-    let has : HasPlan q c.in-Some.pair plan = numbered_plan q c.in-Some.pair c.in-Some.number plan found.1 c.plan_at.ensures in
-    let m : Inside = c.self.inside in
-    let after : Inside = record m { aside = c.find_plan.new.aside; tables = c.fire.new.self; interactions = m.interactions } in
-    let last : IsLast c.in-Some.pair after.tables.pending.items =
-    record { front = found.0.front; is = c.in_err-fire.ensures.pending ∙ found.0.is } in
-    let hs : List Blocks = after.tables.heaps.items in
+    let front = (found at.After-plan_at).0 in
+    let t : Tables = c.fire.new.self in
+    let last : IsLast c.in-Some.pair t.pending.items =
+    record { front = front.front; is = c.in_err-fire.ensures.pending ∙ front.is } in
     let given = err_from_is_err_and c.from_residual-in_err-fire.result c.from_residual-in_err-fire.ensures.1 in
     let same : c.in_err-fire.field-0.0 ≡ Limit =
-    same_fault c.from_residual-in_err-fire.result given.0 c.in_err-fire.field-0.0 Limit given.1 given.2 e in
-    let much : IsTooMuch plan (length after.tables.names.entries) hs = c.in_err-fire.ensures.limit (ap Err same) in (
-      next_pair q after.tables.pending.items c.in-Some.pair plan last has,
-      full_net plan (net_of after) (length after.tables.names.entries) hs refl refl much,
+    same_fault c.from_residual-in_err-fire.result given.0 c.in_err-fire.field-0.0 Limit given.1 given.2 e in (
+      next_pair c.args.program.now t.pending.items c.in-Some.pair plan last (has at.After-plan_at),
+      full_net plan (net_of (record c.self.inside { tables = t })) (length t.names.entries) t.heaps.items refl refl
+          (c.in_err-fire.ensures.limit (ap Err same)),
     )
-
-pub plan_at-requires : goal.plan_at-requires
-plan_at-requires c =
-    let found = rw c.in-Some.is at c.in_ok-found.ensures.found in
-    found.1.there
-
-pub count-requires : goal.count-requires
-count-requires c =
-    let few = c.requires.few in
-    let same : c.self.inside.interactions ≡ c.args.self.now.interactions = ap (λ (n : Net). n.interactions) c.self.view_is in
-    counts_below c.self.inside.interactions c.self.inside.counts.items (omega arith) c.self.invariant.counts
-
-pub fire-requires-clause-spare : goal.fire-requires-clause-spare
-fire-requires-clause-spare c =
-    let m : Inside = c.self.inside in
-    passed_spare c.args.program.now m.tables c.find_plan.new.pending m.aside.items c.find_plan.new.aside.items
-    c.find_plan.ensures.passed c.find_plan.ensures.memory c.self.invariant.spare
-
-pub returns-in_err-found-clause-pairs : goal.returns-in_err-found-clause-pairs
-returns-in_err-found-clause-pairs c =
-    let new : Inside = record c.self.inside { aside = c.find_plan.new.aside; tables = record c.self.inside.tables { pending = c.find_plan.new.pending } } in
-    (passed_sound c.args.program.now c.self.inside new c.self.invariant c.find_plan.ensures.passed refl refl refl refl c.find_plan.ensures.memory).pairs
-
-pub returns-in_default-clause-pairs : goal.returns-in_default-clause-pairs
-returns-in_default-clause-pairs c =
-    let new : Inside = record c.self.inside { aside = c.find_plan.new.aside; tables = record c.self.inside.tables { pending = c.find_plan.new.pending } } in
-    (passed_sound c.args.program.now c.self.inside new c.self.invariant c.find_plan.ensures.passed refl refl refl refl c.find_plan.ensures.memory).pairs
-
-pub returns-in_err-fire-clause-pairs : goal.returns-in_err-fire-clause-pairs
-returns-in_err-fire-clause-pairs c =
-    c.fire.ensures.pairs (passed_pairs c.args.program.now c.self.inside.tables.pending.items c.self.inside.aside.items
-    c.find_plan.new.pending.items c.find_plan.new.aside.items c.find_plan.ensures.passed c.self.invariant.pairs)
-
-pub returns-clause-pairs : goal.returns-clause-pairs
-returns-clause-pairs c =
-    c.fire.ensures.pairs (passed_pairs c.args.program.now c.self.inside.tables.pending.items c.self.inside.aside.items
-    c.find_plan.new.pending.items c.find_plan.new.aside.items c.find_plan.ensures.passed c.self.invariant.pairs)

@@ -1,18 +1,12 @@
-use Rattle.std.proofs.Common.{◌≡◌, ◌^◌, ◌<◌, ◌≤◌, List, ◌++◌, length, ap, sym, subst, arith}
-use Rattle.std.proofs.lemmas.List.{length-append}
-use Rattle.ic_arena.specs.Piece.{Piece}
-use Rattle.ic_arena.specs.Tables.{names_pieces}
+use Rattle.std.proofs.Common.{◌^◌, ◌<◌, ap, sym, subst}
 use Rattle.ic_machine.specs.declared.machine.Machine.TheInside.{Inside}
 use Rattle.ic_machine.specs.Net.{Net, pieces}
 use Rattle.ic_machine.specs.Runs.{Ran}
-use Rattle.ic_machine.specs.inner.Firing.{arities_of, heaps_pieces}
+use Rattle.ic_machine.specs.inner.Firing.{arities_of}
 use Rattle.ic_machine.specs.inner.Machine.{net_of, IsSound}
 use Rattle.ic_machine.proofs.AtPlaces.{tables_at_places}
 use Rattle.ic_machine.proofs.Sweeps.{net_swept, separate_room, swept_ran, swept_separate, swept_spare, tables_through}
 use Rattle.ic_machine.proofs.machine.Machine.sweep.Goals as goal
-
-pub sweep-requires-clause-few : goal.sweep-requires-clause-few
-sweep-requires-clause-few c = c.self.invariant.names
 
 pub sweep-requires-clause-room : goal.sweep-requires-clause-room
 sweep-requires-clause-room c =
@@ -41,13 +35,6 @@ invariant_of-self c =
       counts = sound.counts;
     }
 
-pub returns-clause-same : goal.returns-clause-same
-returns-clause-same c =
-    let m : Inside = c.self.inside in
-    -- net_of (after c) ≡ record (net_of m) { places = ..; names = length new entries }: the number of names is the same
-    subst (λ (n : Net). net_of (after c) ≡ record n { places = (net_of (after c)).places }) c.self.view_is
-    (ap (λ n. record (net_of m) { places = (net_of (after c)).places; names = n }) c.sweep.ensures.names)
-
 pub returns-clause-ran : goal.returns-clause-ran
 returns-clause-ran c = λ p.
     let m : Inside = c.self.inside in
@@ -59,15 +46,6 @@ returns-clause-ran c = λ p.
 pub returns-clause-through : goal.returns-clause-through
 returns-clause-through c =
     tables_through c.sweep.new.names.entries c.self.inside.tables.heaps.items c.sweep.ensures.through
-
-pub returns-clause-fewer : goal.returns-clause-fewer
-returns-clause-fewer c =
-    let m : Inside = c.self.inside in
-    let h : List Piece = heaps_pieces 0 m.tables.heaps.items in
-    let a = length-append (names_pieces 0 m.tables.names.entries) h in
-    let b = length-append (names_pieces 0 c.sweep.new.names.entries) h in
-    subst (λ (n : Net). length (names_pieces 0 c.sweep.new.names.entries ++ h) ≤ length n.places) c.self.view_is
-    (omega (arith, a, b, c.sweep.ensures.fewer))
 
 pub returns-clause-places : goal.returns-clause-places
 returns-clause-places c = tables_at_places c.sweep.new.names.entries c.self.inside.tables.heaps.items

@@ -24,8 +24,7 @@ returns-then-word-lt-IDLE-clause-found c =
     let ws : List Word = c.self.inside.tables.names.entries in
     let hs : List Blocks = c.self.inside.tables.heaps.items in
     let lt : c.args.name < length ws = omega (arith, c.len.ensures) in
-    let word : (entry ws c.args.name).tag < IDLE =
-    subst (λ (v : Word). v.tag < IDLE) c.get-word.ensures c.if-word-lt-IDLE.true in
+    let word = subst (λ (v : Word). v.tag < IDLE) c.get-word.ensures c.if-word-lt-IDLE.true in
     subst (λ (n : Net). Contains n.places (waits (name_word c.args.name) c.get-word.result)) c.self.view_is
     (subst (λ (v : Word). Contains (names_pieces 0 ws ++ heaps_pieces 0 hs) (waits (name_word c.args.name) v))
     (sym c.get-word.ensures) (waiting_contained ws hs c.args.name lt word))

@@ -2,10 +2,10 @@ use Rattle.std.proofs.Common.{◌≡◌, ◌+◌, ◌-◌, ◌<◌, ◌≤◌, �
 use Rattle.ic_arena.specs.declared.word.Word.{Word}
 use Rattle.ic_arena.specs.declared.word.TheConstants.{FREE}
 use Rattle.ic_arena.specs.Piece.{agent_of, room}
-use Rattle.ic_arena.specs.Tables.{Blocks, block_at, block_piece, names_pieces}
+use Rattle.ic_arena.specs.Tables.{AreBlocks, Blocks, block_at, block_piece, names_pieces}
 use Rattle.ic_machine.specs.Held.{Held}
 use Rattle.ic_machine.specs.inner.Firing.{heaps_pieces, table}
-use Rattle.ic_machine.proofs.Heaps.{block_length, table_read}
+use Rattle.ic_machine.proofs.Heaps.{block_length, table_read, tag_read}
 use Rattle.ic_machine.proofs.Standing.{agent_below}
 use Rattle.ic_machine.proofs.Taking.{agent_known, agent_room, agent_roomy, block_some, block_unused, block_used}
 use Rattle.ic_machine.proofs.places.Places.has.Goals as goal
@@ -23,8 +23,7 @@ pub returns-then-agent-eq0-clause-none : goal.returns-then-agent-eq0-clause-none
 returns-then-agent-eq0-clause-none c = λ e arguments there.
     let ws : List Word = c.self.inside.names.entries in
     let hs : List Blocks = c.self.inside.heaps.items in
-    let known : (1 ≤ c.args.agent.tag) × (c.args.agent.tag ≤ length hs) =
-    agent_known ws hs c.args.agent arguments c.self.invariant.blocks
+    let known = agent_known ws hs c.args.agent arguments c.self.invariant.blocks
     (subst (λ (h : Held). Contains h.pieces (agent_of c.args.agent arguments)) (sym c.self.view_is) there) in
     let some : 1 ≤ c.args.agent.tag = known.0 in
     let few : c.args.agent.tag ≤ length hs = known.1 in
@@ -34,63 +33,59 @@ returns-then-agent-eq0-clause-none c = λ e arguments there.
           absurd (omega (arith, w.len.ensures, c.self.inside.heaps.ok)))
     ]
 
+-- a block is no empty one
+whole_block : (b : Blocks) (j : ℕ) → AreBlocks b → j < b.count → 1 ≤ length (block_at b j)
+whole_block b j sound below =
+    let len = block_length b j sound below in
+    let some = block_some b sound (omega arith) in
+    omega arith
+
+-- the room of an agent is in the block that is read
+read_room : (ws : List Word) (hs : List Blocks) (w : Word) (b : Blocks) → w.tag ≡ (w.tag - 1) + 1 → b ≡ table hs (w.tag - 1)
+    → w.index < b.count
+    → sum_by (room w) (names_pieces 0 ws ++ heaps_pieces 0 hs) ≡ sum_by (room w) (block_piece w (block_at b w.index))
+read_room ws hs w b tag same below =
+    agent_room ws hs w (w.tag - 1) tag (subst (λ (x : Blocks). w.index < x.count) same below)
+    ∙ ap (λ (x : Blocks). sum_by (room w) (block_piece w (block_at x w.index))) (sym same)
+
 pub bounds-get-0 : goal.bounds-get-0
 bounds-get-0 c =
     let b : Blocks = c.index-heap.result.now in
-    let j : ℕ = c.args.agent.index in
-    let below : j < b.count = omega (arith, c.count.ensures.count) in
-    let some : 1 ≤ b.arity = block_some b c.count.ensures.sound (omega arith) in
-    let len : length (block_at b j) ≡ b.arity = block_length b j c.count.ensures.sound below in
-    let long : length c.get.result.now ≡ length (block_at b j) = ap length c.get.ensures in
-    omega arith
+    let below : c.args.agent.index < b.count = omega (arith, c.count.ensures.count) in
+    let whole = whole_block b c.args.agent.index c.count.ensures.sound below in
+    omega (arith, ap length c.get.ensures)
 
 pub returns-then-agent-count-clause-there : goal.returns-then-agent-count-clause-there
 returns-then-agent-count-clause-there c = λ e.
     let w : Word = c.args.agent in
-    let s : ℕ = w.tag - 1 in
-    let j : ℕ = w.index in
     let d : Word = record { tag = 0; index = 0 } in
     let ws : List Word = c.self.inside.names.entries in
     let hs : List Blocks = c.self.inside.heaps.items in
     let b : Blocks = c.index-heap.result.now in
-    let tag : w.tag ≡ s + 1 = omega arith in
-    let lt : s < length hs = omega (arith, c.len.ensures, c.self.inside.heaps.ok) in
-    let same : b ≡ table hs s = table_read hs s b lt c.index-heap.ensures in
-    let below : j < b.count = omega (arith, c.count.ensures.count) in
-    let some : 1 ≤ b.arity = block_some b c.count.ensures.sound (omega arith) in
-    let len : length (block_at b j) ≡ b.arity = block_length b j c.count.ensures.sound below in
-    let used : ((slice_index_or (block_at b j) 0 d).tag == FREE) ≡ false =
-    subst (λ (l : List Word). ((slice_index_or l 0 d).tag == FREE) ≡ false) c.get.ensures
+    let at = tag_read hs w.tag b (omega arith) (omega (arith, c.len.ensures, c.self.inside.heaps.ok)) c.index-heap.ensures in
+    let below : w.index < b.count = omega (arith, c.count.ensures.count) in
+    let whole : 1 ≤ length (block_at b w.index) = whole_block b w.index c.count.ensures.sound below in
+    let is = read_room ws hs w b at.0 at.2 below in
+    let used = subst (λ (l : List Word). ((slice_index_or l 0 d).tag == FREE) ≡ false) c.get.ensures
     (is_false ((slice_index_or c.get.result.now 0 d).tag == FREE) e) in
-    let here : 1 ≤ sum_by (room w) (block_piece w (block_at b j)) = block_used w (block_at b j) d (omega arith) used in
-    let there : 1 ≤ sum_by (room w) (block_piece w (block_at (table hs s) j)) =
-    subst (λ (x : Blocks). 1 ≤ sum_by (room w) (block_piece w (block_at x j))) same here in
-    let is = agent_room ws hs w s tag (subst (λ (x : Blocks). j < x.count) same below) in
+    let here = block_used w (block_at b w.index) d whole used in
     let all : 1 ≤ sum_by (room w) (names_pieces 0 ws ++ heaps_pieces 0 hs) = omega arith in
     subst (λ (h : Held). 1 ≤ sum_by (room w) h.pieces) c.self.view_is all
 
 pub returns-then-agent-count-clause-none : goal.returns-then-agent-count-clause-none
 returns-then-agent-count-clause-none c = λ e arguments there.
     let w : Word = c.args.agent in
-    let s : ℕ = w.tag - 1 in
-    let j : ℕ = w.index in
     let d : Word = record { tag = 0; index = 0 } in
     let ws : List Word = c.self.inside.names.entries in
     let hs : List Blocks = c.self.inside.heaps.items in
     let b : Blocks = c.index-heap.result.now in
-    let tag : w.tag ≡ s + 1 = omega arith in
-    let lt : s < length hs = omega (arith, c.len.ensures, c.self.inside.heaps.ok) in
-    let same : b ≡ table hs s = table_read hs s b lt c.index-heap.ensures in
-    let below : j < b.count = omega (arith, c.count.ensures.count) in
-    let some : 1 ≤ b.arity = block_some b c.count.ensures.sound (omega arith) in
-    let len : length (block_at b j) ≡ b.arity = block_length b j c.count.ensures.sound below in
-    let unused : ((slice_index_or (block_at b j) 0 d).tag == FREE) ≡ true =
-    subst (λ (l : List Word). ((slice_index_or l 0 d).tag == FREE) ≡ true) c.get.ensures
+    let at = tag_read hs w.tag b (omega arith) (omega (arith, c.len.ensures, c.self.inside.heaps.ok)) c.index-heap.ensures in
+    let below : w.index < b.count = omega (arith, c.count.ensures.count) in
+    let whole : 1 ≤ length (block_at b w.index) = whole_block b w.index c.count.ensures.sound below in
+    let is = read_room ws hs w b at.0 at.2 below in
+    let unused = subst (λ (l : List Word). ((slice_index_or l 0 d).tag == FREE) ≡ true) c.get.ensures
     (is_true ((slice_index_or c.get.result.now 0 d).tag == FREE) e) in
-    let here : sum_by (room w) (block_piece w (block_at b j)) ≡ 0 = block_unused w (block_at b j) d (omega arith) unused in
-    let none : sum_by (room w) (block_piece w (block_at (table hs s) j)) ≡ 0 =
-    subst (λ (x : Blocks). sum_by (room w) (block_piece w (block_at x j)) ≡ 0) same here in
-    let is = agent_room ws hs w s tag (subst (λ (x : Blocks). j < x.count) same below) in
+    let here = block_unused w (block_at b w.index) d whole unused in
     let roomy = agent_roomy (names_pieces 0 ws ++ heaps_pieces 0 hs) w arguments
     (subst (λ (h : Held). Contains h.pieces (agent_of w arguments)) (sym c.self.view_is) there) in
     absurd (omega arith)
@@ -103,8 +98,7 @@ returns-else-agent-count-clause-none c = λ e arguments there.
     let hs : List Blocks = c.self.inside.heaps.items in
     let b : Blocks = c.index-heap.result.now in
     let tag : w.tag ≡ s + 1 = omega arith in
-    let found : (s < length hs) × (w.index < (table hs s).count) =
-    agent_below ws hs s w arguments c.self.invariant.blocks tag
+    let found = agent_below ws hs s w arguments c.self.invariant.blocks tag
     (subst (λ (h : Held). Contains h.pieces (agent_of w arguments)) (sym c.self.view_is) there) in
     let same : b ≡ table hs s = table_read hs s b found.0 c.index-heap.ensures in
     let count : c.count.result ≡ (table hs s).count = c.count.ensures.count ∙ ap (λ (x : Blocks). x.count) same in

@@ -60,13 +60,11 @@ returns-clause-taken c = λ e.
     let before : List Word = c.args.stack.now.items in
     let mid : List Word = c.take.new.registers.items in
     let after : List Word = c.turn.new.words.items in
-    let taken : Taken w (table hs s).arity (heaps_pieces 0 hs) (heaps_pieces 0 gs) before mid =
-    subst (λ (l : List Word). Taken w (table hs s).arity (heaps_pieces 0 hs) (heaps_pieces 0 gs) l mid)
+    let taken = subst (λ (l : List Word). Taken w (table hs s).arity (heaps_pieces 0 hs) (heaps_pieces 0 gs) l mid)
     c.reserve.ensures.items c.take.ensures.taken in
     let same_items : length c.reserve.new.self.items ≡ length before = ap length c.reserve.ensures.items in
     let len : c.len-first.result ≡ length before = omega (arith, c.len-first.ensures, c.reserve.new.self.ok) in
-    let turned : after ≡ take (length before) mid ++ reverse (drop (length before) mid) =
-    subst (λ (n : ℕ). after ≡ take n mid ++ reverse (drop n mid)) len c.turn.ensures in
+    let turned = subst (λ (n : ℕ). after ≡ take n mid ++ reverse (drop n mid)) len c.turn.ensures in
     subst (λ (h : Held). ArgumentsTaken w h
     (record { arities = arities_of gs; pieces = names_pieces 0 ws ++ heaps_pieces 0 gs; names = length ws; agents = map (λ b. b.count) gs }) before after) c.self.view_is
     (arguments_taken ws hs gs w (table hs s).arity before mid after taken arity turned)

@@ -46,6 +46,5 @@ returns-clause-taken c =
 pub returns-clause-free : goal.returns-clause-free
 returns-clause-free c =
     let ws : List Word = c.self.inside.names.entries in
-    let word : (entry ws c.args.name).tag < IDLE =
-    subst (λ (v : Word). v.tag < IDLE) c.get-word.ensures c.if-word-ge-IDLE.false in
+    let word = subst (λ (v : Word). v.tag < IDLE) c.get-word.ensures c.if-word-ge-IDLE.false in
     name_freed ws c.free.new.self.entries c.self.inside.heaps.items c.args.name word c.free.ensures.freed

@@ -18,8 +18,7 @@ invariant_of-self-2 c =
     let now = c.args.self.now in
     let inside = c.self.inside in
     let sound : ArePlans now = subst ArePlans c.self.view_is c.self.invariant in
-    let pairs : now.pairs ++ (a, b) ∷ [] ≡ c.push.new.self =
-    sym (c.in_ok-push.ensures.pushed ∙ ap (λ (p : Plans). p.pairs ++ (a, b) ∷ []) c.self.view_is) in
+    let pairs = sym (c.in_ok-push.ensures.pushed ∙ ap (λ (p : Plans). p.pairs ++ (a, b) ∷ []) c.self.view_is) in
     let plans : now.plans ++ planned c.args.plan ∷ [] ≡ map planned c.push_reserved.new.self.items =
     sym (ap (map planned) (c.push_reserved.ensures.items ∙ ap (λ l. l ++ c.args.plan ∷ []) c.reserve.ensures.items)
     ∙ (map-append planned inside.plans.items (c.args.plan ∷ []) ∙ ap (λ (p : Plans). p.plans ++ planned c.args.plan ∷ []) c.self.view_is)) in

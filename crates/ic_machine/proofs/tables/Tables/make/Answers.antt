@@ -11,7 +11,7 @@ use Rattle.ic_machine.specs.declared.tables.Tables.{Tables}
 use Rattle.ic_machine.specs.Plan.{Planned, AreMade, constants, linked, made_of, pieces_made, planned}
 use Rattle.ic_machine.specs.Net.{equated_of, in_use}
 use Rattle.ic_machine.specs.Steps.{Steps}
-use Rattle.ic_machine.specs.inner.Firing.{arities_of, heaps_pieces, table, HasRoom, Makes, Opened}
+use Rattle.ic_machine.specs.inner.Firing.{arities_of, heaps_pieces, table, Makes, Opened}
 use Rattle.ic_machine.specs.inner.Linking.{AreLinks}
 use Rattle.ic_machine.specs.inner.Tables.{size_at}
 use Rattle.ic_machine.specs.lemmas.FiringKeeps.{all_append}
@@ -30,10 +30,8 @@ make_agents-requires-clause-made c =
     let opened = c.open_names.ensures.opened in
     let symbols : ℕ = length t.heaps.items in
     let arities : length (arities_of t.heaps.items) ≡ symbols = length-map t.heaps.items (λ b. b.arity) in
-    let a : length t.registers.items ≡ symbols + length ready.args =
-    ap length ready.filled ∙ filled_count symbols ready.args in
-    let b : length c.open_names.new.registers.items ≡ length t.registers.items + length opened.names =
-    ap length opened.pushed ∙ length-append t.registers.items opened.names in
+    let a = ap length ready.filled ∙ filled_count symbols ready.args in
+    let b = ap length opened.pushed ∙ length-append t.registers.items opened.names in
     let n : length opened.names ≡ p.names = opened.count in
     let filled : length (arities_of t.heaps.items) + length ready.args + p.names
     ≡ length c.open_names.new.registers.items = omega arith in
@@ -47,35 +45,11 @@ make_agents-requires-clause-words c =
     let ready = c.requires.ready in
     let opened = c.open_names.ensures.opened in
     let symbols : ℕ = length t.heaps.items in
-    let is : c.open_names.new.registers.items ≡ (constants symbols ++ ready.args) ++ opened.names =
-    opened.pushed ∙ ap (λ (l : List Word). l ++ opened.names) ready.filled in
+    let is = opened.pushed ∙ ap (λ (l : List Word). l ++ opened.names) ready.filled in
     subst (λ (l : List Word). AllByRecursion (λ w. w.tag < IDLE) l) (sym is)
     (all_append (λ w. w.tag < IDLE) (constants symbols ++ ready.args) opened.names
     (all_append (λ w. w.tag < IDLE) (constants symbols) ready.args (constant_words symbols ready.symbols) ready.words)
     (name_words opened.names opened.tags))
-
-pub make_agents-requires-clause-room : goal.make_agents-requires-clause-room
-make_agents-requires-clause-room c =
-    let t : Tables = c.args.self.now in
-    subst (λ (l : List Make). AllByRecursion (HasRoom t.heaps.items (length l)) (map made_of l))
-    (sym c.deref.ensures.value)
-    (subst (λ (k : ℕ). AllByRecursion (HasRoom t.heaps.items k) (map made_of c.args.plan.now.makes.items))
-    (length-map c.args.plan.now.makes.items made_of) c.requires.memory.heaps)
-
-pub make_agents-requires-clause-registers : goal.make_agents-requires-clause-registers
-make_agents-requires-clause-registers c =
-    let t : Tables = c.args.self.now in
-    let p : Planned = planned c.args.plan.now in
-    let opened = c.open_names.ensures.opened in
-    let enough : length t.registers.items + (0 + p.names + length p.made) ≤ vec_capacity t.registers =
-    c.requires.memory.registers in
-    let b : length c.open_names.new.registers.items ≡ length t.registers.items + length opened.names =
-    ap length opened.pushed ∙ length-append t.registers.items opened.names in
-    let n : length opened.names ≡ p.names = opened.count in
-    let whole = c.open_names.new.registers.ok.0 in
-    let made : length c.deref.result.now ≡ length p.made =
-    ap length c.deref.ensures.value ∙ sym (length-map c.args.plan.now.makes.items made_of) in
-    omega (arith, c.open_names.ensures.capacity)
 
 pub link_each-requires-clause-links : goal.link_each-requires-clause-links
 link_each-requires-clause-links c =
@@ -86,11 +60,8 @@ link_each-requires-clause-links c =
     let makes = c.make_agents.ensures.made in
     let symbols : ℕ = length t.heaps.items in
     let arities : length (arities_of t.heaps.items) ≡ symbols = length-map t.heaps.items (λ b. b.arity) in
-    let made : length makes.places ≡ length p.made =
-    makes.count ∙ ap (λ (l : List Make). length (map made_of l)) c.deref.ensures.value in
-    let is : c.make_agents.new.registers.items
-    ≡ constants (length (arities_of t.heaps.items)) ++ (ready.args ++ (opened.names ++ makes.places)) =
-    makes.pushed
+    let made = makes.count ∙ ap (λ (l : List Make). length (map made_of l)) c.deref.ensures.value in
+    let is = makes.pushed
     ∙ (ap (λ (l : List Word). l ++ makes.places) (opened.pushed ∙ ap (λ (l : List Word). l ++ opened.names) ready.filled)
     ∙ (append_assoc (constants symbols ++ ready.args) opened.names makes.places
     ∙ (append_assoc (constants symbols) ready.args (opened.names ++ makes.places)
@@ -103,15 +74,6 @@ link_each-requires-clause-links c =
     (agent_tags (map made_of c.deref.result.now) makes.places makes.tags)
     (subst (λ (l : List Word). AllByRecursion (λ w. w.tag < IDLE) l) is c.make_agents.ensures.words)
     opened.pieces ready.named))
-
-pub link_each-requires-clause-room : goal.link_each-requires-clause-room
-link_each-requires-clause-room c =
-    let t : Tables = c.args.self.now in
-    let p : Planned = planned c.args.plan.now in
-    let whole = t.pending.ok.0 in
-    let enough : length t.pending.items + length p.links ≤ vec_capacity t.pending = c.requires.memory.pending in
-    let links : length c.deref-2.result.now ≡ length p.links = ap length c.deref-2.ensures.value in
-    omega arith
 
 pub returns-clause-made : goal.returns-clause-made
 returns-clause-made c =
@@ -128,11 +90,9 @@ returns-clause-made c =
     let ps : List Equation = t.pending.items in
     let qs : List Equation = c.link_each.new.pending.items in
     let opened : Opened p.names ns ns' r0 r1 = c.open_names.ensures.opened in
-    let makes : Makes p.made (heaps_pieces 0 hs) (heaps_pieces 0 hs') r1 r2 =
-    subst (λ (l : List Make). Makes (map made_of l) (heaps_pieces 0 hs) (heaps_pieces 0 hs') r1 r2)
+    let makes = subst (λ (l : List Make). Makes (map made_of l) (heaps_pieces 0 hs) (heaps_pieces 0 hs') r1 r2)
     c.deref.ensures.value c.make_agents.ensures.made in
-    let is : r2 ≡ r0 ++ (opened.names ++ makes.places) =
-    makes.pushed ∙ (ap (λ (l : List Word). l ++ makes.places) opened.pushed
+    let is = makes.pushed ∙ (ap (λ (l : List Word). l ++ makes.places) opened.pushed
     ∙ append_assoc r0 opened.names makes.places) in
     record {
       names = opened.names;
@@ -163,13 +123,6 @@ returns-clause-made c =
           (made_in_use kind p p.names ns ns' hs hs' r0 r1 r2 ps rest opened makes)));
     }
 
-pub returns-clause-few : goal.returns-clause-few
-returns-clause-few c =
-    let few = c.requires.memory.few in
-    let linked_names = c.link_each.ensures.names in
-    let opened_names = c.open_names.ensures.few in
-    omega arith
-
 pub returns-clause-room : goal.returns-clause-room
 returns-clause-room c = λ n h.
     let t : Tables = c.args.self.now in
@@ -177,8 +130,7 @@ returns-clause-room c = λ n h.
     let hs : List Blocks = t.heaps.items in
     let hs' : List Blocks = c.make_agents.new.heaps.items in
     let makes : ℕ = length c.deref.result.now in
-    let made : makes ≡ length p.made =
-    ap length c.deref.ensures.value ∙ sym (length-map c.args.plan.now.makes.items made_of) in
+    let made = ap length c.deref.ensures.value ∙ sym (length-map c.args.plan.now.makes.items made_of) in
     let links : length c.deref-2.result.now ≡ length p.links = ap length c.deref-2.ensures.value in
     let many : length hs' ≡ length hs = as_many hs hs' c.make_agents.ensures.arities in
     let opened_few = c.open_names.ensures.few in

@@ -20,8 +20,7 @@ loop-arity-preserved c =
     let as_many : List ℕ = c.args.arities.now in
     let inv = c.loop-arity.invariant in
     let pushed : c.push_reserved.new.self.items ≡ hs ++ b ∷ [] = c.push_reserved.ensures.items in
-    let word : c.push_reserved-in-loop-arity.new.self.items ≡ rs ++ agent_word c.loop-arity.symbol 0 ∷ [] =
-    c.push_reserved-in-loop-arity.ensures.items ∙ ap (λ (w : Word). rs ++ w ∷ []) c.agent.ensures in
+    let word = c.push_reserved-in-loop-arity.ensures.items ∙ ap (λ (w : Word). rs ++ w ∷ []) c.agent.ensures in
     let more : constants (i + 1) ≡ constants i ++ agent_word i 0 ∷ [] =
     map-range_with_len_more (λ s. agent_word s 0) 0 i i (omega arith) in
     record {
