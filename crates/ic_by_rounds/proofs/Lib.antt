@@ -1,5 +1,6 @@
 pub mod Rounds
 pub mod Reductions
+pub mod Rows
 pub mod Symbols
 pub mod Printed
 pub mod Answered

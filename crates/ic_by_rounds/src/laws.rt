@@ -1,9 +1,9 @@
 //! Laws of the definitions that the contracts of this crate cite.
 
-ghost use Rattle.std.specs.Prelude.{◌≡◌, ◌↔◌, ◌⊎◌, ℕ, ◌+◌, ◌≤◌, ◌==◌, ◌∷◌, IsTrue, Bool, List, None, Some, Ok, Err, false, length, sum_by};
+ghost use Rattle.std.specs.Prelude.{◌≡◌, ◌↔◌, ◌⊎◌, ℕ, suc, ◌+◌, ◌<◌, ◌≤◌, ◌==◌, ◌∷◌, IsTrue, Bool, List, None, Some, Ok, Err, codes, false, get_or, length, sum_by};
 ghost use Rattle.std.specs.List.{AllByRecursion, find, list_any};
 ghost use Rattle.ic_term.specs.Tree.{Pair};
-ghost use Rattle.ic_term.specs.Configuration.{Configuration};
+ghost use Rattle.ic_term.specs.Configuration.{Configuration, configuration_names, configuration_nodes};
 ghost use Rattle.ic_term.specs.Symbol.{Symbol};
 ghost use Rattle.ic_rules.specs.Rule.{Rule};
 ghost use Rattle.ic_round.specs.Firing.{active, rule_of_sides};
@@ -14,7 +14,9 @@ ghost use Rattle.ic_by_rounds.specs.Interacting.{interactions_of};
 ghost use Rattle.ic_by_rounds.specs.Pictures.{greatest, most_nodes};
 ghost use Rattle.ic_by_rounds.specs.Reductions.{EndsAs, Reduces};
 ghost use Rattle.ic_by_rounds.specs.Reducing.{IsReducedBy, IsRefusedAfter};
+ghost use Rattle.ic_by_rounds.specs.Objects.{row_object};
 ghost use Rattle.ic_by_rounds.specs.Stuck.{is_of_agents, stuck_text};
+ghost use Rattle.ic_by_rounds.specs.Tables.{head_line, row_line};
 ghost use Rattle.ic_by_rounds.specs.Traces.{TracedAs, TracesTo};
 ghost use Rattle.ic_by_rounds.specs.Tracing.{active_count, rows_of};
 ghost use Rattle.ic_by_rounds.specs.declared.ended.Ended.{Ended};
@@ -96,6 +98,28 @@ pub fn rows_count_interactions()
         ≡ sum_by (λ row. row.pairs) (rows_of rs c n)) }
     ensures places { (rs : List Rule) (c : Configuration)
         → active_count rs c ≡ length (active rs c) }
+{}
+
+/// The row at a place is that of the round with this number: how many equations were active before it, and what the
+/// configuration after it has.
+pub fn each_row_is_of_its_round()
+    ensures { (rs : List Rule) (c : Configuration) (n k : ℕ) (other : Row) → k < n
+        → get_or (rows_of rs c n) k other ≡ record {
+          round = k + 1;
+          pairs = active_count rs (iterate rs k c);
+          nodes = configuration_nodes (iterate rs (suc k) c);
+          equations = length (iterate rs (suc k) c).equations;
+          names = length (configuration_names (iterate rs (suc k) c));
+        } }
+{}
+
+/// A row by hand, in a table and as an object: each number stands under its own name.
+pub fn a_row_by_hand()
+    ensures line { row_line (record { round = 3; pairs = 5; nodes = 9; equations = 4; names = 2 })
+        ≡ codes "3\t5\t9\t4\t2\n" }
+    ensures head { head_line ≡ codes "round\tpairs\tnodes\tequations\tnames\n" }
+    ensures object { row_object (record { round = 3; pairs = 5; nodes = 9; equations = 4; names = 2 })
+        ≡ codes "{\"round\":3,\"pairs\":5,\"nodes\":9,\"equations\":4,\"names\":2}\n" }
 {}
 
 /// The greatest number of rows is the number of one of them, and none of them has a greater one. The most nodes of a

@@ -12,6 +12,7 @@ ghost use Rattle.ic_flights.specs.declared.limits.TheConstants.{MAX_ROUNDS};
 ghost use Rattle.ic_jobs.specs.declared.state.State.TheVariants.{Done, Halted};
 ghost use Rattle.ic_disk.specs.Images.{Torn};
 ghost use Rattle.ic_codec.specs.Tables.{IsFormOf};
+ghost use Rattle.ic_codec.specs.Worked.{one_plus_one};
 ghost use Rattle.ic_commands.specs.ReplyText.{state_text};
 ghost use Rattle.ic_jobs.specs.Job.{IsJob, JobParts, can_move};
 ghost use Rattle.ic_by_rounds.specs.Stuck.{is_of_agents, pair_text};
@@ -35,7 +36,7 @@ ghost use Rattle.ic_inspect.specs.Seeing.{IsSeen};
 ghost use Rattle.ic_inspect.specs.declared.halts.Halt.TheVariants as halt;
 ghost use Rattle.ic_inspect.specs.Halts.{halt_of};
 ghost use Rattle.ic_inspect.specs.Stuck.{stuck_of};
-ghost use Rattle.ic_inspect.specs.Objects.{stuck_field};
+ghost use Rattle.ic_inspect.specs.Objects.{job_object, stuck_field};
 ghost use Rattle.ic_inspect.specs.Held.{as_newest, held_of, newest_of};
 ghost use Rattle.ic_inspect.specs.Report.{active_pairs, counts_text, job_line, line, newest_text, report, slot_line, stuck_part, table_lines, told_held, halt_text, why_text};
 ghost use Rattle.ic_inspect.specs.Moments.{AreHeadsRead, AreSlotsRead, IsServed, IsServerStep, IsReadTwice, IsReadTwiceBetween, IsWholeNewest};
@@ -181,6 +182,12 @@ pub fn what_is_held_is_told_so()
         ≡ line (codes "held: damaged") }
     ensures counts { (nodes pairs : ℕ) → counts_text nodes pairs
         ≡ codes ", nodes " ++ decimal nodes ++ codes ", active pairs " ++ decimal pairs }
+{}
+
+/// The object of JSON of the job `two`, which adds one and one, by hand.
+pub fn a_job_by_hand()
+    ensures { job_object one_plus_one
+        ≡ codes "{\"job\":\"two\",\"state\":\"running\",\"rounds\":0,\"nodes\":7,\"active_pairs\":1}\n" }
 {}
 
 /// The active pairs of a job are its equations that a rule fires, each counted once.
