@@ -1,5 +1,5 @@
 -- Lemmas: what was read back of a machine that has stopped is what a reduction answers.
-use Rattle.std.proofs.Common.{◌≡◌, ℕ, suc, ◌+◌, ◌*◌, ◌^◌, ◌<◌, List, [], ◌∷◌, inl, inr, false, None, Some, IsTrue, length, map, slice_get, refl, sym, ap, ◌∙◌, subst as transport}
+use Rattle.std.proofs.Common.{◌≡◌, ℕ, suc, ◌+◌, ◌*◌, ◌^◌, ◌<◌, List, [], ◌∷◌, ◌++◌, inl, inr, false, None, Some, IsTrue, length, map, slice_get, refl, sym, ap, ◌∙◌, arith, subst as transport}
 use Rattle.std.proofs.lemmas.Bool.{false≢true}
 use Rattle.ic_in_place.specs.Reductions.{is_written, stuck_at}
 use Rattle.std.specs.Prelude.{◌↔◌, ◌⊎◌}
@@ -25,6 +25,7 @@ use Rattle.ic_machine.specs.Net.{Net, all_entries, equations_left, pieces, HasNe
 use Rattle.ic_machine.specs.Plan.{Plans}
 use Rattle.ic_meaning.specs.Words.{Numbers}
 use Rattle.ic_meaning.specs.Nets.{net_of}
+use Rattle.ic_meaning.specs.Plans.{rule_number}
 use Rattle.ic_readback.specs.declared.token.Token.{Token}
 use Rattle.ic_readback.specs.declared.token.Token.TheVariants.{Name, Agent}
 use Rattle.ic_readback.specs.Reading.{flat_words, configuration_read}
@@ -36,7 +37,7 @@ use Rattle.ic_in_place.specs.declared.running.TheConstants.{PIECE}
 use Rattle.ic_in_place.specs.Reducing.{CanInteract, IsPutTogether, HasEnds, EndsBy, StopsAt, HasPlaces, IsComeTo, IsReachedBy}
 use Rattle.ic_in_place.specs.Counting.{TellsNameSteps}
 use Rattle.ic_in_place.specs.Running.{HasPairs, IsFullNext}
-use Rattle.ic_in_place.specs.Holding.{AreGiven, IsHeldAt}
+use Rattle.ic_in_place.specs.Holding.{AreGiven, Holds, IsHeldAt}
 use Rattle.ic_in_place.specs.inner.Numbering.{written_numbers, HasNumber, IsNumbered}
 use Rattle.ic_in_place.specs.Stopping.{arities_of, StopsBy, HasCome, HasStopped}
 use Rattle.ic_in_place.specs.inner.Unwritten.{WritesAlike}
@@ -152,7 +153,7 @@ abbrev held_at : (s : SystemParts) (bounds : Bounds) (given : List ℕ) (m : Net
     → OneNet (net_of stopped.come.held.numbers m.interface (pieces m)) answer → IsHeldAt s.rules s.config answer stopped.come.fired places bounds.nodes
 held_at s bounds given m end places by_rule answer stopped net = record {
   machine = m;
-  first = stopped.first;
+  first = stopped.come.together;
   plans = stopped.come.plans;
   rule_numbers = stopped.come.rule_numbers;
   given = given;
@@ -162,15 +163,17 @@ held_at s bounds given m end places by_rule answer stopped net = record {
   starts = stopped.starts;
   none = stopped.none;
   no_aside = stopped.no_aside;
-  watched = stopped.watched;
-  by_plans = stopped.by_plans;
+  watched = stopped.come.watched;
+  by_plans = stopped.come.by_plans
+      ∙ ap (λ (l : List ℕ). l ++ map (rule_number stopped.come.rule_numbers) (stopped.come.watched.before ++ stopped.come.watched.after.fired)) stopped.first;
   held = stopped.come.held;
-  begun = stopped.begun;
+  begun = transport (λ (f : List ℕ). Holds s.rules stopped.come.plans s.config given f stopped.come.together) stopped.first stopped.come.was;
   one_net = net;
   all = stopped.come.all;
   enough = stopped.come.enough;
   tables = stopped.come.tables;
   pairs = stopped.come.pairs;
+  used = stopped.come.used;
 }
 
 -- the places of a machine that holds one net with what was read back
@@ -191,6 +194,15 @@ placed_at s bounds given m end places by_rule answer come net = record {
   tables = come.tables;
   pairs = come.pairs;
   equations = refl;
+  used = come.used;
+  together = come.together;
+  before = come.before;
+  was = come.was;
+  room = come.room;
+  names = come.names;
+  watched = come.watched;
+  by_plans = come.by_plans;
+  looked = come.looked;
   done = done_at bounds come.plans m end come.ended;
   over = over_at bounds come.plans m end come.ended;
   next = left_over bounds come.plans m end come.ended;
@@ -211,7 +223,8 @@ watched_so s bounds given m end places by_rule answer stopped net reached ended 
     counted = stopped.come.counted;
     within = stopped.come.within;
     held = held_at s bounds given m end places by_rule answer stopped net;
-    ended = watched_end s.rules.rules bounds answer m.interactions end stopped.looked ended;
+    ended = watched_end s.rules.rules bounds answer m.interactions end
+        (λ at. let is = stopped.come.looked at in let none = stopped.none in let whole = is.whole in (is.looks, omega (arith, whole, none))) ended;
     done = done_at bounds stopped.come.plans m end stopped.come.ended;
     over = over_at bounds stopped.come.plans m end stopped.come.ended;
     next = left_over bounds stopped.come.plans m end stopped.come.ended;

@@ -27,7 +27,7 @@ use Rattle.ic_round.specs.lemmas.ActiveRules.{FitsRule, oriented_rule, rule_with
 use Rattle.ic_confluence.specs.Kinds.{Kind, naming, firing, Chain}
 use Rattle.ic_reaching.specs.OneNet.{SameButNext}
 use Rattle.ic_reaching.specs.Reaching.{Reaches, rules_fired}
-use Rattle.ic_in_place.specs.Counting.{AreCounts, AreNameSteps, TellsNameSteps, arguments_at, name_steps}
+use Rattle.ic_in_place.specs.Counting.{AreCounts, AreNameSteps, TellsNameSteps, arguments_at, name_steps, names_at}
 use Rattle.ic_in_place.specs.declared.running.End.{End}
 use Rattle.ic_in_place.specs.declared.running.End.TheVariants.{Quiet, Steps, Nodes, Limit, Memory}
 use Rattle.ic_in_place.specs.Summing.{made_from}
@@ -228,31 +228,30 @@ weighted_past (w ∷ ws) j k low =
     let there = weighted_past ws j (k + 1) (omega (arith, low)) in
     omega (arith, here, none, there)
 
-weighted_one : (ws : List ℕ) (d j k : ℕ) → j ≡ k + d → d < length ws → weighted ws (unit j) k ≡ slice_index_or ws d 0
-weighted_one [] d j k e low = absurd (omega (arith, low))
-weighted_one (w ∷ ws) zero j k e low =
+weighted_one : (ws : List ℕ) (d j k : ℕ) → j ≡ k + d → weighted ws (unit j) k ≡ slice_index_or ws d 0
+weighted_one [] d j k e = refl
+weighted_one (w ∷ ws) zero j k e =
     let at : j ≡ k = omega (arith, e) in
     let here : unit j k * w ≡ 1 * w = ap (λ v. v * w) (ap (λ (i : ℕ). unit i k) at ∙ unit_same k) in
     let one : 1 * w ≡ w = omega arith in
     let there : weighted ws (unit j) (k + 1) ≡ 0 = weighted_past ws j (k + 1) (omega (arith, at)) in
     omega (arith, here, one, there)
-weighted_one (w ∷ ws) (suc d) j k e low =
+weighted_one (w ∷ ws) (suc d) j k e =
     let here : unit j k * w ≡ 0 * w = ap (λ v. v * w) (unit_other j k (λ q. omega (arith, q, e))) in
     let none : 0 * w ≡ 0 = omega arith in
-    let there = weighted_one ws d j (k + 1) (omega (arith, e)) (omega (arith, low)) in
+    let there = weighted_one ws d j (k + 1) (omega (arith, e)) in
     omega (arith, here, none, there)
 
 -- the weights of what fired
-weighted_fired : (ws fired : List ℕ) → AllByRecursion (λ i. i < length ws) fired
-    → weighted ws (λ i. count_by (λ j. j == i) fired) 0 ≡ sum_by (λ i. slice_index_or ws i 0) fired
-weighted_fired ws [] all = weighted_none ws 0
-weighted_fired ws (j ∷ js) all =
+weighted_fired : (ws fired : List ℕ) → weighted ws (λ i. count_by (λ j. j == i) fired) 0 ≡ sum_by (λ i. slice_index_or ws i 0) fired
+weighted_fired ws [] = weighted_none ws 0
+weighted_fired ws (j ∷ js) =
     let split : weighted ws (λ i. count_by (λ m. m == i) (j ∷ js)) 0 ≡ weighted ws (λ i. unit j i + count_by (λ m. m == i) js) 0 =
     weighted_same ws (λ i. count_by (λ m. m == i) (j ∷ js)) (λ i. unit j i + count_by (λ m. m == i) js) 0
     (λ i low high. sum_by-cons (λ m. cond (m == i) 1 0) j js) in
     let parts = weighted_plus ws (unit j) (λ i. count_by (λ m. m == i) js) 0 in
-    let one : weighted ws (unit j) 0 ≡ slice_index_or ws j 0 = weighted_one ws j j 0 (omega arith) all.0 in
-    let rest = weighted_fired ws js all.1 in
+    let one : weighted ws (unit j) 0 ≡ slice_index_or ws j 0 = weighted_one ws j j 0 (omega arith) in
+    let rest = weighted_fired ws js in
     let told = sum_by-cons (λ i. slice_index_or ws i 0) j js in
     split ∙ (parts ∙ omega (arith, one, rest, told))
 
@@ -261,14 +260,49 @@ made_weighted [] counts k = refl
 made_weighted (r ∷ rs) counts k = let there = made_weighted rs counts (k + 1) in omega (arith, there)
 
 -- the equations that the rules made, by how often each fired
-pub made_so : (rs : List Rule) (fired by_rule : List ℕ) → AllByRecursion (λ i. i < length rs) fired → AreCounts (length rs) fired by_rule
-    → made_from rs by_rule 0 ≡ sum_by (size_at rs) fired
-made_so rs fired by_rule all counts =
+pub made_so : (rs : List Rule) (fired by_rule : List ℕ) → AreCounts (length rs) fired by_rule → made_from rs by_rule 0 ≡ sum_by (size_at rs) fired
+made_so rs fired by_rule counts =
     let many : length (map size rs) ≡ length rs = length-map rs size in
     made_weighted rs by_rule 0
     ∙ (weighted_same (map size rs) (λ i. slice_index_or by_rule i 0) (λ i. count_by (λ j. j == i) fired) 0
     (λ i low high. counts.each i (omega (arith, high, many)))
-    ∙ weighted_fired (map size rs) fired (transport (λ (n : ℕ). AllByRecursion (λ i. i < n) fired) (sym many) all))
+    ∙ weighted_fired (map size rs) fired)
+
+-- the names of rules that fire so often, from a place on
+abbrev pub names_from : List Rule → List ℕ → ℕ → ℕ
+names_from [] counts k = 0
+names_from (r ∷ rs) counts k = slice_index_or counts k 0 * r.names + names_from rs counts (k + 1)
+
+abbrev names_of : Rule → ℕ
+names_of r = r.names
+
+names_weighted : (rs : List Rule) (counts : List ℕ) (k : ℕ) → names_from rs counts k ≡ weighted (map names_of rs) (λ i. slice_index_or counts i 0) k
+names_weighted [] counts k = refl
+names_weighted (r ∷ rs) counts k = let there = names_weighted rs counts (k + 1) in omega (arith, there)
+
+-- the names of the rules that fired, by how often each fired
+pub names_so : (rs : List Rule) (fired by_rule : List ℕ) → AreCounts (length rs) fired by_rule → names_from rs by_rule 0 ≡ sum_by (names_at rs) fired
+names_so rs fired by_rule counts =
+    let many : length (map names_of rs) ≡ length rs = length-map rs names_of in
+    names_weighted rs by_rule 0
+    ∙ (weighted_same (map names_of rs) (λ i. slice_index_or by_rule i 0) (λ i. count_by (λ j. j == i) fired) 0
+    (λ i low high. counts.each i (omega (arith, high, many)))
+    ∙ weighted_fired (map names_of rs) fired)
+
+-- the names that one more rule has
+pub names_step : (rs : List Rule) (counts : List ℕ) (i : ℕ) (r : Rule) → i < length rs → r ≡ slice_index_or rs i r
+    → names_from (drop i rs) counts i ≡ slice_index_or counts i 0 * r.names + names_from (drop (i + 1) rs) counts (i + 1)
+names_step rs counts i r low is =
+    let next : suc i ≡ i + 1 = omega arith in
+    let parts : drop i rs ≡ r ∷ drop (i + 1) rs = drop-cons rs i r low ∙ ((λ j. sym is j ∷ drop (next j) rs)) in
+    ap (λ l. names_from l counts i) parts
+
+-- no rule is left
+pub no_names : (k : ℕ) (rs : List Rule) (counts : List ℕ) (i : ℕ) → length rs ≤ k → names_from (drop k rs) counts i ≡ 0
+no_names zero [] counts i low = refl
+no_names (suc k) [] counts i low = refl
+no_names zero (r ∷ rs) counts i low = absurd (omega (arith, low))
+no_names (suc k) (r ∷ rs) counts i low = no_names k rs counts i (omega (arith, low))
 
 -- ---- all together
 
@@ -287,7 +321,7 @@ name_steps_so laws same rs c answer fired by_rule set over named reached counts 
     let counted : Counts rs kinds c end = chain_counts laws rs kinds c end set over named reached.2 in
     let many : length (rules_fired kinds) ≡ length fired = ap (length {A = ℕ}) reached.3 in
     let sums : sum_by (size_at rs.rules) (rules_fired kinds) ≡ sum_by (size_at rs.rules) fired = ap (sum_by (size_at rs.rules)) reached.3 in
-    let made = made_so rs.rules fired by_rule (transport (AllByRecursion (λ i. i < length rs.rules)) reached.3 counted.within) counts in
+    let made = made_so rs.rules fired by_rule counts in
     let left = same end answer reached.5 in (
       name_steps kinds,
       record { kinds = kinds; end = end; chain = reached.2; quiet = reached.4; count = refl },
@@ -357,7 +391,7 @@ counts_are_all rules fired by_rule all counts =
     sym (ones_summed by_rule (λ i. slice_index_or by_rule i 0) 0 (λ i low. ap (λ (j : ℕ). slice_index_or by_rule j 0) (zero-add i)))
     ∙ (weighted_same ws (λ i. slice_index_or by_rule i 0) (λ i. count_by (λ j. j == i) fired) 0
     (λ i low high. counts.each i (omega (arith, high, many, counts.all)))
-    ∙ (weighted_fired ws fired (transport (λ (n : ℕ). AllByRecursion (λ i. i < n) fired) (sym (many ∙ counts.all)) all)
+    ∙ (weighted_fired ws fired
     ∙ each_one rules by_rule fired counts.all all))
 
 -- what fired on the way was of rules that are there

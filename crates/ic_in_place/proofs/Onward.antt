@@ -1,10 +1,9 @@
 -- Lemmas: runs one after another.
-use Rattle.std.proofs.Common.{◌≡◌, ℕ, ap, ◌∙◌, List, [], ◌∷◌, ◌++◌}
+use Rattle.std.proofs.Common.{◌≡◌, List, [], ◌∷◌, ◌++◌}
 use Rattle.std.specs.List.{AllByRecursion}
 use Rattle.ic_machine.specs.Net.{Net}
 use Rattle.ic_machine.specs.Plan.{Plans}
 use Rattle.ic_machine.specs.Runs.{Ran}
-use Rattle.ic_in_place.specs.Running.{Looked, no_look, one_more_look}
 use Rattle.ic_machine.specs.lemmas.RunsOn.{ran_none, ran_none-fired, ran_on, ran_on-fired}
 
 pub all_of_both : {X : Type 0} (P : X → Type 0) (xs ys : List X) → AllByRecursion P xs → AllByRecursion P ys → AllByRecursion P (xs ++ ys)
@@ -25,11 +24,3 @@ ran_nothing p a = ran_none p a
 pub ran_nothing-fired : (p : Plans) (a : Net) → (ran_nothing p a).fired ≡ []
 unfolding ran_nothing
 ran_nothing-fired p a = ran_none-fired p a
-
--- looks are a run, by the plans that fired
-pub looked_ran : (p : Plans) (nodes allowed : ℕ) (fired : List ℕ) (first last : Net) → Looked p nodes allowed fired first last
-    → (run : Ran p first last) × (run.fired ≡ fired)
-looked_ran p nodes allowed fired first last (no_look m) = (ran_nothing p m, ran_nothing-fired p m)
-looked_ran p nodes allowed fired first last (one_more_look low high is a b c before next) =
-    let earlier = looked_ran p nodes low is a b before in
-    (ran_through p a b c earlier.0 next.ran, ran_through-fired p a b c earlier.0 next.ran ∙ ap (λ l. l ++ next.ran.fired) earlier.1)

@@ -8,18 +8,19 @@ use Rattle.ic_term.specs.Symbol.{is_over}
 use Rattle.ic_rules.specs.RuleSet.{Rules, IsRuleSet}
 use Rattle.ic_rules.specs.System.{SystemParts}
 use Rattle.ic_round.specs.Naming.{HasNames}
-use Rattle.ic_machine.specs.Net.{Net, all_entries, pieces, IsAtPlace, IsPair, IsStuck}
+use Rattle.ic_machine.specs.Net.{Net, all_entries, in_use, pieces, places_of, IsAtPlace, IsPair, IsStuck}
 use Rattle.ic_machine.specs.Plan.{Planned, Plans, ArePlans, IsPlan}
-use Rattle.ic_machine.specs.Runs.{IsStart, Ran}
+use Rattle.ic_machine.specs.Runs.{IsStart, Ran, Starts}
 use Rattle.ic_meaning.specs.Plans.{ArePlansOf, StandsForNet, rule_number}
 use Rattle.ic_in_place.specs.declared.running.Bounds.{Bounds}
 use Rattle.ic_in_place.specs.declared.running.End.{End}
 use Rattle.ic_in_place.specs.declared.running.End.TheVariants.{Quiet, Steps, Nodes, Limit, Memory}
-use Rattle.ic_in_place.specs.Holding.{AreGiven, AreCompiled, HasRun, Holds}
+use Rattle.ic_in_place.specs.Holding.{AreGiven, AreCompiled, HasRun, Holds, WereThere}
 use Rattle.ic_in_place.specs.Running.{IsLookedAt, IsWatched, RunsOn}
 use Rattle.ic_in_place.proofs.Counted.{summed_told}
 use Rattle.ic_in_place.specs.Summing.{IsSummed}
-use Rattle.ic_in_place.proofs.Onward.{all_of_both, looked_ran, ran_nothing, ran_nothing-fired, ran_through, ran_through-fired}
+use Rattle.ic_in_place.specs.lemmas.Watched.{watched_ran}
+use Rattle.ic_in_place.proofs.Onward.{all_of_both, ran_nothing, ran_nothing-fired}
 use Rattle.ic_machine.specs.lemmas.RunsOn.{ran_steps}
 use Rattle.ic_arena.specs.Piece.{Piece}
 use Rattle.ic_machine.specs.Steps.{Step, Steps as StepsOf, no_step, one_more, turns, puts, meets, joins, fires}
@@ -56,6 +57,13 @@ pub record StopLaws : Type 0 where
   pub reached : (rs : Rules) (numbers : List ℕ) (p : Plans) (c : Configuration) (given : List ℕ) (plan : Planned) (operands : List ℕ) (m : Net)
       → IsRuleSet rs → IsTrue (is_over rs.symbols c) → HasNames c → AreCompiled rs numbers p c given plan operands
       → (run : HasRun p (length given) plan operands m) → Holds rs p c given (map (rule_number numbers) run.ran.fired) m
+  pub used : (rs : Rules) (numbers : List ℕ) (p : Plans) (c : Configuration) (given : List ℕ) (plan : Planned) (operands : List ℕ) (m : Net)
+      → IsRuleSet rs → IsTrue (is_over rs.symbols c) → HasNames c → AreCompiled rs numbers p c given plan operands
+      → (run : HasRun p (length given) plan operands m) → (symbol : ℕ)
+      → WereThere rs c (map (rule_number numbers) run.ran.fired) symbol (slice_index_or m.agents symbol 0)
+  pub begun : (p : Plans) (given : ℕ) (plan : Planned) (operands : List ℕ) (n : Net) (kind : ℕ) → Starts p given plan operands n
+      → in_use kind (pieces n) ≤ places_of kind n
+  pub names : (p : Plans) (given : ℕ) (plan : Planned) (operands : List ℕ) (n : Net) → Starts p given plan operands n → n.names ≡ plan.names
 
 -- a run that goes on, by as many interactions as are left of those that may be made, stops by the bounds of all
 pub by_end : (bounds : Bounds) (steps : ℕ) (p : Plans) (old m : Net) (end : End) → bounds.steps ≡ old.interactions + steps
@@ -100,8 +108,8 @@ pub stopped_so : StopLaws → (s : SystemParts) (bounds : Bounds) (numbers : Lis
     → (by_rule : List ℕ) → IsSummed (length s.rules.rules) numbers m.counts by_rule → length numbers ≡ length p.plans → m.interactions < 2 ^ 64
     → HasStopped s bounds given by_rule m end places
 stopped_so laws s bounds numbers p given plan operands old m end places sound arities plans of_rules start stands are begun runs nodes looked all enough tables pairs watched by_rule summed numbered low =
-    let before = looked_ran p bounds.nodes watched.allowed watched.before old watched.mark watched.looked in
-    let ran : Ran p old m = ran_through p old watched.mark m before.0 watched.after in
+    let run_of = watched_ran p bounds.nodes old m watched in
+    let ran : Ran p old m = run_of.0 in
     let count : length (arities_of s) ≡ length s.rules.symbols = length-map s.rules.symbols (λ x. x.arity) in
     let compiled : AreCompiled s.rules numbers p s.config given plan operands = record {
       plans = plans;
@@ -151,17 +159,22 @@ stopped_so laws s bounds numbers p given plan operands old m end places sound ar
       enough = enough;
       aside = transport (AllByRecursion (IsStuck p)) (sym (ran.aside ∙ ap (λ es. es ++ ran.more) begun.aside)) ran.stuck;
       ended = by_end bounds bounds.steps p old m end (omega (arith, begun.none)) runs nodes looked;
+      used = laws.used s.rules numbers p s.config given plan operands m sound.rules sound.over sound.names compiled run;
+      together = old;
+      before = [];
+      was = transport (λ (f : List ℕ). Holds s.rules p s.config given f old) (ap (map (rule_number numbers)) (ran_nothing-fired p old))
+          (laws.reached s.rules numbers p s.config given plan operands old sound.rules sound.over sound.names compiled
+          (record { first = old; starts = begun.starts; separate = begun.separate; aside = begun.aside; ran = ran_nothing p old }));
+      room = λ kind. laws.begun p (length given) plan operands old kind begun.starts;
+      names = (let same = laws.names p (length given) plan operands old begun.starts in omega (arith, same));
+      watched = watched;
+      by_plans = ap (map (rule_number numbers)) run_of.1;
+      looked = looked;
     } in
     record {
       come = come;
       starts = begun.starts;
-      by_plans = ap (map (rule_number numbers)) (ran_through-fired p old watched.mark m before.0 watched.after ∙ ap (λ l. l ++ watched.after.fired) before.1);
-      first = old;
-      begun = transport (λ (f : List ℕ). Holds s.rules p s.config given f old) (ap (map (rule_number numbers)) (ran_nothing-fired p old))
-          (laws.reached s.rules numbers p s.config given plan operands old sound.rules sound.over sound.names compiled
-          (record { first = old; starts = begun.starts; separate = begun.separate; aside = begun.aside; ran = ran_nothing p old }));
+      first = refl;
       none = begun.none;
       no_aside = begun.aside;
-      watched = watched;
-      looked = λ at. let is : IsLookedAt p old m = looked at in (is.looks, omega (arith, is.whole, begun.none));
     }

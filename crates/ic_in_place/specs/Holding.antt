@@ -1,5 +1,5 @@
 -- What a machine holds that began with a configuration.
-use Rattle.std.specs.Prelude.{◌≡◌, ◌↔◌, ℕ, ◌+◌, ◌<◌, ◌≤◌, List, [], ◌++◌, Some, length, map, slice_get, sum}
+use Rattle.std.specs.Prelude.{◌≡◌, ◌↔◌, ℕ, ◌+◌, ◌<◌, ◌≤◌, List, [], ◌++◌, Some, length, map, slice_get, slice_index_or, sum}
 use Rattle.std.specs.List.{AllByRecursion}
 use Rattle.ic_term.specs.Configuration.{Configuration, configuration_names, occurrences}
 use Rattle.ic_rules.specs.RuleSet.{Rules}
@@ -14,6 +14,7 @@ use Rattle.ic_machine.specs.Separate.{IsSeparate}
 use Rattle.ic_meaning.specs.Words.{Numbers, AreNumbers}
 use Rattle.ic_meaning.specs.Nets.{net_of, AreNetPieces}
 use Rattle.ic_meaning.specs.Plans.{ArePlansOf, StandsForNet, rule_number}
+use Rattle.ic_in_place.specs.Agents.{agents_of_symbol}
 use Rattle.ic_in_place.specs.Running.{IsWatched}
 
 -- these are the names that occur once
@@ -51,9 +52,19 @@ pub record Holds (rs : Rules) (p : Plans) (c : Configuration) (given fired : Lis
   pub reached : Reaches rs.rules c (net_of numbers m.interface (pieces m)) fired
   pub free : AreGiven given (net_of numbers m.interface (pieces m))
 
+-- So many agents of this symbol were there at once: in a configuration that the first of these interactions lead to.
+pub record WereThere (rs : Rules) (c : Configuration) (fired : List ℕ) (symbol count : ℕ) : Type 0 where
+  pub net : Configuration
+  pub before : List ℕ
+  pub after : List ℕ
+  pub parts : fired ≡ before ++ after
+  pub reached : Reaches rs.rules c net before
+  pub enough : count ≤ agents_of_symbol symbol net
+
 -- A machine that has so many places, of names and for agents, the free ones too, holds one net with an answer. No more
 -- pieces are at them than there are places: places hold no equation, and no side of a pending one is a name of the net. It
--- began with the configuration, and these rules are those of the plans that fired since. Its places were watched on the way.
+-- began with the configuration, and these rules are those of the plans that fired since. Its places were watched on the way,
+-- and of each symbol it has no more than there were agents at once.
 pub record IsHeldAt (rs : Rules) (c answer : Configuration) (fired : List ℕ) (places nodes : ℕ) : Type 0 where
   pub machine : Net
   pub first : Net
@@ -75,6 +86,7 @@ pub record IsHeldAt (rs : Rules) (c answer : Configuration) (fired : List ℕ) (
   pub enough : length machine.places ≤ places
   pub tables : AllByRecursion IsAtPlace machine.places
   pub pairs : AllByRecursion IsPair machine.pending
+  pub used : (symbol : ℕ) → WereThere rs c fired symbol (slice_index_or machine.agents symbol 0)
 
 -- No pair is left to be looked at, and places hold no equation.
 pub record HasEnded (m : Net) : Type 0 where

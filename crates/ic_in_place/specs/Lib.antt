@@ -7,3 +7,4 @@ pub mod Reducing
 pub mod Reductions
 pub mod inner
 pub mod Agents
+pub mod lemmas

@@ -1,5 +1,5 @@
 -- What a system is reduced to in place (this project's choice).
-use Rattle.std.specs.Prelude.{◌≡◌, ◌⊎◌, ℕ, suc, ◌+◌, ◌*◌, ◌<◌, ◌≤◌, List, [], ◌++◌, IsTrue, length, sum}
+use Rattle.std.specs.Prelude.{◌≡◌, ◌⊎◌, ℕ, suc, ◌+◌, ◌*◌, ◌<◌, ◌≤◌, List, [], ◌++◌, IsTrue, length, map, slice_index_or, sum, sum_by}
 use Rattle.std.specs.List.{list_all, AllByRecursion}
 use Rattle.ic_term.specs.Tree.{Tree, name, agent, names, Pair}
 use Rattle.ic_term.specs.Configuration.{Configuration, configuration_names, occurrences}
@@ -15,16 +15,17 @@ use Rattle.ic_round.specs.Steps.{Interaction}
 use Rattle.ic_reaching.specs.Reaching.{Reaches}
 use Rattle.ic_text.specs.declared.limits.TheConstants.{MAX_NAME}
 use Rattle.ic_reaching.specs.OneNet.{OneNet}
-use Rattle.ic_machine.specs.Net.{Net, all_entries, equations_left, pieces, HasNext, IsAtPlace, IsPair}
+use Rattle.ic_machine.specs.Net.{Net, all_entries, equations_left, in_use, pieces, places_of, HasNext, IsAtPlace, IsPair}
 use Rattle.ic_machine.specs.Plan.{Planned, Plans}
 use Rattle.ic_meaning.specs.Nets.{net_of}
 use Rattle.ic_in_place.specs.declared.running.TheConstants.{PIECE}
 use Rattle.ic_in_place.specs.declared.running.Bounds.{Bounds}
 use Rattle.ic_in_place.specs.declared.running.End.{End}
 use Rattle.ic_in_place.specs.declared.running.End.TheVariants.{Quiet, Steps, Nodes, Limit, Memory}
-use Rattle.ic_in_place.specs.Running.{HasPairs, IsFullNext}
-use Rattle.ic_in_place.specs.Holding.{AreCompiled, Holds, IsHeldAt}
-use Rattle.ic_in_place.specs.Counting.{AreCounts}
+use Rattle.ic_meaning.specs.Plans.{rule_number}
+use Rattle.ic_in_place.specs.Running.{HasPairs, IsFullNext, IsLookedAt, IsWatched}
+use Rattle.ic_in_place.specs.Holding.{AreCompiled, Holds, IsHeldAt, WereThere}
+use Rattle.ic_in_place.specs.Counting.{AreCounts, names_at}
 
 -- a term is an agent, or a name that occurs once
 abbrev pub IsAgentOrFree : Configuration → Tree → Type 0
@@ -114,10 +115,13 @@ pub record IsComeTo (s : SystemParts) (bounds : Bounds) (answer : Configuration)
   pub counts : AreCounts (length s.rules.rules) fired by_rule
 
 -- The machine that held all in the end had so many places, of names and for agents, the free ones too, and so many equations
--- left. It holds one net with the answer, which is reached by these rules. At a quiet end no equation is pending. Where it
--- stopped for what it held, places and equations that are left were together more than the bound, and a pair that can fire
--- was left. Where it stopped at a limit, a table would be full. Where memory ran out, equations were left, and no side of one
--- is a name of the net.
+-- left. It holds one net with the answer, which is reached by these rules. Of each symbol it has no more places than there were
+-- agents at once. It has run on from what was reached before, and its places were watched since. Before, it had no more names
+-- than the plan of the configuration makes and the rules that had fired have.
+--
+-- At a quiet end no equation is pending. Where it stopped for what it held, that was at a look: places and equations that are
+-- left were together more than the bound, and a pair that can fire was left. Where it stopped at a limit, a table would be
+-- full. Where memory ran out, equations were left, and no side of one is a name of the net.
 pub record HasPlaces (s : SystemParts) (bounds : Bounds) (answer : Configuration) (end : End)
     (places left : ℕ) (fired : List ℕ) : Type 0 where
   pub machine : Net
@@ -134,6 +138,15 @@ pub record HasPlaces (s : SystemParts) (bounds : Bounds) (answer : Configuration
   pub tables : AllByRecursion IsAtPlace machine.places
   pub pairs : AllByRecursion IsPair machine.pending
   pub equations : left ≡ equations_left machine
+  pub used : (symbol : ℕ) → WereThere s.rules s.config fired symbol (slice_index_or machine.agents symbol 0)
+  pub together : Net
+  pub before : List ℕ
+  pub was : Holds s.rules plans s.config given before together
+  pub room : (kind : ℕ) → in_use kind (pieces together) ≤ places_of kind together
+  pub names : together.names ≤ plan.names + sum_by (names_at s.rules.rules) before
+  pub watched : IsWatched plans bounds.nodes together machine
+  pub by_plans : fired ≡ before ++ map (rule_number rule_numbers) (watched.before ++ watched.after.fired)
+  pub looked : end ≡ Nodes → IsLookedAt plans together machine
   pub done : end ≡ Quiet → machine.pending ≡ []
   pub over : end ≡ Nodes → bounds.nodes < all_entries machine
   pub next : end ≡ Nodes → HasNext plans machine.pending

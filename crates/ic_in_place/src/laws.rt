@@ -1,6 +1,6 @@
 //! Laws of what a machine holds, and of what is answered.
 
-ghost use Rattle.std.specs.Prelude.{◌≡◌, ◌≢◌, ℕ, suc, ◌+◌, ◌*◌, ◌^◌, ◌<◌, ◌≤◌, List, [], ◌∷◌, Option, SomeIff, Ok, IsTrue, length, map, sum, sum_by};
+ghost use Rattle.std.specs.Prelude.{◌≡◌, ◌≢◌, ℕ, suc, ◌+◌, ◌*◌, ◌^◌, ◌<◌, ◌≤◌, List, [], ◌∷◌, Option, SomeIff, Ok, IsTrue, length, map, slice_index_or, sum, sum_by};
 ghost use Rattle.std.specs.List.{AllByRecursion};
 ghost use Rattle.ic_term.specs.Configuration.{Configuration, configuration_names, occurrences};
 ghost use Rattle.ic_term.specs.Symbol.{is_over};
@@ -33,7 +33,7 @@ ghost use Rattle.ic_in_place.specs.Agents.{agents_with_arguments};
 ghost use Rattle.ic_in_place.specs.Counting.{AreCounts, AreNameSteps, TellsNameSteps, arguments_at, name_steps};
 ghost use Rattle.ic_in_place.specs.Reducing.{IsPutTogether, IsReached, IsReachedBy};
 ghost use Rattle.ic_in_place.specs.Reductions.{EndsAs, EndsOf, EndsWatched};
-ghost use Rattle.ic_in_place.specs.Holding.{AreCompiled, HasRun, Holds, HasEnded};
+ghost use Rattle.ic_in_place.specs.Holding.{AreCompiled, HasRun, Holds, HasEnded, WereThere};
 ghost use Rattle.ic_in_place.specs.Running.{IsLookedAt, RunsOn};
 ghost use Rattle.ic_in_place.specs.Stopping.{StopsBy};
 
@@ -42,8 +42,8 @@ pub fn runs_go_on()
     ensures { (p : Plans) (a b c : Net) → Ran p a b → Ran p b c → Ran p a c }
 {}
 
-/// What a machine holds is reached from the configuration that it began with, by the rules of the plans that fired. Where
-/// no pair is left, it is one net with a quiet configuration.
+/// What a machine holds is reached from the configuration that it began with, by the rules of the plans that fired. Of each
+/// symbol it has no more places than there were agents at once. Where no pair is left, it is one net with a quiet configuration.
 pub fn what_a_machine_holds_is_reached()
     ensures reached { (rs : Rules) (numbers : List ℕ) (p : Plans) (c : Configuration)
         (given : List ℕ) (plan : Planned) (operands : List ℕ) (m : Net)
@@ -51,6 +51,13 @@ pub fn what_a_machine_holds_is_reached()
         → AreCompiled rs numbers p c given plan operands
         → (run : HasRun p (length given) plan operands m)
         → Holds rs p c given (map (rule_number numbers) run.ran.fired) m }
+    ensures used { (rs : Rules) (numbers : List ℕ) (p : Plans) (c : Configuration)
+        (given : List ℕ) (plan : Planned) (operands : List ℕ) (m : Net)
+        → IsRuleSet rs → IsTrue (is_over rs.symbols c) → HasNames c
+        → AreCompiled rs numbers p c given plan operands
+        → (run : HasRun p (length given) plan operands m) → (symbol : ℕ)
+        → WereThere rs c (map (rule_number numbers) run.ran.fired) symbol
+        (slice_index_or m.agents symbol 0) }
     ensures ends { (rs : Rules) (numbers : List ℕ) (p : Plans) (c : Configuration)
         (given fired : List ℕ) (plan : Planned) (operands : List ℕ) (m : Net)
         → IsRuleSet rs → AreCompiled rs numbers p c given plan operands
@@ -283,12 +290,15 @@ pub fn a_line_is_the_net_of_every_order()
 }
 
 /// What is told of a system that one thread reduces is what is told of it where several do, word for word. Beside that it is
-/// told of one thread how its places were watched on the way.
+/// told of one thread how its places were watched from the beginning on.
 pub fn one_thread_tells_what_several_tell()
     ensures { (s : SystemParts) (bounds : Bounds) (asked : Asked) (outcome : Outcome)
         (line : List ℕ) → EndsWatched s bounds asked outcome line
         → EndsOf s bounds asked outcome line }
-{}
+{
+    ic_machine::laws::places_are_those_that_were_in_use();
+    ic_machine::laws::places_are_made_by_plans();
+}
 
 /// Where a reduction ends quiet, by one thread or by several, its answer is the net of every order: each chain of steps that
 /// ends quiet ends in it, with as many interactions, of each rule too. If its line is asked for, it is that of this answer.

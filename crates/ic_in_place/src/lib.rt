@@ -13,7 +13,7 @@ mod stream;
 mod stuck;
 mod writing;
 
-pub use counting::{no_counts, sum_by_rule};
+pub use counting::{names_made, no_counts, sum_by_rule};
 pub use reducing::{Reduced, Stopped, begin, reduce_in_place};
 pub use running::{Bounds, End, PIECE, Watch, names_until_sweep, run_in_pieces, sweep_if_due};
 pub use stream::{Asked, Outcome, is_written, reduce_in_place_stream, stopped_line};

@@ -186,6 +186,8 @@ pub(crate) fn run_system<V: Watch>(
         stopped.by_rule.items stopped.machine stopped.end stopped.places) }
 {
     crate::laws::what_a_machine_holds_is_reached();
+    ic_machine::laws::places_are_those_that_were_in_use();
+    ic_machine::laws::places_are_made_by_plans();
     systems_are_sound(system);
     let (program, numbers) = compile(alloc, system.rules())?;
     let first = first_plan(alloc, system)?;

@@ -16,7 +16,7 @@ use Rattle.ic_in_place.specs.declared.running.End.{End}
 use Rattle.ic_in_place.specs.declared.running.End.TheVariants.{Limit}
 use Rattle.ic_in_place.specs.Running.{IsFullNext, Looked, no_look, one_more_look}
 use Rattle.ic_in_place.specs.Holding.{AreCompiled}
-use Rattle.ic_in_place.specs.Reducing.{IsReached}
+use Rattle.ic_in_place.specs.Reducing.{HasPlaces, IsReached}
 use Rattle.ic_in_place_laws.specs.Nodes.{nodes_at}
 use Rattle.ic_in_place_laws.proofs.Linked.{net_links}
 use Rattle.ic_in_place_laws.proofs.Sizes.{net_few}
@@ -152,6 +152,27 @@ module _ (laws : PlaceLaws) (s : SystemParts) (bounds : Bounds) (answer : Config
       let counted = is.held.watched.after.counted in
       let near = is.held.watched.near in
       omega (arith, is.held.all, few, later, most, linked, links_most, least, counted, near)
+
+-- the same of the last machine of several threads, since all was put together
+pub several_near : PlaceLaws → (s : SystemParts) (bounds : Bounds) (answer : Configuration) (end : End) (places left : ℕ) (fired : List ℕ)
+    → IsRuleSet s.rules → (h : HasPlaces s bounds answer end places left fired)
+    → places + left ≤ max bounds.nodes (all_places h.together + equations_in (pieces h.together)) + 4096 * 4096
+several_near laws s bounds answer end places left fired set h =
+    let p : Plans = h.plans in
+    let w = h.watched in
+    let marked = looked_grown laws p bounds.nodes w.allowed w.before h.together w.mark w.looked h.room in
+    let later = laws.fired p w.mark h.machine w.after marked.uses in
+    let after_fired = way_fired p w.after.fired w.after.moments (pieces w.mark) (pieces h.machine) w.after.way in
+    let most = fired_most s.rules h.rule_numbers p w.after.fired set h.compiled.plans h.compiled.of_rules after_fired in
+    let links_most = fired_links_most s.rules h.rule_numbers p w.after.fired set h.compiled.plans h.compiled.of_rules after_fired in
+    let linked = laws.linked p w.mark h.machine w.after in
+    let least = laws.least h.machine in
+    let held = marked.held in
+    let counted = w.after.counted in
+    let near = w.near in
+    let all = h.all in
+    let equations = h.equations in
+    omega (arith, all, equations, held, later, most, linked, links_most, least, counted, near)
 
 item_few : (xs : List ℕ) (i : ℕ) → slice_index_or xs i 0 ≤ sum xs
 item_few [] i = omega arith

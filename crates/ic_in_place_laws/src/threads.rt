@@ -1,13 +1,14 @@
 //! Laws of what a reduction tells, by however many threads it was made.
 
-ghost use Rattle.std.specs.Prelude.{◌≡◌, ◌≢◌, ◌⊎◌, ℕ, ◌+◌, ◌^◌, ◌<◌, ◌≤◌, List, [], true, false, Option, None, SomeIff, length, slice_index_or, sum_by};
+ghost use Rattle.std.specs.Prelude.{◌≡◌, ◌≢◌, ◌⊎◌, ℕ, suc, ◌+◌, ◌*◌, ◌^◌, ◌<◌, ◌≤◌, ◌++◌, List, [], true, false, Option, None, SomeIff, length, max, slice_index_or, sum_by};
 ghost use Rattle.std.specs.List.{AllByRecursion};
 ghost use Rattle.std.specs.Arc.{arc_value};
 ghost use Rattle.std.specs.Option.{option_map};
-ghost use Rattle.ic_term.specs.Configuration.{Configuration};
+ghost use Rattle.ic_term.specs.Configuration.{Configuration, configuration_names};
 ghost use Rattle.ic_rules.specs.System.{SystemParts};
 ghost use Rattle.ic_round.specs.Rounds.{IsQuiet, iterate};
-ghost use Rattle.ic_machine.specs.Net.{equations_in, pieces, IsPair};
+ghost use Rattle.ic_machine.specs.Net.{all_places, equations_in, pieces, IsPair};
+ghost use Rattle.ic_meaning.specs.Nets.{net_of};
 ghost use Rattle.ic_confluence.specs.Kinds.{Kind, Chain};
 ghost use Rattle.ic_reaching.specs.OneNet.{OneNet, SameButNext};
 ghost use Rattle.ic_reaching.specs.Reaching.{Reaches, rules_fired};
@@ -16,11 +17,13 @@ ghost use Rattle.ic_streams.specs.Streams.{line_of};
 ghost use Rattle.ic_by_rounds.specs.Stuck.{stuck_text};
 ghost use Rattle.ic_by_rounds.specs.Tracing.{rows_of};
 ghost use Rattle.ic_in_place.specs.declared.running.Bounds.{Bounds};
+ghost use Rattle.ic_in_place.specs.declared.running.End.{End};
 ghost use Rattle.ic_in_place.specs.declared.running.End.TheVariants.{Quiet, Steps, Nodes, Limit, Memory};
 ghost use Rattle.ic_in_place.specs.declared.stream.Asked.{Asked};
 ghost use Rattle.ic_in_place.specs.declared.stream.Outcome.{Outcome};
-ghost use Rattle.ic_in_place.specs.Counting.{name_steps};
-ghost use Rattle.ic_in_place.specs.Reducing.{HasEnds, IsPutTogether};
+ghost use Rattle.ic_in_place.specs.Agents.{agents_of_symbol};
+ghost use Rattle.ic_in_place.specs.Counting.{name_steps, names_at};
+ghost use Rattle.ic_in_place.specs.Reducing.{HasEnds, IsPutTogether, IsReached};
 ghost use Rattle.ic_in_place.specs.Reductions.{EndsOf, is_written};
 
 /// What the line says. It is of a configuration that is reached by as many interactions as are told. Where it is written, that
@@ -142,6 +145,54 @@ pub fn rounds_fire_as_many_pairs_as_several()
 {
     ic_in_place::laws::by_however_many_threads_the_end_is_that_of_every_order();
     ic_by_rounds::laws::rows_count_interactions();
+}
+
+/// Of each symbol the last machine of several threads, or the machine of one, has no more places than there were agents at
+/// once: in some configuration that the first of the interactions lead to. As all is put together, it has no more names than the
+/// configuration and the rules that had fired.
+pub fn places_of_several_were_in_use()
+    ensures agents { (s : SystemParts) (bounds : Bounds) (asked : Asked) (outcome : Outcome)
+        (line : List ℕ) → (is : EndsOf s bounds asked outcome line) → (symbol : ℕ)
+        → (d : Configuration) × (before after : List ℕ) × (is.reached.fired ≡ before ++ after)
+        × Reaches s.rules.rules s.config d before
+        × (slice_index_or is.places.machine.agents symbol 0 ≤ agents_of_symbol symbol d) }
+    ensures of_one { (s : SystemParts) (bounds : Bounds) (answer : Configuration) (end : End)
+        (interactions places : ℕ) → (is : IsReached s bounds answer end interactions places)
+        → (symbol : ℕ) → (d : Configuration) × (before after : List ℕ) × (is.fired ≡ before ++ after)
+        × Reaches s.rules.rules s.config d before
+        × (slice_index_or is.held.machine.agents symbol 0 ≤ agents_of_symbol symbol d) }
+    ensures names { (s : SystemParts) (bounds : Bounds) (asked : Asked) (outcome : Outcome)
+        (line : List ℕ) → (is : EndsOf s bounds asked outcome line) → is.places.together.names
+        ≤ length (configuration_names s.config) + sum_by (names_at s.rules.rules) is.places.before }
+{
+    crate::places::a_machine_begins_with_what_its_configuration_has();
+}
+
+/// The last machine runs on from what was reached before by all, and is looked at as that of one thread is. It is told that
+/// there were too many places and equations only at a look, after each 4,096 interactions. They pass the bound, or what there
+/// was before, by no more than so many interactions may make.
+pub fn the_last_machine_is_looked_at()
+    ensures before { (s : SystemParts) (bounds : Bounds) (asked : Asked) (outcome : Outcome)
+        (line : List ℕ) → (is : EndsOf s bounds asked outcome line)
+        → Reaches s.rules.rules s.config (net_of is.places.was.numbers
+        is.places.together.interface (pieces is.places.together)) is.places.before }
+    ensures onward { (s : SystemParts) (bounds : Bounds) (asked : Asked) (outcome : Outcome)
+        (line : List ℕ) → (is : EndsOf s bounds asked outcome line)
+        → (since : List ℕ) × (is.reached.fired ≡ is.places.before ++ since)
+        × (is.places.machine.interactions ≡ is.places.together.interactions + length since) }
+    ensures looked { (s : SystemParts) (bounds : Bounds) (asked : Asked) (outcome : Outcome)
+        (line : List ℕ) → (is : EndsOf s bounds asked outcome line) → outcome.end ≡ Nodes
+        → (looks : ℕ) × (is.places.machine.interactions
+        ≡ is.places.together.interactions + suc looks * 4096) }
+    ensures near { (s : SystemParts) (bounds : Bounds) (asked : Asked) (outcome : Outcome)
+        (line : List ℕ) → (is : EndsOf s bounds asked outcome line)
+        → outcome.places + outcome.left
+        ≤ max bounds.nodes (all_places is.places.together + equations_in (pieces is.places.together))
+        + 4096 * 4096 }
+{
+    ic_machine::laws::places_are_those_that_were_in_use();
+    ic_machine::laws::places_are_made_by_plans();
+    ic_machine::laws::equations_are_made_by_plans();
 }
 
 /// A table is told to be full only where one has 2^32 entries, that of names or that of a symbol's agents, less those of one

@@ -25,7 +25,7 @@ use Rattle.ic_workers.proofs.Apart.{apart_by_count}
 use Rattle.ic_workers.proofs.Working.{AreFree, AreRooms, all_fired, worked_steps}
 
 -- cuts are in a room of their own
-cuts_outside : (arities : List ℕ) (k : ℕ) (cs : List ℕ) → (k < ROOMS) × (k ≡ 0 → ⊥) → IsOutside arities k (map (λ c. idle (cut_word c)) cs)
+pub cuts_outside : (arities : List ℕ) (k : ℕ) (cs : List ℕ) → (k < ROOMS) × (k ≡ 0 → ⊥) → IsOutside arities k (map (λ c. idle (cut_word c)) cs)
 cuts_outside arities k [] is w place = refl
 cuts_outside arities k (c ∷ cs) is w place =
     let a = sum_by-cons (room (in_room arities k w)) (idle (cut_word c)) (map (λ (d : ℕ). idle (cut_word d)) cs) in

@@ -9,13 +9,13 @@ use Rattle.std.proofs.lemmas.List.Sorted.{IsPermutation-refl, IsPermutation-sym,
 use Rattle.ic_arena.specs.declared.word.Word.{Word}
 use Rattle.ic_machine.specs.Moving.{Ends, spells_cut, worth, KeepWorth}
 use Rattle.ic_in_place.specs.Stopping.{IsBegun}
-use Rattle.ic_machine.specs.Net.{Net, pieces, IsStuck}
+use Rattle.ic_machine.specs.Net.{Net, pieces, places_of, IsStuck}
 use Rattle.ic_machine.specs.Plan.{Planned, Plans}
 use Rattle.ic_machine.specs.Separate.{IsSeparate}
 use Rattle.ic_workers.specs.Parts.{Part}
 use Rattle.ic_workers.specs.declared.kept.Kept.{Kept}
 use Rattle.ic_workers.specs.declared.desk.Desk.{Desk}
-use Rattle.ic_workers.specs.inner.HandsOn.{Come, HandsOn, HaveWorked, IsBare, IsNew, stayed, ordered, worked, handed, added}
+use Rattle.ic_workers.specs.inner.HandsOn.{Come, HaveWorked, IsBare, IsNew, stayed, ordered, worked, added}
 use Rattle.ic_workers.specs.inner.Keeping.{interactions_of, part_of, parts_at, slot, slots_at, AreAt, AreFit, AreWithin, Changes, Comes, IsDesk, IsKept, KeepsDesk}
 use Rattle.ic_workers.proofs.Lists.{all_of_both, all_of_permutation, all_of_right, flat_last, flat_of_map, get_map, map_set, one_in, one_out, others, same_flat, same_length}
 use Rattle.ic_workers.proofs.Slots.{at_end, at_set, at_slot, at_within, full_slot}
@@ -225,14 +225,14 @@ desk_added p d e k desk bare kept number borders few items made =
           omega (arith, a, b, x, none, so_far, made);
     }
 
-pub come_added : (p : Plans) (d e : Desk) (k : Kept) → IsDesk p d → IsBare (part_of k) → IsKept p (part_of k) → k.number ≡ length d.parts.items
+pub come_added : (p : Plans) (d e : Desk) (k : Kept) → IsDesk p d → IsBare (part_of k) → ((kind : ℕ) → places_of kind k.machine ≡ 0) → IsKept p (part_of k) → k.number ≡ length d.parts.items
     → k.borders ≡ new_ends k.number → length d.parts.items < 512 → e.parts.items ≡ d.parts.items ++ Some k ∷ [] → Come p (parts_at d) (parts_at e)
-come_added p d e k desk bare kept number borders few items =
+come_added p d e k desk bare none kept number borders few items =
     let q : Part = part_of k in
     let parts : parts_at e ≡ parts_at d ++ q ∷ [] = ap (flat_map slot) items ∙ flat_last slot d.parts.items (Some k) in
     subst (Come p (parts_at d)) (sym parts)
     (ordered (parts_at d) (q ∷ parts_at d) (parts_at d ++ q ∷ [])
-    (added q (parts_at d) (parts_at d) (stayed (parts_at d) (parts_at d) (IsPermutation-refl (parts_at d))) bare (is_new p d k desk kept number borders few) kept.plans)
+    (added q (parts_at d) (parts_at d) (stayed (parts_at d) (parts_at d) (IsPermutation-refl (parts_at d))) bare (is_new p d k desk kept number borders few) kept.plans none)
     (IsPermutation-sym (parts_at d ++ q ∷ []) (q ∷ parts_at d) (IsPermutation-to_front (parts_at d) q)))
 
 -- ---- a part in a slot changes
@@ -394,6 +394,3 @@ comes_on d e f first then p desk =
     let one = first p desk in
     let two = then p one.1 in
     (come_on p (parts_at d) (parts_at e) (parts_at f) one.0 two.0, two.1)
-
-pub comes_handed : (p : Plans) (d e : Desk) → HandsOn p.arities (parts_at d) (parts_at e) → Come p (parts_at d) (parts_at e)
-comes_handed p d e hands = handed (parts_at d) (parts_at d) (parts_at e) (stayed (parts_at d) (parts_at d) (IsPermutation-refl (parts_at d))) hands

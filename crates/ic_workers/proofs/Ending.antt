@@ -1,5 +1,5 @@
 -- Lemmas: what a machine holds that has all that parts had, and has run since.
-use Rattle.std.proofs.Common.{◌++◌, ◌+◌, ◌-◌, ◌<◌, ◌==◌, ◌∙◌, ◌∷◌, ◌≡◌, ℕ, List, [], arith, cond, count_by, length, map, slice_index_or, subst as transport, sym}
+use Rattle.std.proofs.Common.{◌++◌, ◌+◌, ◌-◌, ◌==◌, ◌∙◌, ◌∷◌, ◌≡◌, ℕ, List, [], arith, cond, length, map, refl, slice_index_or, subst as transport, sym}
 use Rattle.std.proofs.lemmas.List.{length-append, map-append}
 use Rattle.std.proofs.lemmas.List.Sums.{sum_by-append, sum_by-cons}
 use Rattle.std.specs.Prelude.{IsTrue}
@@ -21,26 +21,21 @@ use Rattle.ic_workers.proofs.Given.{StepLaws}
 use Rattle.ic_workers.proofs.Known.{known_both, known_plans}
 use Rattle.ic_workers.proofs.Led.{come_led, given_on}
 use Rattle.ic_workers.proofs.Whole.{whole_holds}
-use Rattle.ic_workers.specs.inner.HandsOn.{Come, IsAllOf, added, handed, ordered, stayed, worked}
-use Rattle.ic_in_place.specs.Holding.{AreGiven, Holds}
+use Rattle.ic_workers.specs.inner.HandsOn.{IsAllOf}
+use Rattle.ic_in_place.specs.Holding.{AreGiven, WereThere}
+use Rattle.ic_in_place.specs.lemmas.There.{ran_there, were_fewer}
 use Rattle.ic_workers.specs.Parts.{Hold, Part}
 use Rattle.ic_workers.specs.inner.Sent.{HasAll}
-
--- what parts come to comes further
-pub come_through : (p : Plans) (qs rs ss : List Part) → Come p qs rs → Come p rs ss → Come p qs ss
-come_through p qs rs ss first (stayed a b moved) = ordered qs a b first moved
-come_through p qs rs ss first (ordered a b c second moved) = ordered qs b c (come_through p qs a b first second) moved
-come_through p qs rs ss first (worked a b c second ran) = worked qs b c (come_through p qs a b first second) ran
-come_through p qs rs ss first (handed a b c second hands) = handed qs b c (come_through p qs a b first second) hands
-come_through p qs rs ss first (added q a b second bare new own) = added q qs b (come_through p qs a b first second) bare new own
 
 -- What parts had that held the configuration, one machine has.
 pub all_has : StepLaws → (rs : Rules) (numbers : List ℕ) (p : Plans) (c : Configuration) (given : List ℕ) (first : Part) (m : Net)
     → IsRuleSet rs → IsTrue (is_over rs.symbols c) → HasNames c → ArePlans p → ArePlansOf rs numbers p → AreGiven given c
     → Hold rs p c given [] (first ∷ []) → first.net.interactions ≡ 0 → ((i : ℕ) → slice_index_or first.net.counts i 0 ≡ 0)
-    → length first.net.counts ≡ length p.plans → IsAllOf p (first ∷ []) m → HasAll rs numbers p c given m
-all_has laws rs numbers p c given first m set over named plans of_rules free held none empty counted all =
-    let led = come_led laws rs numbers p c given [] (first ∷ []) (all.part ∷ []) set over named plans of_rules free held (counted, tt) all.come in
+    → length first.net.counts ≡ length p.plans → ((symbol : ℕ) → WereThere rs c [] symbol (slice_index_or first.net.agents symbol 0))
+    → IsAllOf p (first ∷ []) m → HasAll rs numbers p c given m
+all_has laws rs numbers p c given first m set over named plans of_rules free held none empty counted were all =
+    let led = come_led laws rs numbers p c given [] (first ∷ []) (all.part ∷ []) set over named plans of_rules free held (counted, tt)
+    (λ symbol. record { most = slice_index_or first.net.agents symbol 0; were = were symbol; within = (omega arith, tt) }) all.come in
     let holds = whole_holds laws rs p c given (map (rule_number numbers) led.fired) all.part set over named free led.hold in
     transport (HasAll rs numbers p c given) all.is (record {
       fired = led.fired;
@@ -56,12 +51,14 @@ all_has laws rs numbers p c given first m set over named plans of_rules free hel
           let nothing_yet = empty i in
           omega (arith, so_far, one, two, nothing_yet));
       counted = led.counted.0;
+      used = λ symbol. let use_of = led.used symbol in
+          were_fewer rs c (map (rule_number numbers) led.fired) symbol (slice_index_or all.part.net.agents symbol 0) use_of.most use_of.within.0 use_of.were;
     })
 
 -- It does after it has run.
 pub ran_has : StepLaws → (rs : Rules) (numbers : List ℕ) (p : Plans) (c : Configuration) (given : List ℕ) (m n : Net)
     → IsRuleSet rs → IsTrue (is_over rs.symbols c) → HasNames c → ArePlans p → ArePlansOf rs numbers p → AreGiven given c
-    → HasAll rs numbers p c given m → Ran p m n → HasAll rs numbers p c given n
+    → (has : HasAll rs numbers p c given m) → (run : Ran p m n) → (now : HasAll rs numbers p c given n) × (now.fired ≡ has.fired ++ run.fired)
 ran_has laws rs numbers p c given m n set over named plans of_rules free has ran =
     let held = has.holds in
     let numbering : Numbers = held.numbers in
@@ -77,26 +74,30 @@ ran_has laws rs numbers p c given m n set over named plans of_rules free has ran
     let d : Configuration = net_of numbering n.interface (pieces n) in
     let reached : Reaches rs.rules c d (map (rule_number numbers) more) =
     transport (λ (i : List Word). Reaches rs.rules c (net_of numbering i (pieces n)) (map (rule_number numbers) more)) (sym ran.interface)
-    (transport (λ (l : List ℕ). Reaches rs.rules c (net_of numbering m.interface (pieces n)) l) fired_are reached_old) in
-    record {
-      fired = more;
-      holds = record {
-        numbers = numbering;
-        sound = held.sound;
-        arities = held.arities;
-        names = held.names;
-        are_pieces = transport (λ (i : List Word). AreNetPieces p.arities i (pieces n)) (sym ran.interface)
-            (laws.kept p m.interface ran.fired (pieces m) (pieces n) plans held.are_pieces steps);
-        has_names = laws.names rs.rules c d (map (rule_number numbers) more) reached;
-        reached = reached;
-        free = given_on laws rs c d given (map (rule_number numbers) more) set over named free reached;
-      };
-      made = (let so_far = has.made in let here = ran.counted in let both = length-append has.fired ran.fired in omega (arith, so_far, here, both));
-      known = known_both p has.fired ran.fired has.known (known_plans p (pieces m) (pieces n) ran.fired steps);
-      counts = λ i low. (let so_far = has.counts i low in
-          let long = has.counted in
-          let here = ran.counts.each i (omega (arith, low, long)) in
-          let both = sum_by-append (λ (j : ℕ). cond {A = ℕ} (j == i) 1 0) has.fired ran.fired in
-          omega (arith, so_far, here, both));
-      counted = ran.counts.all ∙ has.counted;
-    }
+    (transport (λ (l : List ℕ). Reaches rs.rules c (net_of numbering m.interface (pieces n)) l) fired_are reached_old) in (
+      record {
+        fired = more;
+        holds = record {
+          numbers = numbering;
+          sound = held.sound;
+          arities = held.arities;
+          names = held.names;
+          are_pieces = transport (λ (i : List Word). AreNetPieces p.arities i (pieces n)) (sym ran.interface)
+              (laws.kept p m.interface ran.fired (pieces m) (pieces n) plans held.are_pieces steps);
+          has_names = laws.names rs.rules c d (map (rule_number numbers) more) reached;
+          reached = reached;
+          free = given_on laws rs c d given (map (rule_number numbers) more) set over named free reached;
+        };
+        made = (let so_far = has.made in let here = ran.counted in let both = length-append has.fired ran.fired in omega (arith, so_far, here, both));
+        known = known_both p has.fired ran.fired has.known (known_plans p (pieces m) (pieces n) ran.fired steps);
+        counts = λ i low. (let so_far = has.counts i low in
+            let long = has.counted in
+            let here = ran.counts.each i (omega (arith, low, long)) in
+            let both = sum_by-append (λ (j : ℕ). cond {A = ℕ} (j == i) 1 0) has.fired ran.fired in
+            omega (arith, so_far, here, both));
+        counted = ran.counts.all ∙ has.counted;
+        used = λ symbol. transport (λ (l : List ℕ). WereThere rs c l symbol (slice_index_or n.agents symbol 0)) fired_are
+            (ran_there laws.reached laws.kept rs numbers p c given (map (rule_number numbers) has.fired) m n symbol set over named plans of_rules held ran (has.used symbol));
+      },
+      refl,
+    )

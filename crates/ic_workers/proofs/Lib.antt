@@ -17,6 +17,8 @@ pub mod Dropping
 pub mod Handing
 pub mod Working
 pub mod Coming
+pub mod Roomy
+pub mod There
 pub mod Led
 pub mod Gathered
 pub mod Whole

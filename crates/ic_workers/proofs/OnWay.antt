@@ -108,7 +108,7 @@ packed_each arities full rest ws ts (gone a mid b e vs us places ends more) each
     packed_each arities mid b vs us more (all_order (IsPiece arities) a.places (idle (end_word e) ∷ mid.places) places each).1
 
 -- what is there then is of those that were, or as it is to be
-unpacked_each : (arities : List ℕ) (full rest : Side) (ws ts : List Word) → Spells arities full rest ws ts → ArePieces arities rest.places → ArePieces arities full.places
+pub unpacked_each : (arities : List ℕ) (full rest : Side) (ws ts : List Word) → Spells arities full rest ws ts → ArePieces arities rest.places → ArePieces arities full.places
 unpacked_each arities full rest ws ts (nothing a b places ends) each = all_order (IsPiece arities) b.places a.places (IsPermutation-sym a.places b.places places) each
 unpacked_each arities full rest ws ts (follow a mid b x u vs us tag places ends more) each =
     all_order (IsPiece arities) (waits x u ∷ mid.places) a.places (IsPermutation-sym a.places (waits x u ∷ mid.places) places)

@@ -25,7 +25,7 @@ all_fired p (q ∷ qs) [] worked = []
 all_fired p (q ∷ qs) (r ∷ rs) worked = worked.0.ran.fired ++ all_fired p qs rs worked.1
 
 -- a part between others goes to the front, and its ends of cuts after it
-part_first : (before own ends after : List Piece)
+pub part_first : (before own ends after : List Piece)
     → IsPermutation (before ++ ((own ++ ends) ++ after)) (own ++ (before ++ (ends ++ after)))
 part_first before own ends after =
     subst (λ (l : List Piece). IsPermutation (before ++ l) (own ++ (before ++ (ends ++ after)))) (sym (append_assoc own ends after))

@@ -1,6 +1,6 @@
 //! Laws of parts that hand on, for functions of this crate.
 
-ghost use Rattle.std.specs.Prelude.{◌≡◌, ◌⊎◌, ℕ, ◌<◌, ◌≤◌, List, [], ◌∷◌, IsTrue, length, map, slice_index_or, sum_by};
+ghost use Rattle.std.specs.Prelude.{◌≡◌, ◌⊎◌, ℕ, ◌<◌, ◌≤◌, List, [], ◌∷◌, ◌++◌, IsTrue, length, map, slice_index_or, sum_by};
 ghost use Rattle.ic_term.specs.Configuration.{Configuration};
 ghost use Rattle.ic_term.specs.Symbol.{is_over};
 ghost use Rattle.ic_rules.specs.RuleSet.{Rules, IsRuleSet};
@@ -14,7 +14,7 @@ ghost use Rattle.ic_machine.specs.Plan.{Planned, Plans, ArePlans, IsPlan};
 ghost use Rattle.ic_machine.specs.Runs.{IsStart, Ran, Starts};
 ghost use Rattle.ic_machine.specs.Separate.{IsSeparate};
 ghost use Rattle.ic_meaning.specs.Plans.{ArePlansOf, StandsForNet};
-ghost use Rattle.ic_in_place.specs.Holding.{AreGiven};
+ghost use Rattle.ic_in_place.specs.Holding.{AreGiven, WereThere};
 ghost use Rattle.ic_workers.specs.Parts.{Part, Hold};
 ghost use Rattle.ic_workers.specs.inner.HandsOn.{Come, HandsOn, IsAllOf};
 ghost use Rattle.ic_workers.specs.inner.Sent.{Gave, GaveAll, Shipped, Took, SameCounts, CountsAlso, HasAll};
@@ -52,7 +52,8 @@ pub(crate) fn what_a_part_sends_stays_one_net()
 }
 
 /// The first part holds the configuration with which its machine begins. What one machine has in the end that all parts had,
-/// whatever they did in turn, is reached from it. So it is after that machine has run on.
+/// whatever they did in turn, is reached from it. So it is after that machine has run on. Of each symbol it has no more places
+/// than there were agents at once.
 pub(crate) fn what_parts_come_to_is_reached()
     ensures begun { (rs : Rules) (p : Plans) (c : Configuration) (given : List ℕ) (plan : Planned)
         (operands : List ℕ) (m : Net) (b : Ends) → HasNames c → ArePlans p → length p.arities < GIVEN
@@ -65,12 +66,15 @@ pub(crate) fn what_parts_come_to_is_reached()
         (first : Part) (m : Net) → IsRuleSet rs → IsTrue (is_over rs.symbols c) → HasNames c
         → ArePlans p → ArePlansOf rs numbers p → AreGiven given c → Hold rs p c given [] (first ∷ [])
         → first.net.interactions ≡ 0 → ((i : ℕ) → slice_index_or first.net.counts i 0 ≡ 0)
-        → length first.net.counts ≡ length p.plans → IsAllOf p (first ∷ []) m
+        → length first.net.counts ≡ length p.plans
+        → ((symbol : ℕ) → WereThere rs c [] symbol (slice_index_or first.net.agents symbol 0))
+        → IsAllOf p (first ∷ []) m
         → HasAll rs numbers p c given m }
     ensures ran { (rs : Rules) (numbers : List ℕ) (p : Plans) (c : Configuration) (given : List ℕ)
         (m n : Net) → IsRuleSet rs → IsTrue (is_over rs.symbols c) → HasNames c → ArePlans p
-        → ArePlansOf rs numbers p → AreGiven given c → HasAll rs numbers p c given m → Ran p m n
-        → HasAll rs numbers p c given n }
+        → ArePlansOf rs numbers p → AreGiven given c → (has : HasAll rs numbers p c given m)
+        → (run : Ran p m n) → (now : HasAll rs numbers p c given n)
+        × (now.fired ≡ has.fired ++ run.fired) }
     ensures further { (p : Plans) (qs rs ss : List Part) → Come p qs rs → Come p rs ss → Come p qs ss }
 {
     ic_reaching::laws::what_is_reached_is_one_net();

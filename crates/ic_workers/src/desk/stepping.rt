@@ -1,7 +1,9 @@
 //! Steps of threads, and what is shared before them.
 
-ghost use Rattle.std.specs.Prelude.{◌≡◌, ℕ, ◌+◌, ◌*◌, ◌/◌, ◌^◌, ◌<◌, ◌≤◌, ◌++◌, [], Ok, length, map, max, IfOk, OnOk, IsPermutation};
+ghost use Rattle.std.specs.Prelude.{◌≡◌, ℕ, ◌+◌, ◌*◌, ◌/◌, ◌^◌, ◌<◌, ◌≤◌, ◌==◌, ◌++◌, List, [], true, Ok, count_by, length, map, max, slice_index_or, sum_by, IfOk, OnOk, IsPermutation};
 ghost use Rattle.std.specs.List.{AllByRecursion};
+ghost use Rattle.ic_meaning.specs.Plans.{rule_number};
+ghost use Rattle.ic_in_place.specs.Counting.{names_at};
 ghost use Rattle.ic_in_place.specs.Stopping.{HasCome, IsSound};
 ghost use Rattle.ic_workers.specs.inner.HandsOn.{Come};
 ghost use Rattle.ic_workers.specs.inner.Keeping.{parts_at, parts_in_all, slots_at, AreAt, HandWorked, HandsWorked, IsDesk, IsIdle, IsReady};
@@ -11,10 +13,15 @@ use crate::kept::Hand;
 use crate::laws::what_parts_come_to_is_reached;
 use crate::policy::Policy;
 use ic_flat::WideSystem;
-use ic_in_place::laws::a_run_that_goes_on_stops_by_the_bounds_of_all;
-use ic_in_place::{Bounds, Stopped, Watch, begin, no_counts, run_in_pieces, sum_by_rule};
-use ic_machine::Program;
-use ic_plans::{compile, first_plan};
+use ic_in_place::laws::{
+    a_run_that_goes_on_stops_by_the_bounds_of_all, what_a_machine_holds_is_reached,
+};
+use ic_in_place::{
+    Bounds, Stopped, Watch, begin, names_made, no_counts, run_in_pieces, sum_by_rule,
+};
+use ic_machine::laws::what_a_machine_holds;
+use ic_machine::{Machine, Program};
+use ic_plans::{First, compile, first_plan};
 use std::alloc::{AllocError, Global};
 use std::sync::atomic::AtomicBool;
 use std::thread::{self, Threads};
@@ -38,6 +45,7 @@ pub fn run_by_workers<R: Threads + Sync, V: Watch>(
         stopped.by_rule.items stopped.machine stopped.end stopped.places) }
 {
     what_parts_come_to_is_reached();
+    what_a_machine_holds_is_reached();
     a_run_that_goes_on_stops_by_the_bounds_of_all();
     systems_are_sound(system);
     let (program, numbers) = compile(alloc, system.rules())?;
@@ -46,6 +54,11 @@ pub fn run_by_workers<R: Threads + Sync, V: Watch>(
     let mut desk = Desk::new(alloc, machine)?;
     desk.run_in_parts(rt, alloc, &program, policy, bounds, watch)?;
     let mut machine = desk.put_together(alloc)?;
+    what_a_machine_holds(&machine);
+    let few = has_few_names(alloc, system, &first, &numbers, &machine)?;
+    if !few {
+        return Err(AllocError);
+    }
     let left = Bounds {
         steps: bounds.steps.saturating_sub(machine.interactions()),
         nodes: bounds.nodes,
@@ -60,6 +73,27 @@ pub fn run_by_workers<R: Threads + Sync, V: Watch>(
         places,
         end,
     })
+}
+
+/// Whether a machine has no more names than the plan of the configuration makes, and the rules that fired have. It has no more,
+/// whatever parts handed on; if it had, nothing of it would be kept.
+fn has_few_names(
+    alloc: Global,
+    system: &WideSystem,
+    first: &First,
+    numbers: &[u32],
+    machine: &Machine,
+) -> Result<bool, AllocError>
+    ensures { result ≡ Ok true → (fired : List ℕ) → AllByRecursion (λ i. i < length numbers.now) fired
+        → ((i : ℕ) → i < length numbers.now
+        → slice_index_or machine.now.counts i 0 ≡ count_by (λ j. j == i) fired)
+        → length fired < 2 ^ 64 → machine.now.names ≤ first.now.plan.names
+        + sum_by (names_at system.now.rules.rules) (map (rule_number numbers.now) fired) }
+{
+    let rules = system.rules().rules();
+    let mut by_rule = no_counts(alloc, rules.len())?;
+    sum_by_rule(&mut by_rule, numbers, machine.fired());
+    Ok(machine.names() <= names_made(first.plan.names, rules, &by_rule))
 }
 
 /// Systems keep what their rules and their configurations do.

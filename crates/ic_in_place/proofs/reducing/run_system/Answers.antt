@@ -9,7 +9,12 @@ use Rattle.ic_in_place.proofs.reducing.run_system.Goals as goal
 pub returns : goal.returns
 returns g c =
     let same : c.deref.result.now ≡ c.args.system.now.rules = c.deref.ensures ∙ c.rules.ensures.rules in
-    let laws : StopLaws = record { reached = c.what_a_machine_holds_is_reached.ensures.reached } in
+    let laws : StopLaws = record {
+      reached = c.what_a_machine_holds_is_reached.ensures.reached;
+      used = c.what_a_machine_holds_is_reached.ensures.used;
+      begun = c.places_are_those_that_were_in_use.ensures.begun;
+      names = c.places_are_made_by_plans.ensures.names;
+    } in
     let p = c.in_ok-program.program in
     let numbers = c.in_ok-program.numbers.items in
     let first = c.in_ok-first.first in

@@ -2,7 +2,8 @@ use Rattle.std.proofs.Common.{[]}
 use Rattle.ic_workers.proofs.Given.{StepLaws}
 use Rattle.ic_machine.specs.lemmas.InRooms.{steps_in_room}
 use Rattle.ic_workers.proofs.Begun.{BeginLaws, alone, begun_hold}
-use Rattle.ic_workers.proofs.Ending.{all_has, come_through, ran_has}
+use Rattle.ic_workers.proofs.Ending.{all_has, ran_has}
+use Rattle.ic_workers.proofs.Workings.{come_on}
 use Rattle.ic_workers.proofs.laws.what_parts_come_to_is_reached.Goals as goal
 use Rattle.ic_workers.proofs.laws.what_parts_come_to_is_reached.Goals.{After-a_machine_begins_with_its_configuration}
 
@@ -35,4 +36,4 @@ pub returns-clause-ran : goal.returns-clause-ran
 returns-clause-ran c = ran_has (steps c)
 
 pub returns-clause-further : goal.returns-clause-further
-returns-clause-further c = come_through
+returns-clause-further c = come_on
