@@ -110,17 +110,40 @@ impl Desk {
             .min(pairs.saturating_sub(1))
     }
 
-    /// How many of these have few nodes below them: a quarter as many as the part made interactions in its last step.
-    fn light(&self, alloc: Global, part: usize, policy: Policy) -> Result<usize, AllocError>
+    /// How many of these have fewer than so many nodes below them.
+    fn light(
+        &self,
+        alloc: Global,
+        part: usize,
+        policy: Policy,
+        nodes: usize,
+    ) -> Result<usize, AllocError>
         requires { part < length self.now.parts.items }
     {
         let pairs = self.oldest(part, policy);
         match &self.parts[part] {
-            Some(kept) => {
-                let most = (kept.last / 4).clamp(1_000, 1 << 32) as usize;
-                kept.machine.pairs_within(alloc, pairs, most)
-            }
+            Some(kept) => kept.machine.pairs_within(alloc, pairs, nodes),
             None => Ok(0),
+        }
+    }
+
+    /// How many pairs of a part go to a new one as first parts are made.
+    fn first_pairs(&self, alloc: Global, part: usize, policy: Policy) -> Result<usize, AllocError>
+        requires { part < length self.now.parts.items }
+    {
+        if self.pending(part) < 3 {
+            return Ok(0);
+        }
+        self.light(alloc, part, policy, policy.light)
+    }
+
+    /// An eighth as many nodes as a part made interactions in its last step, but not too few.
+    fn few_nodes(&self, part: usize) -> usize
+        requires { part < length self.now.parts.items }
+    {
+        match &self.parts[part] {
+            Some(kept) => (kept.last / 8).clamp(1_000, 1 << 32) as usize,
+            None => 0,
         }
     }
 
@@ -297,17 +320,6 @@ impl Desk {
             }
         }
         held
-    }
-
-    /// How many words were moved from part to part.
-    fn moved(&self) -> u64 {
-        let mut moved: u64 = 0;
-        for part in &self.parts {
-            if let Some(kept) = part {
-                moved = moved.saturating_add(kept.taken);
-            }
-        }
-        moved
     }
 
     /// How many places the machines have together.

@@ -7,10 +7,12 @@ ghost use Rattle.ic_machine.specs.Plan.{ArePlans};
 ghost use Rattle.ic_workers.specs.inner.HandsOn.{HasWorked, IsBare};
 ghost use Rattle.ic_workers.specs.inner.Keeping.{part_of, parts_in, HandWorked, HasWork, IsKept, IsReady, MayTurn, TakesTurn};
 
+use crate::gain::nanos;
 use ic_in_place::{names_until_sweep, sweep_if_due};
 use ic_machine::{Borders, Machine, MachineFault, Program, Told};
 use std::alloc::{AllocError, Global};
 use std::sync::atomic::{AtomicBool, Ordering};
+use std::time::Clock;
 
 /// Nodes of a tree are counted up to so many before it is handed on.
 pub(crate) const MOST_NODES: usize = 2_000;
@@ -32,8 +34,6 @@ pub(crate) struct Kept {
     pub(crate) told: Vec<Told>,
     /// Interactions in the last step.
     pub(crate) last: u64,
-    /// Words that were taken from other parts.
-    pub(crate) taken: u64,
     /// How many names may be in use before they are put through.
     names: u64,
     /// Its machine has stopped for this.
@@ -57,7 +57,6 @@ impl Kept {
             borders: Borders::new(alloc, number, numbers),
             told: Vec::new(alloc),
             last: u64::MAX,
-            taken: 0,
             fault: None,
         }
     }
@@ -115,6 +114,8 @@ pub(crate) struct Hand {
     pub(crate) budget: u64,
     /// Interactions that were made.
     pub(crate) made: u64,
+    /// Nanoseconds for which parts ran.
+    pub(crate) ran: u64,
 }
 
 impl Hand {
@@ -127,16 +128,25 @@ impl Hand {
             parts: Vec::new(alloc),
             budget,
             made: 0,
+            ran: 0,
         }
     }
 
     /// Runs the parts in turn, and rings the bell at the end.
-    pub(crate) fn work(&mut self, alloc: Global, program: &Program, bell: &AtomicBool)
+    pub(crate) fn work<C: Clock>(
+        &mut self,
+        alloc: Global,
+        program: &Program,
+        bell: &AtomicBool,
+        clock: &C,
+    )
         requires { IsReady program.now self.old }
         ensures { HandWorked program.now self.old self.new }
     {
         self.forget();
+        let begun = nanos(clock);
         self.take_turns(program, bell);
+        self.ran = nanos(clock).saturating_sub(begun);
         bell.store(true, Ordering::SeqCst);
         self.tell(alloc);
     }

@@ -5,6 +5,7 @@
 #![tactic(auto)]
 
 mod desk;
+mod gain;
 mod kept;
 mod laws;
 pub mod parts;

@@ -16,6 +16,10 @@ pub struct Policy {
     pub late: u64,
     /// One of so many pending pairs is shared.
     pub share: usize,
+    /// Fewer nodes are below the pairs of a part that are shared as first parts are made.
+    pub light: usize,
+    /// Parts share until so many have much to do.
+    pub wanted: usize,
     /// Interactions of a worker in a step at first.
     pub budget: u64,
     /// They grow to one of so many of those that a worker has made in the mean.
@@ -26,12 +30,12 @@ pub struct Policy {
     pub small: u64,
     /// A part that made so many interactions in its last step has much to do, if it has something to do.
     pub busy: u64,
-    /// In the time of so many interactions the threads of a step begin and end.
-    pub step: u64,
-    /// After so many steps it is seen what they have brought.
-    pub window: u64,
-    /// Steps go on as long as so many interactions are made in the time in which one thread makes a hundred.
-    pub gain: u64,
+    /// Of 100 that a thread does beside another one, one thread would do so much in the same time.
+    pub worth: u64,
+    /// Nanoseconds that may be lost by taking steps.
+    pub loss: u64,
+    /// One of so many of those that steps took may be lost, too.
+    pub trust: u64,
 }
 
 impl Policy {
@@ -43,14 +47,16 @@ impl Policy {
           early = 100;
           late = 2500;
           share = 8;
+          light = 4000;
+          wanted = 2 * max workers 1;
           budget = 200000;
           growth = 16;
           most = 1000000;
-          small = 5000;
+          small = 20000;
           busy = 1000;
-          step = 4000;
-          window = 16;
-          gain = 125;
+          worth = 70;
+          loss = 2000000;
+          trust = 16;
         } }
     {
         let workers = workers.max(1) as usize;
@@ -60,14 +66,16 @@ impl Policy {
             early: 100,
             late: 2_500,
             share: 8,
+            light: 4_000,
+            wanted: 2 * workers,
             budget: 200_000,
             growth: 16,
             most: 1_000_000,
-            small: 5_000,
+            small: 20_000,
             busy: 1_000,
-            step: 4_000,
-            window: 16,
-            gain: 125,
+            worth: 70,
+            loss: 2_000_000,
+            trust: 16,
         }
     }
 

@@ -17,14 +17,16 @@ use ic_text::{Limits, find_wide_system};
 use std::alloc::{AllocError, Global};
 use std::io::{Read, Write};
 use std::thread::Threads;
+use std::time::Clock;
 
 /// Reduces the system that the reader gives by several threads, and writes what was reached as a line, if that is asked for.
 /// What is told of it is of the same kind whatever is asked for.
 ///
 /// Nothing is written before the text is read and reduced. A text that passes these limits is `TextFault::Limit`, and at most
 /// one byte more is read than a text may have. Where the text is refused, the lines that tell of it are appended to `told`.
-pub fn reduce_by_workers_stream<T: Threads + Sync, V: Watch, R: Read, W: Write>(
+pub fn reduce_by_workers_stream<T: Threads + Sync, C: Clock + Sync, V: Watch, R: Read, W: Write>(
     rt: &T,
+    clock: &C,
     alloc: Global,
     limits: Limits,
     policy: Policy,
@@ -53,15 +55,16 @@ pub fn reduce_by_workers_stream<T: Threads + Sync, V: Watch, R: Read, W: Write>(
 {
     let text = read_text_within(alloc, limits, reader)?;
     let (line, outcome) = reached_line(
-        rt, alloc, limits, policy, bounds, asked, watch, &text, told,
+        rt, clock, alloc, limits, policy, bounds, asked, watch, &text, told,
     )?;
     write_line(writer, &line)?;
     Ok(outcome)
 }
 
 /// The line of a text that several threads reduce, and how that ended. Where the line isn't to be written, it is empty.
-fn reached_line<T: Threads + Sync, V: Watch>(
+fn reached_line<T: Threads + Sync, C: Clock + Sync, V: Watch>(
     rt: &T,
+    clock: &C,
     alloc: Global,
     limits: Limits,
     policy: Policy,
@@ -88,13 +91,14 @@ fn reached_line<T: Threads + Sync, V: Watch>(
             return Err(refused_within(alloc, limits, Kind::System, text, misread, told));
         }
     };
-    let answer = line_by_workers(rt, alloc, system, policy, bounds, asked, watch)?;
+    let answer = line_by_workers(rt, clock, alloc, system, policy, bounds, asked, watch)?;
     Ok(answer)
 }
 
 /// The line of what a system reaches by several threads, and how that ended. Where the line isn't to be written, it is empty.
-pub fn line_by_workers<T: Threads + Sync, V: Watch>(
+pub fn line_by_workers<T: Threads + Sync, C: Clock + Sync, V: Watch>(
     rt: &T,
+    clock: &C,
     alloc: Global,
     system: WideSystem,
     policy: Policy,
@@ -105,15 +109,16 @@ pub fn line_by_workers<T: Threads + Sync, V: Watch>(
     ensures { IfOk result
         (λ answer. EndsByWorkers system bounds asked answer.1 answer.0.items) }
 {
-    let stopped = run_or_run_anew(rt, alloc, &system, policy, bounds, watch)?;
+    let stopped = run_or_run_anew(rt, clock, alloc, &system, policy, bounds, watch)?;
     let answer = stopped_line(alloc, system, stopped, asked)?;
     Ok(answer)
 }
 
 /// Reduces a system by several threads. If memory ran out while they handed on what they had, or numbers did, nothing of that is
 /// kept, and one thread reduces the system from its beginning.
-fn run_or_run_anew<T: Threads + Sync, V: Watch>(
+fn run_or_run_anew<T: Threads + Sync, C: Clock + Sync, V: Watch>(
     rt: &T,
+    clock: &C,
     alloc: Global,
     system: &WideSystem,
     policy: Policy,
@@ -123,9 +128,9 @@ fn run_or_run_anew<T: Threads + Sync, V: Watch>(
     ensures { IfOk result (λ stopped. HasCome system.now bounds stopped.given.items
         stopped.by_rule.items stopped.machine stopped.end stopped.places) }
 {
-    match run_by_workers(rt, alloc, system, policy, bounds, watch) {
+    match run_by_workers(rt, clock, alloc, system, policy, bounds, watch) {
         Ok(stopped) => Ok(stopped),
         Err(refused) if policy.workers <= 1 => Err(refused),
-        Err(_) => run_by_workers(rt, alloc, system, Policy::of(1), bounds, watch),
+        Err(_) => run_by_workers(rt, clock, alloc, system, Policy::of(1), bounds, watch),
     }
 }

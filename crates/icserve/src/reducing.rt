@@ -111,6 +111,7 @@ fn reduce_over<T: Threads + Sync, V: Watch, R: Read, W: Write>(
     }
     reduce_by_workers_stream(
         threads,
+        rt,
         rt.alloc(),
         limits,
         wanted.policy,

@@ -306,7 +306,6 @@ fn unpack(alloc: Global, part: &mut Kept, parcel: &mut Parcel) -> Result<(), All
     ensures once { AreOnce part.new.borders }
     ensures number { part.new.number ≡ part.old.number }
 {
-    part.taken = part.taken.saturating_add(parcel.words.len() as u64);
     let unpacked = part.machine.unpack(alloc, &mut part.borders, parcel);
     what_borders_hold(&part.borders);
     match unpacked {

@@ -9,6 +9,7 @@ ghost use Rattle.ic_workers.specs.inner.HandsOn.{Come};
 ghost use Rattle.ic_workers.specs.inner.Keeping.{parts_at, parts_in_all, slots_at, AreAt, HandWorked, HandsWorked, IsDesk, IsIdle, IsReady};
 
 use super::{Desk, Due, MOST_PARTS};
+use crate::gain::{Gain, Ran, nanos};
 use crate::kept::Hand;
 use crate::laws::what_parts_come_to_is_reached;
 use crate::policy::Policy;
@@ -25,6 +26,7 @@ use ic_plans::{First, compile, first_plan};
 use std::alloc::{AllocError, Global};
 use std::sync::atomic::AtomicBool;
 use std::thread::{self, Threads};
+use std::time::Clock;
 
 /// Interactions for each worker without which no step is taken.
 const LEAST_LEFT: u64 = 1_000;
@@ -33,8 +35,9 @@ const LEAST_LEFT: u64 = 1_000;
 const LEAST_NEAR: u64 = 4_096;
 
 /// Reduces a system by several threads until an end comes.
-pub fn run_by_workers<R: Threads + Sync, V: Watch>(
+pub fn run_by_workers<R: Threads + Sync, C: Clock + Sync, V: Watch>(
     rt: &R,
+    clock: &C,
     alloc: Global,
     system: &WideSystem,
     policy: Policy,
@@ -52,7 +55,7 @@ pub fn run_by_workers<R: Threads + Sync, V: Watch>(
     let first = first_plan(alloc, system)?;
     let machine = begin(alloc, system, &program, &first)?;
     let mut desk = Desk::new(alloc, machine)?;
-    desk.run_in_parts(rt, alloc, &program, policy, bounds, watch)?;
+    desk.run_in_parts(rt, clock, alloc, &program, policy, bounds, watch)?;
     let mut machine = desk.put_together(alloc)?;
     what_a_machine_holds(&machine);
     let few = has_few_names(alloc, system, &first, &numbers, &machine)?;
@@ -106,9 +109,10 @@ fn systems_are_sound(system: &WideSystem)
 
 impl Desk {
     /// Divides the net into parts, and has threads run these, if there are several threads.
-    fn run_in_parts<R: Threads + Sync, V: Watch>(
+    fn run_in_parts<R: Threads + Sync, C: Clock + Sync, V: Watch>(
         &mut self,
         rt: &R,
+        clock: &C,
         alloc: Global,
         program: &Program,
         policy: Policy,
@@ -127,14 +131,15 @@ impl Desk {
             return Ok(());
         }
         let steps = policy.early.min(bounds.steps - self.made);
-        self.run_alone(alloc, program, 0, steps)?;
-        self.divide(alloc, program, policy, bounds)?;
-        self.take_steps(rt, alloc, program, policy, bounds, watch)
+        self.run_alone(clock, alloc, program, 0, steps)?;
+        self.divide(clock, alloc, program, policy, bounds)?;
+        self.take_steps(rt, clock, alloc, program, policy, bounds, watch)
     }
 
     /// Makes the first parts, in this thread.
-    fn divide(
+    fn divide<C: Clock>(
         &mut self,
+        clock: &C,
         alloc: Global,
         program: &Program,
         policy: Policy,
@@ -164,20 +169,21 @@ impl Desk {
             if steps > policy.late || steps > bounds.steps - self.made {
                 return Ok(());
             }
-            if self.pending(part) >= 3 {
+            let pairs = self.first_pairs(alloc, part, policy)?;
+            if pairs > 0 {
                 let to = self.parts.len();
-                let pairs = self.oldest(part, policy);
                 self.add(alloc, program)?;
                 self.share(alloc, part, to, pairs)?;
             }
-            self.run_alone(alloc, program, part, steps)?;
+            self.run_alone(clock, alloc, program, part, steps)?;
         }
         Ok(())
     }
 
     /// Runs a part in this thread.
-    fn run_alone(
+    fn run_alone<C: Clock>(
         &mut self,
+        clock: &C,
         alloc: Global,
         program: &Program,
         part: usize,
@@ -196,7 +202,7 @@ impl Desk {
         let mut hand = Hand::new(alloc, steps);
         self.put_in(&mut hand, part)?;
         let bell = AtomicBool::new(false);
-        hand.work(alloc, program, &bell);
+        hand.work(alloc, program, &bell, clock);
         self.take_back(hand);
         let mut parts = Vec::new(alloc);
         parts.push(part)?;
@@ -214,11 +220,11 @@ impl Desk {
         let mut busy = self.busy_or_due(alloc, policy)?;
         let mut tried = 0;
         for _ in 0..4 * MOST_PARTS {
-            if busy.len() >= policy.workers || tried >= busy.len() {
+            if busy.len() >= policy.wanted || tried >= busy.len() {
                 return Ok(());
             }
             let part = busy[tried];
-            let pairs = self.light(alloc, part, policy)?;
+            let pairs = self.light(alloc, part, policy, self.few_nodes(part))?;
             if pairs == 0 {
                 tried += 1;
             } else {
@@ -247,9 +253,10 @@ impl Desk {
 
     /// Takes steps until nothing is left to do, or that brings too little. Before each of them it is seen whether all parts
     /// together have more places and equations left than there may be.
-    fn take_steps<R: Threads + Sync, V: Watch>(
+    fn take_steps<R: Threads + Sync, C: Clock + Sync, V: Watch>(
         &mut self,
         rt: &R,
+        clock: &C,
         alloc: Global,
         program: &Program,
         policy: Policy,
@@ -265,7 +272,7 @@ impl Desk {
         ensures within { OnOk result (self.new.made ≤ bounds.steps) }
     {
         let least = LEAST_LEFT.saturating_mul(policy.workers as u64);
-        let mut gain = Gain::from(self.made, self.moved());
+        let mut gain = Gain::from(nanos(clock));
         for _ in 0..1_000_000u64 {
             let Some(room) = bounds.nodes.checked_sub(self.held()) else {
                 return Ok(());
@@ -276,31 +283,29 @@ impl Desk {
             if due.is_empty() || left < least || self.has_fault() {
                 return Ok(());
             }
-            let longest = self.take_step(rt, alloc, program, policy, &due, left, room)?;
+            let ran = self.take_step(rt, clock, alloc, program, policy, &due, left, room)?;
             watch.saw(self.made, self.places());
-            gain.count(longest, policy);
-            if gain.steps >= policy.window {
-                if !gain.is_enough(self.made, self.moved(), policy) {
-                    return Ok(());
-                }
-                gain = Gain::from(self.made, self.moved());
+            gain.count(nanos(clock), ran, policy);
+            if !gain.is_enough(policy) {
+                return Ok(());
             }
         }
         Ok(())
     }
 
     /// Deals the parts that are due to hands, has threads run these, and hands on what was told. So many interactions are left,
-    /// and there is room for so many places and equations. Answers how many interactions the hand made that made most.
-    fn take_step<R: Threads + Sync>(
+    /// and there is room for so many places and equations. Answers how long hands ran.
+    fn take_step<R: Threads + Sync, C: Clock + Sync>(
         &mut self,
         rt: &R,
+        clock: &C,
         alloc: Global,
         program: &Program,
         policy: Policy,
         due: &[Due],
         left: u64,
         room: u64,
-    ) -> Result<u64, AllocError>
+    ) -> Result<Ran, AllocError>
         requires desk { IsDesk program.now self.old }
         requires workers { 1 ≤ policy.workers }
         requires some { 1 ≤ length due.now }
@@ -318,12 +323,12 @@ impl Desk {
         let budget = most.min(left / (count as u64).max(1));
         let mut hands = empty_hands(alloc, count, budget)?;
         self.deal(due, &mut hands)?;
-        run_hands(rt, alloc, program, &mut hands);
-        let longest = longest(&hands);
+        run_hands(rt, clock, alloc, program, &mut hands);
+        let ran = ran_in(&hands);
         self.take_all_back(hands);
         let parts = parts_of_due(alloc, due)?;
         self.meet(alloc, parts)?;
-        Ok(longest)
+        Ok(ran)
     }
 
     /// Deals the parts that are due to hands, there and back.
@@ -382,7 +387,13 @@ fn empty_hands(alloc: Global, count: usize, budget: u64) -> Result<Vec<Hand>, Al
 }
 
 /// Has threads run what is in hands, as many threads as there are hands.
-fn run_hands<R: Threads + Sync>(rt: &R, alloc: Global, program: &Program, hands: &mut [Hand])
+fn run_hands<R: Threads + Sync, C: Clock + Sync>(
+    rt: &R,
+    clock: &C,
+    alloc: Global,
+    program: &Program,
+    hands: &mut [Hand],
+)
     requires some { 1 ≤ length hands.old }
     requires ready { AllByRecursion (IsReady program.now) hands.old }
     ensures { HandsWorked program.now hands.old hands.new }
@@ -397,7 +408,7 @@ fn run_hands<R: Threads + Sync>(rt: &R, alloc: Global, program: &Program, hands:
         &move |_place: usize, hand: &mut Hand|
             requires { IsReady program.now hand.now }
             ensures { HandWorked program.entry.now hand.entry.now hand.exit.now }
-        { hand.work(alloc, program, bell) },
+        { hand.work(alloc, program, bell, clock) },
     );
 }
 
@@ -408,48 +419,11 @@ fn parts_of_due(alloc: Global, due: &[Due]) -> Result<Vec<usize>, AllocError>
     due.iter().map(|one| one.part).collect(alloc)
 }
 
-/// The interactions of the hand that made most.
-fn longest(hands: &[Hand]) -> u64 {
-    let mut most = 0;
+/// How long hands have run.
+fn ran_in(hands: &[Hand]) -> Ran {
+    let mut ran = Ran::none();
     for hand in hands {
-        most = hand.made.max(most);
+        ran = ran.and(hand.ran);
     }
-    most
-}
-
-/// What some steps have brought: how much was made and moved before them, and the time that they took, as interactions of one
-/// thread.
-#[derive(Clone, Copy, Debug)]
-struct Gain {
-    made: u64,
-    moved: u64,
-    steps: u64,
-    time: u64,
-}
-
-impl Gain {
-    fn from(made: u64, moved: u64) -> Gain {
-        Gain {
-            made,
-            moved,
-            steps: 0,
-            time: 0,
-        }
-    }
-
-    /// Counts a step.
-    fn count(&mut self, longest: u64, policy: Policy) {
-        self.steps = self.steps.saturating_add(1);
-        self.time = self
-            .time
-            .saturating_add(longest)
-            .saturating_add(policy.step);
-    }
-
-    /// Whether so much was made by now that it was worth the time, that of moving words, too.
-    fn is_enough(&self, made: u64, moved: u64, policy: Policy) -> bool {
-        let moving = moved.saturating_sub(self.moved);
-        let time = self.time.saturating_add(moving);
-        made.saturating_sub(self.made) >= (time / 100).saturating_mul(policy.gain)
-    }
+    ran
 }

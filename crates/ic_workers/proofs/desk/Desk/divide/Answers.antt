@@ -6,10 +6,10 @@ use Rattle.ic_workers.specs.declared.desk.Desk.{Desk}
 use Rattle.ic_workers.specs.inner.HandsOn.{Come}
 use Rattle.ic_workers.specs.inner.Keeping.{parts_at}
 use Rattle.ic_workers.proofs.desk.Desk.divide.Goals as goal
-use Rattle.ic_workers.proofs.desk.Desk.divide.Goals.{then-pending-ge3+in_ok-add+in_ok-share, else-pending-ge3}
+use Rattle.ic_workers.proofs.desk.Desk.divide.Goals.{then-pairs-gt0+in_ok-add+in_ok-share, else-pairs-gt0}
 
 pub loop-init : goal.loop-init
-loop-init c = record {
+loop-init g c = record {
   come = come_same c.args.program.now c.args.self.now c.args.self.now refl;
   desk = c.requires.desk;
   within = c.requires.within;
@@ -17,14 +17,14 @@ loop-init c = record {
 }
 
 pub loop-preserved : goal.loop-preserved
-loop-preserved c =
+loop-preserved g c =
     let p : Plans = c.args.program.now in
     let before : Desk = c.loop.self in
-    let divided : Desk = c.if-pending-ge3.self in
+    let divided : Desk = c.if-pairs-gt0.self in
     let after : Desk = c.run_alone.new.self in
     let both : Come p (parts_at before) (parts_at divided) × (length before.parts.items ≤ length divided.parts.items) × (divided.made ≡ before.made) =
-    elim c.if-pending-ge3.branch [
-      | then-pending-ge3+in_ok-add+in_ok-share w ↦
+    elim c.if-pairs-gt0.branch [
+      | then-pairs-gt0+in_ok-add+in_ok-share w ↦
           let more : Desk = w.add.new.self in
           let shared : Desk = w.share.new.self in
           rw w.self-is (
@@ -33,7 +33,7 @@ loop-preserved c =
             omega (arith, w.in_ok-add.ensures.len, w.share.ensures.len),
             w.share.ensures.made ∙ w.add.ensures.made,
           )
-      | else-pending-ge3 w ↦ rw w.self-is (come_same p before before refl, omega arith, refl)
+      | else-pairs-gt0 w ↦ rw w.self-is (come_same p before before refl, omega arith, refl)
     ] in
     let least = both.1 in
     let made = both.2 in

@@ -4,7 +4,7 @@ use Rattle.ic_workers.specs.inner.Keeping.{parts_at, IsDesk}
 use Rattle.ic_workers.proofs.desk.Desk.divide.Given as goal
 
 abbrev pub invariant-loop : goal.invariant-loop
-invariant-loop l = record {
+invariant-loop g l = record {
   come : Come l.program (parts_at l.initial.self) (parts_at l.self);
   desk : IsDesk l.program l.self;
   within : l.self.made ≤ l.bounds.steps;

@@ -28,12 +28,12 @@ returns-then-is_empty-clause-come g c =
 pub returns-then-not-is_enough-clause-come : goal.returns-then-not-is_enough-clause-come
 returns-then-not-is_enough-clause-come g c =
     came c.args.program.now c.args.self.now c.loop.self c.feed.new.self c.take_step.new.self c.loop.invariant.come
-    c.in_ok-feed.ensures.come c.in_ok-longest.ensures.come
+    c.in_ok-feed.ensures.come c.in_ok-ran.ensures.come
 
 pub loop-preserved : goal.loop-preserved
 loop-preserved g c = record {
   come = came c.args.program.now c.args.self.now c.loop.self c.feed.new.self c.take_step.new.self c.loop.invariant.come
-      c.in_ok-feed.ensures.come c.in_ok-longest.ensures.come;
-  desk = c.in_ok-longest.ensures.desk;
-  within = omega (arith, c.in_ok-longest.ensures.within, c.feed.ensures.made, c.loop.invariant.within);
+      c.in_ok-feed.ensures.come c.in_ok-ran.ensures.come;
+  desk = c.in_ok-ran.ensures.desk;
+  within = omega (arith, c.in_ok-ran.ensures.within, c.feed.ensures.made, c.loop.invariant.within);
 }

@@ -1,0 +1,85 @@
+//! What steps of several threads bring, by the clock.
+
+use crate::policy::Policy;
+use std::time::Clock;
+
+/// How much longer steps took than one thread would have.
+#[derive(Clone, Copy, Debug)]
+pub(crate) struct Gain {
+    /// When the last step that was counted had ended, in nanoseconds.
+    last: u64,
+    /// How long all steps took.
+    took: u64,
+    /// How much of that was lost. A step that brings something makes up for it.
+    lost: u64,
+}
+
+impl Gain {
+    /// No steps before this time.
+    pub(crate) fn from(now: u64) -> Gain {
+        Gain {
+            last: now,
+            took: 0,
+            lost: 0,
+        }
+    }
+
+    /// Counts a step that has ended now, with all that was done for it.
+    pub(crate) fn count(&mut self, now: u64, ran: Ran, policy: Policy) {
+        let took = now.saturating_sub(self.last);
+        let alone = ran.alone(policy);
+        self.last = now;
+        self.took = self.took.saturating_add(took);
+        // No step is more than half of what may be lost, since a thread may once have to wait for a processor.
+        let lost = took.saturating_sub(alone).min(policy.loss / 2);
+        self.lost = self
+            .lost
+            .saturating_add(lost)
+            .saturating_sub(alone.saturating_sub(took));
+    }
+
+    /// Whether no more was lost than may be.
+    pub(crate) fn is_enough(&self, policy: Policy) -> bool {
+        let may = policy.loss.saturating_add(self.took / policy.trust.max(1));
+        self.lost <= may
+    }
+}
+
+/// How long threads ran in a step, in nanoseconds.
+#[derive(Clone, Copy, Debug)]
+pub(crate) struct Ran {
+    /// All together.
+    all: u64,
+    /// The one that ran longest.
+    longest: u64,
+}
+
+impl Ran {
+    /// No threads.
+    pub(crate) fn none() -> Ran {
+        Ran { all: 0, longest: 0 }
+    }
+
+    /// These and one that ran so long.
+    pub(crate) fn and(self, time: u64) -> Ran {
+        Ran {
+            all: self.all.saturating_add(time),
+            longest: self.longest.max(time),
+        }
+    }
+
+    /// How long one thread would take for what they did. Where several run, each is slower.
+    fn alone(self, policy: Policy) -> u64 {
+        let others = self.all.saturating_sub(self.longest);
+        self.longest
+            .saturating_add((others / 100).saturating_mul(policy.worth))
+    }
+}
+
+/// The nanoseconds of a clock, or 0 if it can't be read.
+pub(crate) fn nanos<C: Clock>(clock: &C) -> u64 {
+    match clock.monotonic() {
+        Ok(time) => u64::try_from(time.as_nanos()).unwrap_or(u64::MAX),
+        Err(_) => 0,
+    }
+}
