@@ -137,12 +137,13 @@ impl Desk {
         self.light(alloc, part, policy, policy.light)
     }
 
-    /// An eighth as many nodes as a part made interactions in its last step, but not too few.
+    /// How many nodes a part may share: an eighth as many as it made interactions in its last step, or a few of 1,000 of all
+    /// interactions.
     fn few_nodes(&self, part: usize) -> usize
         requires { part < length self.now.parts.items }
     {
         match &self.parts[part] {
-            Some(kept) => (kept.last / 8).clamp(1_000, 1 << 32) as usize,
+            Some(kept) => (kept.last / 8).max(self.made / 256).clamp(1_000, 1 << 32) as usize,
             None => 0,
         }
     }

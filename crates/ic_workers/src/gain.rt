@@ -30,8 +30,8 @@ impl Gain {
         let alone = ran.alone(policy);
         self.last = now;
         self.took = self.took.saturating_add(took);
-        // No step is more than half of what may be lost, since a thread may once have to wait for a processor.
-        let lost = took.saturating_sub(alone).min(policy.loss / 2);
+        // No step loses more than half of what may be lost, since a thread may once have to wait for a processor.
+        let lost = took.saturating_sub(alone).min(self.may_lose(policy) / 2);
         self.lost = self
             .lost
             .saturating_add(lost)
@@ -40,8 +40,12 @@ impl Gain {
 
     /// Whether no more was lost than may be.
     pub(crate) fn is_enough(&self, policy: Policy) -> bool {
-        let may = policy.loss.saturating_add(self.took / policy.trust.max(1));
-        self.lost <= may
+        self.lost <= self.may_lose(policy)
+    }
+
+    /// How much may be lost by now.
+    fn may_lose(&self, policy: Policy) -> u64 {
+        policy.loss.saturating_add(self.took / policy.trust.max(1))
     }
 }
 
