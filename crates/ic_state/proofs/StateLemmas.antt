@@ -1,5 +1,5 @@
 -- The bytes of a state, read from the front.
-use Rattle.std.proofs.Common.{◌≡◌, ℕ, ◌*◌, ◌^◌, ◌<◌, ◌≤◌, Bool, true, false, List, ◌++◌, length, get_or, nat_eq, refl, sym, ap, ◌∙◌, arith}
+use Rattle.std.proofs.Common.{◌≡◌, ℕ, zero, suc, ◌*◌, ◌^◌, ◌<◌, ◌≤◌, Bool, true, false, List, [], ◌∷◌, ◌++◌, length, get_or, nat_eq, refl, sym, ap, ◌∙◌, arith}
 use Rattle.std.proofs.lemmas.Grind.{get_or_default_zero}
 use Rattle.std.proofs.lemmas.List.{length-append}
 use Rattle.std.specs.List.{flat_map, AllByRecursion}
@@ -109,3 +109,22 @@ one_state k other kept kept_too e =
 -- what an index reads, whatever stands past the end
 pub read_at : (xs : List ℕ) (i x : ℕ) → x ≡ get_or xs i x → i < length xs → x ≡ get_or xs i 0
 read_at xs i x is below = is ∙ get_or_default_zero xs i x below
+
+-- a number that is 1 or 0 is told by whether it is 1
+pub ended_fits : (n : ℕ) → n ≤ 1 → n ≡ ended_number (nat_eq n 1)
+ended_fits zero low = refl
+ended_fits (suc zero) low = refl
+ended_fits (suc (suc n)) low = absurd (omega (arith, low))
+
+-- a list of seven numbers is these
+pub seven : (xs : List ℕ) → length xs ≡ 7
+    → xs ≡ get_or xs 0 0 ∷ get_or xs 1 0 ∷ get_or xs 2 0 ∷ get_or xs 3 0 ∷ get_or xs 4 0 ∷ get_or xs 5 0 ∷ get_or xs 6 0 ∷ []
+seven (a ∷ b ∷ c ∷ d ∷ e ∷ f ∷ g ∷ []) long = refl
+seven [] long = absurd (omega (arith, long))
+seven (a ∷ []) long = absurd (omega (arith, long))
+seven (a ∷ b ∷ []) long = absurd (omega (arith, long))
+seven (a ∷ b ∷ c ∷ []) long = absurd (omega (arith, long))
+seven (a ∷ b ∷ c ∷ d ∷ []) long = absurd (omega (arith, long))
+seven (a ∷ b ∷ c ∷ d ∷ e ∷ []) long = absurd (omega (arith, long))
+seven (a ∷ b ∷ c ∷ d ∷ e ∷ f ∷ []) long = absurd (omega (arith, long))
+seven (a ∷ b ∷ c ∷ d ∷ e ∷ f ∷ g ∷ h ∷ rest) long = absurd (omega (arith, long))

@@ -1,7 +1,8 @@
 //! What is said by the first bytes of a state.
 
-ghost use Rattle.std.specs.Prelude.{◌≡◌, ◌≢◌, ◌≤◌, ◌++◌, List, ℕ, Err, IfOk, length};
-ghost use Rattle.ic_state.specs.State.{Kept, IsHeadOf, IsKept, state_bytes};
+ghost use Rattle.std.specs.Prelude.{◌≡◌, ◌≢◌, ◌≤◌, ◌++◌, ◌∷◌, List, [], ℕ, Err, IfOk, flat_map, length};
+ghost use Rattle.ic_state.specs.Numbers.{eight_bytes};
+ghost use Rattle.ic_state.specs.State.{Kept, IsHeadOf, IsKept, ended_number, state_bytes};
 ghost use Rattle.ic_state.specs.declared.fault.StateFault.TheVariants.{NotAState};
 
 use crate::fault::StateFault;
@@ -14,6 +15,10 @@ use std::alloc::Global;
 pub fn head_of(alloc: Global, bytes: &[u8]) -> Result<StateHead, StateFault>
     ensures told { (kept : Kept) (rest : List ℕ) → IsKept kept → bytes.now ++ rest ≡ state_bytes kept
         → IfOk result (λ head. IsHeadOf head kept) }
+    // At Ok they begin so, whatever follows, and there is a number of terms that isn't told.
+    ensures front { IfOk result (λ head. (terms : ℕ) × (rest : List ℕ)
+        × (bytes.now ≡ flat_map eight_bytes (FORMAT ∷ terms ∷ head.interactions
+        ∷ ended_number head.ended ∷ head.rules ∷ head.words ∷ head.millis ∷ []) ++ rest)) }
     ensures refused { result ≡ Err NotAState → (kept : Kept) (rest : List ℕ) → IsKept kept
         → 56 ≤ length bytes.now → bytes.now ++ rest ≢ state_bytes kept }
 {

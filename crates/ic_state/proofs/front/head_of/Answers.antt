@@ -1,7 +1,9 @@
-use Rattle.std.proofs.Common.{◌∙◌, ℕ, List, ◌++◌, append_assoc, ap, arith}
+use Rattle.std.proofs.Common.{◌≡◌, ◌∙◌, ℕ, ◌≤◌, List, [], ◌∷◌, ◌++◌, append_assoc, ap, arith, get_or, nat_eq, sym}
 use Rattle.std.specs.List.{flat_map}
 use Rattle.ic_state.specs.Numbers.{eight_bytes}
-use Rattle.ic_state.proofs.StateLemmas.{ended_told, ended_at, ended_is, format_is, interactions_are, millis_are, read_at, rules_are, words_are}
+use Rattle.ic_state.specs.State.{ended_number}
+use Rattle.ic_state.specs.declared.form.TheConstants.{FORMAT}
+use Rattle.ic_state.proofs.StateLemmas.{ended_fits, ended_told, ended_at, ended_is, format_is, interactions_are, millis_are, read_at, seven, rules_are, words_are}
 use Rattle.ic_state.proofs.front.head_of.Goals.{then-index-ne-FORMAT-via-then-index-ne-FORMAT, then-index-ne-FORMAT-via-else-index-ne-FORMAT+then-index-gt1}
 use Rattle.ic_state.proofs.front.head_of.Goals as goal
 
@@ -34,3 +36,23 @@ returns-clause-told c = λ kept rest sound is.
       words = read_at head 5 c.index-5.result.now c.index-5.ensures (omega (arith, read.count)) ∙ words_are head bytes (left_over ++ rest) read.count read.small whole kept sound is;
       millis = read_at head 6 c.index-6.result.now c.index-6.ensures (omega (arith, read.count)) ∙ millis_are head bytes (left_over ++ rest) read.count read.small whole kept sound is;
     }
+
+pub returns-clause-front : goal.returns-clause-front
+returns-clause-front c =
+    let head = c.in_ok-head.head.items in
+    let left_over = c.in_ok-head.field-0-1.now in
+    let read = c.in_ok-head.ensures in
+    let format : get_or head 0 0 ≡ FORMAT = sym (read_at head 0 c.index.result.now c.index.ensures (omega (arith, read.count))) ∙ c.if-index-ne-FORMAT.false in
+    let interactions : get_or head 2 0 ≡ c.index-2.result.now = sym (read_at head 2 c.index-2.result.now c.index-2.ensures (omega (arith, read.count))) in
+    let ended = read_at head 3 c.index-3.result.now c.index-3.ensures (omega (arith, read.count)) in
+    let looked = read_at head 3 c.index-else-index-ne-FORMAT.result.now c.index-else-index-ne-FORMAT.ensures (omega (arith, read.count)) in
+    let low : c.index-3.result.now ≤ 1 = omega (arith, c.if-index-gt1.false, looked, ended) in
+    let told : get_or head 3 0 ≡ ended_number (nat_eq c.index-3.result.now 1) = sym ended ∙ ended_fits c.index-3.result.now low in
+    let rules : get_or head 4 0 ≡ c.index-4.result.now = sym (read_at head 4 c.index-4.result.now c.index-4.ensures (omega (arith, read.count))) in
+    let words : get_or head 5 0 ≡ c.index-5.result.now = sym (read_at head 5 c.index-5.result.now c.index-5.ensures (omega (arith, read.count))) in
+    let millis : get_or head 6 0 ≡ c.index-6.result.now = sym (read_at head 6 c.index-6.result.now c.index-6.ensures (omega (arith, read.count))) in (
+      get_or head 1 0,
+      left_over,
+      read.read ∙ ap (λ (l : List ℕ). flat_map eight_bytes l ++ left_over)
+          (seven head read.count ∙ (λ i. format i ∷ get_or head 1 0 ∷ interactions i ∷ told i ∷ rules i ∷ words i ∷ millis i ∷ [])),
+    )
