@@ -1,5 +1,5 @@
 -- Lemmas of a picture with a mark.
-use Rattle.std.proofs.Common.{◌≡◌, ℕ, ◌+◌, ◌==◌, ◌||◌, true, false, List, [], ◌∷◌, ◌++◌, length, refl, sym, ◌∙◌, ap, cond, arith}
+use Rattle.std.proofs.Common.{◌≡◌, ℕ, ◌+◌, ◌==◌, ◌||◌, true, false, List, [], ◌∷◌, ◌++◌, length, replicate, refl, sym, ◌∙◌, ap, cond, arith}
 use Rattle.std.specs.Prelude.{count_by, codes}
 use Rattle.std.specs.List.{concat, list_all, list_any}
 use Rattle.std.proofs.lemmas.Bool.{and_parts, or_parts, eqb-true}
@@ -26,6 +26,19 @@ pub one_picture : (before after p q : List ℕ) → IsMarked before after p → 
 one_picture before after p q one other =
     let same : one.spaces ≡ other.spaces = same_spaces one.spaces other.spaces one.blank other.blank (one.under ∙ sym other.under) in
     one.lines ∙ ap (drawn before after) same ∙ sym other.lines
+
+are_spaces : (xs : List ℕ) → list_all (λ b. b == 32) xs ≡ true → xs ≡ replicate (length xs) 32
+are_spaces [] all = refl
+are_spaces (x ∷ xs) all =
+    let one = and_parts (x == 32) (list_all (λ b. b == 32) xs) all in
+    let head : x ≡ 32 = eqb-true x 32 one.0 in
+    let tail = are_spaces xs one.1 in
+    λ i. head i ∷ tail i
+
+pub marked_under : (before after p : List ℕ) → IsMarked before after p → p ≡ drawn before after (replicate (length before) 32)
+marked_under before after p is =
+    let spaces : is.spaces ≡ replicate (length before) 32 = are_spaces is.spaces is.blank ∙ ap (λ n. replicate n 32) is.under in
+    is.lines ∙ ap (drawn before after) spaces
 
 abbrev feeds : List ℕ → ℕ
 feeds xs = count_by is_feed xs

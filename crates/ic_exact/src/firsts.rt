@@ -1,6 +1,6 @@
 //! What comes first in a list: a name that occurs for the third time, and a fault of rules.
 
-ghost use Rattle.std.specs.Prelude.{◌≡◌, ◌≢◌, ℕ, List, Ok, Err};
+ghost use Rattle.std.specs.Prelude.{◌≡◌, ◌↔◌, ℕ, List, Ok, Err};
 ghost use Rattle.ic_term.specs.Configuration.{IsFirstThird};
 ghost use Rattle.ic_term.specs.Symbol.{Symbol};
 ghost use Rattle.ic_rules.specs.Rule.{Rule};
@@ -15,10 +15,12 @@ pub fn the_first_third_is_one()
         → (n ≡ m) × (before ≡ front) × (after ≡ rest) }
 {}
 
-/// Rules that have no fault are taken, and others are refused for the one that is said to come first.
+/// Just the rules that have no fault are taken, and others are refused for just the one that is said to come first.
 pub fn rules_are_refused_exactly_so()
     ensures taken { (ss : List Symbol) (rs : List Rule) (set : Rules)
-        → IsTaken ss rs set → built ss rs ≡ Ok set }
+        → (built ss rs ≡ Ok set) ↔ IsTaken ss rs set }
     ensures refused { (ss : List Symbol) (rs : List Rule) (fault : RuleFault)
-        → IsRefusal ss rs fault → built ss rs ≡ Err fault }
-{}
+        → (built ss rs ≡ Err fault) ↔ IsRefusal ss rs fault }
+{
+    ic_rules::laws::refusals_come_in_order();
+}
