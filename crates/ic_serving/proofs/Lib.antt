@@ -6,3 +6,4 @@ pub mod ServeLemmas
 pub mod TurnLemmas
 pub mod StopLemmas
 pub mod ReadingLemmas
+pub mod AloneLemmas

@@ -1,5 +1,5 @@
 -- To be believed: what a serving speaks of in a book.
-use Rattle.std.specs.Prelude.{◌≡◌, ◌⊎◌, ℕ, ◌<◌, List, [], ◌∷◌, Some, length}
+use Rattle.std.specs.Prelude.{◌≡◌, ◌⊎◌, ℕ, ◌-◌, ◌<◌, List, [], ◌∷◌, Some, length}
 use Rattle.ic_disk.specs.declared.disk.Disk.{Ghosts}
 use Rattle.ic_flights.specs.Flight.{FlightParts}
 use Rattle.ic_jobs.specs.Job.{JobParts}
@@ -21,6 +21,10 @@ last_kept book = table_kept (start_of book) (log_of book) (kept_of book)
 -- everything in its history is kept
 abbrev pub IsAllKept : {D : Type 0} {ghosts : Ghosts D} → Book D ghosts → Type 0
 IsAllKept book = kept_of book ≡ length (log_of book)
+
+-- how many entries of its history aren't kept
+abbrev pub unkept_of : {D : Type 0} {ghosts : Ghosts D} → Book D ghosts → ℕ
+unkept_of book = length (log_of book) - kept_of book
 
 -- ---- of one call
 

@@ -7,6 +7,7 @@ use Rattle.ic_book.specs.declared.fault.BookFault.{BookFault}
 use Rattle.ic_book.specs.declared.fault.BookFault.TheVariants as book
 use Rattle.ic_pool.specs.declared.fault.PoolFault.{PoolFault}
 use Rattle.ic_pool.specs.declared.fault.PoolFault.TheVariants as pool
+use Rattle.ic_pool.specs.PoolFault.{is_of_workers}
 use Rattle.ic_serving.specs.declared.fault.ServeFault.{ServeFault}
 use Rattle.ic_serving.specs.declared.fault.ServeFault.TheVariants.{Read, Write, TooManyLines, Book, Pool, LongLine, Memory}
 
@@ -63,6 +64,16 @@ ComesInLine (Book fault) = MayCome (Book fault)
 ComesInLine (Pool fault) = MayCome (Pool fault)
 ComesInLine LongLine = ⊥
 ComesInLine Memory = Unit {0}
+
+-- which of them come where one thread makes each round: none of other threads and what they hand over
+abbrev pub ComesAlone : ServeFault → Type 0
+ComesAlone Read = Unit {0}
+ComesAlone Write = Unit {0}
+ComesAlone TooManyLines = Unit {0}
+ComesAlone (Book fault) = Unit {0}
+ComesAlone (Pool fault) = is_of_workers fault ≡ false
+ComesAlone LongLine = Unit {0}
+ComesAlone Memory = Unit {0}
 
 -- What a fault says of a book that wasn't broken, and of the number of its newest slot: only `Device`
 -- breaks it, `Broken` isn't told of it, and at `Worn` the numbers are used up.

@@ -1,6 +1,6 @@
 //! Answering one line over a book.
 
-ghost use Rattle.std.specs.Prelude.{false, ◌≡◌, ◌≢◌, ◌<◌, ◌≤◌, ◌-◌, ◌^◌, length, [], ◌∷◌, Ok, OnOk, OnErr, IfErr, IfOk};
+ghost use Rattle.std.specs.Prelude.{false, ◌≡◌, ◌≢◌, ◌<◌, ◌≤◌, ◌+◌, ◌-◌, ◌^◌, length, [], ◌∷◌, Ok, OnOk, OnErr, IfErr, IfOk};
 ghost use Rattle.ic_book.specs.Book.{is_broken, number_of, log_of, table_of};
 ghost use Rattle.ic_book.specs.declared.limits.TheConstants.{MAX_ENTRIES};
 ghost use Rattle.ic_jobs.specs.declared.event.Event.TheVariants.{Command as by_command};
@@ -10,13 +10,13 @@ ghost use Rattle.ic_lines.specs.Lines.{ended};
 ghost use Rattle.ic_lines.specs.Turns.{turns};
 ghost use Rattle.ic_commands.specs.LineText.{ReadsLine};
 ghost use Rattle.ic_lines.specs.Answers.{answer, after_line, events};
-ghost use Rattle.ic_serving.specs.Booked.{last_kept, Begins, IsAllKept};
+ghost use Rattle.ic_serving.specs.Booked.{last_kept, unkept_of, Begins, IsAllKept};
 ghost use Rattle.ic_serving.specs.Parts.{IsKeptWithin};
 ghost use Rattle.ic_book.specs.Moves.{keeps};
 ghost use Rattle.ic_serving.specs.Answered.{EndsWith, IsAnswered, IsBegun, IsReplied};
 ghost use Rattle.ic_serving.specs.Grown.{GoesOn, HasRoom};
 ghost use Rattle.ic_serving.specs.Moments.{FaultLeaves, Leaves, IsKeptInLine};
-ghost use Rattle.ic_serving.specs.Faults.{ComesInLine};
+ghost use Rattle.ic_serving.specs.Faults.{ComesAlone, ComesInLine};
 ghost use Rattle.ic_serving.specs.inner.Reading.{IsAnsweredAs};
 
 use crate::fault::ServeFault;
@@ -38,7 +38,8 @@ pub(crate) type Reading = Result<Line, TextFault>;
 
 /// Does what a line asks, and answers what is to be written for it, for a loop of one's own. At Ok
 /// all is kept, unless nothing has changed: so no byte of an answer is there before what its line
-/// leaves is kept. At `Err` some of the line's events may stand in the book.
+/// leaves is kept. At `Err` some of the line's events may stand in the book; where all was kept before
+/// the line, at most `every` of them aren't kept.
 ///
 /// A round is made by at most so many workers, and by one where it is small. Rounds are kept after
 /// each `every` of them and at the end. Workers that stand for large rounds are joined before it
@@ -57,6 +58,8 @@ pub fn answer_line<T: Threads + Wait + Copy + Send + 'static, D: Disk>(
     ensures answered { IfOk result (λ bytes. IsAnswered line.now bytes.items book.old book.new) }
     ensures begun { OnErr result (IsBegun line.now book.old book.new) }
     ensures fault { FaultLeaves ComesInLine result book.old book.new }
+    ensures alone { workers ≡ 1 → IfErr result ComesAlone }
+    ensures behind { IsAllKept book.old → unkept_of book.new ≤ every }
 
     // A crash at any moment leaves the table that was kept before the line, or one within it.
     ensures crash { Leaves book.old book.new
@@ -108,6 +111,8 @@ pub(crate) fn answer_read<T: Threads + Wait + Copy + Send + 'static, D: Disk, G:
     ensures answered { IfOk result (λ bytes. IsAnsweredAs reading bytes.items book.old book.new) }
     ensures begun { OnErr result (Begins (events (table_of book.old) reading) book.old book.new) }
     ensures fault { FaultLeaves ComesInLine result book.old book.new }
+    ensures alone { workers ≡ 1 → IfErr result ComesAlone }
+    ensures behind { IsAllKept book.old → unkept_of book.new ≤ every }
     ensures crash { Leaves book.old book.new (IsKeptWithin (table_of book.old)
         (last_kept book.old) (events (table_of book.old) reading)) }
 {
@@ -146,6 +151,8 @@ pub fn answer_command<D: Disk>(
         → GoesOn (by_command command ∷ []) book.old book.new) }
     ensures begun { OnErr result (Begins (by_command command ∷ []) book.old book.new) }
     ensures fault { FaultLeaves ComesInLine result book.old book.new }
+    ensures alone { IfErr result ComesAlone }
+    ensures behind { unkept_of book.new ≤ unkept_of book.old + 1 }
     ensures crash { Leaves book.old book.new (IsKeptWithin (table_of book.old)
         (last_kept book.old) (by_command command ∷ [])) }
 {
@@ -179,6 +186,8 @@ fn answer_run<T: Threads + Wait + Copy + Send + 'static, D: Disk, G: Gate>(
         → GoesOn (turns count 0 (table_of book.old)) book.old book.new) }
     ensures begun { OnErr result (Begins (turns count 0 (table_of book.old)) book.old book.new) }
     ensures fault { FaultLeaves ComesInLine result book.old book.new }
+    ensures alone { workers ≡ 1 → IfErr result ComesAlone }
+    ensures behind { IsAllKept book.old → unkept_of book.new ≤ every }
     ensures crash { Leaves book.old book.new (IsKeptWithin (table_of book.old)
         (last_kept book.old) (turns count 0 (table_of book.old))) }
 {

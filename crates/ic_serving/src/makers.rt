@@ -2,6 +2,8 @@
 
 ghost use Rattle.std.specs.Prelude.{◌≡◌, ◌≤◌, IfOk};
 ghost use Rattle.ic_flights.specs.Played.{round_of};
+ghost use Rattle.ic_pool.specs.Played.{played};
+ghost use Rattle.ic_pool.specs.PoolFault.{Answers};
 ghost use Rattle.ic_pool.specs.Workers.{ByWorkers, played_by};
 
 use crate::limits::FEW;
@@ -30,7 +32,8 @@ impl Makers {
         }
     }
 
-    /// The round of a flight. One thread makes it; several make one of many equations.
+    /// The round of a flight. One thread makes it; several make one of many equations. Where one is
+    /// asked for, no refusal comes of other threads.
     pub fn play<T: Threads + Wait + Copy + Send + 'static>(
         &mut self,
         rt: &T,
@@ -40,6 +43,7 @@ impl Makers {
     ) -> Result<Played, PoolFault>
         requires { 1 ≤ workers }
         ensures answer { ByWorkers result (played_by workers flight.now) }
+        ensures alone { workers ≡ 1 → Answers result (played flight.now) }
         ensures round { IfOk result (λ played. played ≡ round_of flight.now) }
     {
         if workers == 1 || flight.config().equations_len() < FEW {

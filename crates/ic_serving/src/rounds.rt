@@ -1,6 +1,6 @@
 //! One round over a book.
 
-ghost use Rattle.std.specs.Prelude.{false, ◌≡◌, ◌<◌, ◌≤◌, [], ◌∷◌, ◌++◌, length, None, OnOk, OnErr, IfOk, IfSome, IfNone};
+ghost use Rattle.std.specs.Prelude.{false, ◌≡◌, ◌<◌, ◌≤◌, ◌+◌, [], ◌∷◌, ◌++◌, length, None, OnOk, OnErr, IfOk, IfErr, IfSome, IfNone};
 ghost use Rattle.ic_jobs.specs.declared.event.Event.TheVariants.{Round};
 ghost use Rattle.ic_jobs.specs.declared.reply.Reply.{Reply};
 ghost use Rattle.ic_jobs.specs.declared.limits.TheConstants.{MAX_JOBS};
@@ -8,11 +8,11 @@ ghost use Rattle.ic_jobs.specs.Landing.{due, Awaits};
 ghost use Rattle.ic_book.specs.declared.limits.TheConstants.{MAX_ENTRIES};
 ghost use Rattle.ic_book.specs.Book.{is_broken, start_of, table_of, log_of, keeper_of, IsUnchanged};
 ghost use Rattle.ic_book.specs.Entries.{round_entry};
-ghost use Rattle.ic_serving.specs.Booked.{last_kept, IsAllKept, Advances, MakesRound, StaysPut};
+ghost use Rattle.ic_serving.specs.Booked.{last_kept, unkept_of, IsAllKept, Advances, MakesRound, StaysPut};
 ghost use Rattle.ic_book.specs.ByCalls.{IsByCalls};
 ghost use Rattle.ic_book.specs.Moves.{keeps};
 ghost use Rattle.ic_serving.specs.Answered.{EndsWith};
-ghost use Rattle.ic_serving.specs.Faults.{ComesInLine};
+ghost use Rattle.ic_serving.specs.Faults.{ComesAlone, ComesInLine};
 ghost use Rattle.ic_serving.specs.Grown.{IsSamePage};
 ghost use Rattle.ic_serving.specs.Moments.{FaultLeaves, Leaves, IsKeptOrNow};
 
@@ -29,6 +29,8 @@ use std::thread::Threads;
 pub(crate) fn make_room<D: Disk>(alloc: Global, book: &mut Book<D>) -> Result<(), ServeFault>
     ensures stays { StaysPut book.old book.new }
     ensures fault { FaultLeaves ComesInLine result book.old book.new }
+    ensures alone { IfErr result ComesAlone }
+    ensures fewer { unkept_of book.new ≤ unkept_of book.old }
     ensures spare { OnOk result (length (log_of book.new) < MAX_ENTRIES) }
     ensures room { length (log_of book.old) < MAX_ENTRIES → IsUnchanged book.old book.new }
     ensures crash { Leaves book.old book.new (IsKeptOrNow book.old) }
@@ -51,6 +53,8 @@ pub fn keep_all<D: Disk>(book: &mut Book<D>) -> Result<(), ServeFault>
     ensures unkept { OnErr result (last_kept book.new ≡ last_kept book.old) }
     ensures page { IsSamePage book.old book.new }
     ensures fault { FaultLeaves ComesInLine result book.old book.new }
+    ensures alone { IfErr result ComesAlone }
+    ensures fewer { unkept_of book.new ≤ unkept_of book.old }
     ensures crash { Leaves book.old book.new (IsKeptOrNow book.old) }
 {
     book.facts();
@@ -76,6 +80,8 @@ pub fn make_round<T: Threads + Wait + Copy + Send + 'static, D: Disk>(
     ensures low { IfOk result (λ place. IfSome place (λ here. here < MAX_JOBS)) }
     ensures refused { OnErr result (StaysPut book.old book.new) }
     ensures fault { FaultLeaves ComesInLine result book.old book.new }
+    ensures alone { workers ≡ 1 → IfErr result ComesAlone }
+    ensures one { unkept_of book.new ≤ unkept_of book.old + 1 }
     ensures crash { Leaves book.old book.new (IsKeptOrNow book.old) }
 {
     book.facts();
@@ -110,6 +116,8 @@ fn land_or_halt<T: Threads + Wait + Copy + Send + 'static, D: Disk>(
     ensures start { start_of book.new ≡ start_of book.old }
     ensures refused { OnErr result (IsUnchanged book.old book.new) }
     ensures fault { FaultLeaves ComesInLine result book.old book.new }
+    ensures alone { workers ≡ 1 → IfErr result ComesAlone }
+    ensures one { unkept_of book.new ≤ unkept_of book.old + 1 }
     ensures keeper { keeper_of book.new ≡ keeper_of book.old }
     ensures done { IsByCalls book.old book.new }
 {

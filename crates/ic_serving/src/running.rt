@@ -1,13 +1,13 @@
 //! The rounds of a run over a book.
 
-ghost use Rattle.std.specs.Prelude.{false, ◌≡◌, ◌≤◌, ◌⊎◌, OnOk, OnErr, IfOk, length};
+ghost use Rattle.std.specs.Prelude.{false, ◌≡◌, ◌≤◌, ◌%◌, ◌⊎◌, OnOk, OnErr, IfOk, IfErr, length};
 ghost use Rattle.ic_book.specs.Book.{is_broken, table_of};
 ghost use Rattle.ic_lines.specs.Turns.{turns, after_events};
-ghost use Rattle.ic_serving.specs.Booked.{last_kept, Begins, IsAllKept};
+ghost use Rattle.ic_serving.specs.Booked.{last_kept, unkept_of, Begins, IsAllKept};
 ghost use Rattle.ic_serving.specs.Parts.{IsKeptWithin};
 ghost use Rattle.ic_book.specs.Moves.{keeps};
 ghost use Rattle.ic_serving.specs.Answered.{EndsWith};
-ghost use Rattle.ic_serving.specs.Faults.{ComesInLine};
+ghost use Rattle.ic_serving.specs.Faults.{ComesAlone, ComesInLine};
 ghost use Rattle.ic_serving.specs.Grown.{IsSamePage, GoesOn, HasRoom};
 ghost use Rattle.ic_serving.specs.Moments.{FaultLeaves, Leaves, IsKeptOrNow};
 
@@ -47,6 +47,8 @@ pub(crate) fn run<T: Threads + Wait + Copy + Send + 'static, D: Disk, G: Gate>(
         → GoesOn (turns count 0 (table_of book.old)) book.old book.new) }
     ensures begun { OnErr result (Begins (turns count 0 (table_of book.old)) book.old book.new) }
     ensures fault { FaultLeaves ComesInLine result book.old book.new }
+    ensures alone { workers ≡ 1 → IfErr result ComesAlone }
+    ensures behind { IsAllKept book.old → unkept_of book.new ≤ every }
     ensures crash { Leaves book.old book.new (IsKeptWithin (table_of book.old)
         (last_kept book.old) (turns count 0 (table_of book.old))) }
 {
@@ -77,6 +79,8 @@ fn make_rounds<T: Threads + Wait + Copy + Send + 'static, D: Disk, G: Gate>(
         → GoesOn (turns count 0 (table_of book.old)) book.old book.new) }
     ensures begun { OnErr result (Begins (turns count 0 (table_of book.old)) book.old book.new) }
     ensures fault { FaultLeaves ComesInLine result book.old book.new }
+    ensures alone { workers ≡ 1 → IfErr result ComesAlone }
+    ensures behind { IsAllKept book.old → unkept_of book.new ≤ every }
     ensures crash { Leaves book.old book.new (IsKeptWithin (table_of book.old)
         (last_kept book.old) (turns count 0 (table_of book.old))) }
 {
@@ -103,12 +107,15 @@ pub fn count_running(jobs: &[Job]) -> usize {
 /// Keeps what isn't kept, where the number of rounds is a multiple of `every`.
 pub fn keep_each<D: Disk>(book: &mut Book<D>, made: u64, every: u64) -> Result<(), ServeFault>
     requires { 1 ≤ every }
+    ensures due { OnOk result (made % every ≡ 0 → IsAllKept book.new) }
     ensures table { table_of book.new ≡ table_of book.old }
     ensures kept { OnOk result ((last_kept book.new ≡ last_kept book.old)
         ⊎ (last_kept book.new ≡ table_of book.old)) }
     ensures unkept { OnErr result (last_kept book.new ≡ last_kept book.old) }
     ensures page { IsSamePage book.old book.new }
     ensures fault { FaultLeaves ComesInLine result book.old book.new }
+    ensures alone { IfErr result ComesAlone }
+    ensures fewer { unkept_of book.new ≤ unkept_of book.old }
     ensures crash { Leaves book.old book.new (IsKeptOrNow book.old) }
 {
     book.facts();

@@ -4,7 +4,8 @@ ghost use Rattle.std.specs.Prelude.{◌≡◌, ◌≢◌, ◌≤◌, ◌⊎◌, 
 ghost use Rattle.std.specs.Io.KnownBytes.{Keeps};
 ghost use Rattle.ic_commands.specs.LineText.{ReadsLine};
 ghost use Rattle.ic_lines.specs.declared.buffer.LineFault.TheVariants.{LongLine};
-ghost use Rattle.ic_serving.specs.Faults.{MayCome, fault_of_line};
+ghost use Rattle.ic_serving.specs.Faults.{ComesAlone, MayCome, fault_of_line};
+ghost use Rattle.ic_serving.specs.Booked.{unkept_of, IsAllKept};
 ghost use Rattle.ic_serving.specs.Moments.{FaultLeaves};
 ghost use Rattle.ic_serving.specs.Served.{OfLines};
 ghost use Rattle.ic_serving.specs.Serving.{IsServing};
@@ -48,6 +49,8 @@ pub fn serve_lines<T: Threads + Wait + Copy + Send + 'static, D: Disk, R: Read, 
     ensures serving { OfLines (R.remaining reader.old) (λ ls. IsServing result ls
         book.old book.new (W.contents writer.old) (W.contents writer.new)) }
     ensures fault { FaultLeaves MayCome result book.old book.new }
+    ensures alone { workers ≡ 1 → IfErr result ComesAlone }
+    ensures behind { IsAllKept book.old → unkept_of book.new ≤ every }
 {
     serve_watched(rt, alloc, book, reader, writer, workers, every, &OpenGate)
 }
@@ -75,6 +78,8 @@ pub fn serve_watched<
     ensures serving { OfLines (R.remaining reader.old) (λ ls. IsServing result ls
         book.old book.new (W.contents writer.old) (W.contents writer.new)) }
     ensures fault { FaultLeaves MayCome result book.old book.new }
+    ensures alone { workers ≡ 1 → IfErr result ComesAlone }
+    ensures behind { IsAllKept book.old → unkept_of book.new ≤ every }
 {
     let mut makers = Makers::new(alloc);
     let served = serve_with(
@@ -109,6 +114,8 @@ fn serve_with<T: Threads + Wait + Copy + Send + 'static, D: Disk, R: Read, W: Wr
     ensures serving { OfLines (R.remaining reader.old) (λ ls. IsServing result ls
         book.old book.new (W.contents writer.old) (W.contents writer.new)) }
     ensures fault { FaultLeaves MayCome result book.old book.new }
+    ensures alone { workers ≡ 1 → IfErr result ComesAlone }
+    ensures behind { IsAllKept book.old → unkept_of book.new ≤ every }
 {
     ic_commands::laws::one_line_reading();
     ic_lines::laws::lines_are_served_in_one_way();
@@ -162,6 +169,7 @@ fn after_the_last(fault: LineFault) -> ServeFault
     ensures long { fault ≡ LongLine → result ≡ ServeFault.TooManyLines }
     ensures others { fault ≢ LongLine → result ≡ fault_of_line fault }
     ensures causes { MayCome result }
+    ensures alone { ComesAlone result }
 {
     match fault {
         LineFault::LongLine => ServeFault::TooManyLines,

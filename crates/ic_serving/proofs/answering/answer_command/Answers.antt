@@ -1,4 +1,4 @@
-use Rattle.std.proofs.Common.{◌≡◌, ◌-◌, ◌^◌, Bool, true, false, inl, inr, Err, refl, ap, ◌∙◌, [], ◌∷◌}
+use Rattle.std.proofs.Common.{◌≡◌, ◌-◌, ◌^◌, Bool, true, false, inl, inr, Err, refl, ap, ◌∙◌, [], ◌∷◌, arith}
 use Rattle.ic_jobs.specs.declared.event.Event.TheVariants.{Command as by_command}
 use Rattle.ic_jobs.specs.History.{table_after}
 use Rattle.ic_book.specs.Book.{is_broken, number_of, table_of, start_of, log_of, kept_of, IsUnchanged}
@@ -9,6 +9,7 @@ use Rattle.ic_serving.specs.Booked.{last_kept}
 use Rattle.ic_serving.proofs.RunLemmas.{kept_same, on_err}
 use Rattle.ic_book.specs.lemmas.Chains.{answer_moves, by_answer, by_failure, by_refusal}
 use Rattle.ic_serving.specs.lemmas.Reaching.{kept_all}
+use Rattle.ic_serving.specs.lemmas.Unkept.{none_unkept, one_unkept, same_unkept}
 use Rattle.ic_serving.proofs.LineLemmas.{device_or_not, begun_none, begun_one, begun_kept, after_event, kept_after}
 use Rattle.ic_serving.proofs.PageLemmas.{command_goes, one_room, same_then, within_all, within_none}
 use Rattle.ic_serving.specs.Parts.{IsKeptWithin}
@@ -146,3 +147,32 @@ returns-clause-replied g c = record {
     last = answer_moves 0 c.args.command c.in_ok-reply.reply c.make_room.new.book c.command.new.self c.in_ok-reply.ensures.step.answered;
   });
 }
+
+pub returns-in_err-reply-clause-behind : goal.returns-in_err-reply-clause-behind
+returns-in_err-reply-clause-behind g c =
+    let mid = c.make_room.new.book in
+    let new = c.command.new.self in
+    let fewer = c.make_room.ensures.fewer in
+    elim (device_or_not c.in_err-reply.field-0.0) [
+      | inl is ↦ (let failed = c.in_err-reply.ensures.step.failed (ap (λ e. Err e) is) in
+          let one = one_unkept (log_of mid) (log_of new) (command_entry 0 c.args.command failed.0) (kept_of mid) (kept_of new) failed.1.page.0.adds.entry failed.1.page.1 in
+          omega (arith, fewer, one))
+      | inr other ↦ (let u : IsUnchanged mid new = c.in_err-reply.ensures.fault.refused refl (λ same. other (cc)) in
+          let same = same_unkept (log_of mid) (log_of new) (kept_of mid) (kept_of new) u.same_log u.same_kept in
+          omega (arith, fewer, same))
+    ]
+
+pub returns-in_err-print_reply-clause-behind : goal.returns-in_err-print_reply-clause-behind
+returns-in_err-print_reply-clause-behind g c =
+    let none = none_unkept c.command.new.self c.in_ok-reply.ensures.step.answered.page.1 in
+    omega (arith, none)
+
+pub returns-in_err-ended-clause-behind : goal.returns-in_err-ended-clause-behind
+returns-in_err-ended-clause-behind g c =
+    let none = none_unkept c.command.new.self c.in_ok-reply.ensures.step.answered.page.1 in
+    omega (arith, none)
+
+pub returns-clause-behind : goal.returns-clause-behind
+returns-clause-behind g c =
+    let none = none_unkept c.command.new.self c.in_ok-reply.ensures.step.answered.page.1 in
+    omega (arith, none)

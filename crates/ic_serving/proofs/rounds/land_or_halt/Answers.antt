@@ -4,6 +4,7 @@ use Rattle.ic_jobs.specs.Landing.{Awaits}
 use Rattle.ic_book.specs.Book.{table_of}
 use Rattle.ic_jobs.specs.declared.reply.Reply.TheVariants.{Moved, Halted}
 use Rattle.ic_book.specs.lemmas.Chains.{by_nothing, by_round}
+use Rattle.ic_serving.proofs.AloneLemmas.{one_thread_refuses}
 use Rattle.ic_serving.proofs.rounds.land_or_halt.Goals as goal
 
 pub land_awaited-requires : goal.land_awaited-requires
@@ -28,3 +29,6 @@ returns-in_err-land_awaited-clause-done g c = by_round _ Moved c.land_awaited.re
 
 pub returns-clause-done : goal.returns-clause-done
 returns-clause-done g c = by_round _ Moved c.land_awaited.result c.args.book.now c.land_awaited.new.self c.land_awaited.ensures.step
+
+pub returns-then-not-is_of_flight-clause-alone : goal.returns-then-not-is_of_flight-clause-alone
+returns-then-not-is_of_flight-clause-alone g c = λ one. one_thread_refuses c.args.flight.now c.in-Err.fault (c.in-Err.ensures.alone one)

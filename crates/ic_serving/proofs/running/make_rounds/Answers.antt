@@ -1,14 +1,15 @@
 use Rattle.std.proofs.Common.{◌≡◌, ◌+◌, ◌-◌, [], None, inl, inr, ap, refl, ◌∙◌, arith}
 use Rattle.ic_jobs.specs.Landing.{due}
 use Rattle.ic_book.specs.Book.{table_of, start_of, log_of, kept_of, IsUnchanged}
-use Rattle.ic_serving.specs.Booked.{last_kept, MakesRound}
-use Rattle.ic_serving.proofs.RunLemmas.{IsRun, at_first, one_more, keep_or_not, kept_same, run_idle, run_begun, turns_over, on_err}
+use Rattle.ic_serving.specs.Booked.{last_kept, unkept_of, MakesRound}
+use Rattle.ic_serving.proofs.RunLemmas.{IsRun, at_first, run_full, one_more, keep_or_not, kept_same, run_idle, run_begun, turns_over, on_err}
 use Rattle.ic_serving.proofs.PageLemmas.{page_first, page_more, page_whole, page_within}
 use Rattle.ic_lines.specs.Turns.{turns}
 use Rattle.ic_serving.specs.Parts.{IsKeptWithin}
 use Rattle.ic_book.specs.lemmas.Chains.{by_nothing}
 use Rattle.ic_serving.proofs.StopLemmas.{leaves_in_run}
 use Rattle.ic_serving.specs.lemmas.Leaving.{leaves_nothing}
+use Rattle.ic_serving.specs.lemmas.Unkept.{due_within, none_unkept, one_within}
 use Rattle.ic_serving.proofs.running.make_rounds.Given as given
 use Rattle.ic_serving.proofs.running.make_rounds.Goals as goal
 
@@ -18,6 +19,7 @@ loop-made-init g c = record {
   counted = refl;
   ready = λ is. is;
   page = page_first c.args.count c.args.book.now;
+  behind = λ all. let none = none_unkept c.args.book.now all in omega (arith, none);
   moments = leaves_nothing c.args.book.now (IsKeptWithin (table_of c.args.book.now) (last_kept c.args.book.now) (turns c.args.count 0 (table_of c.args.book.now)))
       (g.met.D.Disk.left_is_image _) c.facts.ensures.either c.facts.ensures.history.replayed
       (by_nothing c.args.book.now c.facts.ensures.step) (inl refl)
@@ -119,8 +121,34 @@ loop-made-preserved g c =
       ready = λ is. c.in_ok-keep_each.ensures.fault.ready (c.in_ok-make_round.ensures.fault.ready (c.loop-made.invariant.ready is));
       page = rw m.here (page_more c.args.count c.loop-made.made c.loop-made.place c.args.book.now c.loop-made.book c.loop-made.invariant.page m.flight
           c.make_round.new.book c.keep_each.new.book c.loop-made-test.true m.is_due m.advances.table m.page c.keep_each.ensures.table c.keep_each.ensures.page);
+      behind = λ all. due_within c.loop-made.made (c.loop-made.made + 1) c.args.every (unkept_of c.loop-made.book) (unkept_of c.make_round.new.book)
+          (unkept_of c.keep_each.new.book) c.requires.every (inl refl) (c.loop-made.invariant.behind all) c.make_round.ensures.one c.keep_each.ensures.fewer
+          (λ due. none_unkept c.keep_each.new.book (c.in_ok-keep_each.ensures.due due));
       moments = leaves_in_run c.args.book.now c.make_round.new.book c.keep_each.new.book c.args.count (c.loop-made.made + 1) (m.flight.place + 1) more
           (leaves_in_run c.args.book.now c.loop-made.book c.make_round.new.book c.args.count c.loop-made.made c.loop-made.place
           c.loop-made.invariant.run c.loop-made.invariant.moments c.make_round.ensures.crash)
           c.keep_each.ensures.crash;
     }
+
+pub returns-in_err-make_round-clause-behind : goal.returns-in_err-make_round-clause-behind
+returns-in_err-make_round-clause-behind g c = λ all.
+    one_within c.loop-made.made c.args.every (unkept_of c.loop-made.book) (unkept_of c.make_round.new.book) c.requires.every (c.loop-made.invariant.behind all) c.make_round.ensures.one
+
+pub returns-in-None-clause-behind : goal.returns-in-None-clause-behind
+returns-in-None-clause-behind g c = λ all.
+    one_within c.loop-made.made c.args.every (unkept_of c.loop-made.book) (unkept_of c.make_round.new.book) c.requires.every (c.loop-made.invariant.behind all) c.make_round.ensures.one
+
+pub returns-in_err-keep_each-clause-behind : goal.returns-in_err-keep_each-clause-behind
+returns-in_err-keep_each-clause-behind g c = λ all.
+    let fewer = c.keep_each.ensures.fewer in
+    let one = c.make_round.ensures.one in
+    one_within c.loop-made.made c.args.every (unkept_of c.loop-made.book) (unkept_of c.keep_each.new.book) c.requires.every (c.loop-made.invariant.behind all) (omega (arith, fewer, one))
+
+pub returns-clause-behind : goal.returns-clause-behind
+returns-clause-behind g c = λ all.
+    one_within c.loop-made.made c.args.every (unkept_of c.loop-made.book) (unkept_of c.loop-made.book) c.requires.every (c.loop-made.invariant.behind all) (omega arith)
+
+pub returns-clause-within : goal.returns-clause-within
+returns-clause-within g c =
+    (run_full (table_of c.args.book.now) (last_kept c.args.book.now) c.args.count c.loop-made.made c.loop-made.place (table_of c.loop-made.book) (last_kept c.loop-made.book)
+    c.loop-made.invariant.run (omega arith)).keeps
