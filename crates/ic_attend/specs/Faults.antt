@@ -10,7 +10,7 @@ use Rattle.ic_jobs.specs.Job.{JobParts}
 use Rattle.ic_slots.specs.Held.{IsHeld, the_table}
 use Rattle.ic_slots.specs.Opening.{Says}
 use Rattle.ic_book.specs.declared.book.Book.{Book}
-use Rattle.ic_book.specs.Book.{start_of, log_of, table_of}
+use Rattle.ic_book.specs.Book.{disk_of, start_of, log_of, table_of}
 use Rattle.ic_attend.specs.declared.attended.Attended.{Attended}
 use Rattle.ic_attend.specs.declared.fault.AttendFault.{AttendFault}
 use Rattle.ic_attend.specs.declared.fault.AttendFault.TheVariants.{Open, NoThread, Memory, Torn}
@@ -63,12 +63,15 @@ pub record IsUnopened {D : Type 0} (ghosts : Ghosts D) (disk : D) (fault : OpenF
       (ghosts.failures disk) (ghosts.failures fault.disk)
   pub says : IsTrue (ghosts.keeps disk) → Says fault.cause (ghosts.content disk)
 
--- The book is as it was opened: it has the table that the disk holds, and an empty log.
+-- The book is as it was opened: it has the table that the disk holds, and an empty log. Its disk is as
+-- the opening found it.
 pub record IsAsOpened {D : Type 0} {ghosts : Ghosts D} (disk : D) (book : Book D ghosts)
     : Type 0 where
   pub held : IsTrue (ghosts.keeps disk) → IsHeld (the_table (start_of book)) (ghosts.content disk)
   pub table : table_of book ≡ start_of book
   pub log : log_of book ≡ []
+  pub found : LeavesAsFound ghosts.keeps ghosts.content ghosts.image ghosts.clock ghosts.left
+      (Ok book) disk (disk_of book)
 
 -- Each script's client was answered its first commands, or none, and was refused the next one
 -- exactly where it has an end. Each runner has an end that may be a runner's.

@@ -1,6 +1,6 @@
 //! A runner: it takes rounds, has its crew make them outside the lock, and lands them.
 
-ghost use Rattle.std.specs.Prelude.{◌≡◌, ◌≤◌, ◌+◌, IfErr, OnOk, true, false, if◌then◌else◌};
+ghost use Rattle.std.specs.Prelude.{◌≡◌, ◌≢◌, ◌≤◌, ◌+◌, IfErr, OnOk, true, false, if◌then◌else◌};
 ghost use Rattle.ic_flights.specs.Flight.{is_blocked};
 ghost use Rattle.ic_attend.specs.declared.attended.RunnerEnd.TheVariants.{Pool as by_pool};
 ghost use Rattle.ic_attend.specs.Ends.{EndMayBe};
@@ -95,6 +95,7 @@ fn take_rounds<R: Threads + Wait, D: Disk, G: Gate>(
     requires none { taken.old ≡ 0 }
     ensures end { EndMayBe duty.workers result }
     ensures turns { taken.new ≤ duty.turns }
+    ensures used { result ≡ RunnerEnd.Turns → taken.new ≡ duty.turns }
 {
     let mut laps = Laps::new();
     for _ in rt.forever() {
@@ -127,7 +128,7 @@ fn may_take(is_turn: bool, taken: &mut usize, turns: usize) -> bool
     requires { taken.old ≤ turns }
     ensures most { taken.new ≤ turns }
     ensures counted { result ≡ true → taken.new ≡ taken.old + (if is_turn then 1 else 0) }
-    ensures used_up { result ≡ false → (is_turn ≡ true) × (taken.old ≡ turns) }
+    ensures used_up { result ≡ false → (is_turn ≡ true) × (taken.new ≡ turns) }
 {
     if !is_turn {
         return true;
@@ -157,6 +158,7 @@ fn make_round<R: Wait, D: Disk>(
 ) -> Result<Landed, RunnerEnd>
     requires { IsUnspent crew.old }
     ensures end { IfErr result (EndMayBeWith crew.old) }
+    ensures refusal { IfErr result (λ end. end ≢ RunnerEnd.Turns) }
     ensures ready { OnOk result (StaysReady crew.old crew.new) }
 {
     let landed = if flight.blocked() {
