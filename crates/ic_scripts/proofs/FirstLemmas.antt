@@ -1,7 +1,6 @@
 -- The first of the faults.
 use Rattle.std.proofs.Common.{◌≡◌, ◌∙◌, ◌+◌, ◌<◌, ℕ, List, [], ◌∷◌, ◌++◌, Option, None, Some, length, take, get_or, slice_get, zero, suc, refl, sym, ap, ap₂, arith}
-use Rattle.std.specs.Prelude.{Result, Ok, Err, OnOk}
-use Rattle.ic_scripts.specs.declared.fault.ScriptsFault.TheVariants.{Book}
+use Rattle.std.specs.Prelude.{Result, Ok, Err}
 use Rattle.std.specs.List.{AllByRecursion, filter_map}
 use Rattle.ic_book.specs.declared.fault.BookFault.{BookFault}
 use Rattle.ic_attend.specs.declared.attended.ClientRun.{ClientRun}
@@ -75,13 +74,3 @@ pub keep_alone : {T : Type 0} (runs : List ClientRun) (ends : List RunnerEnd) (k
     → None ≡ slice_get (filter_map runner_fault ends) 0 → faults_of runs ends kept ≡ keep_faults kept
 keep_alone runs ends kept clients runners =
     ap₂ (λ (a b : List ScriptsFault). a ++ b ++ keep_faults kept) (none_found client_fault runs clients) (none_found runner_fault ends runners)
-
-not_empty : {X : Type 0} (xs : List X) (x : X) → xs ++ x ∷ [] ≡ [] → ⊥
-not_empty [] x e = cc
-not_empty (y ∷ ys) x e = cc
-
--- where nothing failed, what is so at a keep's Ok is so
-pub kept_well : {T : Type 0} {P : Type 0} (runs : List ClientRun) (ends : List RunnerEnd) (kept : Result T BookFault) → faults_of runs ends kept ≡ []
-    → OnOk kept P → P
-kept_well runs ends (Ok done) well p = p
-kept_well runs ends (Err fault) well p = absurd (not_empty (filter_map client_fault runs ++ filter_map runner_fault ends) (Book fault) well)

@@ -21,7 +21,7 @@ use Rattle.ic_attend.specs.declared.fault.AttendFault.{AttendFault}
 use Rattle.ic_attend.specs.declared.fault.AttendFault.TheVariants as attending
 use Rattle.ic_attend.specs.Faults.{IfUnopened, IfUnbegun, IfStopped, IfTorn, IsUnopened, IsAsOpened, IsStopped, IsTorn}
 use Rattle.ic_scripts.specs.Attending.{HasTable}
-use Rattle.ic_scripts.specs.Outcome.{fault_of_attendance}
+use Rattle.ic_scripts.specs.Outcome.{disk_left, fault_of_attendance}
 use Rattle.ic_scripts.specs.Reasons.{KeepTells, SaysWhy}
 
 pub keeps_same : (c : Option (List ℕ)) → Keeps c c
@@ -29,14 +29,15 @@ keeps_same None = tt
 keeps_same (Some xs) = refl
 
 -- a fault without its history says what `attend` said of it
-pub says_why : {D : Type 0} {ghosts : Ghosts D} (disk : D) (scripts : List (List Command)) (runners turns workers : ℕ) (fault : AttendFault D ghosts)
+pub says_why : {D : Type 0} {ghosts : Ghosts D} (disk : D) (scripts : List (List Command)) (runners turns workers : ℕ) (left : D) (fault : AttendFault D ghosts)
+    → left ≡ disk_left fault
     → IfUnopened (Err fault) (IsUnopened ghosts disk) → IfUnbegun (Err fault) (IsAsOpened disk)
     → IfStopped (Err fault) (IsStopped scripts runners workers) → IfTorn (Err fault) (IsTorn ghosts disk scripts runners turns workers)
-    → SaysWhy ghosts disk scripts runners turns workers (fault_of_attendance fault)
-says_why disk scripts runners turns workers (attending.Open fault) unopened unbegun stopped torn = (fault, refl, unopened)
-says_why disk scripts runners turns workers (attending.NoThread a) unopened unbegun stopped torn = (a, stopped)
-says_why disk scripts runners turns workers (attending.Memory book) unopened unbegun stopped torn = (book, unbegun)
-says_why disk scripts runners turns workers (attending.Torn a) unopened unbegun stopped torn = (a, torn)
+    → SaysWhy ghosts disk scripts runners turns workers left (fault_of_attendance fault)
+says_why disk scripts runners turns workers left (attending.Open fault) is unopened unbegun stopped torn = (fault, refl, unopened, is)
+says_why disk scripts runners turns workers left (attending.NoThread a) is unopened unbegun stopped torn = (a, stopped, is)
+says_why disk scripts runners turns workers left (attending.Memory book) is unopened unbegun stopped torn = (book, unbegun, is)
+says_why disk scripts runners turns workers left (attending.Torn a) is unopened unbegun stopped torn = (a, torn, is)
 
 not_true : (b : Bool) → (b ≡ true → ⊥) → b ≡ false
 not_true true never = absurd (never refl)

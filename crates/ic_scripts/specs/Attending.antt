@@ -1,5 +1,5 @@
 -- To be believed: what scripts that are given to a disk come to (this project's choice).
-use Rattle.std.specs.Prelude.{◌≡◌, ◌⊎◌, ℕ, List, [], Option, Result, Ok, Err, IfOk, IsErrAnd, IsTrue}
+use Rattle.std.specs.Prelude.{◌≡◌, ◌⊎◌, ℕ, List, [], Option, Result, Ok, Err, IsErrAnd, IsTrue, OnOk}
 use Rattle.std.specs.Io.KnownBytes.{Appends, Keeps}
 use Rattle.ic_disk.specs.declared.disk.Disk.{Ghosts}
 use Rattle.ic_disk.specs.Images.{Within}
@@ -45,16 +45,21 @@ IsToldOf runs faults (Ok done) old new = IsToldAll runs faults old new
 IsToldOf runs faults (Err fault) old new =
     IsToldFault runs faults fault old new ⊎ IsToldPart runs faults fault old new
 
+-- reads of the disk give this table, and so do they after a crash
+pub record HasTable {D : Type 0} (ghosts : Ghosts D) (table : List JobParts) (disk : D)
+    : Type 0 where
+  pub held : IsHeld (the_table table) (ghosts.content disk)
+  pub images : Within (ghosts.image disk) (IsHeld (the_table table))
+
 -- The faults are those of the clients, of the runners and of the keep after them. The keep ended as
 -- the book that they left has it, and on the disk that it left a call more is counted as failed
--- exactly where it was `Device`. At Ok this disk is handed out.
-pub record IsTold {D : Type 0} {ghosts : Ghosts D} (a : Attended D ghosts)
-    (result : Result D ScriptsFault) (old new : Option (List ℕ)) : Type 0 where
+-- exactly where it was `Device`. At its Ok this disk has the table of the book.
+pub record IsTold {T D : Type 0} {ghosts : Ghosts D} (a : Attended D ghosts) (left : D)
+    (result : Result T ScriptsFault) (old new : Option (List ℕ)) : Type 0 where
   pub kept : Result (Unit {0}) BookFault
   pub bears : KeepTells a.book kept
-  pub left : D
   pub counted : CountsBook kept (ghosts.failures (disk_of a.book)) (ghosts.failures left)
-  pub handed : IfOk result (λ disk. disk ≡ left)
+  pub held : OnOk kept (IsTrue (ghosts.keeps left) → HasTable ghosts (table_of a.book) left)
   pub told : IsToldOf a.answers.items (faults_of a.answers.items a.ends.items kept) result old new
 
 -- One legal history of these scripts' clients and of so many runners, which goes on from the table
@@ -67,32 +72,19 @@ pub record HasHistory {D : Type 0} {ghosts : Ghosts D} (disk : D) (scripts : Lis
   pub history : IsOneHistory scripts runners turns a
   pub tells : EndsTell workers a
 
--- reads of the disk give this table, and so do they after a crash
-pub record HasTable {D : Type 0} (ghosts : Ghosts D) (table : List JobParts) (disk : D)
-    : Type 0 where
-  pub held : IsHeld (the_table table) (ghosts.content disk)
-  pub images : Within (ghosts.image disk) (IsHeld (the_table table))
-
--- at Ok the disk is handed out, and holds the table that the history leaves
-abbrev pub HoldsAll : {D : Type 0} (ghosts : Ghosts D) → Attended D ghosts
-    → Result D ScriptsFault → Type 0
-HoldsAll ghosts a result = IfOk result (λ disk. IsTrue (ghosts.keeps disk)
-    → HasTable ghosts (table_of a.book) disk)
-
 -- there is such a history, and its clients are told so
-pub record IsToldHistory {D : Type 0} (ghosts : Ghosts D) (disk : D)
-    (scripts : List (List Command)) (runners turns workers : ℕ) (result : Result D ScriptsFault)
-    (old new : Option (List ℕ)) : Type 0 where
+pub record IsToldHistory {T D : Type 0} (ghosts : Ghosts D) (disk : D)
+    (scripts : List (List Command)) (runners turns workers : ℕ) (left : D)
+    (result : Result T ScriptsFault) (old new : Option (List ℕ)) : Type 0 where
   pub attended : Attended D ghosts
   pub has : HasHistory disk scripts runners turns workers attended
-  pub told : IsTold attended result old new
-  pub held : HoldsAll ghosts attended result
+  pub told : IsTold attended left result old new
 
 -- what scripts that are given to a disk come to: a history that is told, or none, and then the fault
 -- says why, and nothing is written
-abbrev pub IsAttended : {D : Type 0} (ghosts : Ghosts D) (disk : D)
-    (scripts : List (List Command)) (runners turns workers : ℕ) → Result D ScriptsFault
-    → (old new : Option (List ℕ)) → Type 0
-IsAttended ghosts disk scripts runners turns workers result old new =
-    IsToldHistory ghosts disk scripts runners turns workers result old new
-    ⊎ (IsErrAnd result (SaysWhy ghosts disk scripts runners turns workers) × Keeps old new)
+abbrev pub IsAttended : {T D : Type 0} (ghosts : Ghosts D) (disk : D)
+    (scripts : List (List Command)) (runners turns workers : ℕ) (left : D)
+    → Result T ScriptsFault → (old new : Option (List ℕ)) → Type 0
+IsAttended ghosts disk scripts runners turns workers left result old new =
+    IsToldHistory ghosts disk scripts runners turns workers left result old new
+    ⊎ (IsErrAnd result (SaysWhy ghosts disk scripts runners turns workers left) × Keeps old new)

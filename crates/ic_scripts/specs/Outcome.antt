@@ -2,6 +2,7 @@
 use Rattle.std.specs.Prelude.{◌≡◌, List, [], ◌∷◌, ◌++◌, Option, None, Some, Result, Ok, Err, option_map, slice_get}
 use Rattle.std.specs.List.{filter_map}
 use Rattle.ic_disk.specs.declared.disk.Disk.{Ghosts}
+use Rattle.ic_book.specs.Book.{disk_of}
 use Rattle.ic_book.specs.declared.fault.BookFault.{BookFault}
 use Rattle.ic_attend.specs.declared.attended.ClientRun.{ClientRun}
 use Rattle.ic_attend.specs.declared.attended.RunnerEnd.{RunnerEnd}
@@ -45,3 +46,10 @@ fault_of_attendance (attending.Open fault) = Open fault.cause
 fault_of_attendance (attending.NoThread attended) = NoThread
 fault_of_attendance (attending.Memory book) = Memory
 fault_of_attendance (attending.Torn attended) = Torn
+
+-- the disk that it leaves
+abbrev pub disk_left : {D : Type 0} {ghosts : Ghosts D} → AttendFault D ghosts → D
+disk_left (attending.Open fault) = fault.disk
+disk_left (attending.NoThread attended) = disk_of attended.book
+disk_left (attending.Memory book) = disk_of book
+disk_left (attending.Torn attended) = disk_of attended.book

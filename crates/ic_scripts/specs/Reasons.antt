@@ -6,29 +6,32 @@ use Rattle.ic_jobs.specs.declared.command.Command.{Command}
 use Rattle.ic_book.specs.declared.book.Book.{Book}
 use Rattle.ic_book.specs.declared.fault.BookFault.{BookFault}
 use Rattle.ic_book.specs.declared.fault.BookFault.TheVariants as of_book
-use Rattle.ic_book.specs.Book.{log_of, kept_of, is_broken, number_of}
+use Rattle.ic_book.specs.Book.{disk_of, log_of, kept_of, is_broken, number_of}
 use Rattle.ic_attend.specs.declared.attended.Attended.{Attended}
 use Rattle.ic_attend.specs.Faults.{IsAsOpened, IsStopped, IsTorn, IsUnopened}
 use Rattle.ic_scripts.specs.declared.fault.ScriptsFault.{ScriptsFault}
 use Rattle.ic_scripts.specs.declared.fault.ScriptsFault.TheVariants.{Read, Script, Open, NoThread, Torn, Book as by_book, Pool, Memory, Write}
 
 -- Why there is no history, as `attend` says it: the disk wasn't opened, for this cause; a thread was
--- refused; what was gathered differs; or memory was refused over a book that was just opened.
+-- refused; what was gathered differs; or memory was refused over a book that was just opened. The disk
+-- that is left is the one that the refusal handed back, or that of the book.
 abbrev pub SaysWhy : {D : Type 0} (ghosts : Ghosts D) (disk : D) (scripts : List (List Command))
-    (runners turns workers : ℕ) → ScriptsFault → Type 0
-SaysWhy {D = D} ghosts disk scripts runners turns workers (Open cause) =
+    (runners turns workers : ℕ) (left : D) → ScriptsFault → Type 0
+SaysWhy {D = D} ghosts disk scripts runners turns workers left (Open cause) =
     (fault : OpenFault D) × (fault.cause ≡ cause) × IsUnopened ghosts disk fault
-SaysWhy {D = D} ghosts disk scripts runners turns workers NoThread =
-    (a : Attended D ghosts) × IsStopped scripts runners workers a
-SaysWhy {D = D} ghosts disk scripts runners turns workers Torn =
+    × (left ≡ fault.disk)
+SaysWhy {D = D} ghosts disk scripts runners turns workers left NoThread =
+    (a : Attended D ghosts) × IsStopped scripts runners workers a × (left ≡ disk_of a.book)
+SaysWhy {D = D} ghosts disk scripts runners turns workers left Torn =
     (a : Attended D ghosts) × IsTorn ghosts disk scripts runners turns workers a
-SaysWhy {D = D} ghosts disk scripts runners turns workers Memory =
-    (book : Book D ghosts) × IsAsOpened disk book
-SaysWhy ghosts disk scripts runners turns workers Read = ⊥
-SaysWhy ghosts disk scripts runners turns workers (Script place refusal) = ⊥
-SaysWhy ghosts disk scripts runners turns workers (by_book fault) = ⊥
-SaysWhy ghosts disk scripts runners turns workers (Pool fault) = ⊥
-SaysWhy ghosts disk scripts runners turns workers Write = ⊥
+    × (left ≡ disk_of a.book)
+SaysWhy {D = D} ghosts disk scripts runners turns workers left Memory =
+    (book : Book D ghosts) × IsAsOpened disk book × (left ≡ disk_of book)
+SaysWhy ghosts disk scripts runners turns workers left Read = ⊥
+SaysWhy ghosts disk scripts runners turns workers left (Script place refusal) = ⊥
+SaysWhy ghosts disk scripts runners turns workers left (by_book fault) = ⊥
+SaysWhy ghosts disk scripts runners turns workers left (Pool fault) = ⊥
+SaysWhy ghosts disk scripts runners turns workers left Write = ⊥
 
 -- the book may keep, and has what isn't kept yet
 pub record WantsKeep {D : Type 0} {ghosts : Ghosts D} (book : Book D ghosts) : Type 0 where

@@ -3,11 +3,11 @@
 ghost use Rattle.std.specs.Prelude.{◌≡◌, map, vec_items, OnOk, IsTrue};
 ghost use Rattle.ic_book.specs.Book.{disk_of, table_of};
 ghost use Rattle.ic_book.specs.Refusals.{CountsBook};
-ghost use Rattle.ic_scripts.specs.Attending.{HasTable, HoldsAll, IsAttended, IsTold};
+ghost use Rattle.ic_scripts.specs.Attending.{HasTable, IsAttended, IsTold};
 ghost use Rattle.ic_scripts.specs.Reasons.{KeepTells};
 
 use crate::ends::outcome;
-use crate::fault::{ScriptsFault, fault_of_attendance};
+use crate::fault::{ScriptsFault, without_history};
 use crate::telling::tell;
 use ic_attend::{Attended, attend};
 use ic_book::{Book, BookFault};
@@ -20,8 +20,8 @@ use std::sync::Wait;
 use std::thread::Threads;
 
 /// Gives the scripts to a disk, as `attend` does, keeps what isn't kept, closes the book, and writes
-/// what each client was answered. The gate is `attend`'s.
-pub fn attend_scripts<R: Threads + Wait + Sync, D: Disk + Send + Drop, G: Gate, W: Write>(
+/// what each client was answered. The gate is `attend`'s. The disk is handed back, however it ends.
+pub fn attend_scripts<R: Threads + Wait + Sync, D: Disk + Send, G: Gate, W: Write>(
     rt: &R,
     alloc: Global,
     disk: D,
@@ -31,27 +31,30 @@ pub fn attend_scripts<R: Threads + Wait + Sync, D: Disk + Send + Drop, G: Gate, 
     workers: usize,
     gate: &G,
     writer: &mut W,
-) -> Result<D, ScriptsFault>
+) -> (D, Result<(), ScriptsFault>)
     // The answers that are written are those of one legal history of these scripts' clients, which
-    // goes on from the table that the disk held. At Ok the disk holds the table that this history
-    // leaves. A fault is one that the history or the keep after it has, or says why there is none.
+    // goes on from the table that the disk held. Unless the keep after it fails, the disk holds the
+    // table that this history leaves. A fault is one that the history or the keep has, or one of
+    // writing, or says why there is no history. Then the disk is the one that `attend` left.
     ensures { IsAttended D.Disk disk (map vec_items scripts.items) runners turns workers
-        result (W.contents writer.old) (W.contents writer.new) }
+        result.0 result.1 (W.contents writer.old) (W.contents writer.new) }
 {
     match attend(rt, alloc, disk, scripts, runners, turns, workers, gate) {
         Ok(attended) => finish(alloc, attended, writer),
-        Err(fault) => Err(fault_of_attendance(fault)),
+        Err(fault) => {
+            let (disk, fault) = without_history(fault);
+            (disk, Err(fault))
+        }
     }
 }
 
 /// Keeps what isn't kept, closes the book, and writes what each client was answered.
-fn finish<D: Disk + Drop, W: Write>(
+fn finish<D: Disk, W: Write>(
     alloc: Global,
     attended: Attended<D>,
     writer: &mut W,
-) -> Result<D, ScriptsFault>
-    ensures told { IsTold attended result (W.contents writer.old) (W.contents writer.new) }
-    ensures held { HoldsAll D.Disk attended result }
+) -> (D, Result<(), ScriptsFault>)
+    ensures { IsTold attended result.0 result.1 (W.contents writer.old) (W.contents writer.new) }
 {
     let Attended {
         book,
@@ -60,12 +63,9 @@ fn finish<D: Disk + Drop, W: Write>(
     } = attended;
     let (kept, disk) = keep_and_close(book);
     let told = tell(alloc, &answers, writer);
-    if let Err(fault) = outcome(&answers, &ends, kept) {
-        return Err(fault);
-    }
-    match told {
-        Ok(()) => Ok(disk),
-        Err(fault) => Err(fault),
+    match outcome(&answers, &ends, kept) {
+        Ok(()) => (disk, told),
+        Err(fault) => (disk, Err(fault)),
     }
 }
 

@@ -1,11 +1,13 @@
 //! Why scripts aren't attended to, or not in full.
 
 ghost use Rattle.std.specs.Prelude.{◌≡◌};
-ghost use Rattle.ic_scripts.specs.Outcome.{fault_of_attendance};
+ghost use Rattle.ic_book.specs.Book.{disk_of};
+ghost use Rattle.ic_scripts.specs.Outcome.{disk_left, fault_of_attendance};
 
-use ic_attend::AttendFault;
+use ic_attend::{AttendFault, Attended};
 use ic_book::{BookFault, OpenCause};
 use ic_disk::Disk;
+use ic_frames::OpenFault;
 use ic_lines::ScriptFault;
 use ic_pool::PoolFault;
 use std::alloc::{AllocError, AllocFailed};
@@ -53,14 +55,22 @@ impl<T: Drop> From<AllocFailed<T>> for ScriptsFault {
     }
 }
 
-/// The fault of an attendance, without what it hands out.
-pub(crate) fn fault_of_attendance<D: Disk + Drop>(fault: AttendFault<D>) -> ScriptsFault
-    ensures { result ≡ fault_of_attendance fault }
+/// The disk that an attendance without a history leaves, and its fault. A book is closed as it is.
+pub(crate) fn without_history<D: Disk>(fault: AttendFault<D>) -> (D, ScriptsFault)
+    ensures disk { result.0 ≡ disk_left fault }
+    ensures cause { result.1 ≡ fault_of_attendance fault }
 {
     match fault {
-        AttendFault::Open(refused) => ScriptsFault::Open(refused.cause),
-        AttendFault::NoThread(_) => ScriptsFault::NoThread,
-        AttendFault::Memory(_) => ScriptsFault::Memory,
-        AttendFault::Torn(_) => ScriptsFault::Torn,
+        AttendFault::Open(OpenFault { disk, cause }) => (disk, ScriptsFault::Open(cause)),
+        AttendFault::NoThread(attended) => (close(attended), ScriptsFault::NoThread),
+        AttendFault::Memory(book) => (book.close(), ScriptsFault::Memory),
+        AttendFault::Torn(attended) => (close(attended), ScriptsFault::Torn),
     }
+}
+
+/// Closes the book that was attended to, as it is.
+fn close<D: Disk>(attended: Attended<D>) -> D
+    ensures { result ≡ disk_of attended.book }
+{
+    attended.book.close()
 }

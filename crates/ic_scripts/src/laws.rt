@@ -1,21 +1,23 @@
 //! Laws of the definitions that the contracts of this crate cite.
 
-ghost use Rattle.std.specs.Prelude.{◌≡◌, ℕ, List, [], ◌∷◌, ◌++◌, None, Some, Result, Err, IsOk, codes, length, map};
+ghost use Rattle.std.specs.Prelude.{◌≡◌, ◌⊎◌, ℕ, List, [], ◌∷◌, ◌++◌, None, Some, Result, Err, IsOk, codes, length, map};
 ghost use Rattle.std.specs.Fmt.{decimal};
 ghost use Rattle.std.specs.List.{AllByRecursion, flat_map};
 ghost use Rattle.ic_jobs.specs.declared.command.Command.{Command};
 ghost use Rattle.ic_jobs.specs.declared.reply.Reply.{Reply};
 ghost use Rattle.ic_commands.specs.ReplyText.{reply_text};
+ghost use Rattle.ic_lines.specs.Script.{ReadsScript};
+ghost use Rattle.ic_lines.specs.declared.script.ScriptFault.{ScriptFault};
 ghost use Rattle.ic_book.specs.declared.fault.BookFault.{BookFault};
 ghost use Rattle.ic_book.specs.declared.fault.BookFault.TheVariants.{Broken, LogFull, Worn, Memory, Device};
 ghost use Rattle.ic_attend.specs.declared.attended.ClientRun.{ClientRun};
 ghost use Rattle.ic_attend.specs.declared.attended.RunnerEnd.{RunnerEnd};
 ghost use Rattle.ic_attend.specs.declared.attended.RunnerEnd.TheVariants as runner;
 ghost use Rattle.ic_scripts.specs.declared.fault.ScriptsFault.{ScriptsFault};
-ghost use Rattle.ic_scripts.specs.declared.fault.ScriptsFault.TheVariants.{Book, Pool};
+ghost use Rattle.ic_scripts.specs.declared.fault.ScriptsFault.TheVariants.{Book, Pool, Script, Memory as WantsMemory};
 ghost use Rattle.ic_scripts.specs.Telling.{answer_line, stop_line, told};
 ghost use Rattle.ic_scripts.specs.Outcome.{IsFirstOf, faults_of, runner_fault};
-ghost use Rattle.ic_scripts.specs.Reading.{AddsScript, AreScripts};
+ghost use Rattle.ic_scripts.specs.Reading.{AddsScript, AreScripts, IsRefusal};
 
 /// Clients are told in their order, each after a line with its number from 0: a line for each
 /// answer, and last why it stopped, if it did.
@@ -68,4 +70,12 @@ pub fn scripts_are_read_in_order()
     ensures one_more { (texts : List (List ℕ)) (scripts more : List (List Command)) (text : List ℕ)
         → AreScripts texts scripts → AddsScript text scripts more
         → AreScripts (texts ++ text ∷ []) more }
+{}
+
+/// A text is refused as the script of its place, for what reading it says, or a growth was. No other
+/// fault comes.
+pub fn a_script_is_refused_so()
+    ensures { (text : List ℕ) (place : ℕ) (fault : ScriptsFault) → IsRefusal text place fault
+        → (fault ≡ WantsMemory) ⊎ ((refusal : ScriptFault)
+        × (fault ≡ Script place refusal) × ReadsScript text (Err refusal)) }
 {}

@@ -650,13 +650,10 @@ fn give<T: Threads + Wait + Sync>(
     };
     let given = give_over(rt, threads, disk, scripts, clients, &progress, &mut output);
     progress.wipe();
-    match given {
-        Ok(_disk) => Ok(()),
-        Err(fault) => Err(fault),
-    }
+    given
 }
 
-/// The same over any disk, and flushes what is written.
+/// The same over any disk, which is closed, and flushes what is written.
 fn give_over<T: Threads + Wait + Sync, D: Disk + Send + Drop, G: Gate, W: Write>(
     rt: &HostRuntime,
     threads: &T,
@@ -665,8 +662,8 @@ fn give_over<T: Threads + Wait + Sync, D: Disk + Send + Drop, G: Gate, W: Write>
     clients: Clients,
     gate: &G,
     output: &mut W,
-) -> Result<D, ScriptsFault> {
-    let given = attend_scripts(
+) -> Result<(), ScriptsFault> {
+    let (_disk, given) = attend_scripts(
         threads,
         rt.alloc(),
         disk,

@@ -7,11 +7,10 @@ pub returns-in-Ok : goal.returns-in-Ok
 returns-in-Ok g c = inl (record {
   attended = c.in-Ok.attended;
   has = record { start = c.in-Ok.ensures.start; history = c.in-Ok.ensures.history; tells = c.in-Ok.ensures.ends };
-  told = c.finish.ensures.told;
-  held = c.finish.ensures.held;
+  told = c.finish.ensures;
 })
 
 pub returns-in-Err : goal.returns-in-Err
 returns-in-Err g c =
-    let said = says_why _ _ _ _ _ c.in-Err.fault c.in-Err.ensures.unopened c.in-Err.ensures.unbegun c.in-Err.ensures.stopped c.in-Err.ensures.torn in
-    inr (subst (SaysWhy _ _ _ _ _ _) (sym c.fault_of_attendance.ensures) said, keeps_same (g.W.Write.contents c.args.writer.now))
+    let said = says_why _ _ _ _ _ _ c.in-Err.fault c.without_history-disk.ensures.disk c.in-Err.ensures.unopened c.in-Err.ensures.unbegun c.in-Err.ensures.stopped c.in-Err.ensures.torn in
+    inr (subst (SaysWhy _ _ _ _ _ _ _) (sym c.without_history-disk.ensures.cause) said, keeps_same (g.W.Write.contents c.args.writer.now))
