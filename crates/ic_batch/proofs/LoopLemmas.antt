@@ -1,7 +1,9 @@
 -- What is so of a list, element by element.
-use Rattle.std.proofs.Common.{◌≡◌, ℕ, ◌+◌, ◌<◌, ◌≤◌, List, ◌∷◌, ◌++◌, length, drop, take, get_or, true, Option, None, Some, refl, sym, ap, subst, ◌∙◌, append-nil, append_assoc}
+use Rattle.std.proofs.Common.{◌≡◌, ◌⊎◌, inl, inr, ⊎_elim, ℕ, ◌+◌, ◌%◌, ◌^◌, ◌<◌, ◌≤◌, List, ◌∷◌, ◌++◌, length, drop, take, get_or, true, Option, None, Some, refl, sym, ap, subst, ◌∙◌, append-nil, append_assoc, arith}
 use Rattle.std.specs.Prelude.{is_some, not, slice_get}
 use Rattle.std.specs.List.{AllByRecursion, flat_map}
+use Rattle.std.proofs.Math.Nat.{mod-eq_of_lt, mod_self}
+use Rattle.std.proofs.lemmas.Bool.{cases_lt}
 use Rattle.std.proofs.lemmas.List.{drop_all, drop_more, take-append-drop}
 use Rattle.std.proofs.lemmas.Option.{slice_get_read}
 use Rattle.std.proofs.lemmas.List.Concat.{flat_map-cons}
@@ -37,3 +39,10 @@ text_over f xs i text past so_far = sym (append-nil text) ∙ ap (λ l. text ++ 
 pub none_is : {X : Type 0} (o : Option X) → not (is_some o) ≡ true → o ≡ None
 none_is None is = refl
 none_is (Some x) is = cc
+
+-- a count of rounds goes up by one, or begins anew
+pub wraps : (n : ℕ) → n < 2 ^ 64 → ((n + 1) % 2 ^ 64 ≡ n + 1) ⊎ ((n + 1) % 2 ^ 64 ≡ 0)
+wraps n small = ⊎_elim
+    (λ (less : n + 1 < 2 ^ 64). inl (mod-eq_of_lt less))
+    (λ (more : 2 ^ 64 ≤ n + 1). inr (let last : n + 1 ≡ 2 ^ 64 = omega (arith, small, more) in ap (λ (k : ℕ). k % 2 ^ 64) last ∙ mod_self (2 ^ 64)))
+    (cases_lt (n + 1) (2 ^ 64))

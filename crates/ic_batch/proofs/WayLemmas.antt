@@ -1,13 +1,17 @@
 -- Ways of the jobs of tables: where they end, and what a change of a job makes of them.
-use Rattle.std.proofs.Common.{◌≡◌, ℕ, zero, suc, ◌+◌, List, [], ◌∷◌, Bool, true, false, Option, None, Some, refl, sym, ap, subst, ◌∙◌, arith}
+use Rattle.std.proofs.Common.{◌≡◌, ℕ, zero, suc, ◌+◌, List, [], ◌∷◌, ◌++◌, Bool, true, false, Option, None, Some, length, take, refl, sym, ap, ap₂, subst, ◌∙◌, arith}
 use Rattle.std.specs.Prelude.{if◌then◌else◌, nat_lt}
 use Rattle.std.specs.List.{AllByRecursion, AllZip}
 use Rattle.std.specs.Str.{bytes_eq}
+use Rattle.std.specs.Option.{option_or}
+use Rattle.std.proofs.Math.Seq.{take-append_seam}
 use Rattle.std.proofs.lemmas.Bool.{and_parts}
+use Rattle.std.proofs.lemmas.List.{length-map, map-append}
+use Rattle.std.proofs.lemmas.List.Folds.{find-append}
 use Rattle.ic_jobs.specs.declared.event.Event.{Event}
 use Rattle.ic_jobs.specs.State.{is_running}
 use Rattle.ic_jobs.specs.Job.{JobParts, can_move}
-use Rattle.ic_jobs.specs.Table.{is_named, job_named, with_changed}
+use Rattle.ic_jobs.specs.Table.{is_named, job_named, job_names, with_changed}
 use Rattle.ic_jobs.specs.Names.{mentions}
 use Rattle.ic_jobs.specs.History.{table_after}
 use Rattle.ic_batch.specs.Way.{goes_on, after_event, gone_on, after, ComesTo, IsOnWay, AreWays}
@@ -87,18 +91,47 @@ ways_more most name j from t goes one ways = ways_changed (IsOnWay most) (goes_o
 
 -- ---- of a name
 
--- the job of a name among others, and the one on its way
+-- the job of a name among others, and the one that it goes with
+abbrev pub IsNamed : (R : JobParts → JobParts → Type 0) → Option JobParts → Option JobParts → Type 0
+IsNamed R None now = now ≡ None
+IsNamed R (Some from) now = (j : JobParts) × (now ≡ Some j) × R from j
+
 abbrev pub IsNamedWay : (most : ℕ) → Option JobParts → Option JobParts → Type 0
-IsNamedWay most None now = now ≡ None
-IsNamedWay most (Some from) now = (j : JobParts) × (now ≡ Some j) × IsOnWay most from j
+IsNamedWay most o now = IsNamed (IsOnWay most) o now
+
+pub named_zip : (R : JobParts → JobParts → Type 0) → ((x y : JobParts) → R x y → y.name ≡ x.name) → (name : List ℕ) (from t : List JobParts)
+    → AllZip R from t → IsNamed R (job_named name from) (job_named name t)
+named_zip R same name [] [] zip = refl
+named_zip R same name (x ∷ xs) (y ∷ ys) zip =
+    subst (λ (b : Bool). IsNamed R (job_named name (x ∷ xs)) (if b then Some y else job_named name ys)) (ap (bytes_eq name) (sym (same x y zip.0)))
+    (by (is_named name x) (named_zip R same name xs ys zip.1))
+  where
+    by : (b : Bool) → IsNamed R (job_named name xs) (job_named name ys) → IsNamed R (if b then Some x else job_named name xs) (if b then Some y else job_named name ys)
+    by true rest = (y, refl, zip.0)
+    by false rest = rest
+named_zip R same name xs ys zip = absurd zip
 
 pub named_way : (most : ℕ) (name : List ℕ) (from t : List JobParts) → AreWays most from t → IsNamedWay most (job_named name from) (job_named name t)
-named_way most name [] [] ways = refl
-named_way most name (x ∷ xs) (y ∷ ys) ways =
-    subst (λ (b : Bool). IsNamedWay most (job_named name (x ∷ xs)) (if b then Some y else job_named name ys)) (ap (bytes_eq name) (sym (way_name most x y ways.0)))
-    (by (is_named name x) (named_way most name xs ys ways.1))
-  where
-    by : (b : Bool) → IsNamedWay most (job_named name xs) (job_named name ys) → IsNamedWay most (if b then Some x else job_named name xs) (if b then Some y else job_named name ys)
-    by true rest = (y, refl, ways.0)
-    by false rest = rest
-named_way most name xs ys ways = absurd ways
+named_way most = named_zip (IsOnWay most) (way_name most)
+
+-- ---- of a table's first jobs
+
+-- one of them goes with one of the same name
+pub first_named : (R : JobParts → JobParts → Type 0) → ((x y : JobParts) → R x y → y.name ≡ x.name) → (name : List ℕ) (t more u : List JobParts) (from : JobParts)
+    → AllZip R (t ++ more) u → job_named name t ≡ Some from → (j : JobParts) × (job_named name u ≡ Some j) × R from j
+first_named R same name t more u from zip there =
+    let first : job_named name (t ++ more) ≡ Some from =
+    find-append (is_named name) t more ∙ ap (λ (o : Option JobParts). option_or o (job_named name more)) there in
+    subst (λ (o : Option JobParts). IsNamed R o (job_named name u)) first (named_zip R same name (t ++ more) u zip)
+
+ways_names : (most : ℕ) (from t : List JobParts) → AreWays most from t → job_names t ≡ job_names from
+ways_names most [] [] ways = refl
+ways_names most (x ∷ xs) (y ∷ ys) ways = ap₂ (λ (n : List ℕ) (ns : List (List ℕ)). n ∷ ns) (way_name most x y ways.0) (ways_names most xs ys ways.1)
+ways_names most xs ys ways = absurd ways
+
+-- their names stay first, in their order
+pub names_first : (most : ℕ) (t more u : List JobParts) → AreWays most (t ++ more) u → take (length t) (job_names u) ≡ job_names t
+names_first most t more u ways =
+    ap (take (length t)) (ways_names most (t ++ more) u ways ∙ map-append (λ (j : JobParts). j.name) t more)
+    ∙ ap (λ (n : ℕ). take n (job_names t ++ job_names more)) (sym (length-map t (λ (j : JobParts). j.name)))
+    ∙ take-append_seam (job_names t) (job_names more)

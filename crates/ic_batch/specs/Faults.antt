@@ -111,12 +111,13 @@ pub record Fails {D : Type 0} {ghosts : Ghosts D} (fault : ServeFault) (old new 
   pub breaks : is_broken old ≡ false → StaysReady fault (is_broken new) (number_of new)
 
 -- What a fault says. Nothing is done where another job has one of the names, and else where there is no
--- room.
+-- room. No other fault comes in these cases.
 abbrev pub Says : {D : Type 0} {ghosts : Ghosts D} → List NewJob → (old new : Book D ghosts)
     → BatchFault → Type 0
 Says jobs old new (Taken name is) = HasAnother jobs (table_of old) name is × IsUnchanged old new
 Says jobs old new Full = AreSame jobs (table_of old) × HasNoRoom jobs (table_of old) × IsUnchanged old new
-Says jobs old new (Serve fault) = AreSame jobs (table_of old) × Fails fault old new
+Says jobs old new (Serve fault) = AreSame jobs (table_of old) × ¬ HasNoRoom jobs (table_of old)
+    × Fails fault old new
 
 -- What holds where there was no fault: no other job had one of the names, no failure of the disk is
 -- counted, and a book that wasn't broken still isn't.

@@ -1,16 +1,18 @@
 //! Bringing jobs to their ends over a book.
 
-ghost use Rattle.std.specs.Prelude.{◌≡◌, ◌+◌, ◌≤◌, [], length, IfErr, IfOk, OnOk, OnErr};
+ghost use Rattle.std.specs.Prelude.{◌≡◌, ◌+◌, ◌≤◌, [], length, Err, IfErr, IfOk, OnOk, OnErr};
 ghost use Rattle.std.specs.List.{IsDistinct};
 ghost use Rattle.std.specs.Str.{bytes_eq};
 ghost use Rattle.std.specs.Io.KnownBytes.{Appends};
 ghost use Rattle.ic_output.specs.Output.{AppendsFront};
 ghost use Rattle.ic_book.specs.Book.{table_of};
 ghost use Rattle.ic_jobs.specs.declared.limits.TheConstants.{MAX_JOBS};
-ghost use Rattle.ic_serving.specs.Booked.{IsAllKept};
-ghost use Rattle.ic_serving.specs.Faults.{ComesInLine};
+ghost use Rattle.ic_serving.specs.Booked.{unkept_of, IsAllKept};
+ghost use Rattle.ic_serving.specs.Faults.{ComesAlone, ComesInLine};
 ghost use Rattle.ic_serving.specs.Moments.{FaultLeaves};
+ghost use Rattle.ic_serving.specs.declared.fault.ServeFault.{ServeFault};
 ghost use Rattle.ic_serving.specs.declared.fault.ServeFault.TheVariants.{Write as write_fault};
+ghost use Rattle.ic_batch.specs.declared.fault.BatchFault.TheVariants.{Serve};
 ghost use Rattle.ic_batch.specs.Jobs.{names};
 ghost use Rattle.ic_batch.specs.Way.{fetched_all, missing, HaveEnded, IsUnderWay};
 ghost use Rattle.ic_batch.specs.Batch.{Brings, IsBatch, IsOnWay};
@@ -65,6 +67,11 @@ pub fn batch<T: Threads + Wait + Copy + Send + 'static, D: Disk, W: Write, G: Ga
         → IsBatch result most jobs.now book.old book.new }
     ensures fault { IfErr result (Says jobs.now book.old book.new) }
     ensures done { OnOk result (Succeeds jobs.now book.old book.new) }
+
+    // One thread has no fault of others. At any fault so much isn't kept at most, where all was before.
+    ensures alone { workers ≡ 1 → (fault : ServeFault) → result ≡ Err (Serve fault)
+        → ComesAlone fault }
+    ensures behind { IsAllKept book.old → unkept_of book.new ≤ every }
 {
     book.facts();
     if let Some(fault) = first_taken(book.table(), jobs) {
@@ -113,6 +120,8 @@ fn bring_to_ends<T: Threads + Wait + Copy + Send + 'static, D: Disk, G: Gate>(
     ensures text { IfOk result (λ text. text.items ≡ fetched_all jobs.now (table_of book.new)) }
     ensures kept { OnOk result (IsAllKept book.new) }
     ensures fault { FaultLeaves ComesInLine result book.old book.new }
+    ensures alone { workers ≡ 1 → IfErr result ComesAlone }
+    ensures behind { IsAllKept book.old → unkept_of book.new ≤ every }
 {
     submit_missing(alloc, book, jobs)?;
     make_rounds(rt, alloc, book, most, workers, every, gate, makers)?;

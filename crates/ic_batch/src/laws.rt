@@ -1,14 +1,16 @@
 //! Laws of the definitions that the contracts of this crate cite.
 
-ghost use Rattle.std.specs.Prelude.{◌≡◌, ◌≢◌, ◌<◌, ◌≤◌, ◌++◌, ◌-◌, ◌^◌, ℕ, List, [], ◌∷◌, Option, Result, Some, Ok, Err, false, true, length, map};
+ghost use Rattle.std.specs.Prelude.{◌≡◌, ◌≢◌, ◌<◌, ◌≤◌, ◌++◌, ◌-◌, ◌^◌, ◌⊎◌, ℕ, List, [], ◌∷◌, Option, Result, Some, Ok, Err, false, true, length, map, take};
 ghost use Rattle.std.specs.List.{AllByRecursion, IsDistinct, filter_map, flat_map};
 ghost use Rattle.std.specs.Io.KnownBytes.{Appends, Keeps};
 ghost use Rattle.std.specs.Str.{bytes_eq};
+ghost use Rattle.ic_text.specs.declared.fault.TextFault.{TextFault};
 ghost use Rattle.ic_jobs.specs.declared.command.Command.{Command};
+ghost use Rattle.ic_jobs.specs.declared.reply.Refusal.{Refusal};
 ghost use Rattle.ic_jobs.specs.declared.limits.TheConstants.{MAX_JOBS};
 ghost use Rattle.ic_jobs.specs.State.{is_running};
 ghost use Rattle.ic_jobs.specs.Job.{JobParts};
-ghost use Rattle.ic_jobs.specs.Table.{job_named};
+ghost use Rattle.ic_jobs.specs.Table.{job_named, job_names};
 ghost use Rattle.ic_lines.specs.Answers.{out};
 ghost use Rattle.ic_lines.specs.Lines.{lines};
 ghost use Rattle.ic_lines.specs.Script.{AreAsked, ReadsScript};
@@ -26,11 +28,13 @@ ghost use Rattle.ic_batch.specs.declared.fault.BatchFault.TheVariants.{Full, Ser
 ghost use Rattle.ic_batch.specs.Batch.{Brings, IsBatch};
 ghost use Rattle.ic_batch.specs.declared.fault.Difference.{Difference};
 ghost use Rattle.ic_batch.specs.declared.fault.JobsCause.{JobsCause};
+ghost use Rattle.ic_batch.specs.declared.fault.JobsCause.TheVariants.{Refused, Text};
+ghost use Rattle.ic_batch.specs.declared.fault.JobsFault.TheVariants.{Line, Read as Unreadable};
 ghost use Rattle.ic_batch.specs.declared.jobs.NewJob.{NewJob};
-ghost use Rattle.ic_batch.specs.Faults.{all_batch_faults, all_jobs_faults, batch_fault_number, jobs_fault_number, AreSame, Differs, Fails, HasAnother, HasNoRoom, IsRefused, Says, StopsAt, Succeeds};
+ghost use Rattle.ic_batch.specs.Faults.{all_batch_faults, all_jobs_faults, batch_fault_number, jobs_fault_number, AreSame, Differs, Fails, HasAnother, HasNoRoom, IsRefused, Says, SaysOfLines, StopsAt, Succeeds};
 ghost use Rattle.ic_batch.specs.Jobs.{begun_by, names, submit_of, AreJobsOf};
 ghost use Rattle.ic_batch.specs.Served.{accepted, fetches, run_together};
-ghost use Rattle.ic_batch.specs.Way.{fetched_all, AreOnWay, ComesTo, HaveEnded, IsIterate, IsOnWay, IsTextOf};
+ghost use Rattle.ic_batch.specs.Way.{fetched_all, AreOnWay, ComesTo, HaveEnded, IsIterate, IsOnWay, IsTextOf, IsUnderWay};
 
 use ic_book::Book;
 use ic_disk::Disk;
@@ -59,6 +63,31 @@ pub fn jobs_have_one_text()
         → ComesTo most from one → ComesTo most from other → one ≡ other }
     ensures text { (most : ℕ) (jobs : List NewJob) (one other : List ℕ)
         → IsTextOf most jobs one → IsTextOf most jobs other → one ≡ other }
+{}
+
+/// Lines are refused at one that can't be read, for what reading them says, or at the first command that
+/// a table of the jobs before it refuses. `Read` isn't told of lines.
+pub fn lines_are_refused_so()
+    ensures text { (text : List ℕ) (line : ℕ) (fault : TextFault)
+        → SaysOfLines text (Line line (Text fault))
+        → ReadsScript text (Err (record { line = line; fault = fault })) ⊎ StopsAt text (Text fault) }
+    ensures refused { (text : List ℕ) (line : ℕ) (why : Refusal)
+        → SaysOfLines text (Line line (Refused why)) → StopsAt text (Refused why) }
+    ensures never { (text : List ℕ) → ¬ SaysOfLines text Unreadable }
+{}
+
+/// While a batch is under way each job of its disk is there under its name, on its way, and in its
+/// place. Once it has ended, each has come to its end. So no job is lost, whether a line names it or
+/// not.
+pub fn a_batch_loses_no_job()
+    ensures way { (most : ℕ) (jobs : List NewJob) (t u : List JobParts) (name : List ℕ)
+        (from : JobParts) → IsUnderWay most jobs t u → job_named name t ≡ Some from
+        → (j : JobParts) × (job_named name u ≡ Some j) × IsOnWay most from j }
+    ensures end { (most : ℕ) (jobs : List NewJob) (t u : List JobParts) (name : List ℕ)
+        (from : JobParts) → HaveEnded most jobs t u → job_named name t ≡ Some from
+        → (j : JobParts) × (job_named name u ≡ Some j) × ComesTo most from j }
+    ensures places { (most : ℕ) (jobs : List NewJob) (t u : List JobParts)
+        → IsUnderWay most jobs t u → take (length t) (job_names u) ≡ job_names t }
 {}
 
 /// In a table without jobs all jobs are on their way.
@@ -136,8 +165,8 @@ pub fn a_failing_writer_ends_a_batch<D: Disk>(old: &Book<D>, new: &Book<D>)
 }
 
 /// What a batch is refused for, and what its faults leave. Nothing is done where another job has a name
-/// of one of its jobs, those before it being the same, or where there is no room for its jobs. Of lines
-/// the first command is told that a table of the jobs before it refuses.
+/// of one of its jobs, those before it being the same, or where there is no room for its jobs; no other
+/// fault comes then. Of lines the first command is told that a table of the jobs before it refuses.
 ///
 /// A batch never fails by its reader, by a line, or by a full history. At a failure of the disk the book
 /// is broken then, and one more failure is counted. Where no fault is told, none is counted.
@@ -149,8 +178,8 @@ pub fn a_batch_fails_so<D: Disk>(old: &Book<D>, new: &Book<D>)
         → AreSame jobs (table_of old.now) × HasNoRoom jobs (table_of old.now)
         × IsUnchanged old.now new.now }
     ensures fails { (jobs : List NewJob) (fault : ServeFault)
-        → Says jobs old.now new.now (Serve fault)
-        → AreSame jobs (table_of old.now) × Fails fault old.now new.now }
+        → Says jobs old.now new.now (Serve fault) → AreSame jobs (table_of old.now)
+        × ¬ HasNoRoom jobs (table_of old.now) × Fails fault old.now new.now }
     ensures taken { (jobs : List NewJob) (t : List JobParts) (name : List ℕ) (is : Difference)
         → HasAnother jobs t name is
         → (before : List NewJob) × (new : NewJob) × (after : List NewJob) × (job : JobParts)

@@ -1,10 +1,11 @@
 //! Making rounds until no job goes on.
 
-ghost use Rattle.std.specs.Prelude.{◌≡◌, ◌≤◌, Some, IfSome, IfNone, OnOk, true, false, slice_get};
+ghost use Rattle.std.specs.Prelude.{◌≡◌, ◌≤◌, Some, IfErr, IfSome, IfNone, OnOk, true, false, slice_get};
 ghost use Rattle.std.specs.List.{AllByRecursion};
 ghost use Rattle.ic_jobs.specs.Job.{JobParts};
 ghost use Rattle.ic_book.specs.Book.{table_of};
-ghost use Rattle.ic_serving.specs.Faults.{ComesInLine};
+ghost use Rattle.ic_serving.specs.Booked.{unkept_of, IsAllKept};
+ghost use Rattle.ic_serving.specs.Faults.{ComesAlone, ComesInLine};
 ghost use Rattle.ic_serving.specs.Moments.{FaultLeaves};
 ghost use Rattle.ic_batch.specs.Way.{goes_on, AreWays};
 ghost use Rattle.ic_batch.specs.inner.Staying.{Leads};
@@ -55,6 +56,8 @@ pub(crate) fn make_rounds<T: Threads + Wait + Copy + Send + 'static, D: Disk, G:
     requires every { 1 ≤ every }
     ensures leads { Leads (AreWays most (table_of book.old)) book.old book.new }
     ensures fault { FaultLeaves ComesInLine result book.old book.new }
+    ensures alone { workers ≡ 1 → IfErr result ComesAlone }
+    ensures behind { IsAllKept book.old → unkept_of book.new ≤ every }
     ensures ended { OnOk result
         (AllByRecursion (λ job. goes_on most job ≡ false) (table_of book.new)) }
 {

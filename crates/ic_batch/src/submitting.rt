@@ -1,13 +1,14 @@
 //! Submitting the jobs that aren't there.
 
-ghost use Rattle.std.specs.Prelude.{◌≡◌, ◌+◌, ◌≤◌, length, not, is_some, IfOk, OnOk};
+ghost use Rattle.std.specs.Prelude.{◌≡◌, ◌+◌, ◌≤◌, length, not, is_some, IfErr, IfOk, OnOk};
 ghost use Rattle.std.specs.Bool.{OnFalse, OnTrue};
 ghost use Rattle.std.specs.List.{IsDistinct};
 ghost use Rattle.std.specs.Str.{bytes_eq};
 ghost use Rattle.ic_book.specs.Book.{table_of};
 ghost use Rattle.ic_jobs.specs.Table.{job_named};
 ghost use Rattle.ic_jobs.specs.declared.limits.TheConstants.{MAX_JOBS};
-ghost use Rattle.ic_serving.specs.Faults.{ComesInLine};
+ghost use Rattle.ic_serving.specs.Booked.{unkept_of, IsAllKept};
+ghost use Rattle.ic_serving.specs.Faults.{ComesAlone, ComesInLine};
 ghost use Rattle.ic_serving.specs.Moments.{FaultLeaves};
 ghost use Rattle.ic_batch.specs.Faults.{HasNoRoom};
 ghost use Rattle.ic_batch.specs.Jobs.{names, submit_of};
@@ -54,6 +55,9 @@ pub(crate) fn submit_missing<D: Disk>(
     ensures leads { Leads (AreBegun jobs.now (table_of book.old)) book.old book.new }
     ensures all { OnOk result (table_of book.new ≡ all_of jobs.now (table_of book.old)) }
     ensures fault { FaultLeaves ComesInLine result book.old book.new }
+    ensures alone { IfErr result ComesAlone }
+    ensures kept { OnOk result (IsAllKept book.old → IsAllKept book.new) }
+    ensures behind { IsAllKept book.old → unkept_of book.new ≤ 1 }
 {
     book.facts();
     ic_jobs::laws::other_jobs_stay();

@@ -1,5 +1,6 @@
-use Rattle.std.proofs.Common.{◌≡◌, false}
+use Rattle.std.proofs.Common.{◌≡◌, ◌≤◌, ◌%◌, false}
 use Rattle.ic_book.specs.Book.{disk_of, is_broken, table_of}
+use Rattle.ic_serving.specs.Booked.{unkept_of, IsAllKept}
 use Rattle.ic_batch.specs.Way.{AreWays}
 use Rattle.ic_batch.specs.inner.Staying.{Leads}
 use Rattle.ic_batch.proofs.LeftLemmas.{left_in}
@@ -11,6 +12,7 @@ invariant-loop-place g l = record {
   leads : Leads (AreWays l.most (table_of l.fn.book)) l.fn.book l.book;
   counted : g.D.Disk.failures (disk_of l.book) ≡ g.D.Disk.failures (disk_of l.fn.book);
   ready : is_broken l.fn.book ≡ false → is_broken l.book ≡ false;
+  behind : IsAllKept l.fn.book → unkept_of l.book ≤ l.made % l.every;
 }
 
 abbrev pub decreases-loop-place : goal.decreases-loop-place

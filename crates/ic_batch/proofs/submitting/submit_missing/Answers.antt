@@ -1,4 +1,4 @@
-use Rattle.std.proofs.Common.{◌≡◌, ◌+◌, ◌∙◌, inl, inr, List, [], drop, sym, refl, subst}
+use Rattle.std.proofs.Common.{◌≡◌, ◌+◌, ◌∙◌, inl, inr, List, [], drop, sym, refl, subst, arith}
 use Rattle.std.proofs.lemmas.List.{drop_all}
 use Rattle.ic_jobs.specs.declared.event.Event.TheVariants.{Command as by_command}
 use Rattle.ic_jobs.specs.History.{table_after}
@@ -9,6 +9,7 @@ use Rattle.ic_book.specs.lemmas.Facts.{history_of}
 use Rattle.ic_serving.specs.Booked.{last_kept}
 use Rattle.ic_serving.specs.lemmas.Leaving.{leaves_nothing}
 use Rattle.ic_serving.specs.lemmas.Reaching.{kept_all}
+use Rattle.ic_serving.specs.lemmas.Unkept.{none_unkept}
 use Rattle.ic_batch.specs.declared.jobs.NewJob.{NewJob}
 use Rattle.ic_batch.specs.Way.{IsKeptOr}
 use Rattle.ic_batch.specs.inner.Staying.{AreBegun}
@@ -33,6 +34,7 @@ loop-new-init g c =
       };
       counted = refl;
       ready = λ is. is;
+      all = λ is. is;
     }
 
 pub returns-in_err-answer_command-clause-leads : goal.returns-in_err-answer_command-clause-leads
@@ -74,12 +76,14 @@ loop-new-preserved g c =
                 (kept_all (start_of later) (table_of later) (log_of later) (kept_of later) (history_of later).replayed w.in_ok-answer_command.ensures.kept) w.answer_command.ensures.crash;
             counted = w.in_ok-answer_command.ensures.fault.counted ∙ c.loop-new.invariant.counted;
             ready = λ whole. w.in_ok-answer_command.ensures.fault.ready (c.loop-new.invariant.ready whole);
+            all = λ before. w.in_ok-answer_command.ensures.kept;
           })
       | else-is_missing w ↦ rw w.book-is (record {
         so_far = passed_here jobs t i new (table_of mid) split c.loop-new.invariant.so_far (is ∙ w.if-is_missing.false);
         leads = c.loop-new.invariant.leads;
         counted = c.loop-new.invariant.counted;
         ready = c.loop-new.invariant.ready;
+        all = c.loop-new.invariant.all;
       })
     ]
 
@@ -88,3 +92,19 @@ returns-clause-all g c =
     let over : drop c.loop-new.new-index c.args.jobs.now ≡ [] = drop_all c.loop-new.new-index c.args.jobs.now c.loop-new-test.false in
     all_begun c.args.jobs.now (table_of c.args.book.now) (table_of c.loop-new.book)
     (subst (λ (l : List NewJob). AreSubmitted c.args.jobs.now (table_of c.args.book.now) l (table_of c.loop-new.book)) over c.loop-new.invariant.so_far)
+
+pub returns-in_err-command-clause-behind : goal.returns-in_err-command-clause-behind
+returns-in_err-command-clause-behind g c = λ all.
+    let none = none_unkept c.loop-new.book (c.loop-new.invariant.all all) in
+    omega (arith, none)
+
+pub returns-in_err-answer_command-clause-behind : goal.returns-in_err-answer_command-clause-behind
+returns-in_err-answer_command-clause-behind g c = λ all.
+    let none = none_unkept c.loop-new.book (c.loop-new.invariant.all all) in
+    let one = c.answer_command.ensures.behind in
+    omega (arith, none, one)
+
+pub returns-clause-behind : goal.returns-clause-behind
+returns-clause-behind g c = λ all.
+    let none = none_unkept c.loop-new.book (c.loop-new.invariant.all all) in
+    omega (arith, none)
