@@ -143,22 +143,20 @@ class Threads(Trial):
         super().setUp()
         self.log = self.room / "log"
 
-    def reduced(self, workers, call, **more):
-        return run("reduce", "--workers", workers, given=self.text, env={**shimmed(call, self.log), **more})
+    def reduced(self, workers, call):
+        return run("reduce", "--workers", workers, given=self.text, env=shimmed(call, self.log))
 
     def at_once(self):
-        """The most threads that have begun and weren't joined yet, and how many had begun before the first of them."""
-        now = most = begun = before = 0
+        """The most threads that have begun and weren't joined yet."""
+        now = most = 0
         for it in noted(self.log):
-            begun += it.kind == "B"
             now += (it.kind == "B") - (it.kind == "J")
-            if now > most:
-                most, before = now, begun - now
-        return most, before
+            most = max(most, now)
+        return most
 
-    def made(self, *words, text, **how):
-        """A run that went well, and how many threads it has made."""
-        ran = run("reduce", *words, given=text, env=shimmed(f"thread {10**9} once", self.log), **how)
+    def made(self, *words, text, gate=0, **how):
+        """A run that went well, and how many threads it has made. So many of its first threads wait for each other."""
+        ran = run("reduce", *words, given=text, env={**shimmed(f"thread {10**9} once", self.log), "SHIM_GATE": f"0 {gate}"}, **how)
         self.equals(ran.command, "status", 0, ran.status)
         return ran, next(it.at for it in noted(self.log) if it.kind == "C")
 
@@ -174,8 +172,9 @@ class Threads(Trial):
         for count in (1, 2, 3, 4):
             if count > len(processors):
                 break
-            ran, _ = self.made(text=self.text, preexec_fn=lambda may=processors[:count]: os.sched_setaffinity(0, may))
-            self.equals(ran.command, f"threads beside the first on {count} processors", min(count, quota()) - 1, self.at_once()[0])
+            others = min(count, quota()) - 1
+            ran, _ = self.made(text=self.text, gate=others, preexec_fn=lambda may=processors[:count]: os.sched_setaffinity(0, may))
+            self.equals(ran.command, f"threads beside the first on {count} processors", others, self.at_once())
             self.equals(ran.command, "answer", wanted.out, ran.out)
 
     def test_where_no_number_is_said_one_thread_makes_few_interactions_and_those_that_are_bounded(self):
@@ -186,13 +185,11 @@ class Threads(Trial):
         self.equals(first.command, "the same line each time", [first[1:]] * len(others), [it[1:] for it in others])
 
     def test_several_threads_are_at_work_at_once(self):
-        """Each thread of a step waits at its end until all of them have begun. The thread that asks makes a share itself."""
+        """Each thread of the first step waits at its end until all of them have begun. The thread that asks makes a share
+        itself."""
         for workers in (2, 4, 7):
-            self.reduced(workers, f"thread {10**9} once")
-            most, before = self.at_once()
-            self.equals(f"{workers} workers", "threads beside the first", workers - 1, most)
-            ran = self.reduced(workers, f"thread {10**9} once", SHIM_GATE=f"{before} {most}")
-            self.equals(f"{workers} workers", "status", 0, ran.status)
+            self.made("--workers", workers, text=self.text, gate=workers - 1)
+            self.equals(f"{workers} workers", "threads beside the first", workers - 1, self.at_once())
             gates = [it.kind for it in noted(self.log) if it.kind in "GL"]
             self.equals(f"{workers} workers", "whether each ended after all had begun", ["G"] * (workers - 1), gates)
 
