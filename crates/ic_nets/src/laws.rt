@@ -195,9 +195,14 @@ pub fn texts_with_rules_begin_with_a_brace()
         → has_rules blanks ≡ false }
 {}
 
-/// What is drawn of a text is the graph of the net of its configuration, by the rules that the text has.
+/// What is drawn of a text is the graph of the net of its configuration, by the rules that the text has. A text has one drawing.
 pub fn what_is_drawn_is_the_net()
-    ensures { (input output : List ℕ) → Draws input (Ok output)
+    ensures net { (input output : List ℕ) → Draws input (Ok output)
         → (s : SystemParts) × (net : Net) × ReadsDrawn input (Ok s)
         × IsNet s.rules.rules s.config net × (output ≡ dot_of s.rules.symbols net) }
-{}
+    ensures one { (input output other : List ℕ) → Draws input (Ok output)
+        → Draws input (Ok other) → output ≡ other }
+{
+    ic_text::laws::one_reading();
+    ic_text::laws::one_system_reading();
+}
