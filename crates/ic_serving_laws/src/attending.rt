@@ -1,6 +1,6 @@
 //! Laws of an attendance: what its ends, its faults and its disk come to.
 
-ghost use Rattle.std.specs.Prelude.{◌≡◌, ◌≢◌, ◌⊎◌, ◌<◌, ◌≤◌, ◌-◌, ◌^◌, ℕ, List, [], Option, Some, None, Ok, Err, IsTrue, true, false, Contains, length, slice_get};
+ghost use Rattle.std.specs.Prelude.{◌≡◌, ◌≢◌, ◌⊎◌, ◌<◌, ◌≤◌, ◌-◌, ◌^◌, ℕ, List, [], Option, Some, None, Result, Ok, Err, IsTrue, OnOk, true, false, Contains, length, slice_get};
 ghost use Rattle.std.specs.List.{All, AllZip, count_by};
 ghost use Rattle.std.specs.Io.KnownBytes.{Appends};
 ghost use Rattle.ic_disk.specs.Images.{Within};
@@ -106,11 +106,11 @@ pub fn want_of_memory_leaves_an_opened_book<D: Disk>(disk: &D, book: &Book<D>)
 }
 
 /// At `Ok` scripts leave one legal history, which goes on from the table that the disk held. Reads
-/// of the disk that is handed out give the table after all its entries, also after a crash.
+/// of the disk that is handed back give the table after all its entries, also after a crash.
 pub fn scripts_leave_their_history_on_the_disk<D: Disk>(disk: &D, left: &D)
-    ensures { (scripts : List (List Command)) (runners turns workers : ℕ)
+    ensures { (done : Unit {0}) (scripts : List (List Command)) (runners turns workers : ℕ)
         (old new : Option (List ℕ))
-        → IsAttended D.Disk disk.now scripts runners turns workers (Ok left.now) old new
+        → IsAttended D.Disk disk.now scripts runners turns workers left.now (Ok done) old new
         → IsTrue (D.keeps left.now)
         → (a : AttendedOver D.Disk) × IsOneHistory scripts runners turns a
         × (IsTrue (D.keeps disk.now)
@@ -155,15 +155,21 @@ pub fn what_is_not_attended_is_said<D: Disk>(disk: &D, attended: &Attended<D>)
 /// At `Ok` no client and no runner had a fault, and just the answers to all clients are written. The
 /// book that they left isn't broken, and at the keep after them no call to the disk failed. A fault of
 /// theirs is told before one of writing; then a front of the answers is written. Each refusal is borne
-/// out by the book that is left.
+/// out by the book that is left. However it ends, the disk has the table of this book, unless the keep
+/// was refused.
 pub fn scripts_are_told_so<D: Disk>(left: &D)
-    ensures well { (a : AttendedOver D.Disk) (old new : Option (List ℕ))
-        (is : IsTold a (Ok left.now) old new)
+    ensures well { (done : Unit {0}) (a : AttendedOver D.Disk) (old new : Option (List ℕ))
+        (is : IsTold a left.now (Ok done) old new)
         → (faults_of a.answers.items a.ends.items is.kept ≡ [])
         × Appends old new (told a.answers.items) }
-    ensures kept { (a : AttendedOver D.Disk) (old new : Option (List ℕ))
-        → IsTold a (Ok left.now) old new → (is_broken a.book ≡ false)
+    ensures kept { (done : Unit {0}) (a : AttendedOver D.Disk) (old new : Option (List ℕ))
+        → IsTold a left.now (Ok done) old new → (is_broken a.book ≡ false)
         × (D.failures left.now ≡ D.failures (disk_of a.book)) }
+    ensures holds { (result : Result (Unit {0}) ScriptsFault) (a : AttendedOver D.Disk)
+        (old new : Option (List ℕ)) (is : IsTold a left.now result old new)
+        → KeepTells a.book is.kept × OnOk is.kept (IsTrue (D.keeps left.now)
+        → IsHeld (the_table (table_of a.book)) (D.content left.now)
+        × Within (D.image left.now) (IsHeld (the_table (table_of a.book)))) }
     ensures first { (runs : List ClientRun) (faults : List ScriptsFault) (fault : ScriptsFault)
         (old new : Option (List ℕ)) → IsToldFault runs faults fault old new
         → (slice_get faults 0 ≡ Some fault) × WritesFront (told runs) old new }
@@ -179,25 +185,38 @@ pub fn scripts_are_told_so<D: Disk>(left: &D)
 
 /// Where scripts have no history, the fault says why, as `attend` does: the disk wasn't opened, a thread
 /// couldn't be started, what is left is torn, or memory ran out over a book that was just opened. No
-/// fault of a reader or a writer is told then.
-pub fn scripts_without_a_history_say_why<D: Disk>(disk: &D)
+/// fault of a reader or a writer is told then. The disk that is left is that of the book, or the one that
+/// wasn't opened: where memory ran out, and where it wasn't opened, it has what it had.
+pub fn scripts_without_a_history_say_why<D: Disk>(disk: &D, left: &D)
     ensures unopened { (scripts : List (List Command)) (runners turns workers : ℕ)
-        (cause : OpenCause) → SaysWhy D.Disk disk.now scripts runners turns workers (Open cause)
-        → (fault : OpenFault D) × (fault.cause ≡ cause) × IsUnopened D.Disk disk.now fault }
+        (cause : OpenCause)
+        → SaysWhy D.Disk disk.now scripts runners turns workers left.now (Open cause)
+        → (fault : OpenFault D) × (fault.cause ≡ cause) × IsUnopened D.Disk disk.now fault
+        × (left.now ≡ fault.disk) }
     ensures stopped { (scripts : List (List Command)) (runners turns workers : ℕ)
-        → SaysWhy D.Disk disk.now scripts runners turns workers NoThread
-        → (a : AttendedOver D.Disk) × IsStopped scripts runners workers a }
+        → SaysWhy D.Disk disk.now scripts runners turns workers left.now NoThread
+        → (a : AttendedOver D.Disk) × IsStopped scripts runners workers a
+        × (left.now ≡ disk_of a.book) }
     ensures torn { (scripts : List (List Command)) (runners turns workers : ℕ)
-        → SaysWhy D.Disk disk.now scripts runners turns workers Torn
-        → (a : AttendedOver D.Disk) × IsTorn D.Disk disk.now scripts runners turns workers a }
+        → SaysWhy D.Disk disk.now scripts runners turns workers left.now Torn
+        → (a : AttendedOver D.Disk) × IsTorn D.Disk disk.now scripts runners turns workers a
+        × (left.now ≡ disk_of a.book) }
     ensures wanting { (scripts : List (List Command)) (runners turns workers : ℕ)
-        → SaysWhy D.Disk disk.now scripts runners turns workers Memory
-        → (book : BookOver D.Disk) × IsAsOpened disk.now book }
+        → SaysWhy D.Disk disk.now scripts runners turns workers left.now Memory
+        → (book : BookOver D.Disk) × IsAsOpened disk.now book × (left.now ≡ disk_of book) }
+    ensures stays { (scripts : List (List Command)) (runners turns workers : ℕ)
+        → SaysWhy D.Disk disk.now scripts runners turns workers left.now Memory
+        → IsTrue (D.keeps disk.now) → D.content left.now ≡ D.content disk.now }
+    ensures as_found { (scripts : List (List Command)) (runners turns workers : ℕ)
+        (cause : OpenCause)
+        → SaysWhy D.Disk disk.now scripts runners turns workers left.now (Open cause)
+        → IsTrue (D.keeps disk.now) → D.content left.now ≡ D.content disk.now }
     ensures never { (scripts : List (List Command)) (runners turns workers : ℕ)
-        → ¬ SaysWhy D.Disk disk.now scripts runners turns workers Read
-        × ¬ SaysWhy D.Disk disk.now scripts runners turns workers Write }
+        → ¬ SaysWhy D.Disk disk.now scripts runners turns workers left.now Read
+        × ¬ SaysWhy D.Disk disk.now scripts runners turns workers left.now Write }
 {
     let _ = disk;
+    let _ = left;
 }
 
 /// The keep after a history is refused by a broken book. Else something was to be kept, and the numbers

@@ -28,8 +28,8 @@ ghost use Rattle.ic_book.specs.Book.{is_broken, number_of, start_of, log_of, tab
 ghost use Rattle.ic_serving.specs.declared.fault.ServeFault.{ServeFault};
 ghost use Rattle.ic_serving.specs.declared.fault.ServeFault.TheVariants.{Read, Write, TooManyLines, Book as by_book, Pool, LongLine, Memory};
 ghost use Rattle.ic_serving.specs.Answered.{IsAnswered, IsBegun};
-ghost use Rattle.ic_serving.specs.Booked.{last_kept, IsAllKept};
-ghost use Rattle.ic_serving.specs.Faults.{fault_of_line, ComesInLine, MayCome, CountsServe, StaysReady};
+ghost use Rattle.ic_serving.specs.Booked.{last_kept, unkept_of, IsAllKept};
+ghost use Rattle.ic_serving.specs.Faults.{fault_of_line, ComesAlone, ComesInLine, MayCome, CountsServe, StaysReady};
 ghost use Rattle.ic_serving.specs.Grown.{GoesOn, GoesOnWithin, HasRoom};
 ghost use Rattle.ic_serving.specs.Moments.{Leaves, IsKeptInLine};
 ghost use Rattle.ic_serving.specs.Parts.{IsPart, IsKeptWithin, IsInLine, IsInFirst};
@@ -99,7 +99,7 @@ pub fn answers_are_appended()
 
 /// `LongLine` says that fewer than 1,000,000 lines are answered and that the line after them has
 /// more than 262,144 bytes, and `TooManyLines` that 1,000,000 are answered and one more is to come.
-/// Some faults of the book and of the pool never come.
+/// Some faults of the book and of the pool never come, and by one worker none of other threads.
 pub fn faults_say()
     ensures long_line { (front rest : List (List ℕ)) → SaysOf LongLine front rest
         → (line : List ℕ) × (more : List (List ℕ)) × (rest ≡ line ∷ more)
@@ -113,6 +113,8 @@ pub fn faults_say()
     ensures never { AllByRecursion (λ fault. ¬ MayCome fault) (by_book book_fault.LogFull
         ∷ Pool pool_fault.NoWorkers ∷ Pool pool_fault.RoundsOut ∷ Pool pool_fault.Overgrown
         ∷ Pool pool_fault.NamesOut ∷ []) }
+    ensures alone { AllByRecursion (λ fault. ¬ ComesAlone fault) (Pool pool_fault.NoThread
+        ∷ Pool pool_fault.Lost ∷ Pool pool_fault.Stranger ∷ []) }
     ensures of_line { map fault_of_line
         (line_fault.Read ∷ line_fault.Write ∷ line_fault.LongLine ∷ line_fault.Memory ∷ [])
         ≡ Read ∷ Write ∷ LongLine ∷ Memory ∷ [] }
@@ -207,12 +209,13 @@ pub fn a_serving_ends_so<D: Disk>(before: &Book<D>, after: &Book<D>)
 }
 
 /// All of a book is kept where each of its entries is; then its table is the one that was kept
-/// last.
+/// last. Those that are kept and those that aren't are all.
 pub fn all_is_kept_where_each_entry_is<D: Disk>(book: &Book<D>)
     ensures all { IsAllKept book.now ↔ (kept_of book.now ≡ length (log_of book.now)) }
     ensures last { last_kept book.now
         ≡ replay (start_of book.now) (take (kept_of book.now) (log_of book.now)) }
     ensures table { IsAllKept book.now → last_kept book.now ≡ table_of book.now }
+    ensures unkept { kept_of book.now + unkept_of book.now ≡ length (log_of book.now) }
 {
     book.facts();
 }

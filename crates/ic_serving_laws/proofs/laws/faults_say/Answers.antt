@@ -9,3 +9,6 @@ returns-clause-too_many_lines c = says_many
 
 pub returns-clause-never : goal.returns-clause-never
 returns-clause-never c = (λ h. h, (λ h. h, (λ h. h, (λ h. h, (λ h. h, tt)))))
+
+pub returns-clause-alone : goal.returns-clause-alone
+returns-clause-alone c = (λ h. cc, (λ h. cc, (λ h. cc, tt)))
