@@ -141,9 +141,8 @@ def warnings(rules, config):
     stand = Counter(symbols_in(model.terms_of(config)))
     for it in rules.rules:
         stand.update([it.left, it.right, *symbols_in(it.left_args + it.right_args)])
-    for symbol, text in enumerate(texts):
-        if stand[symbol] == 1:
-            yield f"{text} stands only once"
+    if alone := [text for symbol, text in enumerate(texts) if stand[symbol] == 1]:
+        yield f"symbols that stand only once: {', '.join(alone)}"
     symbols = met(rules, config)
     for place, it in enumerate(rules.rules, 1):
         if not {it.left, it.right} <= symbols:

@@ -113,12 +113,12 @@ class Check(Trial):
             f"{add} <r|x=x,r=Add(S(Z),S(Z))>": [],
             f"{add} <r,x|x=Add(r,Z),y=Add(Z,S(y))>": [none_meet],
             f"{add} <r|Add(r,S(Z))=S(Z)>": [],
-            f"{add} <r|Add(r,Z)=Nil>": ["no rule for Add><Nil", "Nil stands only once", "rule 2, Add><S, is never used"],
+            f"{add} <r|Add(r,Z)=Nil>": ["no rule for Add><Nil", "symbols that stand only once: Nil", "rule 2, Add><S, is never used"],
             f"{add} <Z|>": ["rule 1, Add><Z, is never used", "rule 2, Add><S, is never used"],
             "{A><B} <|A=B>": [],
             "{A><B} <|A=A,B=A,B=B>": ["no rule for A><A", "no rule for B><B"],
             "{A><B;D><D} <|A=x>": [
-                "B stands only once",
+                "symbols that stand only once: B",
                 "rule 1, A><B, is never used",
                 "rule 2, D><D, is never used",
                 "the name x stands only once",
@@ -128,7 +128,8 @@ class Check(Trial):
             "{Add(T,U)><Z(a,a)} <r,s|Add(r,s)=Z(T,U)>": [],
             "{Add(X,X)><Z;X><Z} <|Add(X,X)=Z>": [],
             "{Add(Nil,Nil)><Z;B(X(X(a)),a)><Z} <|Add(b,c)=Z,B(b,c)=Z>": [],
-            "{} <A|>": ["A stands only once"],
+            "{} <A|>": ["symbols that stand only once: A"],
+            "{C(x,y)><D(x,y)} <r|C(r,C(Nill,C(B,Z)))=D(A,Nil)>": ["symbols that stand only once: Nill, B, Z, A, Nil"],
         }
         for text, told in systems.items():
             ((path, _),) = files = self.put(text)
@@ -269,10 +270,10 @@ class Check(Trial):
 
     def test_objects_of_standard_input_of_several_files_and_of_no_finding(self):
         (fine, _), (warns, _) = self.put("<|>", "{} <A|>")
-        warning = [("file", str(warns)), ("warning", "A stands only once")]
+        warning = [("file", str(warns)), ("warning", "symbols that stand only once: A")]
         self.objects([], (0, b""), fine)
         self.objects([warning], (0, b""), warns, fine)
-        line = {"file": "-", "line": 2, "warning": "A stands only once"}
+        line = {"file": "-", "line": 2, "warning": "symbols that stand only once: A"}
         self.runs("check", "--format=json", "-", given="list\nsubmit a {} <A|>", out=[json.dumps(line, separators=(",", ":"))])
         missing = self.room / "missing"
         cause = f"icserve: read\n{missing}: open: no such file or folder\n".encode()

@@ -121,7 +121,7 @@ class Files(Trial):
         self.runs("check", "-", given="<|>")
         self.refuses("check", "-", given="<|", out=[f"-:{told}"], line="faults", status=1)
         self.refuses("check", path, "-", path, given="<|", out=[f"{path}:{told}", f"-:{told}", f"{path}:{told}"], line="faults", status=1)
-        self.runs("check", "-", "-", given="{} <A|>", out=["-: warning: A stands only once"])
+        self.runs("check", "-", "-", given="{} <A|>", out=["-: warning: symbols that stand only once: A"])
         folder = os.open(self.room, os.O_RDONLY)
         self.addCleanup(os.close, folder)
         ran = run("check", "-", stdin=folder)

@@ -348,8 +348,7 @@ Example:
   $ echo '{A><B} <x|A=C>' > net.ic
   $ icserve check net.ic
   net.ic: warning: no rule for A><C
-  net.ic: warning: B stands only once
-  net.ic: warning: C stands only once
+  net.ic: warning: symbols that stand only once: B, C
   net.ic: warning: rule 1, A><B, is never used
   net.ic: warning: the name x stands only once
 ";

@@ -172,7 +172,7 @@ pub fn each_help_has_its_digest()
     ensures draw { digest draw_help ≡ 2041493995027470377 }
     ensures dump { digest dump_help ≡ 932412384161095633 }
     ensures inspect { digest inspect_help ≡ 701881722799012749 }
-    ensures check { digest check_help ≡ 1607413227935232027 }
+    ensures check { digest check_help ≡ 1077786187809080752 }
     ensures batch { digest batch_help ≡ 2076966897777228702 }
     ensures expand { digest expand_help ≡ 1377817142407763554 }
     ensures help { digest help_help ≡ 1627113604630027952 }

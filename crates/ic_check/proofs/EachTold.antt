@@ -1,21 +1,20 @@
 -- Each warning has its line in what is told.
-use Rattle.std.proofs.Common.{◌≡◌, ℕ, zero, suc, ◌+◌, ◌&&◌, ◌==◌, Bool, true, false, List, [], ◌∷◌, ◌++◌, Some, codes, slice_get, refl, sym, ap, ◌∙◌, append_assoc, append-nil, subst, arith}
+use Rattle.std.proofs.Common.{◌≡◌, ℕ, zero, suc, ◌+◌, ◌&&◌, ◌==◌, Bool, true, false, List, [], ◌∷◌, ◌++◌, Some, codes, slice_get, take, drop, refl, sym, ap, ◌∙◌, append_assoc, append-nil, subst, arith}
 use Rattle.std.specs.List.{AllByRecursion, flat_map}
 use Rattle.ic_term.specs.Configuration.{Configuration, configuration_names}
 use Rattle.ic_term.specs.Symbol.{Symbol}
 use Rattle.ic_term.specs.Tree.{Pair}
 use Rattle.ic_rules.specs.Rule.{Rule}
 use Rattle.ic_rules.specs.RuleSet.{Rules}
-use Rattle.ic_text.specs.Name.{name_text}
 use Rattle.ic_check.specs.Meanings.{HasNoRule, IsWarned, StandsOnce, faces}
 use Rattle.ic_check.specs.Letters.{looks_like_name}
 use Rattle.ic_check.specs.Meeting.{are_apart, has_use}
 use Rattle.ic_check.specs.Reach.{IsReach}
 use Rattle.ic_check.specs.Symbols.{text_symbols}
-use Rattle.ic_check.specs.Warnings.{Warns, count_of, free_line, free_lines, idle_line, idle_words, letter_line, letter_lines, letter_words, once_line, once_lines, pair_text, ruleless_line, ruleless_lines, unused_line, unused_lines, unused_words, warning_line}
+use Rattle.ic_check.specs.Warnings.{Warns, count_of, free_line, free_lines, free_words, idle_line, idle_words, letter_line, letter_lines, letter_words, once_line, once_text, once_texts, once_words, pair_text, ruleless_line, ruleless_lines, unused_line, unused_lines, unused_words, warning_line}
 use Rattle.ic_check.proofs.Idle.{same_use}
-use Rattle.ic_check.proofs.Once.{once_told}
-use Rattle.ic_check.proofs.Placed.{AreOf, all_free_of, all_letters_of, all_once_of, all_ruleless_of, all_unused_of, any_words, both_of, either_of, lines_append, ruleless_of, told_of}
+use Rattle.ic_check.proofs.Once.{each_symbol, name_told, once_told}
+use Rattle.ic_check.proofs.Placed.{AreOf, all_free_of, all_letters_of, all_ruleless_of, all_unused_of, any_words, both_of, either_of, lines_append, once_of, ruleless_of, told_of}
 use Rattle.ic_check.proofs.Reached.{one_reach}
 use Rattle.ic_check.proofs.Stuck.{stuck_told}
 
@@ -60,26 +59,22 @@ each_ruleless place rs (e ∷ es) (suc i) a b p at is none =
     later place (codes "no rule for " ++ pair_text rs.symbols a b) (ruleless_line place rs e.left e.right) (ruleless_lines place rs es)
     (ruleless_of Any place rs (any_words rs) e.left e.right) (each_ruleless place rs es i a b p at is none)
 
-any_once : (place all : List ℕ) (k : ℕ) (ss : List Symbol) → AreOf Any place (once_lines place all k ss)
-any_once place all k ss = all_once_of Any place all k ss (each ss)
-  where
-    each : (ss : List Symbol) → AllByRecursion (λ s. Unit {0}) ss
-    each [] = tt
-    each (s ∷ ss) = (tt, each ss)
+one_once : (place : List ℕ) (front : List (List ℕ)) (text : List ℕ) (rest : List (List ℕ)) → once_line place (front ++ text ∷ rest) ≡ warning_line place (once_words (front ++ text ∷ rest))
+one_once place [] text rest = refl
+one_once place (t ∷ ts) text rest = refl
 
-each_once : (place all : List ℕ) (ss : List Symbol) (k i n : ℕ) (s : Symbol) → n ≡ k + i → slice_get ss i ≡ Some s → StandsOnce n all
-    → IsWarned place (s.text ++ codes " stands only once") (once_lines place all k ss)
-each_once place all [] k zero n s is at once = cc
-each_once place all [] k (suc i) n s is at once = cc
-each_once place all (x ∷ xs) k zero n s is at once =
-    let words = s.text ++ codes " stands only once" in
-    let same : x ≡ s = one x s at in
-    let number : k ≡ n = omega (arith, is) in
-    let told : once_line place all k x.text ≡ warning_line place words = (λ i. once_line place all (number i) (same i).text) ∙ once_told place all n s.text once in
-    ahead place words (once_line place all k x.text) (once_lines place all (k + 1) xs) (alone place words (once_line place all k x.text) told) (any_once place all (k + 1) xs)
-each_once place all (x ∷ xs) k (suc i) n s is at once =
-    later place (s.text ++ codes " stands only once") (once_line place all k x.text) (once_lines place all (k + 1) xs)
-    (told_of Any place (x.text ++ codes " stands only once") tt (count_of all k == 1)) (each_once place all xs (k + 1) i n s (omega (arith, is)) at once)
+-- a symbol that stands once is told with the others
+abbrev pub IsToldOnce : (place text told : List ℕ) → Type 0
+IsToldOnce place text told = (front : List (List ℕ)) × (rest : List (List ℕ)) × IsWarned place (once_words (front ++ text ∷ rest)) told
+
+each_once : (place all : List ℕ) (ss : List Symbol) (i : ℕ) (s : Symbol) → slice_get ss i ≡ Some s → StandsOnce i all → IsToldOnce place s.text (once_line place (once_texts all 0 ss))
+each_once place all ss i s at once =
+    let front = once_texts all 0 (take i ss) in
+    let rest = once_texts all (i + 1) (drop (i + 1) ss) in
+    let told : once_text all i s.text ≡ s.text ∷ [] = once_told all i s.text once in
+    let whole : once_texts all 0 ss ≡ front ++ s.text ∷ rest =
+    each_symbol all ss i s at ∙ ap (λ (l : List (List ℕ)). (front ++ l) ++ rest) told ∙ append_assoc front (s.text ∷ []) rest in
+    (front, rest, alone place (once_words (front ++ s.text ∷ rest)) (once_line place (once_texts all 0 ss)) (ap (once_line place) whole ∙ one_once place front s.text rest))
 
 each_unused : (place : List ℕ) (among : ℕ → Bool) (rs : Rules) (ls : List Rule) (k i n : ℕ) (r : Rule) → n ≡ k + i → slice_get ls i ≡ Some r → (among r.left && among r.right) ≡ false
     → IsWarned place (unused_words rs.symbols n r) (unused_lines place among rs.symbols k ls)
@@ -97,18 +92,17 @@ each_unused place among rs (x ∷ xs) k (suc i) n r is at not =
     later place (unused_words rs.symbols n r) (unused_line place among rs.symbols k x) (unused_lines place among rs.symbols (k + 1) xs)
     (either_of Any place (unused_words rs.symbols k x) tt (among x.left && among x.right)) (each_unused place among rs xs (k + 1) i n r (omega (arith, is)) at not)
 
-each_free : (place all : List ℕ) (ns : List ℕ) (i n : ℕ) → slice_get ns i ≡ Some n → StandsOnce n all
-    → IsWarned place (codes "the name " ++ name_text n ++ codes " stands only once") (free_lines place all ns)
+each_free : (place all : List ℕ) (ns : List ℕ) (i n : ℕ) → slice_get ns i ≡ Some n → StandsOnce n all → IsWarned place (free_words n) (free_lines place all ns)
 each_free place all [] zero n at once = cc
 each_free place all [] (suc i) n at once = cc
 each_free place all (x ∷ xs) zero n at once =
-    let words = codes "the name " ++ name_text n ++ codes " stands only once" in
+    let words = free_words n in
     let same : x ≡ n = one x n at in
-    let told : free_line place all x ≡ warning_line place words = ap (free_line place all) same ∙ once_told place all n (codes "the name " ++ name_text n) once in
+    let told : free_line place all x ≡ warning_line place words = ap (free_line place all) same ∙ name_told place all n once in
     ahead place words (free_line place all x) (free_lines place all xs) (alone place words (free_line place all x) told) (all_free_of Any place all (λ m. tt) xs)
 each_free place all (x ∷ xs) (suc i) n at once =
-    later place (codes "the name " ++ name_text n ++ codes " stands only once") (free_line place all x) (free_lines place all xs)
-    (told_of Any place (codes "the name " ++ name_text x ++ codes " stands only once") tt (count_of all x == 1)) (each_free place all xs i n at once)
+    later place (free_words n) (free_line place all x) (free_lines place all xs)
+    (told_of Any place (free_words x) tt (count_of all x == 1)) (each_free place all xs i n at once)
 
 any_letters : (place : List ℕ) (ls : List Rule) (k : ℕ) (ss : List Symbol) → AreOf Any place (letter_lines place ls k ss)
 any_letters place ls k ss = all_letters_of Any place ls k ss (each ss)
@@ -139,7 +133,7 @@ module _ (place : List ℕ) (rs : Rules) (c : Configuration) (told : List ℕ) (
   first = ruleless_lines place rs c.equations
 
   abbrev second : List ℕ
-  second = once_lines place (text_symbols rs.rules c) 0 rs.symbols
+  second = once_line place (once_texts (text_symbols rs.rules c) 0 rs.symbols)
 
   abbrev third : List ℕ
   third = unused_lines place among rs.symbols 0 rs.rules
@@ -160,7 +154,7 @@ module _ (place : List ℕ) (rs : Rules) (c : Configuration) (told : List ℕ) (
   fourth_any = all_free_of Any place (configuration_names c) (λ n. tt) (configuration_names c)
 
   second_any : AreOf Any place second
-  second_any = any_once place (text_symbols rs.rules c) 0 rs.symbols
+  second_any = once_of Any place (once_texts (text_symbols rs.rules c) 0 rs.symbols) tt
 
   third_any : AreOf Any place third
   third_any = all_unused_of Any place rs (any_words rs) among 0 rs.rules
@@ -217,9 +211,10 @@ ruleless_told place told rs c i a b p is at faced none =
     in_first place rs c told is.0 (codes "no rule for " ++ pair_text rs.symbols a b) is.2 (each_ruleless place rs c.equations i a b p at faced none)
 
 pub once_is_told : (place told : List ℕ) (rs : Rules) (c : Configuration) (i : ℕ) (s : Symbol) → Warns place rs c told → slice_get rs.symbols i ≡ Some s
-    → StandsOnce i (text_symbols rs.rules c) → IsWarned place (s.text ++ codes " stands only once") told
+    → StandsOnce i (text_symbols rs.rules c) → IsToldOnce place s.text told
 once_is_told place told rs c i s is at once =
-    in_second place rs c told is.0 (s.text ++ codes " stands only once") is.2 (each_once place (text_symbols rs.rules c) rs.symbols 0 i i s (omega arith) at once)
+    let here = each_once place (text_symbols rs.rules c) rs.symbols i s at once in
+    (here.0, here.1, in_second place rs c told is.0 (once_words (here.0 ++ s.text ∷ here.1)) is.2 here.2)
 
 pub unused_told : (place told : List ℕ) (rs : Rules) (c : Configuration) (among : ℕ → Bool) (i : ℕ) (r : Rule) → Warns place rs c told → IsReach rs.rules c among
     → slice_get rs.rules i ≡ Some r → (among r.left && among r.right) ≡ false → IsWarned place (unused_words rs.symbols i r) told
@@ -229,9 +224,9 @@ unused_told place told rs c among i r is reach at not =
     in_third place rs c told is.0 (unused_words rs.symbols i r) is.2 (each_unused place is.0 rs rs.rules 0 i i r (omega arith) at here)
 
 pub free_told : (place told : List ℕ) (rs : Rules) (c : Configuration) (n : ℕ) → Warns place rs c told → StandsOnce n (configuration_names c)
-    → IsWarned place (codes "the name " ++ name_text n ++ codes " stands only once") told
+    → IsWarned place (free_words n) told
 free_told place told rs c n is once =
-    in_fourth place rs c told is.0 (codes "the name " ++ name_text n ++ codes " stands only once") is.2
+    in_fourth place rs c told is.0 (free_words n) is.2
     (each_free place (configuration_names c) (configuration_names c) once.0 n once.1 once)
 
 pub idle_told : (place told : List ℕ) (rs : Rules) (c : Configuration) (among : ℕ → Bool) → Warns place rs c told → IsReach rs.rules c among

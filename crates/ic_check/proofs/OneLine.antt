@@ -42,7 +42,7 @@ use Rattle.ic_check.specs.declared.due.LineLimit.{LineLimit}
 use Rattle.ic_check.specs.declared.due.LineLimit.TheVariants as line_limit
 use Rattle.ic_check.specs.declared.line_places.LineDetail.{LineDetail}
 use Rattle.ic_check.specs.declared.line_places.LineDetail.TheVariants.{Sought, Passed as Beyond, Within}
-use Rattle.ic_check.specs.Warnings.{Warns, idle_words, letter_words, pair_text, symbol_text, unused_words, warning_line}
+use Rattle.ic_check.specs.Warnings.{Warns, after_commas, count_of, free_words, idle_words, letter_words, once_texts, once_words, pair_text, symbol_text, unused_words, warning_line, with_commas}
 use Rattle.ic_check.proofs.Placed.{AreOf, OfAllWords, lines_of_warnings}
 
 -- ---- texts without a line feed
@@ -379,11 +379,23 @@ module _ (ss : List Symbol) (are : AllByRecursion (λ s. has_feed s.text ≡ fal
 one_warning : (place words : List ℕ) → has_feed place ≡ false → has_feed words ≡ false → IsOneLine (warning_line place words)
 one_warning place words free words_free = one_of_parts (place ∷ codes ": warning: " ∷ words ∷ []) (free, (refl, (words_free, tt)))
 
-each_once : (place : List ℕ) → has_feed place ≡ false → (ss : List Symbol) → AllByRecursion (λ s. has_feed s.text ≡ false) ss
-    → AllByRecursion (λ s. IsOneLine (warning_line place (s.text ++ codes " stands only once"))) ss
-each_once place free [] are = tt
-each_once place free (s ∷ ss) are =
-    (one_warning place (s.text ++ codes " stands only once") free (both_free s.text (codes " stands only once") are.0 refl), each_once place free ss are.1)
+-- symbols that stand only once
+one_text_free : (text : List ℕ) (is_once : Bool) (rest : List (List ℕ)) → has_feed text ≡ false → AllByRecursion (λ t. has_feed t ≡ false) rest
+    → AllByRecursion (λ t. has_feed t ≡ false) ((if is_once then text ∷ [] else []) ++ rest)
+one_text_free text true rest free are = (free, are)
+one_text_free text false rest free are = are
+
+once_texts_free : (all : List ℕ) (i : ℕ) (ss : List Symbol) → AllByRecursion (λ s. has_feed s.text ≡ false) ss → AllByRecursion (λ t. has_feed t ≡ false) (once_texts all i ss)
+once_texts_free all i [] are = tt
+once_texts_free all i (s ∷ ss) are = one_text_free s.text (count_of all i == 1) (once_texts all (i + 1) ss) are.0 (once_texts_free all (i + 1) ss are.1)
+
+commas_free : (ts : List (List ℕ)) → AllByRecursion (λ t. has_feed t ≡ false) ts → has_feed (after_commas ts) ≡ false
+commas_free [] are = refl
+commas_free (t ∷ ts) are = both_free (codes ", " ++ t) (after_commas ts) (both_free (codes ", ") t refl are.0) (commas_free ts are.1)
+
+once_free : (ts : List (List ℕ)) → AllByRecursion (λ t. has_feed t ≡ false) ts → has_feed (once_words ts) ≡ false
+once_free [] are = refl
+once_free (t ∷ ts) are = both_free (codes "symbols that stand only once: ") (with_commas (t ∷ ts)) refl (both_free t (after_commas ts) are.0 (commas_free ts are.1))
 
 each_letter : (place : List ℕ) → has_feed place ≡ false → (ss : List Symbol) → AllByRecursion (λ s. has_feed s.text ≡ false) ss
     → AllByRecursion (λ s. IsOneLine (warning_line place (letter_words s.text))) ss
@@ -403,9 +415,9 @@ one_each file told line rs c are free warns =
     let texts = free_texts rs.symbols are in
     let words : OfAllWords (λ w. IsOneLine (warning_line place w)) rs = record {
       ruleless = λ a b. one_warning place (codes "no rule for " ++ pair_text rs.symbols a b) open_place (both_free (codes "no rule for ") (pair_text rs.symbols a b) refl (pair_free rs.symbols texts a b));
-      once = each_once place open_place rs.symbols texts;
+      once = λ all. one_warning place (once_words (once_texts all 0 rs.symbols)) open_place (once_free (once_texts all 0 rs.symbols) (once_texts_free all 0 rs.symbols texts));
       unused = λ i r. one_warning place (unused_words rs.symbols i r) open_place (unused_free rs.symbols texts i r);
-      free = λ n. one_warning place (codes "the name " ++ name_text n ++ codes " stands only once") open_place
+      free = λ n. one_warning place (free_words n) open_place
           (both_free (codes "the name " ++ name_text n) (codes " stands only once") (both_free (codes "the name ") (name_text n) refl (name_free n)) refl);
       idle = one_warning place idle_words open_place refl;
       letter = each_letter place open_place rs.symbols texts;

@@ -9,7 +9,6 @@ use Rattle.ic_rules.specs.RuleSet.{Rules, rule_for}
 use Rattle.ic_jobs.specs.declared.command.Command.TheVariants as command
 use Rattle.ic_commands.specs.declared.line.Line.{Line}
 use Rattle.ic_commands.specs.declared.line.Line.TheVariants.{Blank, Command as Asks, Run}
-use Rattle.ic_text.specs.Name.{name_text}
 use Rattle.ic_text.specs.declared.fault.TextFault.{TextFault}
 use Rattle.ic_check.specs.Checking.{TellsAnswer, TellsLine, TellsLines, WarnsOf}
 use Rattle.ic_check.specs.Meanings.{IsToldAt}
@@ -17,7 +16,7 @@ use Rattle.ic_check.specs.Telling.{place_text}
 use Rattle.ic_check.specs.Symbols.{text_symbols}
 use Rattle.ic_check.specs.Letters.{looks_like_name}
 use Rattle.ic_check.specs.Meeting.{are_apart, has_use}
-use Rattle.ic_check.specs.Warnings.{Warns, count_of, free_line, free_lines, idle_line, idle_words, letter_line, letter_lines, letter_words, once_line, once_lines, pair_text, ruleless_line, ruleless_lines, unused_line, unused_lines, unused_words, warning_line}
+use Rattle.ic_check.specs.Warnings.{Warns, count_of, free_line, free_lines, free_words, idle_line, idle_words, letter_line, letter_lines, letter_words, once_line, once_texts, once_words, pair_text, ruleless_line, ruleless_lines, unused_line, unused_lines, unused_words, warning_line}
 
 -- these are lines of warnings of this place, of words of which this holds
 abbrev pub AreOf : (List ℕ → Type 0) → List ℕ → List ℕ → Type 0
@@ -36,9 +35,9 @@ all_of_both Holds (w ∷ ws) b first second = (first.0, all_of_both Holds ws b f
 -- this holds of the words of each warning of a system
 pub record OfAllWords (Holds : List ℕ → Type 0) (rs : Rules) : Type 0 where
   pub ruleless : (a b : ℕ) → Holds (codes "no rule for " ++ pair_text rs.symbols a b)
-  pub once : AllByRecursion (λ s. Holds (s.text ++ codes " stands only once")) rs.symbols
+  pub once : (all : List ℕ) → Holds (once_words (once_texts all 0 rs.symbols))
   pub unused : (i : ℕ) (r : Rule) → Holds (unused_words rs.symbols i r)
-  pub free : (n : ℕ) → Holds (codes "the name " ++ name_text n ++ codes " stands only once")
+  pub free : (n : ℕ) → Holds (free_words n)
   pub idle : Holds idle_words
   pub letter : AllByRecursion (λ s. Holds (letter_words s.text)) rs.symbols
 
@@ -77,16 +76,14 @@ module _ (Holds : List ℕ → Type 0) (place : List ℕ) where
         both_of (unused_line place among rs.symbols i r) (unused_lines place among rs.symbols (i + 1) ls)
         (either_of (unused_words rs.symbols i r) (of.unused i r) (among r.left && among r.right)) (all_unused_of among (i + 1) ls)
 
-  pub all_once_of : (all : List ℕ) (i : ℕ) (ss : List Symbol) → AllByRecursion (λ s. Holds (s.text ++ codes " stands only once")) ss → AreOf Holds place (once_lines place all i ss)
-  all_once_of all i [] of = none_of
-  all_once_of all i (s ∷ ss) of =
-      both_of (once_line place all i s.text) (once_lines place all (i + 1) ss) (told_of (s.text ++ codes " stands only once") of.0 (count_of all i == 1)) (all_once_of all (i + 1) ss of.1)
+  pub once_of : (texts : List (List ℕ)) → Holds (once_words texts) → AreOf Holds place (once_line place texts)
+  once_of [] is = none_of
+  once_of (t ∷ ts) is = one_of (once_words (t ∷ ts)) is
 
-  pub all_free_of : (all : List ℕ) → ((n : ℕ) → Holds (codes "the name " ++ name_text n ++ codes " stands only once")) → (ns : List ℕ) → AreOf Holds place (free_lines place all ns)
+  pub all_free_of : (all : List ℕ) → ((n : ℕ) → Holds (free_words n)) → (ns : List ℕ) → AreOf Holds place (free_lines place all ns)
   all_free_of all of [] = none_of
   all_free_of all of (n ∷ ns) =
-      both_of (free_line place all n) (free_lines place all ns)
-      (told_of (codes "the name " ++ name_text n ++ codes " stands only once") (of n) (count_of all n == 1)) (all_free_of all of ns)
+      both_of (free_line place all n) (free_lines place all ns) (told_of (free_words n) (of n) (count_of all n == 1)) (all_free_of all of ns)
 
   pub all_letters_of : (ls : List Rule) (i : ℕ) (ss : List Symbol) → AllByRecursion (λ s. Holds (letter_words s.text)) ss → AreOf Holds place (letter_lines place ls i ss)
   all_letters_of ls i [] of = none_of
@@ -98,7 +95,8 @@ module _ (Holds : List ℕ → Type 0) (place : List ℕ) where
   lines_of_warnings rs c told of is =
       let among = is.0 in
       let one = ruleless_lines place rs c.equations in
-      let two = once_lines place (text_symbols rs.rules c) 0 rs.symbols in
+      let texts = once_texts (text_symbols rs.rules c) 0 rs.symbols in
+      let two = once_line place texts in
       let three = unused_lines place among rs.symbols 0 rs.rules in
       let four = free_lines place (configuration_names c) (configuration_names c) in
       let five = idle_line place among rs.rules c.equations in
@@ -107,7 +105,7 @@ module _ (Holds : List ℕ → Type 0) (place : List ℕ) where
       (both_of ((((one ++ two) ++ three) ++ four) ++ five) six
       (both_of (((one ++ two) ++ three) ++ four) five
       (both_of ((one ++ two) ++ three) four
-      (both_of (one ++ two) three (both_of one two (all_ruleless_of rs of c.equations) (all_once_of (text_symbols rs.rules c) 0 rs.symbols of.once))
+      (both_of (one ++ two) three (both_of one two (all_ruleless_of rs of c.equations) (once_of texts (of.once (text_symbols rs.rules c))))
       (all_unused_of rs of among 0 rs.rules))
       (all_free_of (configuration_names c) of.free (configuration_names c)))
       (told_of idle_words of.idle (has_use among rs.rules && are_apart c.equations)))
@@ -119,7 +117,7 @@ abbrev pub AreLinesOf : List ℕ → List ℕ → Type 0
 AreLinesOf place told = (words : List (List ℕ)) × (told ≡ flat_map (warning_line place) words)
 
 pub any_words : (rs : Rules) → OfAllWords (λ w. Unit {0}) rs
-any_words rs = record { ruleless = λ a b. tt; once = each rs.symbols; unused = λ i r. tt; free = λ n. tt; idle = tt; letter = each rs.symbols }
+any_words rs = record { ruleless = λ a b. tt; once = λ all. tt; unused = λ i r. tt; free = λ n. tt; idle = tt; letter = each rs.symbols }
   where
     each : (ss : List Symbol) → AllByRecursion (λ s. Unit {0}) ss
     each [] = tt

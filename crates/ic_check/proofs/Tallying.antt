@@ -1,12 +1,11 @@
 -- Names are counted up to two.
-use Rattle.std.proofs.Common.{◌≡◌, ◌⊎◌, ℕ, ◌+◌, ◌<◌, ◌==◌, List, Some, codes, cond, length, take, get_or, min, ap, sym, ◌∙◌, ◌++◌, [], arith, inl, inr}
+use Rattle.std.proofs.Common.{◌≡◌, ◌⊎◌, ℕ, ◌+◌, ◌<◌, ◌==◌, List, Some, cond, length, take, get_or, min, ap, sym, ◌∙◌, [], arith, inl, inr}
 use Rattle.std.specs.Prelude.{unwrap_or}
 use Rattle.std.proofs.lemmas.Bool.{cases_eq, eq-eqb, ne_eqb}
 use Rattle.std.proofs.lemmas.List.Sums.{count_by_more_yes, count_by_more_no}
 use Rattle.ic_names.specs.declared.table.NameTable.{NameTable}
 use Rattle.ic_names.specs.Table.{found}
-use Rattle.ic_text.specs.Name.{name_text}
-use Rattle.ic_check.specs.Warnings.{count_of, free_line, warning_line}
+use Rattle.ic_check.specs.Warnings.{count_of, free_line, free_words, warning_line}
 use Rattle.ic_check.specs.inner.Tallies.{IsTally, tallied, tallied_line}
 
 one_more : (seen count number more : ℕ) → seen ≡ min count 2 → number ≡ min seen 1 + 1 → more ≡ count + 1 → number ≡ min more 2
@@ -33,4 +32,4 @@ same_once seen count is = elim (cases_eq count 1) [
 -- by such a table just the names are told that stand once
 pub tallied_once : (place all : List ℕ) (table : NameTable) (n : ℕ) → IsTally all table → tallied_line place table n ≡ free_line place all n
 tallied_once place all table n is =
-    ap (λ b. cond b (warning_line place ((codes "the name " ++ name_text n) ++ codes " stands only once")) []) (same_once (tallied table n) (count_of all n) (is n))
+    ap (λ b. cond b (warning_line place (free_words n)) []) (same_once (tallied table n) (count_of all n) (is n))

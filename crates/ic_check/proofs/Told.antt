@@ -23,7 +23,7 @@ use Rattle.ic_check.specs.declared.line_places.LineDetail.{LineDetail}
 use Rattle.ic_commands.specs.LineText.{ReadsLine}
 use Rattle.ic_check.specs.Reach.{IsReach}
 use Rattle.ic_check.specs.Symbols.{text_symbols}
-use Rattle.ic_check.specs.Warnings.{Warns, free_lines, idle_line, letter_lines, once_lines, ruleless_lines, unused_lines, warning_lines}
+use Rattle.ic_check.specs.Warnings.{Warns, free_lines, idle_line, letter_lines, once_line, once_texts, ruleless_lines, unused_lines, warning_lines}
 use Rattle.ic_check.specs.inner.Growing.{holds}
 
 -- the lines of a text are appended, and it has a fault or none
@@ -62,16 +62,16 @@ system_warned file text s rs c old new reads are is warned =
 
 -- the six kinds of warnings, one after the other
 pub warned : {T E : Type 0} (place : List ℕ) (rs : Rules) (c : Configuration) (all seen ns old one two three four five new line : List ℕ) (r : Result T E) → all ≡ text_symbols rs.rules c
-    → IsReach rs.rules c (holds seen) → ns ≡ configuration_names c → one ≡ old ++ ruleless_lines place rs c.equations → two ≡ one ++ once_lines place all 0 rs.symbols
+    → IsReach rs.rules c (holds seen) → ns ≡ configuration_names c → one ≡ old ++ ruleless_lines place rs c.equations → two ≡ one ++ once_line place (once_texts all 0 rs.symbols)
     → three ≡ two ++ unused_lines place (holds seen) rs.symbols 0 rs.rules
     → four ≡ three ++ free_lines place ns ns → line ≡ idle_line place (holds seen) rs.rules c.equations
     → five ≡ four ++ line → OnOk r (new ≡ five ++ letter_lines place rs.rules 0 rs.symbols) → OnOk r (AppendsWarnings place rs c old new)
 warned place rs c all seen ns old one two three four five new line (Ok v) are reach named first second third fourth same fifth sixth =
     let a : List ℕ = ruleless_lines place rs c.equations in
-    let b : List ℕ = once_lines place (text_symbols rs.rules c) 0 rs.symbols in
+    let b : List ℕ = once_line place (once_texts (text_symbols rs.rules c) 0 rs.symbols) in
     let d : List ℕ = unused_lines place (holds seen) rs.symbols 0 rs.rules in
     let e : List ℕ = free_lines place (configuration_names c) (configuration_names c) in
-    let both : two ≡ (old ++ a) ++ b = second ∙ (λ i. first i ++ once_lines place (are i) 0 rs.symbols) in
+    let both : two ≡ (old ++ a) ++ b = second ∙ (λ i. first i ++ once_line place (once_texts (are i) 0 rs.symbols)) in
     let f : List ℕ = idle_line place (holds seen) rs.rules c.equations in
     let all_three : three ≡ old ++ ((a ++ b) ++ d) = third ∙ ap (λ l. l ++ d) (both ∙ append_assoc old a b) ∙ append_assoc old (a ++ b) d in
     let all_four : four ≡ old ++ (((a ++ b) ++ d) ++ e) =

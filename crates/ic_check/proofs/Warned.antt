@@ -1,5 +1,5 @@
 -- Warnings that are written one after the other.
-use Rattle.std.proofs.Common.{◌≡◌, inl, inr, ℕ, ◌+◌, ◌<◌, ◌≤◌, List, [], ◌∷◌, ◌++◌, Bool, false, Option, Some, Result, Ok, Err, OnOk, codes, is_some, length, drop, drop-cons, add-one, get_or, refl, sym, ap, ◌∙◌, arith, append-nil, append_assoc}
+use Rattle.std.proofs.Common.{◌≡◌, inl, inr, ℕ, suc, ◌+◌, ◌<◌, ◌≤◌, List, [], ◌∷◌, ◌++◌, Bool, false, Option, Some, Result, Ok, Err, OnOk, codes, is_some, length, drop, drop-cons, add-one, get_or, refl, sym, ap, ◌∙◌, arith, append-nil, append_assoc}
 use Rattle.std.specs.Option.{option_map}
 use Rattle.std.proofs.lemmas.List.{drop_all}
 use Rattle.std.proofs.lemmas.Option.{slice_get_cases}
@@ -9,7 +9,7 @@ use Rattle.ic_term.specs.Symbol.{Symbol, symbol_arity, symbol_text}
 use Rattle.ic_term.specs.Term.{cell_tree}
 use Rattle.ic_term.specs.lemmas.TermLaws.{cell_tree-out}
 use Rattle.ic_term.specs.declared.term.Cell.{Cell, out-Cell}
-use Rattle.ic_check.specs.Warnings.{free_line, free_lines, letter_line, letter_lines, once_line, once_lines, pair_text, ruleless_line, unused_line, unused_lines, warning_line}
+use Rattle.ic_check.specs.Warnings.{free_line, free_lines, letter_line, letter_lines, after_commas, once_line, once_text, once_texts, pair_text, ruleless_line, unused_line, unused_lines, warning_line}
 use Rattle.ic_check.proofs.Listing.{from_place}
 
 -- nothing is left
@@ -20,20 +20,42 @@ all_written g none xs i out whole past all =
 same_some : (a b : List ℕ) → Some a ≡ Some b → a ≡ b
 same_some a b e = cc
 
-pub once_next : (place all : List ℕ) (ss : List Symbol) (i : ℕ) (text out new whole : List ℕ) → i < length ss → symbol_text ss i ≡ Some text
-    → new ≡ out ++ once_line place all i text → out ++ once_lines place all i (drop i ss) ≡ whole → new ++ once_lines place all (i + 1) (drop (i + 1) ss) ≡ whole
-once_next place all ss i text out new whole below is put so_far = elim (slice_get_cases ss i).1 [
+commas_append : (a b : List (List ℕ)) → after_commas (a ++ b) ≡ after_commas a ++ after_commas b
+commas_append [] b = refl
+commas_append (t ∷ ts) b = ap (λ (l : List ℕ). (codes ", " ++ t) ++ l) (commas_append ts b) ∙ sym (append_assoc (codes ", " ++ t) (after_commas ts) (after_commas b))
+
+pub once_next : (all : List ℕ) (ss : List Symbol) (i : ℕ) (text out new whole : List ℕ) → i < length ss → symbol_text ss i ≡ Some text
+    → new ≡ out ++ after_commas (once_text all i text) → out ++ after_commas (once_texts all i (drop i ss)) ≡ whole
+    → new ++ after_commas (once_texts all (i + 1) (drop (i + 1) ss)) ≡ whole
+once_next all ss i text out new whole below is put so_far = elim (slice_get_cases ss i).1 [
   | inl there ↦
       let s = there.0 in
       let same : s.text ≡ text = same_some s.text text (sym (ap (λ (o : Option Symbol). option_map (λ (t : Symbol). t.text) o) there.2) ∙ is) in
-      let rest : List ℕ = once_lines place all (i + 1) (drop (i + 1) ss) in
-      ap (λ l. l ++ rest) put ∙ append_assoc out (once_line place all i text) rest ∙ ap (λ t. out ++ (once_line place all i t ++ rest)) (sym same)
-      ∙ ap (λ l. out ++ once_lines place all i l) (sym (from_place ss i s below (sym there.3))) ∙ so_far
+      let rest : List (List ℕ) = once_texts all (i + 1) (drop (i + 1) ss) in
+      ap (λ l. l ++ after_commas rest) put ∙ append_assoc out (after_commas (once_text all i text)) (after_commas rest)
+      ∙ ap (λ l. out ++ l) (sym (commas_append (once_text all i text) rest)) ∙ ap (λ t. out ++ after_commas (once_text all i t ++ rest)) (sym same)
+      ∙ ap (λ l. out ++ after_commas (once_texts all i l)) (sym (from_place ss i s below (sym there.3))) ∙ so_far
   | inr past ↦ absurd (omega (arith, past.0))
 ]
 
-pub once_end : (place all : List ℕ) (ss : List Symbol) (i : ℕ) (out whole : List ℕ) → length ss ≤ i → out ++ once_lines place all i (drop i ss) ≡ whole → out ≡ whole
-once_end place all ss i out whole past so_far = all_written (once_lines place all i) refl ss i out whole past so_far
+pub once_end : (all : List ℕ) (ss : List Symbol) (i : ℕ) (out whole : List ℕ) → length ss ≤ i → out ++ after_commas (once_texts all i (drop i ss)) ≡ whole → out ≡ whole
+once_end all ss i out whole past so_far = all_written (λ l. after_commas (once_texts all i l)) refl ss i out whole past so_far
+
+-- texts, each after a comma, are a line if there are any
+pub no_once : (place : List ℕ) (ts : List (List ℕ)) (joined : List ℕ) → joined ≡ after_commas ts → length joined < 2 → once_line place ts ≡ []
+no_once place [] joined is short = refl
+no_once place (t ∷ ts) joined is short =
+    let long : length joined ≡ suc (suc (length (t ++ after_commas ts))) = ap length is in
+    absurd (omega (arith, long, short))
+
+pub some_once : (place : List ℕ) (ts : List (List ℕ)) (joined words : List ℕ) → joined ≡ after_commas ts → 2 ≤ length joined
+    → words ≡ codes "symbols that stand only once: " ++ drop 2 joined → warning_line place words ≡ once_line place ts
+some_once place [] joined words is long put =
+    let none : length joined ≡ 0 = ap length is in
+    absurd (omega (arith, none, long))
+some_once place (t ∷ ts) joined words is long put =
+    let texts : drop 2 joined ≡ t ++ after_commas ts = ap (drop 2) is in
+    ap (warning_line place) (put ∙ ap (λ (l : List ℕ). codes "symbols that stand only once: " ++ l) texts)
 
 same_number : (m n : ℕ) → Some m ≡ Some n → m ≡ n
 same_number m n e = cc

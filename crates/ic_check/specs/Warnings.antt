@@ -42,16 +42,32 @@ ruleless_lines place rs es = flat_map (λ e. ruleless_line place rs e.left e.rig
 abbrev pub count_of : List ℕ → ℕ → ℕ
 count_of ss s = count_by (λ t. t == s) ss
 
--- a symbol of this number and this text that stands just once among all
-abbrev pub once_line : (place all : List ℕ) → ℕ → List ℕ → List ℕ
-once_line place all i text =
-    if count_of all i == 1 then warning_line place (text ++ codes " stands only once") else []
+-- the text of a symbol of this number, if it stands just once among all
+abbrev pub once_text : (all : List ℕ) → ℕ → List ℕ → List (List ℕ)
+once_text all i text = if count_of all i == 1 then text ∷ [] else []
 
--- those of these symbols that do, the first of which has this number
-abbrev pub once_lines : (place all : List ℕ) → ℕ → List Symbol → List ℕ
-once_lines place all i [] = []
-once_lines place all i (s ∷ ss) =
-    once_line place all i s.text ++ once_lines place all (i + 1) ss
+-- the texts of those of these symbols that do, the first of which has this number
+abbrev pub once_texts : (all : List ℕ) → ℕ → List Symbol → List (List ℕ)
+once_texts all i [] = []
+once_texts all i (s ∷ ss) = once_text all i s.text ++ once_texts all (i + 1) ss
+
+-- texts, each after a comma
+abbrev pub after_commas : List (List ℕ) → List ℕ
+after_commas ts = flat_map (λ t. codes ", " ++ t) ts
+
+-- texts with commas between them
+abbrev pub with_commas : List (List ℕ) → List ℕ
+with_commas [] = []
+with_commas (t ∷ ts) = t ++ after_commas ts
+
+-- `symbols that stand only once: A, B, C`
+abbrev pub once_words : List (List ℕ) → List ℕ
+once_words ts = codes "symbols that stand only once: " ++ with_commas ts
+
+-- one line of all of them, if there are any
+abbrev pub once_line : (place : List ℕ) → List (List ℕ) → List ℕ
+once_line place [] = []
+once_line place (t ∷ ts) = warning_line place (once_words (t ∷ ts))
 
 -- `rule I, A><B, is never used`
 abbrev pub unused_words : List Symbol → ℕ → Rule → List ℕ
@@ -69,9 +85,14 @@ unused_lines place among ss i [] = []
 unused_lines place among ss i (r ∷ rs) =
     unused_line place among ss i r ++ unused_lines place among ss (i + 1) rs
 
--- a name that stands just once among all those of a configuration: a free end
+-- `the name x stands only once`
+abbrev pub free_words : ℕ → List ℕ
+free_words n = codes "the name " ++ name_text n ++ codes " stands only once"
+
+-- a name that does among all those of a configuration: a free end
 abbrev pub free_line : (place all : List ℕ) → ℕ → List ℕ
-free_line place all n = once_line place all n (codes "the name " ++ name_text n)
+free_line place all n =
+    if count_of all n == 1 then warning_line place (free_words n) else []
 
 abbrev pub free_lines : (place all : List ℕ) → List ℕ → List ℕ
 free_lines place all ns = flat_map (free_line place all) ns
@@ -103,7 +124,7 @@ letter_lines place rs i (s ∷ ss) =
 -- all warnings of a system, where these symbols may come to stand
 abbrev pub warning_lines : List ℕ → (ℕ → Bool) → Rules → Configuration → List ℕ
 warning_lines place among rs c = ruleless_lines place rs c.equations
-    ++ once_lines place (text_symbols rs.rules c) 0 rs.symbols
+    ++ once_line place (once_texts (text_symbols rs.rules c) 0 rs.symbols)
     ++ unused_lines place among rs.symbols 0 rs.rules
     ++ free_lines place (configuration_names c) (configuration_names c)
     ++ idle_line place among rs.rules c.equations

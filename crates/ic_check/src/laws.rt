@@ -63,7 +63,7 @@ ghost use Rattle.ic_check.specs.Sessions.{TellsRefusal, lines_sentence, refusal_
 ghost use Rattle.ic_check.specs.Symbols.{config_symbols, text_symbols};
 ghost use Rattle.ic_check.specs.Objects.{fault_fields, finding_fields, object_of, objects_of};
 ghost use Rattle.ic_check.specs.Telling.{fault_line, line_limit_sentence, line_sentence, place_text, placed_line, sought_sentence, spot_text};
-ghost use Rattle.ic_check.specs.Warnings.{Warns, idle_line, idle_words, once_line, once_lines, pair_text, ruleless_line, unused_line, warning_line};
+ghost use Rattle.ic_check.specs.Warnings.{Warns, free_line, idle_line, idle_words, once_line, once_text, once_texts, pair_text, ruleless_line, unused_line, warning_line, with_commas};
 
 /// An equation is told as one without a rule exactly where both sides are agents and no rule is of their two symbols.
 /// Then it is stuck: no interaction takes it, in whatever configuration it stands, and no step takes away an equation
@@ -87,16 +87,26 @@ pub fn pairs_without_a_rule_are_stuck()
 }
 
 /// A symbol is told to stand only once exactly where it stands at just one place among the symbols that are gone
-/// through. Each symbol of a table is asked for by its own number and told by its own text.
+/// through. Each symbol of a table is asked for by its own number and told by its own text. All of them are told in one
+/// line, with commas between them. A name is told exactly where it stands at just one place, each in a line of its own.
 pub fn symbols_told_once_stand_at_one_place()
-    ensures told { (place all : List ℕ) (s : ℕ) (text : List ℕ) → StandsOnce s all
-        → once_line place all s text ≡ warning_line place (text ++ codes " stands only once") }
-    ensures silent { (place all : List ℕ) (s : ℕ) (text : List ℕ) → ¬ StandsOnce s all
-        → once_line place all s text ≡ [] }
-    ensures each { (place all : List ℕ) (ss : List Symbol) (i : ℕ) (s : Symbol)
-        → slice_get ss i ≡ Some s → once_lines place all 0 ss
-        ≡ once_lines place all 0 (take i ss) ++ once_line place all i s.text
-        ++ once_lines place all (i + 1) (drop (i + 1) ss) }
+    ensures told { (all : List ℕ) (s : ℕ) (text : List ℕ) → StandsOnce s all
+        → once_text all s text ≡ text ∷ [] }
+    ensures silent { (all : List ℕ) (s : ℕ) (text : List ℕ) → ¬ StandsOnce s all
+        → once_text all s text ≡ [] }
+    ensures each { (all : List ℕ) (ss : List Symbol) (i : ℕ) (s : Symbol)
+        → slice_get ss i ≡ Some s → once_texts all 0 ss
+        ≡ once_texts all 0 (take i ss) ++ once_text all i s.text
+        ++ once_texts all (i + 1) (drop (i + 1) ss) }
+    ensures none { (place : List ℕ) → once_line place [] ≡ [] }
+    ensures one { (place text : List ℕ) → once_line place (text ∷ [])
+        ≡ warning_line place (codes "symbols that stand only once: " ++ text) }
+    ensures several { (place : List ℕ) → once_line place (codes "A" ∷ codes "Nill" ∷ codes "C" ∷ [])
+        ≡ warning_line place (codes "symbols that stand only once: A, Nill, C") }
+    ensures name { (place all : List ℕ) (n : ℕ) → StandsOnce n all → free_line place all n
+        ≡ warning_line place (codes "the name " ++ name_text n ++ codes " stands only once") }
+    ensures other_name { (place all : List ℕ) (n : ℕ) → ¬ StandsOnce n all
+        → free_line place all n ≡ [] }
 {}
 
 /// Each warning has its line in what is told of a system: an equation of two agents that no rule is of, a symbol at
@@ -113,7 +123,8 @@ pub fn each_warning_is_told()
     ensures once { (place told : List ℕ) (rs : Rules) (c : Configuration) (i : ℕ) (s : Symbol)
         → Warns place rs c told → slice_get rs.symbols i ≡ Some s
         → StandsOnce i (text_symbols rs.rules c)
-        → IsWarned place (s.text ++ codes " stands only once") told }
+        → (before : List (List ℕ)) × (after : List (List ℕ)) × IsWarned place
+        (codes "symbols that stand only once: " ++ with_commas (before ++ s.text ∷ after)) told }
     ensures unused { (place told : List ℕ) (rs : Rules) (c : Configuration) (among : ℕ → Bool)
         (i : ℕ) (r : Rule) → Warns place rs c told → IsReach rs.rules c among
         → slice_get rs.rules i ≡ Some r → (among r.left && among r.right) ≡ false

@@ -3,7 +3,7 @@
 ghost use Rattle.std.specs.Prelude.{◌≡◌, ◌&&◌, ◌++◌, ℕ, List, IfOk, OnOk, codes, map};
 ghost use Rattle.ic_term.specs.Term.{cell_tree, pair, tree};
 ghost use Rattle.ic_check.specs.Meeting.{has_use};
-ghost use Rattle.ic_check.specs.Warnings.{Warns, free_lines, idle_line, letter_line, letter_lines, once_line, once_lines, pair_text, ruleless_line, ruleless_lines, symbol_text, unused_line, unused_lines, unused_words, warning_line};
+ghost use Rattle.ic_check.specs.Warnings.{Warns, free_lines, idle_line, letter_line, letter_lines, after_commas, once_line, once_text, once_texts, pair_text, ruleless_line, ruleless_lines, symbol_text, unused_line, unused_lines, unused_words, warning_line};
 ghost use Rattle.ic_check.specs.inner.Growing.{holds};
 ghost use Rattle.ic_check.specs.inner.Tallies.{tallied_line};
 
@@ -20,6 +20,9 @@ use std::alloc::{AllocError, Global};
 
 /// What is said where no two agents can meet.
 const IDLE: &[u8] = b"no two agents meet, so no rule is used: a sum is Add(r,n)=m, not r=Add(m,n)";
+
+/// What is said before the symbols that stand only once.
+const ONCE: &[u8] = b"symbols that stand only once: ";
 
 /// What is said of a symbol that looks like a name.
 const LETTER: &[u8] = b" is an agent, and no rule is of it: names are small letters, as x";
@@ -127,28 +130,34 @@ fn put_ruleless_lines(
     Ok(())
 }
 
-/// Appends the line of a symbol of this text, where it stands just once among these.
-fn put_once(
-    alloc: Global,
-    place: &[u8],
-    all: &[u32],
-    symbol: u32,
-    text: &[u8],
-    out: &mut Vec<u8>,
-) -> Result<(), AllocError>
+/// Appends the text of a symbol after a comma, where it stands just once among these.
+fn put_once_text(all: &[u32], symbol: u32, text: &[u8], out: &mut Vec<u8>) -> Result<(), AllocError>
     ensures { OnOk result
-        (out.new.items ≡ out.old.items ++ once_line place.now all.now symbol text.now) }
+        (out.new.items ≡ out.old.items ++ after_commas (once_text all.now symbol text.now)) }
 {
     if count_of(all, symbol) != 1 {
         return Ok(());
     }
-    let mut words = text.to_vec(alloc)?;
-    words.extend_from_slice(b" stands only once")?;
-    put_warning(place, &words, out)
+    out.extend_from_slice(b", ")?;
+    out.extend_from_slice(text)?;
+    Ok(())
 }
 
-/// Appends the lines of the symbols that stand just once among these.
-fn put_once_lines(
+/// Appends the texts of the symbols that stand just once among these, each after a comma.
+fn put_once_texts(all: &[u32], symbols: &Symbols, out: &mut Vec<u8>) -> Result<(), AllocError>
+    ensures { OnOk result
+        (out.new.items ≡ out.old.items ++ after_commas (once_texts all.now 0 symbols.now)) }
+{
+    let count = symbols.len();
+    for symbol in 0..count {
+        let number = symbol as u32;
+        put_once_text(all, number, symbols.text(number), out)?;
+    }
+    Ok(())
+}
+
+/// Appends the line of the symbols that stand just once among these, where there are any.
+fn put_once_line(
     alloc: Global,
     place: &[u8],
     all: &[u32],
@@ -156,14 +165,16 @@ fn put_once_lines(
     out: &mut Vec<u8>,
 ) -> Result<(), AllocError>
     ensures { OnOk result
-        (out.new.items ≡ out.old.items ++ once_lines place.now all.now 0 symbols.now) }
+        (out.new.items ≡ out.old.items ++ once_line place.now (once_texts all.now 0 symbols.now)) }
 {
-    let count = symbols.len();
-    for symbol in 0..count {
-        let number = symbol as u32;
-        put_once(alloc, place, all, number, symbols.text(number), out)?;
+    let mut texts = Vec::new(alloc);
+    put_once_texts(all, symbols, &mut texts)?;
+    if texts.len() < 2 {
+        return Ok(());
     }
-    Ok(())
+    let mut words = ONCE.to_vec(alloc)?;
+    words.extend_from_slice(&texts[2..])?;
+    put_warning(place, &words, out)
 }
 
 /// The words of a rule that is never used, which stands at this place.
@@ -366,7 +377,7 @@ pub(crate) fn put_warnings(
     let seen = reach(alloc, listed, config)?;
     let names = config_names(alloc, config)?;
     put_ruleless_lines(alloc, place, rules, config.equations(), out)?;
-    put_once_lines(alloc, place, &all, symbols, out)?;
+    put_once_line(alloc, place, &all, symbols, out)?;
     put_unused_lines(alloc, place, &seen, symbols, listed, out)?;
     put_free_lines(alloc, place, &names, out)?;
     put_idle(alloc, place, &seen, listed, config.equations(), out)?;

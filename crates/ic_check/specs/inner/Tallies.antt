@@ -1,9 +1,8 @@
 -- For private functions: a table of how often names stand somewhere.
-use Rattle.std.specs.Prelude.{◌≡◌, ℕ, ◌==◌, List, [], ◌++◌, codes, min, unwrap_or, if◌then◌else◌}
+use Rattle.std.specs.Prelude.{◌≡◌, ℕ, ◌==◌, List, [], min, unwrap_or, if◌then◌else◌}
 use Rattle.ic_names.specs.declared.table.NameTable.{NameTable}
 use Rattle.ic_names.specs.Table.{found}
-use Rattle.ic_text.specs.Name.{name_text}
-use Rattle.ic_check.specs.Warnings.{count_of, warning_line}
+use Rattle.ic_check.specs.Warnings.{count_of, free_words, warning_line}
 
 -- how often a name stands there, by the table
 abbrev pub tallied : NameTable → ℕ → ℕ
@@ -15,5 +14,5 @@ IsTally names table = (name : ℕ) → tallied table name ≡ min (count_of name
 
 -- the line of a name, where it stands just once by the table
 abbrev pub tallied_line : (place : List ℕ) → NameTable → ℕ → List ℕ
-tallied_line place table n = if tallied table n == 1
-    then warning_line place ((codes "the name " ++ name_text n) ++ codes " stands only once") else []
+tallied_line place table n =
+    if tallied table n == 1 then warning_line place (free_words n) else []

@@ -5,7 +5,7 @@ use Rattle.ic_term.specs.Tree.{Pair}
 use Rattle.ic_rules.specs.Rule.{Rule}
 use Rattle.ic_check.specs.Reach.{IsReach}
 use Rattle.ic_check.specs.Symbols.{text_symbols}
-use Rattle.ic_check.specs.Warnings.{free_lines, idle_line, letter_lines, once_lines, ruleless_lines, unused_lines}
+use Rattle.ic_check.specs.Warnings.{free_lines, idle_line, letter_lines, once_line, once_texts, ruleless_lines, unused_lines}
 use Rattle.ic_check.specs.inner.Growing.{holds}
 use Rattle.ic_check.proofs.Told.{warned}
 use Rattle.ic_check.proofs.warnings.put_warnings.Goals as goal
@@ -18,7 +18,7 @@ returns c =
     let seen = c.in_ok-seen.seen.items in
     let old = c.args.out.now.items in
     let one = c.put_ruleless_lines.new.out.items in
-    let two = c.put_once_lines.new.out.items in
+    let two = c.put_once_line.new.out.items in
     let three = c.put_unused_lines.new.out.items in
     let four = c.put_free_lines.new.out.items in
     let five = c.put_idle.new.out.items in
@@ -36,7 +36,7 @@ returns c =
     (subst (λ (l : List Rule). IsReach l config (holds seen)) listed c.in_ok-seen.ensures)
     c.in_ok-names.ensures
     (c.in_ok-put_ruleless_lines.ensures ∙ ap (λ (es : List Pair). old ++ ruleless_lines place rules es) c.equations.ensures.equations)
-    (c.in_ok-put_once_lines.ensures ∙ (λ i. one ++ once_lines place (c.deref.ensures.value i) 0 (symbols i)))
+    (c.in_ok-put_once_line.ensures ∙ (λ i. one ++ once_line place (once_texts (c.deref.ensures.value i) 0 (symbols i))))
     third
     fourth
     same
