@@ -60,16 +60,6 @@ Usage: icserve reduce [OPTIONS] [FILE]
 For more information, try '--help'.
 ";
 
-/// What is said where the options of a reduction that is kept clash.
-const CLASH: &str = "\
-error: the argument '--keep <F>' cannot be used with '--resume <F>', nor either with '--limits <L>' or '--workers <N>', nor '--resume <F>' with '[FILE]'
-
-Usage: icserve reduce --keep <F> [OPTIONS] [FILE]
-       icserve reduce --resume <F> [OPTIONS]
-
-For more information, try '--help'.
-";
-
 /// What is said where `reduce` is told how often to keep what it reaches, and not where.
 const NO_KEEP: &str = "\
 error: the following required arguments were not provided:
@@ -219,7 +209,7 @@ fn in_place_task(alloc: Global, matches: &ArgMatches) -> Result<Task, WordsFault
     ensures { Asks (subcommand_rows_of matches.now) result }
 {
     if clashes(matches) {
-        return Err(WordsFault::Words(String::from_str(alloc, CLASH)?));
+        return Err(WordsFault::Words(clash(alloc, matches)?));
     }
     if asks_kept(matches) {
         return kept_task(alloc, matches);
@@ -283,6 +273,31 @@ fn clashes(matches: &ArgMatches) -> bool
         || (kept && value_if_met(matches, "limits").is_some())
         || (kept && is_given(matches, "workers"))
         || (resumes && value_if_met(matches, "file").is_some())
+}
+
+/// What is said where options of a reduction that is kept clash: which of them keeps it, and the first that it excludes.
+fn clash(alloc: Global, matches: &ArgMatches) -> Result<String, AllocError> {
+    let begins = value_if_met(matches, "keep").is_some();
+    let option = if begins { "--keep <F>" } else { "--resume <F>" };
+    let other = excluded(matches, begins);
+    format!(in alloc;
+        "error: the argument '{option}' cannot be used with '{other}'\n\n\
+         Usage: icserve reduce --keep <F> [OPTIONS] [FILE]\n       icserve reduce --resume <F> [OPTIONS]\n\n\
+         For more information, try '--help'.\n"
+    )
+}
+
+/// The first option, or FILE, that is given and excluded by `--keep`, or by `--resume`.
+fn excluded(matches: &ArgMatches, begins: bool) -> &'static str {
+    if begins && value_if_met(matches, "resume").is_some() {
+        "--resume <F>"
+    } else if value_if_met(matches, "limits").is_some() {
+        "--limits <L>"
+    } else if is_given(matches, "workers") {
+        "--workers <N>"
+    } else {
+        "[FILE]"
+    }
 }
 
 /// The task of `reduce` in place, which keeps nothing. Limits that there aren't, or a format, are refused as the parser
