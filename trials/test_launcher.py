@@ -13,7 +13,7 @@ from program import PATIENCE, PROGRAM, TOP, Trial, heeds_signals, run
 from test_pages import blocks_of, typed_in
 
 # What the launcher and the builds call, but for make and rt.
-TOOLS = "sh env cat cp dirname find flock grep install mkdir nproc python3 readlink rm sed setsid sha256sum sleep sort tail tee xargs"
+TOOLS = "sh env cp find flock grep install mkdir nproc python3 readlink rm sed setsid sha256sum sleep sort stat tail tee xargs"
 
 # Stands for `rt lib` in crates/ic_flat_round, and for `rt all check` and `rt run` in crates/icserve: notes its calls, keeps work
 # of a library that it proves, or fails to, and puts the program where the prover would.
@@ -37,7 +37,16 @@ echo build >> "$CALLS"
 [ -z "$SLOW" ] || sleep "$SLOW"
 [ -z "$UNTIL" ] || while [ ! -e "$UNTIL" ]; do sleep 0.05; done
 [ -z "$REFUSES" ] || exit "$REFUSES"
+eval "$EDITS"
 cp "{PROGRAM}" "$1/icserve"
+"""
+
+# Stands for a tool: notes its calls, refuses those with a word of these, and says TELLS where that is set.
+TOOL = """#!/bin/sh
+echo {name} >> "$USED"
+case " $* " in {refused}) exit 1 ;; esac
+[ -z "{tells}" ] || exec echo "{tells}"
+exec {path} "$@"
 """
 
 ISNT_PROVED = "It isn't proved on this machine: `make prove` proves it"
@@ -69,7 +78,26 @@ class Launcher(Trial):
         for name in ("make", *TOOLS.split()):
             if shutil.which(name):
                 (self.tools / name).symlink_to(shutil.which(name))
-        self.env = {"PATH": str(self.tools), "CALLS": str(self.calls), "HOME": str(self.room)}
+        self.used = self.room / "used"
+        self.used.write_text("")
+        self.stand_in("xargs")
+        self.env = {"PATH": str(self.tools), "CALLS": str(self.calls), "USED": str(self.used), "HOME": str(self.room)}
+
+    def stand_in(self, name, refused="none", tells=""):
+        """Puts a script in the place of a tool. By `xargs` the launcher reads the sources."""
+        (self.tools / name).unlink()
+        (self.tools / name).write_text(TOOL.format(name=name, refused=refused, tells=tells, path=shutil.which(name)))
+        (self.tools / name).chmod(0o755)
+
+    def reads(self, wanted, **how):
+        """Fails unless a launch that says nothing settles a configuration, and reads the sources or not, as is wanted."""
+        self.used.write_text("")
+        self.ended(self.launch("settle", **how), out=["<Z|>"])
+        self.equals(f"./icserve settle, of {how}", "whether it reads the sources", wanted, "xargs" in self.used.read_text())
+
+    def ages(self):
+        """Waits until no file was changed just now."""
+        time.sleep(2.2)
 
     def launch(self, *words, given=b"<r|r=Z>", path=None, **variables):
         return run(*words, given=given, program=path or self.room / "icserve", env={**self.env, **variables}, cwd="/")
@@ -101,6 +129,109 @@ class Launcher(Trial):
         self.source.write_text("second\n")
         self.says(ISNT_PROVED, self.settles())
         self.calls_are("build", "build")
+
+    def test_no_source_is_read_where_none_was_changed_since_the_last_read(self):
+        self.settles()
+        for _ in range(2):
+            self.ages()
+            self.settles()
+            for _ in range(2):
+                self.reads(False)
+            os.utime(self.source)
+            self.reads(True)
+        self.ages()
+        self.settles()
+        known = self.room / "out/known"
+        kept = known.read_bytes()
+        for cut in (0, 40, 68, 80, 130):
+            known.write_bytes(kept[:cut])
+            self.reads(True)
+            self.holds(known, kept)
+        self.calls_are("build")
+
+    def test_what_is_read_just_after_a_change_is_read_again(self):
+        begun = time.monotonic()
+        self.source.write_text("second\n")
+        self.settles()
+        if time.monotonic() - begun < 2:
+            self.reads(True)
+
+    def test_each_change_is_seen_also_one_that_leaves_size_and_times(self):
+        low, source = "crates/low", "crates/icserve/src/main.rt"
+        (self.room / low / "proofs/deep").mkdir()
+        for path in ("src/lib.rt", "src/more.rt", "proofs/deep/Answers.antt"):
+            (self.room / low / path).write_text("text\n")
+        self.settles()
+
+        def writes(copy, path, text):
+            had = (copy / path).stat()
+            (copy / path).write_text(text)
+            os.utime(copy / path, ns=(had.st_atime_ns, had.st_mtime_ns))
+
+        def puts(copy, path, text):
+            (copy / "new").write_text(text)
+            shutil.copystat(copy / path, copy / "new")
+            os.replace(copy / "new", copy / path)
+
+        def swaps(copy, one, other):
+            for old, new in ((one, "x"), (other, one), ("x", other)):
+                os.rename(copy / old, copy / new)
+
+        changes = {
+            "other bytes": lambda it: writes(it, source, "FIRST\n"),
+            "other bytes of crates.txt": lambda it: writes(it, "crates.txt", "lox:\nicserve: lox\n"),
+            "another file in its place": lambda it: puts(it, source, "FIRST\n"),
+            "a file more": lambda it: (it / low / "specs/New.antt").write_text(""),
+            "a file less": lambda it: os.remove(it / low / "src/more.rt"),
+            "a file with another name": lambda it: os.rename(it / low / "src/more.rt", it / low / "src/most.rt"),
+            "a folder with another name": lambda it: os.rename(it / low / "proofs/deep", it / low / "proofs/dee"),
+            "a crate with another name": lambda it: os.rename(it / low, it / "crates/lox"),
+            "folders that were swapped": lambda it: swaps(it, f"{low}/src", "crates/icserve/src"),
+        }
+        copies = {name: self.room / f"copy {number}" for number, name in enumerate(changes)}
+        for copy in copies.values():
+            copy.mkdir()
+            subprocess.run(["cp", "-a", *(self.room / it for it in ("icserve", "build.py", "crates", "crates.txt", "out")), copy], check=True)
+        self.ages()
+        self.calls.write_text("")
+        for name, copy in copies.items():
+            for wanted in (True, False):
+                self.reads(wanted, path=copy / "icserve")
+            changes[name](copy)
+            ran = self.launch("settle", path=copy / "icserve")
+            self.ended(ran._replace(err=b""), out=["<Z|>"])
+            self.equals(name, "what was called", ["build"], self.calls.read_text().split())
+            self.calls.write_text("")
+
+    def test_each_launch_reads_the_sources_where_changes_may_not_show(self):
+        for name, refused, tells in (("stat", "none", "nfs"), ("find", "*' -printf '*", ""), ("find", "*' -newerct '*", "")):
+            self.stand_in(name, refused, tells)
+            self.settles()
+            self.ages()
+            for _ in range(3):
+                self.reads(True)
+            self.source.write_text(f"without {name} {refused}\n")
+            self.says(ISNT_PROVED, self.settles())
+            (self.tools / name).unlink()
+            (self.tools / name).symlink_to(shutil.which(name))
+
+    def test_what_is_known_isnt_kept_where_it_cant_be_written(self):
+        self.settles()
+        self.ages()
+        (self.room / "out/known").unlink(missing_ok=True)
+        (self.room / "out/known").mkdir()
+        for _ in range(2):
+            self.reads(True)
+
+    def test_a_program_isnt_kept_if_a_source_is_changed_while_it_is_built(self):
+        for after in ("", f"; echo first >{self.source}"):
+            self.source.write_text("first\n")
+            ran = self.launch("settle", EDITS=f"sleep 0.1; echo second >{self.source}{after}")
+            self.ended(ran._replace(err=b""), status=4)
+            self.says("sources were changed meanwhile, so this program isn't theirs: launch it again", ran.err.decode())
+        self.says(ISNT_PROVED, self.settles())
+        self.agrees("./icserve settle, once more", "standard error", "", self.settles())
+        self.calls_are("build", "build", "build")
 
     def test_the_proved_program_is_run_where_it_is_there_of_these_sources(self):
         self.make("prove")
