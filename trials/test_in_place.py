@@ -20,7 +20,7 @@ from worked_rows import expanded, rows
 MOST = 2**62 - 1
 
 STATS = re.compile(
-    rb"icserve: interactions (\d+)(?:, name steps (\d+))?, places (\d+), equations (\d+), seconds (?:0\.000|\d+\.\d{3}, interactions a second \d+)\n"
+    rb"icserve: interactions (\d+)(?:, name steps (\d+))?, places (\d+), equations (\d+), threads (\d+), seconds (?:0\.000|\d+\.\d{3}, interactions a second \d+)\n"
     rb"icserve: (no interactions|rule \d+ \S+><\S+: \d+ interactions?(?:, rule \d+ \S+><\S+: \d+ interactions?)*)\n"
 )
 REACHED = re.compile(rb"interactions (\d+), places (\d+), equations (\d+)(?:, --nodes (\d+))?\n")
@@ -49,7 +49,7 @@ def stats_of(err):
     """How many interactions and places a run with `--stats` tells, and what else it says on standard error. The interactions
     of all rules are those in all, else none are told."""
     told = STATS.match(err)
-    if not told or sum(map(int, re.findall(rb": (\d+)", told[5]))) != int(told[1]):
+    if not told or sum(map(int, re.findall(rb": (\d+)", told[6]))) != int(told[1]):
         return None, None, err
     return int(told[1]), int(told[3]), err[told.end() :]
 
@@ -66,8 +66,9 @@ def figures_of(err):
     told = STATS.match(err)
     if not told:
         return None, err
-    figures = {"interactions": int(told[1]), "name_steps": told[2] and int(told[2]), "places": int(told[3]), "equations": int(told[4])}
-    fired = re.findall(rb"rule (\d+) (\S+): (\d+)", told[5])
+    names = ("interactions", "name_steps", "places", "equations", "threads")
+    figures = {name: it and int(it) for name, it in zip(names, told.groups())}
+    fired = re.findall(rb"rule (\d+) (\S+): (\d+)", told[6])
     figures["fired"] = {int(rule): (pair.decode(), int(count)) for rule, pair, count in fired}
     return {name: it for name, it in figures.items() if it is not None}, err[told.end() :]
 
@@ -330,13 +331,13 @@ class HardNets(InPlace):
         self.reduces(given=text, out=["<Delta(a,b),Delta(c,d),Gamma(a,c),Gamma(b,d)|>"], interactions=1)
 
     def test_name_steps_and_each_rule_are_told_at_a_quiet_end(self):
-        pace = rb", places %d, equations %d, seconds (?:0\.000|[.\d]+, interactions a second \d+)\n"
+        pace = rb", places %d, equations %d, threads 1, seconds (?:0\.000|[.\d]+, interactions a second \d+)\n"
         two = f"{ADD} <r|Add(r,S(Z))=S(Z)>"
         for words, told in (
             ([], b"icserve: interactions 2, name steps 4" + pace % (5, 0) + b"icserve: rule 1 Add><Z: 1 interaction, rule 2 Add><S: 1 interaction\n"),
             (["--steps", 0], b"icserve: interactions 0" + pace % (4, 1) + b"icserve: no interactions\nicserve: not done\n"),
         ):
-            ran = run("reduce", "--stats", *words, given=two)
+            ran = run("reduce", "--stats", "--workers", 1, *words, given=two)
             self.equals(ran.command, f"{ran.err} is as {told}", True, bool(re.fullmatch(told, ran.err)))
 
     def shown(self):
@@ -351,7 +352,7 @@ class HardNets(InPlace):
         yield DOUBLES, ["--nodes", drawn.randint(100, 9_999), "--workers", 1], "places", 1
 
     def test_figures_as_an_object_are_those_as_lines(self):
-        fields = ["end", "stuck", "interactions", "name_steps", "places", "equations", "milliseconds", "interactions_a_second", "by_rule"]
+        fields = ["end", "stuck", "interactions", "name_steps", "places", "equations", "threads", "milliseconds", "interactions_a_second", "by_rule"]
         for text, words, end, status in self.shown():
             lines = run("reduce", "--stats", *words, given=text)
             told, rest = figures_of(lines.err)

@@ -96,7 +96,7 @@ class Keep(Stops):
         """Fails unless a run that is kept has come to the same end."""
         self.equals(ran.command, f"status; it said {ran.err}", 0, ran.status)
         self.agrees(ran.command, "standard output", whole[0], ran.out)
-        for name in ("end", "stuck", "interactions", "by_rule"):
+        for name in ("end", "stuck", "interactions", "threads", "by_rule"):
             self.equals(ran.command, name, whole[1][name], figures(ran)[name])
 
     def kept(self):

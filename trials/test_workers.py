@@ -10,7 +10,7 @@ import nets
 from known import ADD
 from program import IN_MEMORY, Trial, run
 from shim import noted, shimmed
-from test_in_place import DOUBLES, PIECE, PILES, REACHED, name_steps_of, stats_of
+from test_in_place import DOUBLES, PIECE, PILES, REACHED, figures_of, name_steps_of, stats_of
 
 SYSTEMS = int(os.environ.get("SYSTEMS") or 400)
 
@@ -125,6 +125,12 @@ class Workers(Trial):
     def test_a_net_without_pairs(self):
         for config in ("<|>", "<x|>", "<x,x|>", "<r|r=Z>", "<|x=Add(x,Z)>"):
             self.ends_alike(f"{ADD} {config}")
+
+    def test_how_many_threads_may_reduce_is_told(self):
+        text, processors = f"{ADD} <r|Add(r,S(Z))=S(Z)>", min(len(os.sched_getaffinity(0)), quota(), 64)
+        for words, wanted in (([], processors), (["--workers", 3], 3), (["--steps", 9], 1), (["--steps", 9, "--workers", 64], 64)):
+            ran = run("reduce", "--stats", *words, given=text)
+            self.equals(ran.command, "threads", wanted, figures_of(ran.err)[0]["threads"])
 
     def test_words_that_are_refused(self):
         for number in ("0", "65", "-1", "two", ""):

@@ -1,4 +1,5 @@
--- To be believed: what is told of a reduction in place that took so many milliseconds (this project's choice).
+-- To be believed: what is told of a reduction in place by so many threads that took so many milliseconds (this
+-- project's choice).
 use Rattle.std.specs.Prelude.{ℕ, zero, suc, ◌+◌, ◌==◌, ◌/◌, ◌%◌, List, [], ◌∷◌, ◌++◌, Option, None, Some, codes, drop, length, nat_lt, option_map, slice_get, if◌then◌else◌}
 use Rattle.std.specs.Arc.{arc_value}
 use Rattle.std.specs.Fmt.{decimal}
@@ -30,6 +31,9 @@ steps_figure o =
 abbrev pub places_figure : Outcome → List ℕ
 places_figure o = codes ", places " ++ decimal o.places ++ codes ", equations " ++ decimal o.left
 
+abbrev pub threads_figure : ℕ → List ℕ
+threads_figure threads = codes ", threads " ++ decimal threads
+
 abbrev pub seconds_figure : (millis : ℕ) → List ℕ
 seconds_figure millis = codes ", seconds " ++ seconds_text millis
 
@@ -38,10 +42,11 @@ abbrev pub pace_figure : (interactions millis : ℕ) → List ℕ
 pace_figure n zero = []
 pace_figure n (suc m) = codes ", interactions a second " ++ decimal (a_second n (suc m))
 
--- the line of how many steps were made, of places and equations, and how fast it was
-abbrev pub figures_line : Outcome → (millis : ℕ) → List ℕ
-figures_line o millis = concat (steps_figure o ∷ places_figure o ∷ seconds_figure millis
-    ∷ pace_figure o.interactions millis ∷ (10 ∷ []) ∷ [])
+-- the line of how many steps were made, of places, equations and threads, and how fast it was
+abbrev pub figures_line : Outcome → (threads millis : ℕ) → List ℕ
+figures_line o threads millis = concat (steps_figure o ∷ places_figure o
+    ∷ threads_figure threads ∷ seconds_figure millis ∷ pace_figure o.interactions millis
+    ∷ (10 ∷ []) ∷ [])
 
 -- the text of a symbol
 abbrev pub symbol_text : List Symbol → ℕ → List ℕ
@@ -92,9 +97,9 @@ rules_line rs counts =
     concat (codes "icserve: " ∷ first_figures (rule_figures rs 0 counts) ∷ (10 ∷ []) ∷ [])
 
 -- both lines
-abbrev pub figures_lines : Outcome → (millis : ℕ) → List ℕ
-figures_lines o millis =
-    figures_line o millis ++ rules_line (arc_value o.rules) o.by_rule.items
+abbrev pub figures_lines : Outcome → (threads millis : ℕ) → List ℕ
+figures_lines o threads millis =
+    figures_line o threads millis ++ rules_line (arc_value o.rules) o.by_rule.items
 
 -- why it ended
 abbrev pub end_word : End → List ℕ
@@ -139,6 +144,9 @@ abbrev pub places_field : Outcome → List ℕ
 places_field o =
     codes ",\"places\":" ++ decimal o.places ++ codes ",\"equations\":" ++ decimal o.left
 
+abbrev pub threads_field : ℕ → List ℕ
+threads_field threads = codes ",\"threads\":" ++ decimal threads
+
 abbrev pub millis_field : ℕ → List ℕ
 millis_field millis = codes ",\"milliseconds\":" ++ decimal millis
 
@@ -150,13 +158,13 @@ pace_text n (suc m) = decimal (a_second n (suc m))
 abbrev pub pace_field : (interactions millis : ℕ) → List ℕ
 pace_field n millis = codes ",\"interactions_a_second\":" ++ pace_text n millis
 
--- how many steps were made, of places and equations, how long it took, and how fast it was
-abbrev pub count_fields : Outcome → (millis : ℕ) → List ℕ
-count_fields o millis = concat (step_fields o ∷ places_field o ∷ millis_field millis
-    ∷ pace_field o.interactions millis ∷ [])
+-- how many steps were made, of places, equations and threads, how long it took, and how fast it was
+abbrev pub count_fields : Outcome → (threads millis : ℕ) → List ℕ
+count_fields o threads millis = concat (step_fields o ∷ places_field o ∷ threads_field threads
+    ∷ millis_field millis ∷ pace_field o.interactions millis ∷ [])
 
 -- the figures as an object of JSON (RFC 8259) on a line
-abbrev pub figures_object : Outcome → (millis : ℕ) → List ℕ
-figures_object o millis = concat (codes "{\"end\":\"" ∷ end_word o.end ∷ stuck_fields o
-    ∷ count_fields o millis ∷ codes ",\"by_rule\":["
+abbrev pub figures_object : Outcome → (threads millis : ℕ) → List ℕ
+figures_object o threads millis = concat (codes "{\"end\":\"" ∷ end_word o.end ∷ stuck_fields o
+    ∷ count_fields o threads millis ∷ codes ",\"by_rule\":["
     ∷ rules_text (arc_value o.rules) o.by_rule.items ∷ codes "]}" ∷ (10 ∷ []) ∷ [])

@@ -4,7 +4,7 @@ ghost use Rattle.std.specs.Prelude.{◌≡◌, ◌++◌, ◌<◌, ◌-◌, ◌^�
 ghost use Rattle.ic_progress.specs.Figures.{count_fields, end_word, figures_line, figures_lines, figures_object, firings_count, firings_figure, interactions_word, millis_field};
 ghost use Rattle.ic_progress.specs.Figures.{name_steps_field, name_steps_figure, pace_field, pace_figure, pace_text, pair_text, places_field, places_figure};
 ghost use Rattle.ic_progress.specs.Figures.{rule_figure, rule_figures, rule_name, rule_object, rule_objects, rule_text, rules_line, rules_text, seconds_figure};
-ghost use Rattle.ic_progress.specs.Figures.{seconds_text, step_fields, steps_figure, stuck_field, stuck_fields, symbol_text};
+ghost use Rattle.ic_progress.specs.Figures.{seconds_text, step_fields, steps_figure, stuck_field, stuck_fields, symbol_text, threads_field, threads_figure};
 
 use crate::line::a_second;
 use ic_in_place::{End, Outcome};
@@ -13,37 +13,54 @@ use ic_term::Symbols;
 use ic_text::put_decimal;
 use std::alloc::{AllocError, Global};
 
-/// The lines that tell the figures of a reduction that took so many milliseconds: how many steps were made, how many
-/// places there were and equations were left, how fast it was, and how often each rule fired.
-pub fn figures_lines(alloc: Global, outcome: &Outcome, millis: u64) -> Result<Vec<u8>, AllocError>
-    ensures { IfOk result (λ lines. lines.items ≡ figures_lines outcome.now millis) }
+/// The lines that tell the figures of a reduction by so many threads that took so many milliseconds: how many steps were
+/// made, how many places there were and equations were left, the threads, how fast it was, and how often each rule fired.
+pub fn figures_lines(
+    alloc: Global,
+    outcome: &Outcome,
+    threads: usize,
+    millis: u64,
+) -> Result<Vec<u8>, AllocError>
+    ensures { IfOk result (λ lines. lines.items ≡ figures_lines outcome.now threads millis) }
 {
     let mut out = Vec::new(alloc);
-    put_figures_line(outcome, millis, &mut out)?;
+    put_figures_line(outcome, threads, millis, &mut out)?;
     put_rules_line(alloc, &outcome.rules, &outcome.by_rule, &mut out)?;
     Ok(out)
 }
 
 /// The same figures as an object of JSON on a line.
-pub fn figures_object(alloc: Global, outcome: &Outcome, millis: u64) -> Result<Vec<u8>, AllocError>
-    ensures { IfOk result (λ object. object.items ≡ figures_object outcome.now millis) }
+pub fn figures_object(
+    alloc: Global,
+    outcome: &Outcome,
+    threads: usize,
+    millis: u64,
+) -> Result<Vec<u8>, AllocError>
+    ensures { IfOk result (λ object. object.items ≡ figures_object outcome.now threads millis) }
 {
     let mut out = b"{\"end\":\"".to_vec(alloc)?;
     out.extend_from_slice(end_word(outcome.end))?;
     put_stuck_fields(outcome, &mut out)?;
-    put_counts(outcome, millis, &mut out)?;
+    put_counts(outcome, threads, millis, &mut out)?;
     out.extend_from_slice(b",\"by_rule\":[")?;
     put_rules_text(alloc, &outcome.rules, &outcome.by_rule, &mut out)?;
     out.extend_from_slice(b"]}\n")?;
     Ok(out)
 }
 
-/// Appends the line of steps, places, equations and pace.
-fn put_figures_line(outcome: &Outcome, millis: u64, out: &mut Vec<u8>) -> Result<(), AllocError>
-    ensures { OnOk result (out.new.items ≡ out.old.items ++ figures_line outcome.now millis) }
+/// Appends the line of steps, places, equations, threads and pace.
+fn put_figures_line(
+    outcome: &Outcome,
+    threads: usize,
+    millis: u64,
+    out: &mut Vec<u8>,
+) -> Result<(), AllocError>
+    ensures { OnOk result
+        (out.new.items ≡ out.old.items ++ figures_line outcome.now threads millis) }
 {
     put_steps(outcome, out)?;
     put_places(outcome, out)?;
+    put_threads(threads, out)?;
     put_seconds_figure(millis, out)?;
     put_pace(outcome.interactions, millis, out)?;
     out.push(b'\n')?;
@@ -68,6 +85,15 @@ fn put_places(outcome: &Outcome, out: &mut Vec<u8>) -> Result<(), AllocError>
     put_decimal(outcome.places, out)?;
     out.extend_from_slice(b", equations ")?;
     put_decimal(outcome.left, out)?;
+    Ok(())
+}
+
+/// Appends how many threads reduced.
+fn put_threads(threads: usize, out: &mut Vec<u8>) -> Result<(), AllocError>
+    ensures { OnOk result (out.new.items ≡ out.old.items ++ threads_figure threads) }
+{
+    out.extend_from_slice(b", threads ")?;
+    put_decimal(threads as u64, out)?;
     Ok(())
 }
 
@@ -279,12 +305,19 @@ fn put_stuck_field(stuck: &Option<Vec<u8>>, out: &mut Vec<u8>) -> Result<(), All
     }
 }
 
-/// Appends the fields of steps, places, equations, time and pace.
-fn put_counts(outcome: &Outcome, millis: u64, out: &mut Vec<u8>) -> Result<(), AllocError>
-    ensures { OnOk result (out.new.items ≡ out.old.items ++ count_fields outcome.now millis) }
+/// Appends the fields of steps, places, equations, threads, time and pace.
+fn put_counts(
+    outcome: &Outcome,
+    threads: usize,
+    millis: u64,
+    out: &mut Vec<u8>,
+) -> Result<(), AllocError>
+    ensures { OnOk result
+        (out.new.items ≡ out.old.items ++ count_fields outcome.now threads millis) }
 {
     put_step_fields(outcome, out)?;
     put_places_field(outcome, out)?;
+    put_threads_field(threads, out)?;
     put_millis_field(millis, out)?;
     put_pace_field(outcome.interactions, millis, out)?;
     Ok(())
@@ -308,6 +341,15 @@ fn put_places_field(outcome: &Outcome, out: &mut Vec<u8>) -> Result<(), AllocErr
     put_decimal(outcome.places, out)?;
     out.extend_from_slice(b",\"equations\":")?;
     put_decimal(outcome.left, out)?;
+    Ok(())
+}
+
+/// Appends the field of how many threads reduced.
+fn put_threads_field(threads: usize, out: &mut Vec<u8>) -> Result<(), AllocError>
+    ensures { OnOk result (out.new.items ≡ out.old.items ++ threads_field threads) }
+{
+    out.extend_from_slice(b",\"threads\":")?;
+    put_decimal(threads as u64, out)?;
     Ok(())
 }
 

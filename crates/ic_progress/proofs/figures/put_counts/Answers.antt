@@ -1,12 +1,17 @@
 use Rattle.std.proofs.Common.{◌++◌, ◌∙◌, [], append-nil, ap, sym}
-use Rattle.ic_progress.specs.Figures.{millis_field, pace_field, places_field, step_fields}
+use Rattle.ic_progress.specs.Figures.{millis_field, pace_field, places_field, step_fields, threads_field}
 use Rattle.ic_progress.proofs.FigureLemmas.{also}
 use Rattle.ic_progress.proofs.figures.put_counts.Goals as goal
 
 pub returns : goal.returns
 returns c =
-    also _ (step_fields c.args.outcome.now) (places_field c.args.outcome.now ++ (millis_field c.args.millis ++ (pace_field c.args.outcome.now.interactions c.args.millis ++ [])))
-    (also _ (places_field c.args.outcome.now) (millis_field c.args.millis ++ (pace_field c.args.outcome.now.interactions c.args.millis ++ []))
-    (also _ (millis_field c.args.millis) (pace_field c.args.outcome.now.interactions c.args.millis ++ [])
-    (c.in_ok-put_pace_field.ensures ∙ ap (λ l. c.put_millis_field.new.out.items ++ l) (sym (append-nil (pace_field c.args.outcome.now.interactions c.args.millis))))
-    c.in_ok-put_millis_field.ensures) c.in_ok-put_places_field.ensures) c.in_ok-put_step_fields.ensures
+    let o = c.args.outcome.now in
+    let pace = pace_field o.interactions c.args.millis in
+    let time = millis_field c.args.millis in
+    let threads = threads_field c.args.threads in
+    also _ (step_fields o) (places_field o ++ (threads ++ (time ++ (pace ++ []))))
+    (also _ (places_field o) (threads ++ (time ++ (pace ++ [])))
+    (also _ threads (time ++ (pace ++ []))
+    (also _ time (pace ++ [])
+    (c.in_ok-put_pace_field.ensures ∙ ap (λ l. c.put_millis_field.new.out.items ++ l) (sym (append-nil pace)))
+    c.in_ok-put_millis_field.ensures) c.in_ok-put_threads_field.ensures) c.in_ok-put_places_field.ensures) c.in_ok-put_step_fields.ensures
