@@ -1,6 +1,7 @@
 -- A name occurs outside of an equation just where the links from one of its containers end elsewhere.
 use Rattle.std.proofs.Common.{◌≡◌, ℕ, ◌+◌, ◌*◌, ◌<◌, ◌≤◌, ◌==◌, List, [], ◌∷◌, ◌++◌, Bool, true, false, cond, Option, None, Some, is_some, option_map, length, map, refl, sym, ap, ◌∙◌, eq-eqb, inl, inr, arith}
 use Rattle.std.proofs.lemmas.Bool.{cases_Bool, eqb-true, ne_eqb, true_from_ne_false}
+use Rattle.std.proofs.lemmas.Option.{same_Some}
 use Rattle.ic_term.specs.Tree.{Tree, name, agent, Pair, pair_names}
 use Rattle.ic_term.specs.Configuration.{names_in, occurrences}
 use Rattle.ic_settle.specs.declared.applicability.Side.{Side}
@@ -13,7 +14,7 @@ use Rattle.ic_settle.specs.lemmas.Containers.{elsewhere, outlet_at, first_outlet
 use Rattle.ic_settle.specs.lemmas.SubstitutionLaws.{occurrences-cons, occurrences_none, occurs_none}
 use Rattle.ic_settle.specs.lemmas.MiddleLaws.{occurrences-middle}
 use Rattle.ic_settle.specs.lemmas.PutEach.{put_each-unbound, put_each-stays_agent}
-use Rattle.ic_settle.specs.lemmas.Spots.{IsPlaced, some_same}
+use Rattle.ic_settle.specs.lemmas.Spots.{IsPlaced}
 
 -- ---- one or two spots
 
@@ -85,11 +86,11 @@ elsewhere_other root e found (a ∷ []) t is few some here k = elim (cases_Bool 
 elsewhere_other root e found (a ∷ b ∷ []) t is few some here k = elim (cases_Bool (root a == e)) [
   | inl h ↦ elim (cases_Bool (root b == e)) [
     | inl m ↦ let bad : None ≡ Some t = sym (elsewhere_pair root e found a b true true is h m) ∙ some in cc
-    | inr m ↦ let target = some_same (root b) t (sym (elsewhere_pair root e found a b true false is h m) ∙ some) in
+    | inr m ↦ let target = same_Some (root b) t (sym (elsewhere_pair root e found a b true false is h m) ∙ some) in
         count_two k (root a) (root b) ∙ ap (λ x. cond (x == k) 1 0 + cond (root b == k) 1 0) (eqb-true (root a) e h) ∙ ap (λ x. cond (e == k) 1 0 + cond (x == k) 1 0) target
   ]
   | inr h ↦ elim (cases_Bool (root b == e)) [
-    | inl m ↦ let target = some_same (root a) t (sym (elsewhere_pair root e found a b false true is h m) ∙ some) in
+    | inl m ↦ let target = same_Some (root a) t (sym (elsewhere_pair root e found a b false true is h m) ∙ some) in
         count_two k (root a) (root b) ∙ turned (cond (root a == k) 1 0) (cond (root b == k) 1 0)
         ∙ ap (λ x. cond (x == k) 1 0 + cond (root a == k) 1 0) (eqb-true (root b) e m) ∙ ap (λ x. cond (e == k) 1 0 + cond (x == k) 1 0) target
     | inr m ↦ absurd (omega (arith, count_two e (root a) (root b), bit (root a) e false h, bit (root b) e false m))
@@ -192,7 +193,7 @@ outlet_at_is f side (name x) o is = by (f x) refl is
     by None here e = (let bad : None ≡ Some o = e in cc)
     by (Some t) here e =
         let made : Outlet = record { name = x; side = side; target = t } in
-        let same = some_same made o e in
+        let same = same_Some made o e in
         (ap (λ w. name w.name) same, (ap (λ w. f w.name) (sym same) ∙ here ∙ ap (λ w. Some w.target) same, ap (λ w. w.side) (sym same)))
 outlet_at_is f side (agent s ts) o is = cc
 

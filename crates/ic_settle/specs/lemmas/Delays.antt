@@ -1,17 +1,13 @@
 -- Bindings that wait: one is taken, none is there, one more is put in.
-use Rattle.std.proofs.Common.{◌≡◌, ℕ, ◌+◌, ◌*◌, ◌≤◌, ◌==◌, List, [], ◌∷◌, ◌++◌, Bool, true, false, cond, Option, None, Some, map, refl, sym, ap, ◌∙◌, append_assoc, append-nil, eq-eqb, inl, inr, arith, subst as transport}
+use Rattle.std.proofs.Common.{◌≡◌, ℕ, ◌+◌, ◌*◌, ◌≤◌, ◌==◌, List, [], ◌∷◌, ◌++◌, cond, Option, None, Some, map, refl, sym, ap, ◌∙◌, append_assoc, append-nil, eq-eqb, inl, inr, arith, subst as transport}
 use Rattle.std.proofs.lemmas.Bool.{eqb-true, cases_Bool}
 use Rattle.std.specs.List.{flat_map}
 use Rattle.ic_term.specs.Tree.{Tree, name, agent, Trees, trees_of, Pair, names, pair_names}
 use Rattle.ic_term.specs.Configuration.{occurrences}
 use Rattle.ic_settle.specs.Settling.{Binding, subst}
-use Rattle.ic_settle.specs.lemmas.Waiting.{look, IsTaken, IsAdded, put_each, put_each_pair, bound, here, IsDelayed, Resolves, Rebuilds, RebuildsTerms, RebuildsPairs}
+use Rattle.ic_settle.specs.lemmas.Waiting.{look, IsTaken, IsAdded, put_each, put_each_pair, bound, here, IsDelayed, Resolves, Rebuilds, RebuildsTerms}
 use Rattle.ic_settle.specs.lemmas.SubstitutionLaws.{occurrences-append, occurrences-cons, subst-absent}
 use Rattle.ic_settle.specs.lemmas.PutEach.{names_of-trees_of, put_each-agent, put_each-unbound, bound-cons}
-
-one_if : (b : Bool) (m : ℕ) → (b ≡ true → m ≡ 1) → (b ≡ false → m ≡ 0) → m ≡ cond b 1 0
-one_if true m f g = f refl
-one_if false m f g = g refl
 
 -- ---- what is pending, told by its counts
 
@@ -161,26 +157,12 @@ abbrev pub RebuildsSoFar : List (ℕ × Tree) → List Tree → List (ℕ × Tre
 RebuildsSoFar es ts es' done left = (bs : List Binding) (rest : List ℕ) → IsDelayed bs es (flat_map names ts ++ rest)
     → (done ++ map (put_each bs) left ≡ map (put_each bs) ts) × IsDelayed bs es' (flat_map names left ++ rest)
 
-pub rebuilds-start : (es : List (ℕ × Tree)) (ts : List Tree) → RebuildsSoFar es ts es [] ts
-rebuilds-start es ts bs rest d = (refl, d)
-
-pub rebuilds-more : (es : List (ℕ × Tree)) (ts : List Tree) (es' es'' : List (ℕ × Tree)) (done : List Tree) (t u : Tree) (left : List Tree)
-    → RebuildsSoFar es ts es' done (t ∷ left) → Rebuilds es' es'' t u → RebuildsSoFar es ts es'' (done ++ u ∷ []) left
-rebuilds-more es ts es' es'' done t u left so_far rebuilds bs rest d =
-    let before = so_far bs rest d in
-    let P : List ℕ → Type 0 = λ ns. IsDelayed bs es' ns in
-    let one = rebuilds bs (flat_map names left ++ rest) (transport P (append_assoc (names t) (flat_map names left) rest) before.1) in
-    (append_assoc done (u ∷ []) (map (put_each bs) left) ∙ ap (λ v. done ++ v ∷ map (put_each bs) left) one.0 ∙ before.0, one.1)
-
 pub rebuilds-end : (es : List (ℕ × Tree)) (ts : List Tree) (es' : List (ℕ × Tree)) (us : List Tree) → RebuildsSoFar es ts es' us [] → RebuildsTerms es es' ts us
 rebuilds-end es ts es' us so_far bs rest d = let all = so_far bs rest d in (sym (append-nil us) ∙ all.0, all.1)
 
 abbrev pub RebuildsPairsSoFar : List (ℕ × Tree) → List Pair → List (ℕ × Tree) → List Pair → List Pair → Type 0
 RebuildsPairsSoFar es ps es' done left = (bs : List Binding) (rest : List ℕ) → IsDelayed bs es (flat_map pair_names ps ++ rest)
     → (done ++ map (put_each_pair bs) left ≡ map (put_each_pair bs) ps) × IsDelayed bs es' (flat_map pair_names left ++ rest)
-
-pub pairs-start : (es : List (ℕ × Tree)) (ps : List Pair) → RebuildsPairsSoFar es ps es [] ps
-pairs-start es ps bs rest d = (refl, d)
 
 pub pairs-more : (es : List (ℕ × Tree)) (ps : List Pair) (es' es'' es''' : List (ℕ × Tree)) (done : List Pair) (p q : Pair) (left : List Pair)
     → RebuildsPairsSoFar es ps es' done (p ∷ left) → Rebuilds es' es'' p.left q.left → Rebuilds es'' es''' p.right q.right
@@ -194,6 +176,3 @@ pairs-more es ps es' es'' es''' done p q left so_far first second bs rest d =
     let two = second bs later one.1 in
     let pair_is : q ≡ put_each_pair bs p = λ i. record { left = one.0 i; right = two.0 i } in
     (append_assoc done (q ∷ []) (map (put_each_pair bs) left) ∙ ap (λ v. done ++ v ∷ map (put_each_pair bs) left) pair_is ∙ before.0, two.1)
-
-pub pairs-end : (es : List (ℕ × Tree)) (ps : List Pair) (es' : List (ℕ × Tree)) (qs : List Pair) → RebuildsPairsSoFar es ps es' qs [] → RebuildsPairs es es' ps qs
-pairs-end es ps es' qs so_far bs rest d = let all = so_far bs rest d in (sym (append-nil qs) ∙ all.0, all.1)

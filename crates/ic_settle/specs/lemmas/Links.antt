@@ -1,7 +1,7 @@
 -- Links between containers: a step along them that halves the way, and a link set.
-use Rattle.std.proofs.Common.{◌≡◌, ℕ, ◌+◌, ◌-◌, ◌<◌, ◌≤◌, ◌==◌, List, length, cond, get_or, sym, ap, ◌∙◌, eq-eqb, inl, inr, ◌⊎◌, arith}
+use Rattle.std.proofs.Common.{◌≡◌, ℕ, ◌+◌, ◌<◌, ◌≤◌, ◌==◌, List, length, cond, get_or, sym, ap, ◌∙◌, eq-eqb, inl, inr, ◌⊎◌, arith}
 use Rattle.std.proofs.Math.ListN.{set}
-use Rattle.std.proofs.lemmas.Bool.{cases_eq, cases_lt, cases_Bool, cond-true, cond-false, ne_eqb}
+use Rattle.std.proofs.lemmas.Bool.{cases_eq, cases_lt, cond-true, cond-false, ne_eqb}
 use Rattle.std.proofs.lemmas.List.{get_or-set_same, get_or-set_other, length-set}
 use Rattle.ic_settle.specs.lemmas.Containers.{IsLinked, IsRoot, AreUnlinkedFrom, redirected}
 
@@ -103,35 +103,6 @@ module _ (links : List ℕ) (linked : IsLinked links) (e : ℕ) (inside : e < le
               | inr h ↦ ap r (at_other j h) ∙ is.along j short
             ];
       }
-
-  -- the way that is left grows shorter
-  pub halved-smaller : cond (get_or (set links e (two_along links e)) (two_along links e) 0 == two_along links e) 0 (length (set links e (two_along links e)) - two_along links e)
-      < cond (get_or links e 0 == e) 0 (length links - e)
-  halved-smaller =
-      let next = two_along links e in
-      let links' = set links e next in
-      let same = length-set links e next in
-      let now : ◌≡◌ {A = ℕ} (cond (get_or links e 0 == e) 0 (length links - e)) (length links - e) = cond-false (get_or links e 0 == e) 0 (length links - e) (ne_eqb (get_or links e 0) e moved) in
-      elim two_ahead [
-        | inl k ↦ let own = at_other next two_apart ∙ k in
-            let then_none : ◌≡◌ {A = ℕ} (cond (get_or links' next 0 == next) 0 (length links' - next)) 0 =
-            cond-true (get_or links' next 0 == next) 0 (length links' - next) (eq-eqb (get_or links' next 0) next own) in
-            below_first _ _ (length links) e then_none now inside
-        | inr k ↦ elim (cases_Bool (get_or links' next 0 == next)) [
-          | inl own ↦ let then_none : ◌≡◌ {A = ℕ} (cond (get_or links' next 0 == next) 0 (length links' - next)) 0 =
-              cond-true (get_or links' next 0 == next) 0 (length links' - next) own in
-              below_first _ _ (length links) e then_none now inside
-          | inr far ↦ let then_less : ◌≡◌ {A = ℕ} (cond (get_or links' next 0 == next) 0 (length links' - next)) (length links' - next) =
-              cond-false (get_or links' next 0 == next) 0 (length links' - next) far in
-              below_next _ _ (length links) (length links') e next then_less now same k inside
-        ]
-      ]
-    where
-      below_first : (a b n e' : ℕ) → a ≡ 0 → b ≡ n - e' → e' < n → a < b
-      below_first a b n e' f g h = omega arith
-
-      below_next : (a b n n' e' k : ℕ) → a ≡ n' - k → b ≡ n - e' → n' ≡ n → e' < k → e' < n → a < b
-      below_next a b n n' e' k f g h i j = omega arith
 
 -- ---- a link set
 

@@ -4,10 +4,11 @@ use Rattle.std.specs.List.{flat_map, list_all, AllByRecursion}
 use Rattle.std.proofs.lemmas.List.Sums.{sum_by-append, sum_by-cons}
 use Rattle.std.proofs.lemmas.List.Folds.{list_all-append}
 use Rattle.std.proofs.lemmas.Grind.{flat_map-append}
+use Rattle.std.proofs.lemmas.Bool.{and_parts}
 use Rattle.ic_term.specs.Tree.{Tree, Pair, names, pair_names, pair_nodes}
 use Rattle.ic_term.specs.Configuration.{names_in, nodes_in, occurrences}
 use Rattle.ic_term.specs.Symbol.{Symbol, is_pair_over}
-use Rattle.ic_settle.specs.lemmas.SubstitutionLaws.{occurrences-append, All-append, All-front, All-back, and_parts, and_both}
+use Rattle.ic_settle.specs.lemmas.SubstitutionLaws.{occurrences-append, All-append, All-front, All-back, and_both}
 
 pub nodes-middle : (ts : List Tree) (before : List Pair) (p : Pair) (after : List Pair)
     → nodes_in ts (before ++ p ∷ after) ≡ nodes_in ts (before ++ after) + pair_nodes p

@@ -1,5 +1,6 @@
 -- One turn of the program's loop over the equations.
 use Rattle.std.proofs.Common.{◌≡◌, ℕ, List, [], ◌∷◌, ◌++◌, Option, None, Some, MatchOption, length, refl, sym, ap, ◌∙◌, subst as transport}
+use Rattle.std.proofs.lemmas.Option.{same_Some}
 use Rattle.ic_term.specs.Tree.{Tree, Pair}
 use Rattle.ic_term.specs.Configuration.{Configuration, names_in}
 use Rattle.ic_settle.specs.declared.applicability.Applicable.{Applicable}
@@ -7,7 +8,6 @@ use Rattle.ic_settle.specs.declared.applicability.Outlet.{Outlet}
 use Rattle.ic_settle.specs.Sides.{other_side}
 use Rattle.ic_settle.specs.lemmas.Waiting.{look, IsAdded, Resolves}
 use Rattle.ic_settle.specs.lemmas.Containers.{IsRoot, IsChosen, elsewhere, outlet, applicable_of, redirected}
-use Rattle.ic_settle.specs.lemmas.Spots.{some_same}
 use Rattle.ic_settle.specs.lemmas.Passing.{IsPassing, IsResolved, resolved-next, passing-skip, passing-bind, bound_new}
 
 module _ (c : Configuration) (kept : List Pair) (es es' es'' : List (ℕ × Tree)) (links links' : List ℕ) (look_up : ℕ → Option (ℕ × ℕ)) (chosen : List (Option Applicable))
@@ -35,7 +35,7 @@ module _ (c : Configuration) (kept : List Pair) (es es' es'' : List (ℕ × Tree
       by : (o : Option Outlet) → found_outlet ≡ o → Says o → look es'' a.name ≡ None
       by None e m = (let bad : Some a ≡ None = sym is ∙ m.0 in cc)
       by (Some w) e m =
-          let same = some_same (applicable_of w) a (sym m.0 ∙ is) in
+          let same = same_Some (applicable_of w) a (sym m.0 ∙ is) in
           ap (λ b. look es'' b.name) (sym same) ∙ bound_new c kept es es'' links links' look_up chosen p rest q s resolved w e
 
   pub turn-some : (a : Applicable) → found ≡ Some a → (after : List (ℕ × Tree)) → IsAdded es'' after a.name (other_side q a.side)
@@ -45,7 +45,7 @@ module _ (c : Configuration) (kept : List Pair) (es es' es'' : List (ℕ × Tree
       by : (o : Option Outlet) → found_outlet ≡ o → Says o → IsPassing c kept after links' look_up (chosen ++ Some a ∷ []) rest
       by None e m = (let bad : Some a ≡ None = sym is ∙ m.0 in cc)
       by (Some w) e m =
-          let same = some_same (applicable_of w) a (sym m.0 ∙ is) in
+          let same = same_Some (applicable_of w) a (sym m.0 ∙ is) in
           let P : Applicable → Type 0 = λ b. IsAdded es'' after b.name (other_side q b.side) in
           let Q : Applicable → Type 0 = λ b. IsPassing c kept after links' look_up (chosen ++ Some b ∷ []) rest in
           transport Q same (passing-bind c kept es es'' links links' look_up chosen p rest q s resolved w e after (transport P (sym same) added) m.1)

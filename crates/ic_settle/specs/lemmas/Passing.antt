@@ -148,11 +148,10 @@ resolved-next c kept es es' es'' links look_up chosen p rest l r s first second 
 bound_sides-push : (ps : List Pair) (cs : List (Option Applicable)) (p : Pair) (a : Option Applicable) → length ps ≡ length cs
     → bound_sides (ps ++ p ∷ []) (cs ++ a ∷ []) ≡ bound_sides ps cs ++ option_to_list (option_map (bound_by p) a)
 bound_sides-push [] [] p a e = append-nil (option_to_list (option_map (bound_by p) a))
-bound_sides-push [] (b ∷ cs) p a e = absurd (omega arith)
-bound_sides-push (q ∷ ps) [] p a e = absurd (omega arith)
 bound_sides-push (q ∷ ps) (b ∷ cs) p a e =
     ap (λ r. option_to_list (option_map (bound_by q) b) ++ r) (bound_sides-push ps cs p a (omega arith))
     ∙ sym (append_assoc (option_to_list (option_map (bound_by q) b)) (bound_sides ps cs) (option_to_list (option_map (bound_by p) a)))
+bound_sides-push _ _ p a e = absurd (omega arith)
 
 absent_name : (x : ℕ) (t : Tree) → occurrences x (names t) ≡ 0 → is_name x t ≡ false
 absent_name x (name y) none = false_from_ne_true (y == x) (λ h. (let one : occurrences x (y ∷ []) ≡ 1 = ap (λ b. 0 + cond b 1 0) h in absurd (omega arith)))

@@ -2,8 +2,6 @@
 use Rattle.std.proofs.Common.{◌≡◌, ℕ, ◌+◌, ◌*◌, ◌==◌, List, [], ◌∷◌, ◌++◌, Bool, true, false, cond, map, refl, sym, ap, ◌∙◌, arith}
 use Rattle.std.proofs.lemmas.Bool.{eqb-true, eqb-false, ne_eqb}
 use Rattle.std.specs.List.{flat_map}
-use Rattle.std.specs.Prelude.{sum_by}
-use Rattle.std.proofs.lemmas.List.Sums.{sum_by-cons}
 use Rattle.ic_term.specs.Tree.{Tree, name, agent, Trees, no_trees, more_trees, trees_of, Pair, names, names_of, nodes, nodes_of, pair_names}
 use Rattle.ic_term.specs.Configuration.{names_in, occurrences}
 use Rattle.ic_settle.specs.Settling.{Binding, subst, subst_all, subst_pair}
@@ -16,10 +14,6 @@ use Rattle.ic_settle.specs.lemmas.WholeLaws.{whole, names_of-whole, subst_all-wh
 pub names_of-trees_of : (ts : List Tree) → names_of (trees_of ts) ≡ flat_map names ts
 names_of-trees_of [] = refl
 names_of-trees_of (t ∷ ts) = ap (λ ns. names t ++ ns) (names_of-trees_of ts)
-
-pub nodes_of-trees_of : (ts : List Tree) → nodes_of (trees_of ts) ≡ sum_by nodes ts
-nodes_of-trees_of [] = refl
-nodes_of-trees_of (t ∷ ts) = ap (λ n. nodes t + n) (nodes_of-trees_of ts) ∙ sym (sum_by-cons nodes t ts)
 
 subst_all-trees_of : (x : ℕ) (u : Tree) (ts : List Tree) → subst_all x u (trees_of ts) ≡ trees_of (map (subst x u) ts)
 subst_all-trees_of x u [] = refl

@@ -15,9 +15,8 @@ use Rattle.ic_settle.specs.lemmas.ChoiceLaws.{is_choice, binding_binds, settled-
 
 pub zip_middle : (us vs us' vs' : List Pair) (p q : Pair) → length us ≡ length vs → slice_get (zip (us ++ p ∷ us') (vs ++ q ∷ vs')) (length us) ≡ Some (p, q)
 zip_middle [] [] us' vs' p q e = refl
-zip_middle [] (b ∷ vs) us' vs' p q e = absurd (omega arith)
-zip_middle (a ∷ us) [] us' vs' p q e = absurd (omega arith)
 zip_middle (a ∷ us) (b ∷ vs) us' vs' p q e = zip_middle us vs us' vs' p q (omega arith)
+zip_middle _ _ us' vs' p q e = absurd (omega arith)
 
 pub remove_middle : (us us' : List Pair) (p : Pair) → remove (us ++ p ∷ us') (length us) ≡ us ++ us'
 remove_middle [] us' p = refl
@@ -25,9 +24,8 @@ remove_middle (a ∷ us) us' p = ap (λ r. a ∷ r) (remove_middle us us' p)
 
 remove_put : (put : Pair → Pair) (ps : List Pair) (i : ℕ) → remove (map put ps) i ≡ map put (remove ps i)
 remove_put put [] zero = refl
-remove_put put [] (suc i) = refl
-remove_put put (p ∷ ps) zero = refl
 remove_put put (p ∷ ps) (suc i) = ap (λ r. put p ∷ r) (remove_put put ps i)
+remove_put put _ _ = refl
 
 -- ---- no step
 

@@ -2,13 +2,11 @@
 use Rattle.std.proofs.Common.{◌≡◌, ℕ, suc, ◌+◌, ◌<◌, ◌≤◌, ◌==◌, List, [], ◌∷◌, ◌++◌, Bool, cond, Option, None, Some, length, refl, sym, ap, ◌∙◌, append_assoc, append-nil, length-append, eq-eqb, inl, inr, arith, subst as transport}
 use Rattle.std.proofs.lemmas.Bool.{cases_Bool, cases_lt, ne_eqb}
 use Rattle.std.specs.List.{flat_map}
+use Rattle.std.proofs.lemmas.Option.{same_Some}
 use Rattle.ic_term.specs.Tree.{Tree, Pair, names, pair_names}
 use Rattle.ic_term.specs.Configuration.{names_in, occurrences}
 use Rattle.ic_settle.specs.lemmas.Containers.{noted, noted_in, noted_equations, noted_from}
 use Rattle.ic_settle.specs.lemmas.SubstitutionLaws.{occurrences-append, occurrences-cons}
-
-pub some_same : {X : Type 0} (x y : X) → Some x ≡ Some y → x ≡ y
-some_same x y e = cc
 
 -- one entry for each occurrence of a name among the names of a container
 abbrev pub spots_in : ℕ → ℕ → List ℕ → List ℕ
@@ -34,10 +32,9 @@ noted_in_append y place (n ∷ ns) ms found = noted_in_append y place ns ms (con
 -- ---- the program's notes say where the spots are
 
 placed_push : (found : Option (ℕ × ℕ)) (ps : List ℕ) (place : ℕ) → IsPlaced found ps → IsPlaced (noted place found) (ps ++ place ∷ [])
-placed_push found [] place is = ap (noted place) is
-placed_push found (a ∷ []) place is = ap (noted place) is
 placed_push found (a ∷ b ∷ []) place is = tt
 placed_push found (a ∷ b ∷ c ∷ ds) place is = tt
+placed_push found _ place is = ap (noted place) is
 
 placed_in : (y place : ℕ) (ns : List ℕ) (found : Option (ℕ × ℕ)) (ps : List ℕ) → IsPlaced found ps → IsPlaced (noted_in y place ns found) (ps ++ spots_in y place ns)
 placed_in y place [] found ps is = let P : List ℕ → Type 0 = IsPlaced found in transport P (sym (append-nil ps)) is
@@ -196,12 +193,12 @@ placed-within y es ts found few noted_is =
     by [] short o is here none = (let bad = sym is ∙ here in cc)
     by (a ∷ []) short o is here none =
         let same : Some (a, a) ≡ Some found = sym is ∙ here in
-        let pair_is = some_same (a, a) found same in
+        let pair_is = same_Some (a, a) found same in
         let in_range = not_above (length es) a (occurrences a (a ∷ [])) (occurrences a []) (first_counted a []) (λ h. none a (omega arith)) in
         (omega (arith, ap (λ q. q.0) pair_is, in_range), omega (arith, ap (λ q. q.1) pair_is, in_range))
     by (a ∷ b ∷ []) short o is here none =
         let same : Some (a, b) ≡ Some found = sym is ∙ here in
-        let pair_is = some_same (a, b) found same in
+        let pair_is = same_Some (a, b) found same in
         let counted = last_counted a b in
         let first = not_above (length es) a (occurrences a (a ∷ b ∷ [])) (occurrences a (b ∷ [])) (first_counted a (b ∷ [])) (λ h. none a (omega arith)) in
         let second = not_above (length es) b (occurrences b (a ∷ b ∷ [])) counted.0 counted.1 (λ h. none b (omega arith)) in

@@ -2,6 +2,7 @@
 use Rattle.std.proofs.Common.{◌≡◌, ℕ, suc, ◌+◌, ◌*◌, ◌≤◌, ◌==◌, List, [], ◌∷◌, ◌++◌, Bool, true, false, ◌&&◌, ◌||◌, cond, length, refl, sym, ap, ◌∙◌, arith}
 use Rattle.std.specs.List.{AllByRecursion, slice_get}
 use Rattle.std.proofs.lemmas.List.Sums.{sum_by-append, sum_by-cons}
+use Rattle.std.proofs.lemmas.Bool.{and_parts}
 use Rattle.ic_term.specs.Tree.{Tree, name, agent, Trees, no_trees, more_trees, list_of, nodes, nodes_of, names, names_of}
 use Rattle.ic_term.specs.Configuration.{occurrences}
 use Rattle.ic_term.specs.Symbol.{Symbol, is_tree_over, are_trees_over, has_arity}
@@ -110,10 +111,6 @@ mutual
       let first : occurrences x (names t) ≡ 0 = omega (arith, occurrences-append x (names t) (names_of ts)) in
       let rest : occurrences x (names_of ts) ≡ 0 = omega (arith, occurrences-append x (names t) (names_of ts)) in
       let e = subst-absent x u t first in let f = subst_all-absent x u ts rest in cc
-
-pub and_parts : (a b : Bool) → (a && b) ≡ true → (a ≡ true) × (b ≡ true)
-and_parts true b e = (refl, e)
-and_parts false b e = cc
 
 pub and_both : {a b : Bool} → a ≡ true → b ≡ true → (a && b) ≡ true
 and_both p q = rw (p, q) refl
