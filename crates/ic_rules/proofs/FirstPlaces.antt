@@ -3,6 +3,7 @@ use Rattle.std.proofs.Common.{◌≡◌, ℕ, ◌==◌, Bool, true, false, ◌||
 use Rattle.std.proofs.lemmas.List.Folds.{list_any-append}
 use Rattle.std.specs.Cmp.{unsigned_Decides}
 use Rattle.std.specs.List.{list_any}
+use Rattle.std.proofs.lemmas.Bool.{or_parts}
 use Rattle.ic_rules.specs.Renaming.{first_after, first_occurrences, number_among}
 use Rattle.ic_rules.specs.Rule.{Rule, same_pair}
 use Rattle.ic_rules.specs.RuleSet.{repeated_after, first_repeated}
@@ -60,10 +61,6 @@ in_first n (m ∷ ns) seen = by_test (is_in m seen) refl (in_first n ns seen) (i
         new
         ∙ ap (λ b. b || is_in n ns) (list_any-append (λ k. n == k) seen (m ∷ []) ∙ ap (λ b. is_in n seen || b) (sym (or_false (n == m))))
         ∙ or_assoc (is_in n seen) (n == m) (is_in n ns)
-
-or_parts : (a b : Bool) → (a || b) ≡ false → (a ≡ false) × (b ≡ false)
-or_parts true b e = cc
-or_parts false b e = (refl, e)
 
 -- a name after others has their number as its own
 number_after : (firsts more : List ℕ) (n : ℕ) → is_in n firsts ≡ false → number_among (firsts ++ n ∷ more) n ≡ length firsts

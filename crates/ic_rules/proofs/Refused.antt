@@ -1,6 +1,7 @@
 -- What is refused has its fault, and none that is tried before it; what is taken has none.
 use Rattle.std.proofs.Common.{◌≡◌, ℕ, suc, ◌+◌, Bool, true, false, not, cond, List, [], ◌∷◌, Option, None, Some, Result, Ok, Err, map, slice_get, refl, sym, ap, ◌∙◌, arith, subst, unwrap_or}
 use Rattle.std.specs.List.{flat_map, position_from, AllByRecursion}
+use Rattle.std.proofs.lemmas.Bool.{not-false}
 use Rattle.ic_term.specs.Symbol.{Symbol, has_arity}
 use Rattle.ic_rules.specs.Renaming.{are_paired}
 use Rattle.ic_rules.specs.Rule.{Rule, rule_names, rule_agents, numbered, is_lopsided}
@@ -10,7 +11,7 @@ use Rattle.ic_rules.specs.Refusals.{IsFirst, IsFirstUnfit, AreCounted, IsRefusal
 use Rattle.ic_rules.specs.declared.rule_set.RuleFault.{RuleFault}
 use Rattle.ic_rules.specs.declared.rule_set.RuleFault.TheVariants.{Limit, Arity, NameCount, Twice, Lopsided}
 use Rattle.ic_rules.proofs.FirstPlaces.{first_repeated-Some}
-use Rattle.ic_rules.proofs.TakenRules.{none-cons, not_false, tests_of}
+use Rattle.ic_rules.proofs.TakenRules.{none-cons, tests_of}
 
 -- the rule that is found is the first
 first_at : (p : Rule → Bool) (j k : ℕ) (rs : List Rule) → position_from p j rs ≡ Some k → (i : ℕ) × ((k ≡ j + i) × IsFirst p rs i)
@@ -80,7 +81,7 @@ each_counted : (rs : List Rule) (j : ℕ) → position_from (λ r. not (are_pair
 each_counted [] j none = tt
 each_counted (r ∷ rs) j none =
     let parts = none-cons (λ r. not (are_paired (rule_names r))) j r rs none in
-    (not_false (are_paired (rule_names r)) parts.0, each_counted rs (j + 1) parts.1)
+    (not-false (are_paired (rule_names r)) parts.0, each_counted rs (j + 1) parts.1)
 
 abbrev fault_or : {T : Type 0} → RuleFault → Result T RuleFault → RuleFault
 fault_or d (Ok v) = d

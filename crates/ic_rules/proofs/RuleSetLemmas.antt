@@ -14,7 +14,7 @@ use Rattle.ic_rules.specs.declared.limits.TheConstants.{MAX_WIDE_RULES, MAX_RULE
 use Rattle.ic_rules.specs.Renaming.{renamed, renamed_trees, number_among, first_occurrences}
 use Rattle.ic_rules.specs.Rule.{Rule, stands_for, same_pair, agents, agents_of, rule_agents, rule_names, rule_nodes, numbered, IsRule}
 use Rattle.ic_rules.specs.RuleSet.{repeated_after, first_repeated, first_unfit, unfit_among, are_few, IsRuleSet}
-use Rattle.std.proofs.lemmas.List.Sums.{sum_by-append}
+use Rattle.std.proofs.lemmas.List.Sums.{sum_by-cons}
 use Rattle.ic_rules.specs.Written.{written}
 use Rattle.ic_rules.specs.inner.Places.{ArePlaces, pair_eq}
 use Rattle.ic_rules.specs.lemmas.FindLaws.{any_of_two}
@@ -141,9 +141,6 @@ mutual
   length-renamed : (f : ℕ → ℕ) (ts : Trees) → length (list_of (renamed_trees f ts)) ≡ length (list_of ts)
   length-renamed f no_trees = refl
   length-renamed f (more_trees t ts) = ap suc (length-renamed f ts)
-
-sum_by-cons : {X : Type 0} (f : X → ℕ) (x : X) (xs : List X) → sum_by f (x ∷ xs) ≡ f x + sum_by f xs
-sum_by-cons f x xs = sum_by-append f (x ∷ []) xs ∙ ap (λ n. n + sum_by f xs) (omega arith)
 
 sum_nodes-renamed : (f : ℕ → ℕ) (ts : List Tree) → sum_by nodes (map (renamed f) ts) ≡ sum_by nodes ts
 sum_nodes-renamed f [] = refl

@@ -1,6 +1,7 @@
 -- `built` takes exactly the rule sets.
 use Rattle.std.proofs.Common.{◌≡◌, ◌↔◌, ℕ, ◌+◌, Bool, true, false, not, cond, List, [], ◌∷◌, Option, None, Some, Result, Ok, Err, map, refl, sym, ap, ◌∙◌, subst}
 use Rattle.std.specs.List.{position_from, AllByRecursion}
+use Rattle.std.proofs.lemmas.Bool.{not-false}
 use Rattle.ic_term.specs.Symbol.{Symbol}
 use Rattle.ic_rules.specs.Renaming.{are_paired}
 use Rattle.ic_rules.specs.Rule.{Rule, IsRule, IsNumbered, rule_names, numbered, is_lopsided}
@@ -42,16 +43,12 @@ none-cons p j r rs none = by_test (p r) refl none
     by_test true e n = cc
     by_test false e n = (e, n)
 
-pub not_false : (b : Bool) → not b ≡ false → b ≡ true
-not_false true e = refl
-not_false false e = cc
-
 each_rule : (rs : List Rule) (j : ℕ) → position_from (λ r. not (are_paired (rule_names r))) j rs ≡ None → position_from is_lopsided j (map numbered rs) ≡ None → AllByRecursion IsRule (map numbered rs)
 each_rule [] j uncounted lopsided = tt
 each_rule (r ∷ rs) j uncounted lopsided =
     let paired = none-cons (λ r. not (are_paired (rule_names r))) j r rs uncounted in
     let level = none-cons is_lopsided j (numbered r) (map numbered rs) lopsided in
-    (numbered_is_rule r.left r.right r.left_args r.right_args (not_false _ paired.0) (numbered r) refl refl refl level.0, each_rule rs (j + 1) paired.1 level.1)
+    (numbered_is_rule r.left r.right r.left_args r.right_args (not-false _ paired.0) (numbered r) refl refl refl level.0, each_rule rs (j + 1) paired.1 level.1)
 
 abbrev rules_or : Rules → Result Rules RuleFault → Rules
 rules_or d (Ok rs) = rs

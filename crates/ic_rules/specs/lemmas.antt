@@ -4,3 +4,4 @@ pub mod RenamingLaws
 pub mod NumberingLaws
 pub mod FitLaws
 pub mod FindLaws
+pub mod Spared

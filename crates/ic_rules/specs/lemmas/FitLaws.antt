@@ -1,7 +1,7 @@
 -- Lemmas, which a reader of the contracts doesn't need: where no agent of rules is unfit, each rule is over the
 -- symbols.
 use Rattle.std.proofs.Common.{◌≡◌, ◌↔◌, ℕ, zero, suc, Bool, true, false, ◌&&◌, List, [], ◌∷◌, ◌++◌, Option, None, Some, cond, slice_get, length, unwrap_or, refl, sym, ap, ◌∙◌, subst}
-use Rattle.std.proofs.lemmas.Bool.{and_parts}
+use Rattle.std.proofs.lemmas.Bool.{and_parts, and_from}
 use Rattle.std.specs.List.{flat_map, list_all, AllByRecursion}
 use Rattle.ic_term.specs.Symbol.{Symbol, has_arity, is_tree_over, are_trees_over}
 use Rattle.ic_term.specs.Tree.{Tree, name, agent, Trees, no_trees, more_trees, trees_of, list_of}
@@ -49,22 +49,19 @@ none_of_first ss s n xs none = by (has_arity n (slice_get ss s)) (unfit_among ss
 first_none : (ss : List Symbol) (s n : ℕ) (xs : List (ℕ × ℕ)) → has_arity n (slice_get ss s) ≡ true → unfit_among ss xs ≡ None → unfit_among ss ((s, n) ∷ xs) ≡ None
 first_none ss s n xs fits none = unless_true (has_arity n (slice_get ss s)) s (unfit_among ss xs) fits ∙ none
 
-both_true : (a b : Bool) → a ≡ true → b ≡ true → (a && b) ≡ true
-both_true a b ea eb = rw (ea, eb) refl
-
 -- where no agent of a term is unfit, it is over the symbols
 mutual
   tree_over : (ss : List Symbol) (t : Tree) → unfit_among ss (agents t) ≡ None → is_tree_over ss t ≡ true
   tree_over ss (name n) none = refl
   tree_over ss (agent s ts) none =
       let parts = none_of_first ss s (length (list_of ts)) (agents_of ts) none in
-      both_true (has_arity (length (list_of ts)) (slice_get ss s)) (are_trees_over ss ts) parts.0 (trees_over ss ts parts.1)
+      and_from (has_arity (length (list_of ts)) (slice_get ss s)) (are_trees_over ss ts) parts.0 (trees_over ss ts parts.1)
 
   trees_over : (ss : List Symbol) (ts : Trees) → unfit_among ss (agents_of ts) ≡ None → are_trees_over ss ts ≡ true
   trees_over ss no_trees none = refl
   trees_over ss (more_trees t ts) none =
       let parts = none_of_two ss (agents t) (agents_of ts) none in
-      both_true (is_tree_over ss t) (are_trees_over ss ts) (tree_over ss t parts.0) (trees_over ss ts parts.1)
+      and_from (is_tree_over ss t) (are_trees_over ss ts) (tree_over ss t parts.0) (trees_over ss ts parts.1)
 
 -- where a term is over the symbols, no agent of it is unfit
 mutual
@@ -100,8 +97,8 @@ is_rule_over ss r none =
 
 none_in_rule : (ss : List Symbol) (r : Rule) → IsRuleOver ss r → unfit_among ss (rule_agents r) ≡ None
 none_in_rule ss r over =
-    let left = is_agent_over ss r.left r.left_args ∙ both_true (has_arity (length r.left_args) (slice_get ss r.left)) (list_all (is_tree_over ss) r.left_args) over.left over.left_args in
-    let right = is_agent_over ss r.right r.right_args ∙ both_true (has_arity (length r.right_args) (slice_get ss r.right)) (list_all (is_tree_over ss) r.right_args) over.right over.right_args in
+    let left = is_agent_over ss r.left r.left_args ∙ and_from (has_arity (length r.left_args) (slice_get ss r.left)) (list_all (is_tree_over ss) r.left_args) over.left over.left_args in
+    let right = is_agent_over ss r.right r.right_args ∙ and_from (has_arity (length r.right_args) (slice_get ss r.right)) (list_all (is_tree_over ss) r.right_args) over.right over.right_args in
     both_none ss (agents (agent r.left (trees_of r.left_args))) (agents (agent r.right (trees_of r.right_args)))
     (none_in_tree ss (agent r.left (trees_of r.left_args)) left) (none_in_tree ss (agent r.right (trees_of r.right_args)) right)
 

@@ -8,6 +8,7 @@ use Rattle.std.proofs.lemmas.List.Sums.{sum_by-append}
 use Rattle.std.proofs.lemmas.Map.Keys.{IsDistinct-push}
 use Rattle.std.specs.Cmp.{unsigned_Decides, nat_eq_equiv}
 use Rattle.std.specs.List.{list_any, list_all, AllByRecursion, IsDistinct, range_with_len, flat_map}
+use Rattle.std.proofs.lemmas.List.FromFn.{length-range_with_len}
 use Rattle.ic_term.specs.Configuration.{occurrences}
 use Rattle.ic_term.specs.Tree.{Tree, name, agent, Trees, no_trees, more_trees, names, names_of}
 use Rattle.ic_rules.specs.Renaming.{renamed, renamed_trees, first_after, first_occurrences, number_among, are_paired}
@@ -214,15 +215,11 @@ terms-fixed f (t ∷ ts) all =
     let parts = fixes-append f (names t) (flat_map names ts) all in
     λ i. renamed-fixed f t parts.0 i ∷ terms-fixed f ts parts.1 i
 
-pub length-range : (a n : ℕ) → length (range_with_len a n) ≡ n
-length-range a zero = refl
-length-range a (suc n) = omega (arith, length-range (a + 1) n)
-
 -- a rule that is numbered already stays as it is
 pub numbered-same : (r : Rule) → IsNumbered r → numbered r ≡ r
 numbered-same r in_order =
     let firsts = first_occurrences (rule_names r) in
-    let count : length firsts ≡ r.names = ap length in_order ∙ length-range 0 r.names in
+    let count : length firsts ≡ r.names = ap length in_order ∙ length-range_with_len 0 r.names in
     let numbers = numbers-distinct firsts (first_after-distinct [] (rule_names r) none_distinct) in
     let same : map (number_among firsts) firsts ≡ firsts = numbers ∙ ap (range_with_len 0) count ∙ sym in_order in
     let all = fixed_members (number_among firsts) firsts (rule_names r) same (each_among [] (rule_names r)) in

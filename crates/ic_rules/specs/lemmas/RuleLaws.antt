@@ -1,9 +1,9 @@
 -- Lemmas, which a reader of the contracts doesn't need: the tests of equality of rules and rule sets are
 -- equality.
-use Rattle.std.specs.Prelude.{◌≡◌, ◌==◌, Bool, true, ◌&&◌, refl}
+use Rattle.std.specs.Prelude.{◌≡◌, ◌==◌, true, refl}
 use Rattle.std.specs.Bool.{Decides}
 use Rattle.std.specs.Cmp.{IsEquivalence, decided, unsigned_Decides}
-use Rattle.std.proofs.lemmas.Bool.{and_parts}
+use Rattle.std.proofs.lemmas.Bool.{and_parts, and_from}
 use Rattle.std.proofs.Common.{sym, ◌∙◌, ap}
 use Rattle.std.specs.Cmp.Lexicographic.{pointwise, pointwise_decides}
 use Rattle.ic_term.specs.Tree.{tree_eq}
@@ -12,9 +12,6 @@ use Rattle.ic_term.specs.Symbol.{symbols_eq}
 use Rattle.ic_term.specs.lemmas.SymbolLaws.{symbols_eq-Decides}
 use Rattle.ic_rules.specs.Rule.{Rule, rule_eq}
 use Rattle.ic_rules.specs.RuleSet.{Rules, rules_eq}
-
-both : (a b : Bool) → a ≡ true → b ≡ true → (a && b) ≡ true
-both a b ea eb = rw (ea, eb) refl
 
 rule_eq-true : (r s : Rule) → rule_eq r s ≡ true → r ≡ s
 rule_eq-true r s e =
@@ -31,7 +28,7 @@ rule_eq-true r s e =
 
 rule_eq-refl : (r : Rule) → rule_eq r r ≡ true
 rule_eq-refl r =
-    both _ _ (both _ _ (both _ _ (both _ _ ((unsigned_Decides r.left r.left).1 refl) ((unsigned_Decides r.right r.right).1 refl))
+    and_from _ _ (and_from _ _ (and_from _ _ (and_from _ _ ((unsigned_Decides r.left r.left).1 refl) ((unsigned_Decides r.right r.right).1 refl))
     ((pointwise_decides tree_eq-Decides r.left_args r.left_args).1 refl))
     ((pointwise_decides tree_eq-Decides r.right_args r.right_args).1 refl))
     ((unsigned_Decides r.names r.names).1 refl)
@@ -45,7 +42,7 @@ rules_eq-Decides r s = (
       let symbols = (symbols_eq-Decides r.symbols s.symbols).0 parts.0 in
       let rules = (pointwise_decides rule_eq-Decides r.rules s.rules).0 parts.1 in
       λ i. record { symbols = symbols i; rules = rules i }),
-  (λ e. ap (rules_eq r) (sym e) ∙ both _ _ ((symbols_eq-Decides r.symbols r.symbols).1 refl) ((pointwise_decides rule_eq-Decides r.rules r.rules).1 refl)),
+  (λ e. ap (rules_eq r) (sym e) ∙ and_from _ _ ((symbols_eq-Decides r.symbols r.symbols).1 refl) ((pointwise_decides rule_eq-Decides r.rules r.rules).1 refl)),
 )
 
 pub rule_eq-equivalence : IsEquivalence rule_eq

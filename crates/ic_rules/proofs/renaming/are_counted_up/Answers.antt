@@ -1,8 +1,8 @@
 use Rattle.std.proofs.Common.{◌≡◌, ◌<◌, length, take, get_or, refl, sym, ap, ◌∙◌, arith}
 use Rattle.std.proofs.Math.Seq.{take-length}
 use Rattle.std.specs.List.{range_with_len}
+use Rattle.std.proofs.lemmas.List.FromFn.{length-range_with_len}
 use Rattle.ic_rules.specs.Renaming.{first_occurrences}
-use Rattle.ic_rules.specs.lemmas.NumberingLaws.{length-range}
 use Rattle.ic_rules.proofs.CountedUp.{counted_again, counted_next, passed_over}
 use Rattle.ic_rules.proofs.renaming.are_counted_up.Goals as goal
 use Rattle.ic_rules.proofs.renaming.are_counted_up.Goals.{then-name-next-2, else-name-next-2}
@@ -37,5 +37,5 @@ returns c =
     let all : c.loop-name.name-index ≡ length names = omega arith in
     let whole : first_occurrences names ≡ range_with_len 0 c.loop-name.next =
     ap first_occurrences (sym (take-length names)) ∙ ap (λ n. first_occurrences (take n names)) (sym all) ∙ c.loop-name.invariant.0 in
-    let count : length (first_occurrences names) ≡ c.loop-name.next = ap length whole ∙ length-range 0 c.loop-name.next in
+    let count : length (first_occurrences names) ≡ c.loop-name.next = ap length whole ∙ length-range_with_len 0 c.loop-name.next in
     ((λ _. whole ∙ ap (range_with_len 0) (sym count)), (λ _. refl))
