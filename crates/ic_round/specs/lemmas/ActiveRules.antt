@@ -108,14 +108,13 @@ nodes-arguments (more_trees t ts) = sum_by-cons nodes t (list_of ts) ∙ ap (λ 
 
 nodes-against : (ts us : List Tree) → length ts ≡ length us → sum_by pair_nodes (against ts us) ≡ sum_by nodes ts + sum_by nodes us
 nodes-against [] [] e = refl
-nodes-against [] (u ∷ us) e = absurd (omega arith)
-nodes-against (t ∷ ts) [] e = absurd (omega arith)
 nodes-against (t ∷ ts) (u ∷ us) e =
     let rest = nodes-against ts us (omega arith) in
     let here = sum_by-cons pair_nodes (record { left = t; right = u }) (against ts us) in
     let left = sum_by-cons nodes t ts in
     let right = sum_by-cons nodes u us in
     omega arith
+nodes-against _ _ e = absurd (omega arith)
 
 -- the numbers of the names don't matter
 nodes-against_renamed : (f g : ℕ → ℕ) (ts us : List Tree) → sum_by pair_nodes (against ts (map (renamed f) us)) ≡ sum_by pair_nodes (against ts (map (renamed g) us))

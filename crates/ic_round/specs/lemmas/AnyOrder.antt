@@ -1,9 +1,9 @@
 -- Results in any order fill the same gaps.
-use Rattle.std.proofs.Common.{◌≡◌, ℕ, ◌+◌, ◌≤◌, ◌<◌, ◌==◌, ◌||◌, List, [], ◌∷◌, ◌++◌, Bool, true, false, not, Option, None, Some, Result, Ok, Err, map, cond, nat_lt, refl, sym, ap, ◌∙◌, subst, arith}
+use Rattle.std.proofs.Common.{◌≡◌, ℕ, ◌+◌, ◌≤◌, ◌<◌, ◌==◌, ◌||◌, List, [], ◌∷◌, ◌++◌, Bool, true, false, not, Option, None, Some, Result, Ok, Err, map, cond, nat_lt, refl, sym, ap, ◌∙◌, arith}
 use Rattle.std.proofs.lemmas.Bool.{or_parts}
 use Rattle.std.proofs.lemmas.List.Sums.{sum_by-cons}
 use Rattle.std.proofs.lemmas.List.Sorted.{sum_by-IsPermutation, All-permutation}
-use Rattle.std.proofs.lemmas.List.Elements.{All-from_recursion, recursion_from_All}
+use Rattle.std.proofs.lemmas.List.Elements.{All-from_recursion, recursion_from_All, All-contains}
 use Rattle.std.specs.List.Sorted.{IsPermutation}
 use Rattle.std.specs.Cmp.{unsigned_Decides}
 use Rattle.std.specs.List.{All, AllByRecursion, Contains, list_any}
@@ -189,11 +189,8 @@ any_order rs c fs same =
 
 -- ---- any results of the works
 
-contained : {X : Type 0} (P : X → Type 0) (xs : List X) (x : X) → All P xs → Contains xs x → P x
-contained P xs x all there = subst P there.2 (all there.0 x there.1)
-
 each_contained : {X : Type 0} (P : X → Type 0) (xs ys : List X) → AllByRecursion P xs → All (Contains xs) ys → AllByRecursion P ys
-each_contained P xs ys all known = recursion_from_All P ys (λ k d within. contained P xs _ (All-from_recursion P xs all) (known k d within))
+each_contained P xs ys all known = recursion_from_All P ys (λ k d within. All-contains P xs _ (All-from_recursion P xs all) (known k d within))
 
 -- the products for a place that has a result
 products_some : (n : ℕ) (ps : List Pair) (fs : List PlainFired) → (results_for n fs == 0) ≡ false → AllByRecursion (λ f. f.place ≡ n → f.products ≡ ps) fs → products_for n fs ≡ ps

@@ -38,8 +38,6 @@ absent_above n top (m ∷ ms) all high =
     rw (occurrences-cons n m ms, other) (omega (arith, absent_above n top ms all.1 high))
 
 same_shift : (base m n : ℕ) (b c : Bool) → (base + m == base + n) ≡ b → (m == n) ≡ c → b ≡ c
-same_shift base m n true true e f = refl
-same_shift base m n false false e f = refl
 same_shift base m n true false e f =
     let equal = (unsigned_Decides (base + m) (base + n)).0 e in
     let same : m ≡ n = omega arith in
@@ -47,6 +45,7 @@ same_shift base m n true false e f =
 same_shift base m n false true e f =
     let same = (unsigned_Decides m n).0 f in
     let yes = (unsigned_Decides (base + m) (base + n)).1 (ap (λ k. base + k) same) in cc
+same_shift base m n _ _ e f = refl
 
 -- a shifted name occurs in the shifted list as often as before
 pub occurrences-shift : (base n : ℕ) (ms : List ℕ) → occurrences (base + n) (map (λ k. base + k) ms) ≡ occurrences n ms
