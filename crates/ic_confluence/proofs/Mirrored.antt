@@ -118,8 +118,6 @@ turn_agents : (rs : List Rule) (s z : ℕ) (ts us : Trees) (a : Active) → firs
     → (oriented (agent z us) (agent s ts) (found_or false n (found_or true m None)) ≡ Some a)
     ⊎ ((oriented (agent z us) (agent s ts) (found_or false n (found_or true m None)) ≡ Some (turned_active a)) × ((r : Rule) → slice_get rs a.rule ≡ Some r → r.left ≡ r.right))
 turn_agents rs s z ts us a single None None e f g = cc
-turn_agents rs s z ts us a single (Some i) None e f g = inl g
-turn_agents rs s z ts us a single None (Some j) e f g = inl g
 turn_agents rs s z ts us a single (Some i) (Some j) e f g =
     let one = there_at rs s z i (ap (λ o. found_or false o (found_or true (position_from (stands_for z s) 0 rs) None)) e) in
     let other = there_at rs z s j (ap (λ o. found_or false o (found_or true (position_from (stands_for s z) 0 rs) None)) f) in
@@ -135,6 +133,7 @@ turn_agents rs s z ts us a single (Some i) (Some j) e f g =
           let right = and_parts (other.0.left == z) (other.0.right == s) other.1.1 in
           ap (λ (x : Rule). x.left) (sym second) ∙ ((unsigned_Decides other.0.left z).0 right.0 ∙ (sym ((unsigned_Decides one.0.right z).0 left.1) ∙ ap (λ (x : Rule). x.right) first))),
     ))
+turn_agents rs s z ts us a single _ _ e f g = inl g
 
 turn_sides : (rs : List Rule) (t u : Tree) (a : Active) → first_repeated rs ≡ None → active_pair rs (record { left = t; right = u }) ≡ Some a → TurnedActive rs (record { left = t; right = u }) a
 turn_sides rs (name n) u a single e = cc

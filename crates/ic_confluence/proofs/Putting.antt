@@ -13,6 +13,7 @@ use Rattle.ic_round.specs.Naming.{HasNames}
 use Rattle.ic_round.specs.lemmas.NamesLemmas.{name_step-names}
 use Rattle.ic_confluence.specs.lemmas.Counts.{occurrences-gone_in}
 use Rattle.ic_confluence.specs.lemmas.Replacing.{Replaced, replaced_at, place_of, removed_counts}
+use Rattle.ic_confluence.proofs.Arranged.{one_put}
 
 pub occurs_some : (n : ℕ) (ns : List ℕ) → 1 ≤ occurrences n ns → occurs n ns ≡ true
 occurs_some n ns some = true_from_ne_false (occurs n ns) (λ e. let none = occurrences_none n ns e in absurd (omega (arith, none, some)))
@@ -91,9 +92,6 @@ counted c d named s =
         let nothing : occurrences n [] ≡ 0 = refl in
         omega (arith, removed, own, alone, more, nothing)
 
-one_time : (l m o k : ℕ) → l ≡ m + o * k → o ≡ 1 → l ≡ m + k
-one_time l m o k e f = let g = rw f at e in omega (arith, g)
-
 pub no_time : (l o k : ℕ) → l ≡ o * k → k ≡ 0 → l ≡ 0
 no_time l o k e f = let g = rw f at e in omega (arith, g)
 
@@ -101,7 +99,7 @@ no_time l o k e f = let g = rw f at e in omega (arith, g)
 pub kept_counts : (c : Configuration) (others : List Pair) (b : Binding) → Counted c others b → (n : ℕ) → (b.name == n) ≡ false
     → occurrences n (configuration_names (bound_in c others b)) ≡ occurrences n (configuration_names c)
 kept_counts c others b is n apart =
-    let now = one_time _ (occurrences n (names_in c.interface others)) (occurrences b.name (names_in c.interface others)) (occurrences n (names b.term))
+    let now = one_put _ (occurrences n (names_in c.interface others)) (occurrences b.name (names_in c.interface others)) (occurrences n (names b.term))
     (occurrences-put_in n b.name b.term c.interface others apart) is.once in
     let before = is.total n in
     let first = occurrences-cons n b.name (names b.term) in

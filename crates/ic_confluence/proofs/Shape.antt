@@ -102,10 +102,9 @@ same_nodes c d (rearranging x y r) = ap configuration_nodes r.result ∙ ap (λ 
 same_nodes c d (through x y z first second) = same_nodes y z second ∙ same_nodes x y first
 
 arranged_length : (es fs : List Pair) → Rearranged es fs → length es ≡ length fs
-arranged_length es fs nothing = refl
 arranged_length es fs (kept p q ps qs alike rest) = ap suc (arranged_length ps qs rest)
-arranged_length es fs (swapped p q ps) = refl
 arranged_length es fs (one_by_one ps qs rs first second) = arranged_length ps qs first ∙ arranged_length qs rs second
+arranged_length es fs _ = refl
 
 renamed_length : (f : ℕ → ℕ) (es : List Pair) → length (map (renamed_pair f) es) ≡ length es
 renamed_length f [] = refl

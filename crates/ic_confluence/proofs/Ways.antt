@@ -77,10 +77,9 @@ between_renamed f one (agent s ts) (agent r us) = refl
 -- ---- the way of an equation
 
 between_turned : (t u : Tree) → way_between u t ≡ way_between t u
-between_turned (name x) (name y) = refl
 between_turned (name x) (agent r us) = refl
 between_turned (agent s ts) (name y) = refl
-between_turned (agent s ts) (agent r us) = refl
+between_turned _ _ = refl
 
 rotated_given : (p q : Pair) (is : Rotated p q) → way_round p ≡ way_to is.cut is.outer ++ way_to is.cut is.inner
 rotated_given p q is = ap way_round is.given ∙ way_put is.cut is.inner is.outer is.once_inner is.once_outer

@@ -80,8 +80,6 @@ agent_length s k (agent z ts) e = (unsigned_Decides (length (list_of ts)) k).0 (
 pub in_against : (n : ℕ) (ts us : List Tree) → length ts ≡ length us
     → occurrences n (flat_map pair_names (against ts us)) ≡ occurrences n (flat_map names ts) + occurrences n (flat_map names us)
 in_against n [] [] e = refl
-in_against n [] (u ∷ us) e = absurd (omega (arith, e))
-in_against n (t ∷ ts) [] e = absurd (omega (arith, e))
 in_against n (t ∷ ts) (u ∷ us) e =
     let rest = in_against n ts us (omega (arith, e)) in
     let a = occurrences-append n (names t ++ names u) (flat_map pair_names (against ts us)) in
@@ -89,6 +87,7 @@ in_against n (t ∷ ts) (u ∷ us) e =
     let c = occurrences-append n (names t) (flat_map names ts) in
     let d = occurrences-append n (names u) (flat_map names us) in
     omega (arith, rest, a, b, c, d)
+in_against n _ _ e = absurd (omega (arith, e))
 
 pub lengths_renamed : (f : ℕ → ℕ) (ts : List Tree) → length (map (renamed f) ts) ≡ length ts
 lengths_renamed f [] = refl
@@ -203,9 +202,8 @@ put_products rs p a h base x t low =
     given ∙ (apart ∙ ((λ i. left i ++ right i) ∙ there))
 
 oriented_put : (x : ℕ) (t l r : Tree) (found : Option (ℕ × Bool)) → oriented (subst x t l) (subst x t r) found ≡ option_map (put_active x t) (oriented l r found)
-oriented_put x t l r None = refl
 oriented_put x t l r (Some (i, false)) = refl
-oriented_put x t l r (Some (i, true)) = refl
+oriented_put x t l r _ = refl
 
 sides_put : (rs : List Rule) (x : ℕ) (t l r : Tree) (a : Active) → oriented l r (rule_of_sides rs l r) ≡ Some a
     → rule_of_sides rs (subst x t l) (subst x t r) ≡ rule_of_sides rs l r
@@ -257,9 +255,8 @@ renamed_products rs p a h base later f moves =
     given ∙ (apart ∙ ((λ i. left i ++ right i) ∙ there))
 
 pub oriented_renamed : (f : ℕ → ℕ) (l r : Tree) (found : Option (ℕ × Bool)) → oriented (renamed f l) (renamed f r) found ≡ option_map (renamed_active f) (oriented l r found)
-oriented_renamed f l r None = refl
 oriented_renamed f l r (Some (i, false)) = refl
-oriented_renamed f l r (Some (i, true)) = refl
+oriented_renamed f l r _ = refl
 
 pub sides_renamed : (rs : List Rule) (f : ℕ → ℕ) (l r : Tree) → rule_of_sides rs (renamed f l) (renamed f r) ≡ rule_of_sides rs l r
 sides_renamed rs f (name n) r = refl
