@@ -26,6 +26,7 @@ use Rattle.ic_reaching.proofs.ButNext.{steps_names}
 use Rattle.ic_reaching.proofs.Copies.{in_products, copy_absent}
 use Rattle.ic_reaching.proofs.Firing.{Sound, sound_step, rule_in_front}
 use Rattle.ic_reaching.proofs.Pieces.{occurs_some}
+use Rattle.ic_confluence.specs.lemmas.Replacing.{in_both}
 
 -- terms before and after those of the interface, and equations after those that are there
 pub record Rest : Type 0 where
@@ -56,9 +57,6 @@ RestBelow r top = (n : ℕ) → 1 ≤ occurrences n (rest_names r) → n < top
 pub in_terms : (n : ℕ) (ts us : List Tree) → occurrences n (flat_map names (ts ++ us)) ≡ occurrences n (flat_map names ts) + occurrences n (flat_map names us)
 in_terms n ts us = ap (occurrences n) (flat_map-append names ts us) ∙ occurrences-append n (flat_map names ts) (flat_map names us)
 
-pub in_pairs : (n : ℕ) (es fs : List Pair) → occurrences n (flat_map pair_names (es ++ fs)) ≡ occurrences n (flat_map pair_names es) + occurrences n (flat_map pair_names fs)
-in_pairs n es fs = ap (occurrences n) (flat_map-append pair_names es fs) ∙ occurrences-append n (flat_map pair_names es) (flat_map pair_names fs)
-
 pub counts_of_rest : (r : Rest) (n : ℕ)
     → occurrences n (rest_names r) ≡ occurrences n (flat_map names r.before) + (occurrences n (flat_map names r.after) + occurrences n (flat_map pair_names r.equations))
 counts_of_rest r n =
@@ -72,7 +70,7 @@ counts_beside r c n =
     let all = occurrences-append n (flat_map names (r.before ++ (c.interface ++ r.after))) (flat_map pair_names (c.equations ++ r.equations)) in
     let one = in_terms n r.before (c.interface ++ r.after) in
     let two = in_terms n c.interface r.after in
-    let three = in_pairs n c.equations r.equations in
+    let three = in_both n c.equations r.equations in
     let own = occurrences-append n (flat_map names c.interface) (flat_map pair_names c.equations) in
     let rest = counts_of_rest r n in
     omega (arith, all, one, two, three, own, rest)
@@ -294,10 +292,10 @@ fired_old rs i c d set sound (place, s, is) n old =
     let before = occurrences-middle n c.interface s.before p s.after in
     let given = ap (λ es. occurrences n (names_in c.interface es)) s.stands.parts in
     let others = occurrences-append n (flat_map names c.interface) (flat_map pair_names (s.before ++ s.after)) in
-    let parts = in_pairs n s.before s.after in
+    let parts = in_both n s.before s.after in
     let now = occurrences-append n (flat_map names c.interface) (flat_map pair_names (s.before ++ (out ++ s.after))) in
-    let one = in_pairs n s.before (out ++ s.after) in
-    let two = in_pairs n out s.after in
+    let one = in_both n s.before (out ++ s.after) in
+    let two = in_both n out s.after in
     let result = ap (λ e. occurrences n (configuration_names e)) s.result in
     omega (arith, made, none, before, given, others, parts, now, one, two, result)
 

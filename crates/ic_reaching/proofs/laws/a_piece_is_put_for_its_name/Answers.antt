@@ -2,8 +2,8 @@ use Rattle.ic_reaching.proofs.Given.{SettlingLaws}
 use Rattle.ic_reaching.proofs.Pieces.{put_anywhere, put_in_one, put_in_interface}
 use Rattle.ic_reaching.proofs.laws.a_piece_is_put_for_its_name.Goals as goal
 
-pub returns-clause-anywhere : goal.returns-clause-anywhere
-returns-clause-anywhere c =
+pub returns : goal.returns
+returns c =
     let settling : SettlingLaws = record {
       nets = record {
         itself = c.same_is_an_equivalence.ensures.itself;
@@ -13,30 +13,8 @@ returns-clause-anywhere c =
       };
       goes_on = c.every_order_settles_to_the_same_net.ensures.goes_on;
     } in
-    put_anywhere settling
-
-pub returns-clause-equation : goal.returns-clause-equation
-returns-clause-equation c =
-    let settling : SettlingLaws = record {
-      nets = record {
-        itself = c.same_is_an_equivalence.ensures.itself;
-        other_way = c.same_is_an_equivalence.ensures.other_way;
-        names = c.same_nets_take_the_same_name_steps.ensures.names;
-        steps = c.same_nets_take_the_same_name_steps.ensures.steps;
-      };
-      goes_on = c.every_order_settles_to_the_same_net.ensures.goes_on;
-    } in
-    put_in_one settling
-
-pub returns-clause-interface : goal.returns-clause-interface
-returns-clause-interface c =
-    let settling : SettlingLaws = record {
-      nets = record {
-        itself = c.same_is_an_equivalence.ensures.itself;
-        other_way = c.same_is_an_equivalence.ensures.other_way;
-        names = c.same_nets_take_the_same_name_steps.ensures.names;
-        steps = c.same_nets_take_the_same_name_steps.ensures.steps;
-      };
-      goes_on = c.every_order_settles_to_the_same_net.ensures.goes_on;
-    } in
-    put_in_interface settling
+    record {
+      anywhere = put_anywhere settling;
+      equation = put_in_one settling;
+      interface = put_in_interface settling;
+    }

@@ -2,8 +2,8 @@ use Rattle.ic_reaching.proofs.Given.{SettlingLaws}
 use Rattle.ic_reaching.proofs.InTurn.{put_so, taken_apart}
 use Rattle.ic_reaching.proofs.laws.pieces_are_put_in_turn.Goals as goal
 
-pub returns-clause-put : goal.returns-clause-put
-returns-clause-put c =
+pub returns : goal.returns
+returns c =
     let settling : SettlingLaws = record {
       nets = record {
         itself = c.same_is_an_equivalence.ensures.itself;
@@ -13,17 +13,7 @@ returns-clause-put c =
       };
       goes_on = c.every_order_settles_to_the_same_net.ensures.goes_on;
     } in
-    put_so settling
-
-pub returns-clause-taken : goal.returns-clause-taken
-returns-clause-taken c =
-    let settling : SettlingLaws = record {
-      nets = record {
-        itself = c.same_is_an_equivalence.ensures.itself;
-        other_way = c.same_is_an_equivalence.ensures.other_way;
-        names = c.same_nets_take_the_same_name_steps.ensures.names;
-        steps = c.same_nets_take_the_same_name_steps.ensures.steps;
-      };
-      goes_on = c.every_order_settles_to_the_same_net.ensures.goes_on;
-    } in
-    taken_apart settling
+    record {
+      put = put_so settling;
+      taken = taken_apart settling;
+    }
