@@ -19,24 +19,21 @@ read_at (suc (suc x)) low = absurd (omega arith)
 
 apart_at : (x y : ℕ) → x < 2 → y < 2 → place x ≡ place y → x ≡ y
 apart_at zero zero lx ly same = refl
-apart_at zero (suc y) lx ly same = absurd (omega arith)
-apart_at (suc x) zero lx ly same = absurd (omega arith)
 apart_at (suc x) (suc y) lx ly same = omega arith
+apart_at _ _ lx ly same = absurd (omega arith)
 
 used_at : (k : ℕ) → k < 2 → count_by (λ m. m == 6 + k) (operands_of addition_plan) ≡ 1
-used_at zero low = refl
-used_at (suc zero) low = refl
 used_at (suc (suc k)) low = absurd (omega arith)
+used_at _ low = refl
 
 abbrev number_in : Tree → ℕ
 number_in (name x) = x
 number_in (agent s ts) = 0
 
 no_argument : (i : ℕ) → i < 3 → slice_index_or (rule_arguments addition_rule) i (name 1) ≡ name 1 → ⊥
-no_argument zero low is = cc
 no_argument (suc zero) low is = let same : 0 ≡ 1 = ap number_in is in absurd (omega (arith, same))
-no_argument (suc (suc zero)) low is = cc
 no_argument (suc (suc (suc i))) low is = absurd (omega arith)
+no_argument _ low is = cc
 
 fresh_at : (k : ℕ) → k < 1 → (x : ℕ) × (x < 2) × (place x ≡ 5 + k) × ¬ Contains (rule_arguments addition_rule) (name x)
 fresh_at zero low = (1, (let h : 1 < 2 = omega arith in h), refl, (λ there. no_argument there.0 there.1 there.2))

@@ -30,7 +30,7 @@ use Rattle.ic_meaning.specs.Nets.{equations_of, net_of, IsPiece, ArePieces, AreN
 use Rattle.ic_meaning.specs.Plans.{held_with, held_made, linked_terms, equations_made, named_terms, first_made, StandsForNet}
 use Rattle.ic_meaning.proofs.Given.{NetLaws}
 use Rattle.ic_meaning.proofs.Once.{HoldOnce, made_once}
-use Rattle.ic_meaning.specs.lemmas.Orders.{all_front, all_back, all_parts}
+use Rattle.ic_meaning.specs.lemmas.Orders.{all_front, all_back}
 use Rattle.ic_meaning.proofs.Reached.{idle_pieces, agent_pieces, link_pieces}
 use Rattle.ic_meaning.specs.lemmas.Terms.{same_word, word_itself, name_tag, agent_tag, place_term}
 use Rattle.ic_meaning.proofs.Made.{UsedFrom, used_from}
@@ -40,6 +40,7 @@ use Rattle.ic_meaning.proofs.Wholes.{higher_all, to_configured}
 use Rattle.ic_meaning.proofs.Settings.{FreeWord}
 use Rattle.ic_meaning.proofs.Fired.{fresh_once}
 use Rattle.ic_meaning.proofs.Fires.{made_agent, plan_equations, registers_held, used_held, places_from}
+use Rattle.ic_machine.specs.lemmas.FiringKeeps.{all_append}
 
 -- ---- numbers of places
 
@@ -389,8 +390,8 @@ pub begun_pieces : (arities : List ℕ) (given : ℕ) (p : Planned) (operands : 
 begun_pieces arities given p operands interface ps plan b separate =
     let rs : List Word = constants (length arities) ++ (given_words given ++ (b.names ++ b.made)) in
     let each : ArePieces arities (pieces_made p rs b.names b.made) =
-    all_parts (IsPiece arities) (map idle b.names) (made_each rs p.made b.made ++ map (linked rs) p.links) (idle_pieces arities b.names b.name_tags)
-    (all_parts (IsPiece arities) (made_each rs p.made b.made) (map (linked rs) p.links)
+    all_append (IsPiece arities) (map idle b.names) (made_each rs p.made b.made ++ map (linked rs) p.links) (idle_pieces arities b.names b.name_tags)
+    (all_append (IsPiece arities) (made_each rs p.made b.made) (map (linked rs) p.links)
     (agent_pieces arities (length arities + given + p.names) rs p.made b.made b.made_tags plan.made) (link_pieces arities rs p.links)) in
     record {
       each = transport (ArePieces arities) (sym b.pieces) each;

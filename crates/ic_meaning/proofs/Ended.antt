@@ -23,8 +23,9 @@ use Rattle.ic_reaching.specs.OneNet.{OneNet}
 use Rattle.ic_reaching.specs.Pieces.{piece_of}
 use Rattle.ic_meaning.proofs.Given.{NetLaws}
 use Rattle.ic_meaning.specs.lemmas.Terms.{flat_names}
-use Rattle.ic_meaning.specs.lemmas.Orders.{all_back, all_parts}
+use Rattle.ic_meaning.specs.lemmas.Orders.{all_back}
 use Rattle.ic_meaning.proofs.Wholes.{in_front}
+use Rattle.ic_machine.specs.lemmas.FiringKeeps.{all_append}
 
 -- ---- how often names occur where a term is put for a name
 
@@ -160,9 +161,8 @@ stuck_inert rs total e s = at e.left e.right s.left_symbol s.right_symbol s.left
     at : (t u : Tree) (o q : Option ℕ) → Side total [] t o → Side total [] u q → HaveNoRule rs o q → oriented t u (rule_of_sides rs t u) ≡ None
     at t u o q (of_agent a us) (of_agent b vs) none = ap (oriented (agent a us) (agent b vs)) none
     at t u o q (of_agent a us) (of_name b x bound) none = absurd bound
-    at t u o q (of_agent a us) (of_free x one) none = refl
     at t u o q (of_name a x bound) other none = absurd bound
-    at t u o q (of_free x one) other none = refl
+    at t u o q _ _ none = refl
 
 stuck_ends : (rs : List Rule) (total : ℕ → ℕ) (c : Configuration) (ss : List Pair) → AllByRecursion (Stuck rs total []) ss
     → ((n : ℕ) → 1 ≤ occurrences n (configuration_names c) → occurrences n (configuration_names c) ≡ total n)
@@ -205,7 +205,7 @@ quiet_end rs total ts zs ss next is d step = at step
         omega arith
 
     all : AllByRecursion (IsEnded rs total) (map piece_of zs ++ ss)
-    all = all_parts (IsEnded rs total) (map piece_of zs) ss
+    all = all_append (IsEnded rs total) (map piece_of zs) ss
         (circle_inert rs total zs is.circles) (stuck_ends rs total (in_bindings ts [] zs ss next) ss is.stuck is.counts inside)
 
     at_place : (before : List Pair) (e : Pair) (after : List Pair) → map piece_of zs ++ ss ≡ before ++ e ∷ after

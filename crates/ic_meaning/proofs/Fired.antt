@@ -28,10 +28,11 @@ use Rattle.ic_meaning.specs.Words.{Numbers, AreNumbers, term}
 use Rattle.ic_meaning.specs.Nets.{equations_of, net_of}
 use Rattle.ic_meaning.specs.Plans.{Argument, arguments_from, matched, met_as}
 use Rattle.ic_meaning.proofs.Given.{NetLaws}
-use Rattle.ic_meaning.specs.lemmas.Terms.{word_itself, words_names, pieces_names, names_of-trees_of}
+use Rattle.ic_meaning.specs.lemmas.Terms.{word_itself, words_names, pieces_names}
 use Rattle.ic_meaning.proofs.Filled.{filled_renamed}
 use Rattle.ic_meaning.proofs.Registers.{counted}
 use Rattle.ic_meaning.proofs.Wholes.{with_equations, brought, put_agent}
+use Rattle.ic_settle.specs.lemmas.PutEach.{names_of-trees_of}
 
 -- ---- two agents that meet
 
@@ -161,8 +162,6 @@ against_matched : (n : Numbers) (held : ℕ → Tree) (own : ℕ → ℕ) (k : �
     → ((j : ℕ) → j < length ws → held (k + j) ≡ term n (register ws j))
     → against (map (term n) ws) (map (renamed own) ts) ≡ map (matched held (λ x. name (own x))) (arguments_from k ts)
 against_matched n held own k [] [] same is = refl
-against_matched n held own k [] (t ∷ ts) same is = absurd (omega arith)
-against_matched n held own k (w ∷ ws) [] same is = absurd (omega arith)
 against_matched n held own k (w ∷ ws) (t ∷ ts) same is =
     let zero_is : k + 0 ≡ k = omega arith in
     let here : term n w ≡ held k = sym (ap held (sym zero_is) ∙ is 0 (omega arith)) in
@@ -170,6 +169,7 @@ against_matched n held own k (w ∷ ws) (t ∷ ts) same is =
     (λ j low. let next : (k + 1) + j ≡ k + suc j = omega arith in ap held next ∙ is (suc j) (omega arith)) in
     let right = filled_renamed own t in
     λ i. record { left = here i; right = right i } ∷ rest i
+against_matched n held own k _ _ same is = absurd (omega arith)
 
 map_parts : (f : Argument → Pair) (ds bs : List Argument) → map f (ds ++ bs) ≡ map f ds ++ map f bs
 map_parts f [] bs = refl

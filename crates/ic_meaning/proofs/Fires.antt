@@ -147,8 +147,6 @@ pub places_from : (n : Numbers) (d : Configuration) (ts : List Tree) (es : List 
     → ((j : ℕ) → j < length vs → register later (o + j) ≡ register vs j)
     → ArePlaces (held_in n (registers_of n later)) ts es next k ms (map n.of_place vs)
 places_from n d ts es next later [] [] o k sound place same inside free tagged low at = tt
-places_from n d ts es next later [] (v ∷ vs) o k sound place same inside free tagged low at = absurd (omega arith)
-places_from n d ts es next later (m ∷ ms) [] o k sound place same inside free tagged low at = absurd (omega arith)
 places_from n d ts es next later (m ∷ ms) (v ∷ vs) o k sound place same inside free tagged low at =
     let first = free 0 (omega arith) in
     let zero_is : o + 0 ≡ o = omega arith in
@@ -167,3 +165,4 @@ places_from n d ts es next later (m ∷ ms) (v ∷ vs) o k sound place same insi
           (λ j less. free (suc j) (omega arith)) (λ j less. tagged (suc j) (omega arith)) (λ j less. low (suc j) (omega arith))
           (λ j less. let step : (o + 1) + j ≡ o + suc j = omega arith in ap (register later) step ∙ at (suc j) (omega arith)),
     )
+places_from n d ts es next later _ _ o k sound place same inside free tagged low at = absurd (omega arith)

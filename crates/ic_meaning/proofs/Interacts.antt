@@ -30,8 +30,8 @@ use Rattle.ic_meaning.specs.Words.{Numbers, AreNumbers, term}
 use Rattle.ic_meaning.specs.Nets.{equations_of, net_of}
 use Rattle.ic_meaning.specs.Plans.{Argument, arguments_from, is_matched, matched, met_as, held_made, equations_made, StandsFor}
 use Rattle.ic_meaning.proofs.Given.{NetLaws}
-use Rattle.ic_meaning.specs.lemmas.Terms.{name_tag, agent_tag, names_of-trees_of}
-use Rattle.ic_meaning.specs.lemmas.Orders.{all_parts, all_front, all_back}
+use Rattle.ic_meaning.specs.lemmas.Terms.{name_tag, agent_tag}
+use Rattle.ic_meaning.specs.lemmas.Orders.{all_front, all_back}
 use Rattle.ic_meaning.proofs.Named.{so_far, so_far_held, so_far_own, with_arguments, put_arguments, matched_same, AreBelow, argument_names, Left}
 use Rattle.ic_meaning.proofs.Registers.{register_back, register_front, held_in, registers_of, held_constant, held_later, all_at}
 use Rattle.ic_meaning.proofs.Taken.{read_from}
@@ -39,6 +39,8 @@ use Rattle.ic_meaning.proofs.Wholes.{with_equations, in_front}
 use Rattle.ic_meaning.proofs.Settings.{FreeWord, Setting, after_arguments, above_all, own_name, where_read, fresh_held, names_fresh, names_named, arguments_left, met_count}
 use Rattle.ic_meaning.proofs.Fired.{agent_term, meeting, free_place, free_name, fresh_room, fresh_once, products_matched}
 use Rattle.ic_meaning.proofs.Fires.{made_agent}
+use Rattle.ic_settle.specs.lemmas.PutEach.{names_of-trees_of}
+use Rattle.ic_machine.specs.lemmas.FiringKeeps.{all_append}
 
 -- ---- what is known where a plan fires
 
@@ -207,7 +209,7 @@ below_filter count test [] below = tt
 below_filter count test (d ∷ ds) below = at (test d) refl (below_filter count test ds (all_back (λ z. z < count) (names d.term) (flat_map argument_names ds) below))
   where
     at : (b : Bool) → test d ≡ b → AreBelow count (filter test ds) → AreBelow count (cond b (d ∷ filter test ds) (filter test ds))
-    at true e rest = all_parts (λ z. z < count) (names d.term) (flat_map argument_names (filter test ds)) (all_front (λ z. z < count) (names d.term) (flat_map argument_names ds) below) rest
+    at true e rest = all_append (λ z. z < count) (names d.term) (flat_map argument_names (filter test ds)) (all_front (λ z. z < count) (names d.term) (flat_map argument_names ds) below) rest
     at false e rest = rest
 
 -- the net in which the plan's agents are put together

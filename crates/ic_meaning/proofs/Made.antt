@@ -11,7 +11,7 @@ use Rattle.ic_settle.specs.lemmas.SubstitutionLaws.{occurrences-append}
 use Rattle.ic_machine.specs.declared.plan.Link.{Link}
 use Rattle.ic_machine.specs.Plan.{Made, AreMade, link_operands}
 use Rattle.ic_meaning.specs.Plans.{held_with, held_made, linked_terms}
-use Rattle.ic_meaning.specs.lemmas.Terms.{names_of-trees_of}
+use Rattle.ic_settle.specs.lemmas.PutEach.{names_of-trees_of}
 
 -- ---- a term put for a name in what registers hold
 

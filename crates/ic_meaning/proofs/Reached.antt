@@ -30,7 +30,7 @@ use Rattle.ic_meaning.specs.Words.{Numbers, AreNumbers, term}
 use Rattle.ic_meaning.specs.Nets.{equations_of, net_of, IsPiece, ArePieces}
 use Rattle.ic_meaning.specs.Plans.{arguments_from, met_as, linked_terms, StandsFor, ArePlansOf, rule_number}
 use Rattle.ic_meaning.proofs.Given.{NetLaws, ReachLaws}
-use Rattle.ic_meaning.specs.lemmas.Orders.{all_parts, all_back}
+use Rattle.ic_meaning.specs.lemmas.Orders.{all_back}
 use Rattle.ic_meaning.proofs.Made.{UsedFrom, used_from}
 use Rattle.ic_meaning.proofs.Registers.{register_back, held_in, registers_of, place_below}
 use Rattle.ic_meaning.proofs.Taken.{made_pieces, take_made, ArePlaces}
@@ -39,6 +39,7 @@ use Rattle.ic_meaning.proofs.Settings.{FreeWord, Setting, above_all}
 use Rattle.ic_meaning.proofs.Fired.{agent_term, to_meeting}
 use Rattle.ic_meaning.proofs.Fires.{rule_of_plan, fits_lengths, made_agent, plan_equations, used_held, places_from}
 use Rattle.ic_meaning.proofs.Interacts.{met_in, setting_of, sides_over, fired_in, interaction_of, assembled, to_assembled}
+use Rattle.ic_machine.specs.lemmas.FiringKeeps.{all_append}
 
 -- ---- from the net put together to its pieces
 
@@ -231,10 +232,10 @@ step_pieces p fired xs ys plans (fires place a b f) are =
     (drop_agent p.arities (agent_word f.left f.left_place) f.left_args (agent_with (agent_word f.right f.right_place) f.right_args ++ f.rest) front.1) in
     let rs : List Word = constants (length p.arities) ++ (f.left_args ++ (f.right_args ++ (f.names ++ f.made))) in
     let made = agent_pieces p.arities (length p.arities + length (f.left_args ++ f.right_args) + f.plan.names) rs f.plan.made f.made f.made_tags plan.made in
-    let all = all_parts (IsPiece p.arities) (map idle f.names) (made_each rs f.plan.made f.made ++ map (linked rs) f.plan.links) (idle_pieces p.arities f.names f.name_tags)
-    (all_parts (IsPiece p.arities) (made_each rs f.plan.made f.made) (map (linked rs) f.plan.links) made (link_pieces p.arities rs f.plan.links)) in
+    let all = all_append (IsPiece p.arities) (map idle f.names) (made_each rs f.plan.made f.made ++ map (linked rs) f.plan.links) (idle_pieces p.arities f.names f.name_tags)
+    (all_append (IsPiece p.arities) (made_each rs f.plan.made f.made) (map (linked rs) f.plan.links) made (link_pieces p.arities rs f.plan.links)) in
     all_order (IsPiece p.arities) (pieces_made f.plan rs f.names f.made ++ f.rest) b (IsPermutation-sym b _ f.result)
-    (all_parts (IsPiece p.arities) (pieces_made f.plan rs f.names f.made) f.rest all rest)
+    (all_append (IsPiece p.arities) (pieces_made f.plan rs f.names f.made) f.rest all rest)
 
 pub steps_pieces : (p : Plans) (fired : List ℕ) (xs ys : List Piece) → ArePlans p → Steps p fired xs ys → ArePieces p.arities xs → ArePieces p.arities ys
 steps_pieces p fired xs ys plans (no_step a b moved) are = all_order (IsPiece p.arities) a b moved are

@@ -17,9 +17,10 @@ use Rattle.ic_machine.specs.declared.plan.Link.{Link}
 use Rattle.ic_machine.specs.Plan.{Made, AreMade, link_operands}
 use Rattle.ic_meaning.specs.Plans.{held_with, held_made, linked_terms}
 use Rattle.ic_meaning.proofs.Given.{NetLaws}
-use Rattle.ic_meaning.specs.lemmas.Terms.{flat_names, names_of-trees_of}
+use Rattle.ic_meaning.specs.lemmas.Terms.{flat_names}
 use Rattle.ic_meaning.proofs.Made.{subst_made, subst_links, subst_held, times, held_names, read_names, UsedFrom, made_names}
 use Rattle.ic_confluence.specs.lemmas.Puts.{terms_absent, pairs_absent}
+use Rattle.ic_settle.specs.lemmas.PutEach.{names_of-trees_of}
 
 -- the pieces of agents, at places with these names
 abbrev pub made_pieces : (ℕ → Tree) → List Made → List ℕ → List Pair
@@ -98,8 +99,6 @@ places_beside : (held : ℕ → Tree) (ts : List Tree) (es : List Pair) (next k 
     → held before ≡ name x → before < k → AllByRecursion (λ o. o < before) m.operands
     → ArePlaces held ts es next k ms xs → ArePlaces held ts (piece x (agent m.symbol (trees_of (map held m.operands))) ∷ es) next k ms xs
 places_beside held ts es next k x before m [] [] is early low places = tt
-places_beside held ts es next k x before m [] (y ∷ ys) is early low places = places
-places_beside held ts es next k x before m (n ∷ ns) [] is early low places = places
 places_beside held ts es next k x before m (n ∷ ns) (y ∷ ys) is early low places =
     let place = places.0 in
     let a : Tree = agent m.symbol (trees_of (map held m.operands)) in
@@ -118,6 +117,7 @@ places_beside held ts es next k x before m (n ∷ ns) (y ∷ ys) is early low pl
       },
       places_beside held ts es next (k + 1) x before m ns ys is (omega arith) low places.1,
     )
+places_beside held ts es next k x before m _ _ is early low places = places
 
 -- One agent is taken out.
 take_one : NetLaws → (ts : List Tree) (is : List ℕ) (ls : List Link) (es : List Pair) (next k x : ℕ) (m : Made) (ms : List Made) (held : ℕ → Tree)

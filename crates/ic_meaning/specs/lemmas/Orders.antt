@@ -22,10 +22,6 @@ flat_order {X = X} f = any_order {X = X} (λ xs ys. IsPermutation (flat_map f xs
 
 -- ---- what holds of each
 
-pub all_parts : {X : Type 0} (P : X → Type 0) (xs ys : List X) → AllByRecursion P xs → AllByRecursion P ys → AllByRecursion P (xs ++ ys)
-all_parts P [] ys a b = b
-all_parts P (x ∷ xs) ys a b = (a.0, all_parts P xs ys a.1 b)
-
 pub all_front : {X : Type 0} (P : X → Type 0) (xs ys : List X) → AllByRecursion P (xs ++ ys) → AllByRecursion P xs
 all_front P [] ys all = tt
 all_front P (x ∷ xs) ys all = (all.0, all_front P xs ys all.1)

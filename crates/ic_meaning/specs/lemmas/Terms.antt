@@ -5,7 +5,7 @@ use Rattle.std.proofs.lemmas.List.Sums.{sum_by-cons}
 use Rattle.std.specs.Cmp.{unsigned_Decides}
 use Rattle.std.specs.List.{flat_map}
 use Rattle.std.specs.Option.{option_map_or}
-use Rattle.ic_term.specs.Tree.{Tree, name, agent, no_trees, trees_of, names, names_of, Pair, pair_names}
+use Rattle.ic_term.specs.Tree.{name, agent, no_trees, trees_of, names, names_of, Pair, pair_names}
 use Rattle.ic_term.specs.Configuration.{occurrences}
 use Rattle.ic_settle.specs.lemmas.SubstitutionLaws.{occurrences-append}
 use Rattle.ic_settle.specs.lemmas.StepLaws.{itself_once as occurs_once}
@@ -16,6 +16,7 @@ use Rattle.ic_arena.specs.Piece.{Piece, equated, idle, waits, agent_of, room, us
 use Rattle.ic_machine.specs.Separate.{is_constant_tag}
 use Rattle.ic_meaning.specs.Words.{Numbers, AreNumbers, constant, term}
 use Rattle.ic_meaning.specs.Nets.{equations_of, IsAgentOf}
+use Rattle.ic_settle.specs.lemmas.PutEach.{names_of-trees_of}
 
 -- ---- words
 
@@ -91,10 +92,6 @@ word_names n v w sound place = at (is_constant_tag n.arities v.tag) refl
         → occurrences (n.of_place w) (names (cond b (constant n v) (name (n.of_place v)))) ≡ cond (word_eq w v) 1 0
     at true e = constant_names n v w sound ∙ ap (λ (b : Bool). cond {A = ℕ} b 1 0) (sym (apart_tags n v w e place))
     at false e = place_names n v w sound
-
-pub names_of-trees_of : (ts : List Tree) → names_of (trees_of ts) ≡ flat_map names ts
-names_of-trees_of [] = refl
-names_of-trees_of (t ∷ ts) = ap (λ ns. names t ++ ns) (names_of-trees_of ts)
 
 pub words_names : (n : Numbers) (ws : List Word) (w : Word) → AreNumbers n → is_constant_tag n.arities w.tag ≡ false
     → occurrences (n.of_place w) (flat_map names (map (term n) ws)) ≡ count w ws
