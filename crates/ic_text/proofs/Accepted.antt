@@ -50,8 +50,6 @@ either_same p d m (Some next) = refl
 
 -- a symbol without arguments is a whole term
 pub symbol_is_term : (ts : List Token) (p : Part) (d : ℕ) → IsClosed ts → accepts (at p Symbol d) ts ≡ accepts (at p After d) ts
-symbol_is_term [] p d closed = refl
-symbol_is_term (word text ∷ ts) p d closed = refl
 symbol_is_term (mark Open ∷ ts) p d closed = absurd closed
 symbol_is_term (mark LeftBrace ∷ ts) p d closed = ap (λ o. accepts o ts) (either_same p d LeftBrace None)
 symbol_is_term (mark RightBrace ∷ ts) p d closed = ap (λ o. accepts o ts) (either_same p d RightBrace None)
@@ -62,6 +60,7 @@ symbol_is_term (mark Equals ∷ ts) p d closed = ap (λ o. accepts o ts) (either
 symbol_is_term (mark Comma ∷ ts) p d closed = ap (λ o. accepts o ts) (either_same p d Comma _)
 symbol_is_term (mark Semicolon ∷ ts) p d closed = ap (λ o. accepts o ts) (either_same p d Semicolon None)
 symbol_is_term (mark Close ∷ ts) p d closed = ap (λ o. accepts o ts) (either_same p d Close _)
+symbol_is_term _ p d closed = refl
 
 pub further_is_closed : (ts : Sources) (r : List Token) → IsClosed (further_words ts ++ r)
 further_is_closed no_sources r = tt
@@ -71,10 +70,7 @@ further_is_closed (more_sources t ts) r = tt
 word_step : (p : Part) (s : Spot) (d : ℕ) (text : List ℕ) (next : Spot) → TakesTerm s → word_spot text ≡ Some next → step (record { part = p; spot = s; depth = d }) (word text) ≡ at p next d
 word_step p First d text next takes is = rw is refl
 word_step p Due d text next takes is = rw is refl
-word_step p FirstAgent d text next takes is = absurd takes
-word_step p DueAgent d text next takes is = absurd takes
-word_step p Symbol d text next takes is = absurd takes
-word_step p After d text next takes is = absurd takes
+word_step p _ d text next takes is = absurd takes
 
 name_spot : (n : ℕ) → word_spot (name_text n) ≡ Some After
 name_spot n = rw (is_name-name_text n) refl
@@ -84,12 +80,9 @@ symbol_spot text is = rw (isnt_name-symbol text is, is) refl
 
 agent_step : (p : Part) (s : Spot) (text : List ℕ) → TakesAgent s → IsTrue (is_symbol_text text)
     → step (record { part = p; spot = s; depth = 0 }) (word text) ≡ at p Symbol 0
-agent_step p First text takes is = absurd takes
-agent_step p Due text takes is = absurd takes
 agent_step p FirstAgent text takes is = rw is refl
 agent_step p DueAgent text takes is = rw is refl
-agent_step p Symbol text takes is = absurd takes
-agent_step p After text takes is = absurd takes
+agent_step p _ text takes is = absurd takes
 
 pub inside : (d : ℕ) → eqb (d + 1) 0 ≡ false
 inside d = grind (arith, nat_tests)

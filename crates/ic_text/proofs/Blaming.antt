@@ -3,14 +3,14 @@ use Rattle.std.proofs.Common.{◌≡◌, ℕ, zero, suc, ◌+◌, ◌<◌, ◌�
 use Rattle.std.specs.Prelude.{nat_le, nat_lt, unwrap_or}
 use Rattle.std.specs.List.{list_all, slice_get, AllByRecursion}
 use Rattle.std.specs.Option.{option_or, option_map}
-use Rattle.std.proofs.lemmas.Bool.{false≢true, and_parts, and_from, leb-true, lt-ltb, cases_lt, ltb-true, ltb-false}
+use Rattle.std.proofs.lemmas.Bool.{false≢true, and_parts, and_from, leb-true, lt-ltb, cases_lt, ltb-true, ltb-false, and_right}
 use Rattle.std.proofs.lemmas.Bool.Decides.{nat_tests}
 use Rattle.std.proofs.lemmas.List.{take_more, drop_more, drop_all, get_or-map, length-map}
 use Rattle.std.proofs.lemmas.List.Folds.{list_all-append}
 use Rattle.std.proofs.lemmas.Option.{slice_get-get_or, get_or_from_slice_get}
 use Rattle.ic_term.specs.Symbol.{Symbol, number_of_text, fits_limits, has_arity, symbol_arity}
 use Rattle.ic_term.specs.declared.symbols.SymbolFault.{SymbolFault}
-use Rattle.ic_term.specs.declared.symbols.SymbolFault.TheVariants.{Limit as OverLimit, Arity as OtherArity, Memory as NoMemory}
+use Rattle.ic_term.specs.declared.symbols.SymbolFault.TheVariants.{Limit as OverLimit, Arity as OtherArity}
 use Rattle.ic_term.specs.declared.limits.TheConstants.{MAX_WIDE_SYMBOLS, MAX_SYMBOL_TEXT, MAX_ARITY}
 use Rattle.ic_text.specs.declared.limits.Limits.{Limits}
 use Rattle.ic_text.specs.declared.limits.Limits.TheVariants.{Served, Wide}
@@ -33,11 +33,11 @@ use Rattle.ic_text.specs.WordFaults.{word_table, keeps, agree, IsSecondUse}
 use Rattle.ic_text.specs.inner.Numbered.{IsWord, word_found, table_with, table_over, is_word_in_limits, is_word_over, numbered_words, Refuses}
 use Rattle.ic_text.specs.inner.Prefix.{node_of, nodes_of}
 use Rattle.ic_text.specs.inner.Refused.{IsRefusedIn, IsWordLimit, Takes, Stops, are_within, limit_of}
-use Rattle.ic_text.proofs.Numbering.{Outcome, kept, limited, clashed, outcome, with_word, go, go_on, go-numbered_words, and_right, no_room, not_le}
+use Rattle.ic_text.proofs.Numbering.{Outcome, kept, limited, clashed, outcome, with_word, go, go_on, go-numbered_words, gt_test}
 use Rattle.ic_text.proofs.Keeping.{kept_before}
 use Rattle.ic_text.proofs.PrefixWords.{symbols_among-append, names_among-append, limits-words, table-words, arities-words}
 use Rattle.ic_text.proofs.LimitLemmas.{symbols-low}
-use Rattle.ic_text.proofs.TableLemmas.{slice_get-append, number_of_text-append, number_of_text-lt}
+use Rattle.ic_text.specs.lemmas.TableLemmas.{slice_get-append, number_of_text-append, number_of_text-lt}
 
 -- the table over words after words
 table_over-append : (vs ws table : List Symbol) → table_over table (vs ++ ws) ≡ table_over (table_over table vs) ws
@@ -202,7 +202,7 @@ module _ (limits : Limits) (front : List Symbol) (w : Symbol) (within : are_with
               let grown : table_with table w ≡ table ++ w ∷ [] = rw (named, found) refl in
               let whole : word_table more ≡ table ++ w ∷ [] = sym (table-words more []) ∙ next_table ∙ grown in
               let long : most_symbols limits < length (table ++ w ∷ []) = omega (arith, length-append table (w ∷ []), ltb-false _ _ room) in
-              ap (λ t. nat_le (length t) (most_symbols limits)) whole ∙ not_le _ _ long
+              ap (λ t. nat_le (length t) (most_symbols limits)) whole ∙ gt_test _ _ long
           by_found (Some n) room found _ = by_arity (has_arity w.arity (slice_get table n)) refl
             where
               few : nat_lt n (most_symbols limits) ≡ true
@@ -397,9 +397,8 @@ module _ (limits : Limits) (ws : List Symbol) (k : ℕ) (w : Symbol) (old : Numb
       where
         by_found : (r : Result Word SymbolFault) → word_found limits old.symbols w ≡ r → Takes k w r old new → SoFar limits ws (k + 1) new
         by_found (Ok item) e took = went_on item e took
-        by_found (Err OverLimit) e took = absurd took
         by_found (Err (OtherArity n)) e took = clashed_on n e took
-        by_found (Err NoMemory) e took = absurd took
+        by_found _ e took = absurd took
 
   -- or the word is refused
   pub stops_word : (r : Refusal) → Stops k w (word_found limits old.symbols w) r → IsRefusedIn limits ws r

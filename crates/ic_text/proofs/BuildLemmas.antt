@@ -1,28 +1,25 @@
 -- Two agents as a rule, and rules that are refused.
-use Rattle.std.proofs.Common.{◌≡◌, Bool, true, false, cond, List, [], ◌∷◌, ◌++◌, Option, Result, Ok, Err, map, length, refl, sym, ap, ◌∙◌}
+use Rattle.std.proofs.Common.{◌≡◌, Bool, true, false, cond, [], ◌∷◌, ◌++◌, Option, Result, Ok, Err, map, length, refl, sym, ◌∙◌}
 use Rattle.std.specs.Prelude.{IsTrue}
 use Rattle.std.specs.List.{flat_map}
 use Rattle.std.specs.Result.{result_err}
 use Rattle.ic_term.specs.declared.term.Cell.{Cell, out-Cell}
 use Rattle.ic_term.specs.Configuration.{Configuration}
-use Rattle.ic_term.specs.Tree.{Tree, agent, trees_of, list_of, names}
+use Rattle.ic_term.specs.Tree.{agent, trees_of, names}
 use Rattle.ic_term.specs.Symbol.{is_over}
 use Rattle.ic_term.specs.Term.{tree, cell_tree}
 use Rattle.ic_term.specs.lemmas.TermLaws.{cell_tree-out}
+use Rattle.ic_term.specs.lemmas.TreeLaws.{list_of-trees_of}
 use Rattle.ic_rules.specs.Renaming.{first_occurrences}
 use Rattle.ic_rules.specs.RuleSet.{Rules}
 use Rattle.ic_rules.specs.System.{SystemParts}
 use Rattle.ic_rules.specs.Written.{written}
 use Rattle.ic_rules.specs.declared.rule_set.RuleFault.{RuleFault}
-use Rattle.ic_rules.specs.declared.rule_set.RuleFault.TheVariants.{Limit as TooMany, Arity as OtherArity, NameCount as Uncounted, Twice as Repeated, Lopsided as Uneven, Memory as NoRoom}
+use Rattle.ic_rules.specs.declared.rule_set.RuleFault.TheVariants.{Twice as Repeated, Lopsided as Uneven, Memory as NoRoom}
 use Rattle.ic_text.specs.declared.fault.TextFault.{TextFault}
-use Rattle.ic_text.specs.declared.fault.TextFault.TheVariants.{Syntax, Limit, Arity, NameCount, Name, Twice, Lopsided, Memory}
+use Rattle.ic_text.specs.declared.fault.TextFault.TheVariants.{Arity, Memory}
 use Rattle.ic_text.specs.inner.Built.{rule_in, joined, refusal}
 use Rattle.ic_text.specs.inner.Numbered.{Refuses}
-
-list_of-trees_of : (ts : List Tree) → list_of (trees_of ts) ≡ ts
-list_of-trees_of [] = refl
-list_of-trees_of (t ∷ ts) = ap (λ us. t ∷ us) (list_of-trees_of ts)
 
 -- two agents as a rule, by what they hold
 pub written-agents : (l r : Cell) → written (l, r) ∷ [] ≡ rule_in (cell_tree l) (cell_tree r)
@@ -41,25 +38,15 @@ written-agents l r =
 -- ---- rules that are refused
 
 refuses : (fault : TextFault) → Refuses {A = SystemParts} fault (Err fault)
-refuses Syntax = refl
-refuses Limit = refl
-refuses Arity = refl
-refuses (NameCount i) = refl
-refuses (Name n) = refl
-refuses (Twice i) = refl
-refuses (Lopsided i) = refl
 refuses Memory = tt
+refuses _ = refl
 
 refuses_both : (fault : RuleFault) (config : Result Configuration TextFault)
     → Refuses (refusal fault (result_err config)) (joined (Err fault) config)
-refuses_both TooMany config = refl
-refuses_both (OtherArity n) config = refl
-refuses_both (Uncounted i) config = refl
-refuses_both (Repeated i) (Ok c) = refl
 refuses_both (Repeated i) (Err e) = refuses e
-refuses_both (Uneven i) (Ok c) = refl
 refuses_both (Uneven i) (Err e) = refuses e
 refuses_both NoRoom config = tt
+refuses_both _ _ = refl
 
 pub refuses_joined : (answer : TextFault) (fault : RuleFault) (rules : Result Rules RuleFault) (own : Option TextFault) (config : Result Configuration TextFault)
     → rules ≡ Err fault → own ≡ result_err config → answer ≡ refusal fault own → Refuses answer (joined rules config)

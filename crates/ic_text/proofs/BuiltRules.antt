@@ -17,10 +17,11 @@ use Rattle.ic_text.specs.Sense.{has_its_arity, number_in_table, numbered_tree, n
 use Rattle.ic_text.specs.SystemSource.{RulePhrase, agent_source, rule_symbols, rule_nodes}
 use Rattle.ic_text.specs.SystemSense.{rule_over}
 use Rattle.ic_text.specs.inner.Built.{rule_in, rules_in}
-use Rattle.ic_text.proofs.BuiltTrees.{trees_of-list_of, length-numbered_trees}
+use Rattle.ic_text.proofs.BuiltTrees.{length-numbered_trees}
 use Rattle.ic_text.proofs.Sensing.{names-numbered_trees, nodes-numbered_trees, sum_by-map}
 use Rattle.ic_text.proofs.Over.{found_has}
 use Rattle.ic_text.proofs.JoinedPhrase.{sides_of_rules}
+use Rattle.ic_flat.specs.lemmas.WordLaws.{trees_of-list_of}
 
 pub flat_names : (ts : Trees) → flat_map names (list_of ts) ≡ names_of ts
 flat_names no_trees = refl

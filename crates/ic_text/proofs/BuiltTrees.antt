@@ -3,11 +3,12 @@ use Rattle.std.proofs.Common.{◌≡◌, ◌*◌, ◌≤◌, List, [], ◌∷◌
 use Rattle.std.specs.List.{flat_map, AllByRecursion}
 use Rattle.std.proofs.lemmas.List.{length-map, take_at, drop_at}
 use Rattle.ic_term.specs.Symbol.{Symbol}
-use Rattle.ic_term.specs.Tree.{Tree, name, agent, Trees, no_trees, more_trees, list_of, trees_of}
+use Rattle.ic_term.specs.Tree.{Tree, name, agent, list_of, trees_of}
 use Rattle.ic_term.specs.Configuration.{configured}
 use Rattle.ic_flat.specs.declared.word.Word.{Word}
 use Rattle.ic_flat.specs.Words.{forest, IsWhole}
 use Rattle.ic_flat.specs.Flat.{pairs_of}
+use Rattle.ic_flat.specs.lemmas.WordLaws.{trees_of-list_of}
 use Rattle.ic_text.specs.Source.{Source, leaf, node, Sources, no_sources, more_sources, Sides, Phrase, IsSource, AreSources, IsPhrase, count_of}
 use Rattle.ic_text.specs.Sense.{number_in_table, numbered_tree, numbered_trees, numbered_pair, numbered_phrase}
 use Rattle.ic_text.specs.Words.{prefix, prefix_of_sources, phrase_prefix}
@@ -15,10 +16,6 @@ use Rattle.ic_text.specs.inner.Numbered.{word_from}
 use Rattle.ic_text.specs.inner.Built.{IsPaired, configuration_from}
 use Rattle.ic_text.specs.lemmas.NameLemmas.{is_name-name_text, name_number-name_text, isnt_name-symbol}
 use Rattle.ic_text.proofs.Grammar.{AreSides}
-
-pub trees_of-list_of : (ts : Trees) → trees_of (list_of ts) ≡ ts
-trees_of-list_of no_trees = refl
-trees_of-list_of (more_trees t ts) = ap (more_trees t) (trees_of-list_of ts)
 
 module _ (table : List Symbol) where
   -- words over a table, before other words

@@ -6,12 +6,8 @@ use Rattle.std.specs.Char.{is_ascii_alphanumeric}
 use Rattle.std.proofs.lemmas.Bool.{ne_eqb}
 use Rattle.ic_text.specs.declared.token.Mark.{Mark}
 use Rattle.ic_text.specs.declared.token.Mark.TheVariants.{LeftBrace, RightBrace, Less, Greater, Bar, Equals, Comma, Semicolon, Open, Close}
-use Rattle.ic_text.specs.Token.{Token, mark, is_blank, is_word_byte, mark_byte, mark_of, before, followed, tokens_at, tokens}
-use Rattle.ic_text.specs.lemmas.WordRuns.{tokens-parted}
-
-before-nil : (o : Option (List Token)) → before [] o ≡ o
-before-nil None = refl
-before-nil (Some ts) = refl
+use Rattle.ic_text.specs.Token.{Token, mark, is_blank, is_word_byte, mark_byte, mark_of, followed, tokens_at, tokens}
+use Rattle.ic_text.specs.lemmas.WordRuns.{before-none, tokens-parted}
 
 followed-none : (o : Option (List Token)) → followed o None ≡ None
 followed-none None = refl
@@ -22,7 +18,7 @@ dropped : (a b : List ℕ) (c : ℕ) → is_word_byte c ≡ false → tokens_at 
 dropped a b c apart blank =
     tokens-parted a b c apart
     ∙ ap (λ o. followed (tokens a) (followed o (tokens b))) blank
-    ∙ ap (followed (tokens a)) (before-nil (tokens b))
+    ∙ ap (followed (tokens a)) (before-none (tokens b))
 
 pub blanks_are_dropped : (a b : List ℕ)
     → AllByRecursion (λ c. tokens (a ++ c ∷ b) ≡ followed (tokens a) (tokens b)) (32 ∷ 9 ∷ 10 ∷ 13 ∷ [])

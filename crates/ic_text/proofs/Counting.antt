@@ -13,6 +13,7 @@ use Rattle.ic_text.specs.WordFaults.{IsFirstWord, count_words, due_after, is_cou
 use Rattle.ic_text.specs.inner.Counted.{due_over}
 use Rattle.ic_text.specs.declared.prefix.Node.{Node}
 use Rattle.ic_text.specs.inner.Prefix.{node_of, nodes_of}
+use Rattle.ic_text.proofs.Numbering.{gt_test}
 use Rattle.ic_text.proofs.Blaming.{Standing, standing_at}
 
 abbrev pub arities : List Symbol → ℕ
@@ -150,9 +151,6 @@ arities-phrase p =
 -- so many are at most a number, or are not
 pub le_test : (n m : ℕ) → n ≤ m → nat_le n m ≡ true
 le_test n m le = grind (arith, nat_tests)
-
-pub gt_test : (n m : ℕ) → m < n → nat_le n m ≡ false
-gt_test n m gt = grind (arith, nat_tests)
 
 -- words before a word are counted one by one
 module _ (ws : List Symbol) (k : ℕ) (inside : k < length ws) (outer : Bool) where

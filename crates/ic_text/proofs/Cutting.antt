@@ -2,10 +2,9 @@
 use Rattle.std.proofs.Common.{◌≡◌, ℕ, suc, ◌+◌, ◌-◌, ◌<◌, ◌≤◌, ◌^◌, Bool, true, false, cond, eqb, List, [], ◌∷◌, ◌++◌, Option, None, Some, length, take, drop, get_or, refl, sym, ap, ◌∙◌, subst, arith}
 use Rattle.std.specs.List.{AllByRecursion}
 use Rattle.std.proofs.lemmas.Bool.Decides.{nat_tests}
-use Rattle.std.proofs.lemmas.List.{take_all}
 use Rattle.ic_term.specs.Symbol.{Symbol}
 use Rattle.ic_text.specs.declared.token.Mark.{Mark}
-use Rattle.ic_text.specs.declared.token.Mark.TheVariants.{LeftBrace, RightBrace, Less, Greater, Bar, Equals, Comma, Semicolon, Open, Close}
+use Rattle.ic_text.specs.declared.token.Mark.TheVariants.{LeftBrace}
 use Rattle.ic_text.specs.Token.{Token, mark, is_blank, is_word_byte, mark_of, word_of, tokens_at, tokens}
 use Rattle.ic_text.specs.inner.Prefix.{Scanned, Cut, cut_at, cut_from, cut_run, mark_scan, scan, scan_at, scan_passed, scan_run, term_more}
 use Rattle.ic_text.specs.lemmas.ReadOnce.{some-injective}
@@ -16,16 +15,6 @@ none_left n e = grind (arith, nat_tests)
 
 pub some_left : (n : ℕ) → eqb n 0 ≡ false → 0 < n
 some_left n e = grind (arith, nat_tests)
-
--- of no tokens nothing is kept
-abbrev no_words : List Symbol
-no_words = []
-
-pub cut_nothing : (skip : ℕ) → record { seen = record { nodes = no_words; counts = []; arity = 0; terms = 0 }; skip = skip } ≡ cut_from skip (scan [])
-cut_nothing skip =
-    let none : no_words ≡ take (length no_words - skip) no_words = sym (take_all (length no_words - skip) no_words (omega arith)) in
-    let same : skip ≡ skip - length no_words = omega arith in
-    λ i. record { seen = record { nodes = none i; counts = []; arity = 0; terms = 0 }; skip = same i }
 
 -- a word is kept or left out
 module _ (b : ℕ) (bs : List ℕ) (skip : ℕ) (s : Scanned) where
@@ -54,15 +43,7 @@ cut-run (b ∷ bs) skip s = cut-word b bs skip s (eqb (skip - length s.nodes) 0)
 
 pub cut-mark : (m : Mark) (skip : ℕ) (s : Scanned) → cut_at (Some m) (cut_from skip s) ≡ cut_from skip (mark_scan m s)
 cut-mark LeftBrace skip s = refl
-cut-mark RightBrace skip s = refl
-cut-mark Less skip s = refl
-cut-mark Greater skip s = refl
-cut-mark Bar skip s = refl
-cut-mark Equals skip s = refl
-cut-mark Comma skip s = refl
-cut-mark Semicolon skip s = refl
-cut-mark Open skip s = refl
-cut-mark Close skip s = refl
+cut-mark _ skip s = refl
 
 cut-at : (o : Option Mark) (skip : ℕ) (s : Scanned) → cut_at o (cut_from skip s) ≡ cut_from skip (scan_at o s)
 cut-at None skip s = refl

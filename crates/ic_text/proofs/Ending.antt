@@ -3,11 +3,11 @@ use Rattle.std.proofs.Common.{◌≡◌, ◌≢◌, ℕ, zero, suc, ◌+◌, ◌
 use Rattle.std.proofs.lemmas.Bool.{false≢true}
 use Rattle.std.proofs.lemmas.List.{drop_more, take_more, take_all, take-append-drop, length-take-le, length-take}
 use Rattle.ic_text.specs.declared.token.Mark.{Mark}
-use Rattle.ic_text.specs.declared.token.Mark.TheVariants.{LeftBrace, RightBrace, Less, Greater, Bar, Equals, Comma, Semicolon, Close}
+use Rattle.ic_text.specs.declared.token.Mark.TheVariants.{LeftBrace, RightBrace, Less, Greater, Bar, Equals, Comma, Semicolon}
 use Rattle.ic_text.specs.declared.syntax.Part.{Part}
 use Rattle.ic_text.specs.declared.syntax.Part.TheVariants.{Start, RuleLeft, Turn, RuleRight, Begin, Interface, Left, Right, End}
 use Rattle.ic_text.specs.declared.syntax.Spot.{Spot}
-use Rattle.ic_text.specs.declared.syntax.Spot.TheVariants.{First, Due, FirstAgent, DueAgent, Symbol, After}
+use Rattle.ic_text.specs.declared.syntax.Spot.TheVariants.{First, FirstAgent, Symbol, After}
 use Rattle.ic_text.specs.declared.syntax.State.{State}
 use Rattle.ic_text.specs.declared.fault.TextFault.{TextFault}
 use Rattle.ic_text.specs.declared.fault.TextFault.TheVariants.{Syntax, Limit}
@@ -23,9 +23,9 @@ use Rattle.ic_text.specs.Places.{IsPlacedWithin, IsPlacedWordWithin, IsSyntaxPla
 use Rattle.ic_text.specs.inner.Syntax.{term_step, either_step, step, is_end, at_beginning, accepts}
 use Rattle.ic_text.specs.lemmas.ReadOnce.{IsTold, reads_none, some-injective, none_is_some}
 use Rattle.ic_text.specs.lemmas.WordRuns.{tokens-parted}
-use Rattle.ic_text.proofs.OnePlace.{apart_before, begins_one, begun-append}
-use Rattle.ic_text.proofs.Placing.{between_end}
-use Rattle.ic_text.proofs.WordPlaces.{begun_words, ends_within, ends-push, run_words}
+use Rattle.ic_text.specs.lemmas.OnePlace.{apart_before, begins_one, begun-append}
+use Rattle.ic_text.specs.lemmas.Between.{between_end}
+use Rattle.ic_text.specs.lemmas.WordPlaces.{begun_words, ends_within, ends-push, run_words}
 
 -- at the end of all no term is due and no parenthesis is open
 abbrev IsSettled : Part → Spot → ℕ → Type 0
@@ -42,56 +42,33 @@ where_settled false o is = tt
 
 -- a mark outside all parentheses
 settled_mark : (p : Part) (s : Spot) (d : ℕ) (m : Mark) → StateSettled (either_step p s d (mark m) None)
-settled_mark p Due d m = where_settled (eqb d 0) _ tt
-settled_mark p DueAgent d m = where_settled (eqb d 0) _ tt
 settled_mark RuleLeft First d RightBrace = where_settled (eqb d 0) _ tt
 settled_mark Interface First d Bar = where_settled (eqb d 0) _ tt
 settled_mark Left First d Greater = where_settled (eqb d 0) _ (refl, refl)
-settled_mark p First d m = where_settled (eqb d 0) _ tt
 settled_mark RuleLeft FirstAgent d RightBrace = where_settled (eqb d 0) _ tt
 settled_mark Interface FirstAgent d Bar = where_settled (eqb d 0) _ tt
 settled_mark Left FirstAgent d Greater = where_settled (eqb d 0) _ (refl, refl)
-settled_mark p FirstAgent d m = where_settled (eqb d 0) _ tt
 settled_mark Start Symbol d LeftBrace = where_settled (eqb d 0) _ tt
-settled_mark Start Symbol d m = where_settled (eqb d 0) _ tt
 settled_mark RuleLeft Symbol d Greater = where_settled (eqb d 0) _ tt
-settled_mark RuleLeft Symbol d m = where_settled (eqb d 0) _ tt
 settled_mark Turn Symbol d Less = where_settled (eqb d 0) _ tt
-settled_mark Turn Symbol d m = where_settled (eqb d 0) _ tt
-settled_mark RuleRight Symbol d Semicolon = where_settled (eqb d 0) _ tt
 settled_mark RuleRight Symbol d RightBrace = where_settled (eqb d 0) _ tt
-settled_mark RuleRight Symbol d m = where_settled (eqb d 0) _ tt
 settled_mark Begin Symbol d Less = where_settled (eqb d 0) _ tt
-settled_mark Begin Symbol d m = where_settled (eqb d 0) _ tt
-settled_mark Interface Symbol d Bar = where_settled (eqb d 0) _ tt
 settled_mark Interface Symbol d Comma = where_settled (eqb d 0) _ tt
-settled_mark Interface Symbol d m = where_settled (eqb d 0) _ tt
 settled_mark Left Symbol d Equals = where_settled (eqb d 0) _ tt
-settled_mark Left Symbol d m = where_settled (eqb d 0) _ tt
 settled_mark Right Symbol d Comma = where_settled (eqb d 0) _ tt
 settled_mark Right Symbol d Greater = where_settled (eqb d 0) _ (refl, refl)
-settled_mark Right Symbol d m = where_settled (eqb d 0) _ tt
 settled_mark End Symbol d m = where_settled (eqb d 0) _ tt
 settled_mark Start After d LeftBrace = where_settled (eqb d 0) _ tt
-settled_mark Start After d m = where_settled (eqb d 0) _ tt
 settled_mark RuleLeft After d Greater = where_settled (eqb d 0) _ tt
-settled_mark RuleLeft After d m = where_settled (eqb d 0) _ tt
 settled_mark Turn After d Less = where_settled (eqb d 0) _ tt
-settled_mark Turn After d m = where_settled (eqb d 0) _ tt
 settled_mark RuleRight After d Semicolon = where_settled (eqb d 0) _ tt
 settled_mark RuleRight After d RightBrace = where_settled (eqb d 0) _ tt
-settled_mark RuleRight After d m = where_settled (eqb d 0) _ tt
 settled_mark Begin After d Less = where_settled (eqb d 0) _ tt
-settled_mark Begin After d m = where_settled (eqb d 0) _ tt
 settled_mark Interface After d Bar = where_settled (eqb d 0) _ tt
 settled_mark Interface After d Comma = where_settled (eqb d 0) _ tt
-settled_mark Interface After d m = where_settled (eqb d 0) _ tt
 settled_mark Left After d Equals = where_settled (eqb d 0) _ tt
-settled_mark Left After d m = where_settled (eqb d 0) _ tt
-settled_mark Right After d Comma = where_settled (eqb d 0) _ tt
 settled_mark Right After d Greater = where_settled (eqb d 0) _ (refl, refl)
-settled_mark Right After d m = where_settled (eqb d 0) _ tt
-settled_mark End After d m = where_settled (eqb d 0) _ tt
+settled_mark _ _ d _ = where_settled (eqb d 0) _ tt
 
 -- a token where more is wanted
 abbrev WantsMore : Part → Type 0
@@ -109,10 +86,8 @@ settled_step p s d (mark m) None wants = settled_mark p s d m
 
 -- after the end no token is taken
 none_after : (t : Token) → step (record { part = End; spot = After; depth = 0 }) t ≡ None
-none_after (word text) = refl
 none_after (mark Comma) = refl
-none_after (mark Close) = refl
-none_after (mark m) = refl
+none_after _ = refl
 
 none_at_end : (s : Spot) (d : ℕ) (t : Token) → (s ≡ After) × (d ≡ 0) → step (record { part = End; spot = s; depth = d }) t ≡ None
 none_at_end s d t is = (λ i. step (record { part = End; spot = is.0 i; depth = is.1 i }) t) ∙ none_after t

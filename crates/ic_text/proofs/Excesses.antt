@@ -3,18 +3,20 @@ use Rattle.std.proofs.Common.{◌≡◌, ℕ, ◌+◌, ◌-◌, ◌*◌, ◌<◌
 use Rattle.std.specs.Prelude.{nat_le, nat_lt}
 use Rattle.std.proofs.lemmas.Bool.{and_from, ltb-true, ltb-false}
 use Rattle.std.proofs.lemmas.List.{length-take, length-take-le}
+use Rattle.std.proofs.Math.Bool.{and-false}
 use Rattle.ic_term.specs.Symbol.{Symbol}
 use Rattle.ic_rules.specs.declared.limits.TheConstants.{MAX_RULE_NODES}
 use Rattle.ic_text.specs.declared.excess.Excess.{Excess}
 use Rattle.ic_text.specs.declared.limits.Limits.{Limits}
 use Rattle.ic_text.specs.declared.limits.Limits.TheVariants.{Served}
 use Rattle.ic_text.specs.declared.misread.Limit.{Limit as Bound}
-use Rattle.ic_text.specs.declared.misread.Limit.TheVariants.{TextBytes, SymbolBytes, Arguments, NameNumber, Symbols, Rules, RuleNodes, Interface, Nodes}
+use Rattle.ic_text.specs.declared.misread.Limit.TheVariants.{Rules, RuleNodes, Interface, Nodes}
 use Rattle.ic_text.specs.Limits.{most_interface, most_nodes, most_rules}
 use Rattle.ic_text.specs.Words.{Written, all_words, in_a_row}
 use Rattle.ic_text.specs.WordFaults.{IsFirstWord, config_keeps, count_words, counts_keep, rank, rules_keep}
 use Rattle.ic_text.specs.inner.Counted.{IsExcess, IsExcessTest, IsFirstExcess, earlier}
-use Rattle.ic_text.proofs.Counting.{all-few, count-both, le_test, gt_test}
+use Rattle.ic_text.proofs.Numbering.{gt_test}
+use Rattle.ic_text.proofs.Counting.{all-few, count-both, le_test}
 
 -- one of two limits, or another, which is kept anyhow
 abbrev pub OneOf : (Bound → List Symbol → Bool) → Bound → Bound → Bound → Type 0
@@ -77,40 +79,12 @@ module _ (keep : Bound → List Symbol → Bool) (a b : Bound) (others : (c : Bo
 pub rules_others : (limits : Limits) (c : Bound) → OneOf (rules_keep limits) Rules RuleNodes c
 rules_others limits Rules = inl refl
 rules_others limits RuleNodes = inr (inl refl)
-rules_others limits TextBytes = inr (inr (λ ws. refl))
-rules_others limits SymbolBytes = inr (inr (λ ws. refl))
-rules_others limits Arguments = inr (inr (λ ws. refl))
-rules_others limits NameNumber = inr (inr (λ ws. refl))
-rules_others limits Symbols = inr (inr (λ ws. refl))
-rules_others limits Interface = inr (inr (λ ws. refl))
-rules_others limits Nodes = inr (inr (λ ws. refl))
+rules_others limits _ = inr (inr (λ ws. refl))
 
 pub config_others : (limits : Limits) (terms : ℕ) (c : Bound) → OneOf (config_keeps limits terms) Interface Nodes c
 config_others limits terms Interface = inl refl
 config_others limits terms Nodes = inr (inl refl)
-config_others limits terms TextBytes = inr (inr (λ ws. refl))
-config_others limits terms SymbolBytes = inr (inr (λ ws. refl))
-config_others limits terms Arguments = inr (inr (λ ws. refl))
-config_others limits terms NameNumber = inr (inr (λ ws. refl))
-config_others limits terms Symbols = inr (inr (λ ws. refl))
-config_others limits terms Rules = inr (inr (λ ws. refl))
-config_others limits terms RuleNodes = inr (inr (λ ws. refl))
-
--- the interface is what is tested where it has too many terms
-interface_test : (limits : Limits) (terms : ℕ) (ws : List Symbol) → most_interface limits < terms → config_keeps limits terms Interface ws ≡ nat_le (count_words true 0 ws) (most_interface limits)
-interface_test limits terms ws many = ap (λ b. b || nat_le (count_words true 0 ws) (most_interface limits)) (gt_test terms (most_interface limits) many)
-
-pub interface_excess : (limits : Limits) (terms : ℕ) (ws : List Symbol) (o : Option Excess) → most_interface limits < terms → IsExcessTest (λ us. nat_le (count_words true 0 us) (most_interface limits)) Interface ws o
-    → IsExcessTest (config_keeps limits terms Interface) Interface ws o
-interface_excess limits terms ws None many is = λ j. interface_test limits terms (take j ws) many ∙ is j
-interface_excess limits terms ws (Some e) many is = (
-  record {
-    inside = is.0.inside;
-    innocent = λ j le. interface_test limits terms (take j ws) many ∙ is.0.innocent j le;
-    guilty = interface_test limits terms (take (e.word + 1) ws) many ∙ is.0.guilty;
-  },
-  is.1,
-)
+config_others limits terms _ = inr (inr (λ ws. refl))
 
 pub interface_fits : (limits : Limits) (terms : ℕ) (ws : List Symbol) → terms ≤ most_interface limits → IsExcessTest (config_keeps limits terms Interface) Interface ws None
 interface_fits limits terms ws few = λ j. ap (λ b. b || nat_le (count_words true 0 (take j ws)) (most_interface limits)) (le_test terms (most_interface limits) few)
@@ -145,17 +119,7 @@ nothing_kept limits terms Interface =
     or_true true = refl
     or_true false = refl
 nothing_kept limits terms Nodes = le_test 0 (most_nodes limits) (omega arith)
-nothing_kept limits terms TextBytes = refl
-nothing_kept limits terms SymbolBytes = refl
-nothing_kept limits terms Arguments = refl
-nothing_kept limits terms NameNumber = refl
-nothing_kept limits terms Symbols = refl
-nothing_kept limits terms Rules = refl
-nothing_kept limits terms RuleNodes = refl
-
-and_false : (x : Bool) → (x && false) ≡ false
-and_false true = refl
-and_false false = refl
+nothing_kept limits terms _ = refl
 
 module _ (limits : Limits) (w : Written) where
   abbrev the_rules : List Symbol
@@ -187,7 +151,7 @@ module _ (limits : Limits) (w : Written) where
           passed =
               (λ i. rules_keep limits f.limit (take (f.word + 1) the_rules) && config_keeps limits w.terms (same i) (take (after i) w.config))
               ∙ ap (λ x. rules_keep limits f.limit (take (f.word + 1) the_rules) && x) is.passed
-              ∙ and_false (rules_keep limits f.limit (take (f.word + 1) the_rules));
+              ∙ and-false (rules_keep limits f.limit (take (f.word + 1) the_rules));
           first = λ b less.
               and_from (rules_keep limits b (take (f.word + 1) the_rules)) _ (rules_kept (f.word + 1) b)
               (ap (λ n. config_keeps limits w.terms b (take n w.config)) after ∙ is.first b (subst (λ y. rank b < rank y) same less));

@@ -30,14 +30,10 @@ IsInner End = ⊥
 
 pub goes_on : (p : Part) (s : Spot) (d : ℕ) → IsInner p → accepts (at p s d) [] ≡ true → ⊥
 goes_on Start s d inner ends = absurd inner
-goes_on RuleLeft s d inner ends = false≢true ends
 goes_on Turn s d inner ends = absurd inner
-goes_on RuleRight s d inner ends = false≢true ends
 goes_on Begin s d inner ends = absurd inner
-goes_on Interface s d inner ends = false≢true ends
-goes_on Left s d inner ends = false≢true ends
-goes_on Right s d inner ends = false≢true ends
 goes_on End s d inner ends = absurd inner
+goes_on _ s d inner ends = false≢true ends
 
 -- the tokens begin with a term
 pub record TermFound (p : Part) (d : ℕ) (ts : List Token) : Type 0 where

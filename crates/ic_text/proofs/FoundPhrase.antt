@@ -51,22 +51,19 @@ after_from_separated ts t others =
     record { terms = all.terms; are = all.are; rest = all.rest; spelled = ap (λ r. mark Comma ∷ r) all.spelled; goes = all.goes }
 
 interface_rest : (n : ℕ) (ts : List Token) → length ts ≤ n → accepts (at Interface After 0) ts ≡ true → InterfaceFound after_commas ts
-interface_rest n [] le goes = absurd (false≢true goes)
-interface_rest n (word text ∷ ts) le goes = absurd (false≢true goes)
 interface_rest n (mark Bar ∷ ts) le goes = record { terms = []; are = tt; rest = ts; spelled = refl; goes = goes }
 interface_rest zero (mark Comma ∷ ts) le goes = absurd (omega arith)
 interface_rest (suc n) (mark Comma ∷ ts) le goes =
     let t = term_due ts Interface tt goes in
     after_from_separated ts t (interface_rest n t.rest (rest_is_less ts t.rest n (words t.term) t.spelled (omega arith)) t.goes)
-interface_rest n (mark m ∷ ts) le goes = absurd (false≢true goes)
+interface_rest n _ le goes = absurd (false≢true goes)
 
 interface_found : (ts : List Token) → accepts (at Interface First 0) ts ≡ true → InterfaceFound (separated Comma) ts
-interface_found [] goes = absurd (false≢true goes)
 interface_found (word text ∷ ts) goes =
     let t = term_due (word text ∷ ts) Interface tt (sym (first_is_due Interface text ts) ∙ goes) in
     interface_more (word text ∷ ts) t (interface_rest (length t.rest) t.rest (omega arith) t.goes)
 interface_found (mark Bar ∷ ts) goes = record { terms = []; are = tt; rest = ts; spelled = refl; goes = goes }
-interface_found (mark m ∷ ts) goes = absurd (false≢true goes)
+interface_found _ goes = absurd (false≢true goes)
 
 -- the tokens begin with an equation
 record EquationFound (ts : List Token) : Type 0 where
@@ -77,10 +74,8 @@ record EquationFound (ts : List Token) : Type 0 where
   goes : accepts (at Right After 0) rest ≡ true
 
 equals_found : (ts : List Token) → accepts (at Left After 0) ts ≡ true → (us : List Token) × (ts ≡ mark Equals ∷ us) × (accepts (at Right Due 0) us ≡ true)
-equals_found [] goes = absurd (false≢true goes)
-equals_found (word text ∷ ts) goes = absurd (false≢true goes)
 equals_found (mark Equals ∷ ts) goes = (ts, refl, goes)
-equals_found (mark m ∷ ts) goes = absurd (false≢true goes)
+equals_found _ goes = absurd (false≢true goes)
 
 equation_due : (ts : List Token) → accepts (at Left Due 0) ts ≡ true → EquationFound ts
 equation_due ts goes =
@@ -116,35 +111,29 @@ equations_after ts e others =
 
 nothing_after : (ts : List Token) → accepts (at End After 0) ts ≡ true → ts ≡ []
 nothing_after [] goes = refl
-nothing_after (word text ∷ ts) goes = absurd (false≢true goes)
 nothing_after (mark Less ∷ ts) goes = absurd (false≢true goes)
-nothing_after (mark m ∷ ts) goes = absurd (false≢true goes)
+nothing_after _ goes = absurd (false≢true goes)
 
 end_found : (front : List (List Token) → List Token) → front [] ≡ [] → (ts : List Token) → accepts (at End After 0) ts ≡ true → EquationsFound front (mark Greater ∷ ts)
 end_found front none ts goes = record { equations = []; are = tt; spelled = ap (λ r. mark Greater ∷ r) (nothing_after ts goes) ∙ ap (λ r. r ++ mark Greater ∷ []) (sym none) }
 
 equations_rest : (n : ℕ) (ts : List Token) → length ts ≤ n → accepts (at Right After 0) ts ≡ true → EquationsFound after_commas ts
-equations_rest n [] le goes = absurd (false≢true goes)
-equations_rest n (word text ∷ ts) le goes = absurd (false≢true goes)
 equations_rest n (mark Greater ∷ ts) le goes = end_found after_commas refl ts goes
 equations_rest zero (mark Comma ∷ ts) le goes = absurd (omega arith)
 equations_rest (suc n) (mark Comma ∷ ts) le goes =
     let e = equation_due ts goes in
     equations_after ts e (equations_rest n e.rest (rest_is_less ts e.rest n (sides_words e.sides) e.spelled (omega arith)) e.goes)
-equations_rest n (mark m ∷ ts) le goes = absurd (false≢true goes)
+equations_rest n _ le goes = absurd (false≢true goes)
 
 equations_found : (ts : List Token) → accepts (at Left First 0) ts ≡ true → EquationsFound (separated Comma) ts
-equations_found [] goes = absurd (false≢true goes)
 equations_found (word text ∷ ts) goes =
     let e = equation_due (word text ∷ ts) (sym (first_is_due Left text ts) ∙ goes) in
     equations_more (word text ∷ ts) e (equations_rest (length e.rest) e.rest (omega arith) e.goes)
 equations_found (mark Greater ∷ ts) goes = end_found (separated Comma) refl ts goes
-equations_found (mark m ∷ ts) goes = absurd (false≢true goes)
+equations_found _ goes = absurd (false≢true goes)
 
 -- what is accepted is a configuration
 pub SpelledBy-accepts : (ts : List Token) → accepts (at Begin After 0) ts ≡ true → SpelledBy ts
-SpelledBy-accepts [] goes = absurd (false≢true goes)
-SpelledBy-accepts (word text ∷ ts) goes = absurd (false≢true goes)
 SpelledBy-accepts (mark Less ∷ ts) goes =
     let i = interface_found ts goes in
     let e = equations_found i.rest i.goes in (
@@ -152,7 +141,7 @@ SpelledBy-accepts (mark Less ∷ ts) goes =
       record { interface = i.are; equations = e.are },
       ap (λ r. mark Less ∷ r) (i.spelled ∙ ap (λ r. separated Comma (map words i.terms) ++ mark Bar ∷ r) e.spelled),
     )
-SpelledBy-accepts (mark m ∷ ts) goes = absurd (false≢true goes)
+SpelledBy-accepts _ goes = absurd (false≢true goes)
 
 -- and each configuration is accepted
 pub accepts-SpelledBy : (ts : List Token) → SpelledBy ts → accepts (at Begin After 0) ts ≡ true

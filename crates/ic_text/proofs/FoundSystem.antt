@@ -57,19 +57,15 @@ record RuleFound (ts : List Token) : Type 0 where
 
 less_found : (ts : List Token) → accepts (at Turn After 0) ts ≡ true
     → (us : List Token) × (ts ≡ mark Less ∷ us) × (accepts (at RuleRight DueAgent 0) us ≡ true)
-less_found [] goes = absurd (false≢true goes)
-less_found (word text ∷ ts) goes = absurd (false≢true goes)
 less_found (mark Less ∷ ts) goes = (ts, refl, goes)
-less_found (mark m ∷ ts) goes = absurd (false≢true goes)
+less_found _ goes = absurd (false≢true goes)
 
 turn_found : (ts : List Token) → accepts (at RuleLeft After 0) ts ≡ true
     → (us : List Token) × (ts ≡ mark Greater ∷ mark Less ∷ us) × (accepts (at RuleRight DueAgent 0) us ≡ true)
-turn_found [] goes = absurd (false≢true goes)
-turn_found (word text ∷ ts) goes = absurd (false≢true goes)
 turn_found (mark Greater ∷ ts) goes =
     let found = less_found ts goes in
     (found.0, ap (λ r. mark Greater ∷ r) found.1, found.2)
-turn_found (mark m ∷ ts) goes = absurd (false≢true goes)
+turn_found _ goes = absurd (false≢true goes)
 
 rule_due : (ts : List Token) → accepts (at RuleLeft DueAgent 0) ts ≡ true → RuleFound ts
 rule_due ts goes =
@@ -127,28 +123,23 @@ after_from_separated ts found others =
 
 rules_rest : (n : ℕ) (ts : List Token) → length ts ≤ n → accepts (at RuleRight After 0) ts ≡ true
     → RulesFound after_semicolons ts
-rules_rest n [] le goes = absurd (false≢true goes)
-rules_rest n (word text ∷ ts) le goes = absurd (false≢true goes)
 rules_rest n (mark RightBrace ∷ ts) le goes = record { rules = []; are = tt; rest = ts; spelled = refl; goes = goes }
 rules_rest zero (mark Semicolon ∷ ts) le goes = absurd (omega arith)
 rules_rest (suc n) (mark Semicolon ∷ ts) le goes =
     let found = rule_due ts goes in
     let less = rest_is_less ts found.rest n (rule_words found.rule) found.spelled (omega arith) in
     after_from_separated ts found (rules_rest n found.rest less found.goes)
-rules_rest n (mark m ∷ ts) le goes = absurd (false≢true goes)
+rules_rest n _ le goes = absurd (false≢true goes)
 
 rules_found : (ts : List Token) → accepts (at RuleLeft FirstAgent 0) ts ≡ true → RulesFound (separated Semicolon) ts
-rules_found [] goes = absurd (false≢true goes)
 rules_found (word text ∷ ts) goes =
     let found = rule_due (word text ∷ ts) goes in
     rules_more (word text ∷ ts) found (rules_rest (length found.rest) found.rest (omega arith) found.goes)
 rules_found (mark RightBrace ∷ ts) goes = record { rules = []; are = tt; rest = ts; spelled = refl; goes = goes }
-rules_found (mark m ∷ ts) goes = absurd (false≢true goes)
+rules_found _ goes = absurd (false≢true goes)
 
 -- what is accepted is a system
 pub SystemSpelledBy-accepts : (ts : List Token) → accepts (at Start After 0) ts ≡ true → SystemSpelledBy ts
-SystemSpelledBy-accepts [] goes = absurd (false≢true goes)
-SystemSpelledBy-accepts (word text ∷ ts) goes = absurd (false≢true goes)
 SystemSpelledBy-accepts (mark LeftBrace ∷ ts) goes =
     let found = rules_found ts goes in
     let config = SpelledBy-accepts found.rest found.goes in (
@@ -157,7 +148,7 @@ SystemSpelledBy-accepts (mark LeftBrace ∷ ts) goes =
       ap (λ r. mark LeftBrace ∷ r)
           (found.spelled ∙ ap (λ r. rules_words found.rules ++ mark RightBrace ∷ r) config.2),
     )
-SystemSpelledBy-accepts (mark m ∷ ts) goes = absurd (false≢true goes)
+SystemSpelledBy-accepts _ goes = absurd (false≢true goes)
 
 -- and each system is accepted
 pub accepts-SystemSpelledBy : (ts : List Token) → SystemSpelledBy ts → accepts (at Start After 0) ts ≡ true

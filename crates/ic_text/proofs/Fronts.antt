@@ -14,7 +14,7 @@ use Rattle.ic_text.specs.declared.limits.Limits.TheVariants.{Served, Wide}
 use Rattle.ic_text.specs.declared.misread.Detail.{Detail}
 use Rattle.ic_text.specs.declared.misread.Detail.TheVariants.{Nothing, Passed, Arities}
 use Rattle.ic_text.specs.declared.misread.Limit.{Limit as Bound}
-use Rattle.ic_text.specs.declared.misread.Limit.TheVariants.{TextBytes, SymbolBytes, Arguments, NameNumber, Symbols, Rules, RuleNodes, Interface, Nodes}
+use Rattle.ic_text.specs.declared.misread.Limit.TheVariants.{Rules, RuleNodes, Nodes}
 use Rattle.ic_flat.specs.declared.word.Word.{Word}
 use Rattle.ic_text.specs.declared.refusal.Refusal.{Refusal}
 use Rattle.ic_text.specs.Sense.{has_its_arity}
@@ -126,15 +126,9 @@ no_nodes Served = refl
 no_nodes Wide = refl
 
 no_rules : (limits : Limits) (b : Bound) → rules_keep limits b [] ≡ true
-no_rules limits TextBytes = refl
 no_rules limits Rules = le_test 0 (2 * most_rules limits) (omega arith)
 no_rules limits RuleNodes = no_nodes limits
-no_rules limits Interface = refl
-no_rules limits Nodes = refl
-no_rules limits SymbolBytes = refl
-no_rules limits Arguments = refl
-no_rules limits NameNumber = refl
-no_rules limits Symbols = refl
+no_rules limits _ = refl
 
 no_rules_yet : (limits : Limits) (j : ℕ) (b : Bound) → rules_keep limits b (take j []) ≡ true
 no_rules_yet limits zero b = no_rules limits b

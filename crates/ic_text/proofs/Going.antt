@@ -50,25 +50,11 @@ part_end End = []
 
 accepts-part_end : (p : Part) → accepts (at p After 0) (part_end p) ≡ true
 accepts-part_end Start = refl
-accepts-part_end RuleLeft = refl
-accepts-part_end Turn = refl
-accepts-part_end RuleRight = refl
-accepts-part_end Begin = refl
-accepts-part_end Interface = refl
-accepts-part_end Left = refl
-accepts-part_end Right = refl
-accepts-part_end End = refl
+accepts-part_end _ = refl
 
 part_end_is_closed : (p : Part) → IsClosed (part_end p)
 part_end_is_closed Start = tt
-part_end_is_closed RuleLeft = tt
-part_end_is_closed Turn = tt
-part_end_is_closed RuleRight = tt
-part_end_is_closed Begin = tt
-part_end_is_closed Interface = tt
-part_end_is_closed Left = tt
-part_end_is_closed Right = tt
-part_end_is_closed End = tt
+part_end_is_closed _ = tt
 
 closes_are_closed : (d : ℕ) (p : Part) → IsClosed (closes d ++ part_end p)
 closes_are_closed zero p = part_end_is_closed p
@@ -85,10 +71,8 @@ accepts-closes (suc d) p r =
 accepts-term_end : (s : Spot) (p : Part) (d : ℕ) (r : List Token) → IsClosed r → accepts (at p s d) (term_end s ++ r) ≡ accepts (at p After d) r
 accepts-term_end First p d r closed = accepts-words (leaf 0) p First d r tt tt closed
 accepts-term_end Due p d r closed = accepts-words (leaf 0) p Due d r tt tt closed
-accepts-term_end FirstAgent p d r closed = symbol_is_term r p d closed
-accepts-term_end DueAgent p d r closed = symbol_is_term r p d closed
-accepts-term_end Symbol p d r closed = symbol_is_term r p d closed
 accepts-term_end After p d r closed = refl
+accepts-term_end _ p d r closed = symbol_is_term r p d closed
 
 -- from each state tokens lead to the end
 abbrev pub state_end : State → List Token

@@ -1,16 +1,16 @@
 -- What a system or a configuration is refused for after its limits and arities, it has.
-use Rattle.std.proofs.Common.{◌≡◌, ℕ, zero, suc, ◌+◌, ◌<◌, ◌≤◌, ◌==◌, Bool, true, false, not, cond, List, [], ◌∷◌, ◌++◌, Option, None, Some, Result, Ok, Err, length, map, refl, sym, ap, ◌∙◌, subst, arith, append_assoc, length-append}
+use Rattle.std.proofs.Common.{◌≡◌, ℕ, zero, suc, ◌+◌, ◌<◌, ◌≤◌, ◌==◌, Bool, true, false, not, cond, List, [], ◌∷◌, ◌++◌, Option, None, Some, Result, Err, length, map, refl, sym, ap, ◌∙◌, subst, arith, append_assoc, length-append}
 use Rattle.std.specs.Prelude.{nat_le}
 use Rattle.std.specs.List.{list_all, list_any, slice_get, flat_map, position_from, AllByRecursion}
 use Rattle.std.specs.Cmp.{unsigned_Decides}
-use Rattle.std.proofs.lemmas.Bool.{false≢true, and_parts, leb-true}
+use Rattle.std.proofs.lemmas.Bool.{false≢true, and_parts, leb-true, not-true}
 use Rattle.std.proofs.lemmas.List.{length-map}
 use Rattle.std.proofs.lemmas.List.Folds.{list_all-append}
 use Rattle.std.proofs.lemmas.List.Sums.{sum_by-append, sum_by-cons}
 use Rattle.ic_term.specs.Symbol.{Symbol}
 use Rattle.ic_term.specs.Configuration.{Configuration, occurrences, third_from, third_occurrence}
 use Rattle.ic_term.specs.declared.config.ConfigFault.{ConfigFault}
-use Rattle.ic_term.specs.declared.config.ConfigFault.TheVariants.{Limit as TooMuch, Name as Third, Memory as NoRoom}
+use Rattle.ic_term.specs.declared.config.ConfigFault.TheVariants.{Limit as TooMuch}
 use Rattle.ic_rules.specs.Renaming.{are_paired}
 use Rattle.ic_rules.specs.Rule.{Rule, rule_names as names_of_rule, numbered, is_lopsided, same_pair}
 use Rattle.ic_rules.specs.RuleSet.{first_uncounted, repeated_after, first_repeated, first_lopsided}
@@ -33,10 +33,6 @@ use Rattle.ic_text.proofs.PrefixWords.{names_among-append, names_among-prefix, n
 use Rattle.ic_text.proofs.Refusing.{config_syntax, config_arity, found_after, system_syntax, system_arity, system_limit}
 use Rattle.ic_text.proofs.Sensing.{names-numbered_trees}
 use Rattle.ic_text.proofs.Uses.{occurrences-uses}
-
-not_true : (b : Bool) → not b ≡ true → b ≡ false
-not_true true e = cc
-not_true false e = refl
 
 -- the rule that a test finds
 found_at : (p : Rule → Bool) (g : RulePhrase → Rule) (rs : List RulePhrase) (k i : ℕ) → position_from p k (map g rs) ≡ Some i
@@ -77,7 +73,7 @@ uncounted s is i e =
     let place : found.0 ≡ i = omega (arith, found.1.0) in
     let there : slice_get s.rules i ≡ Some r = ap (slice_get s.rules) (sym place) ∙ found.1.1.1.0 in
     let same : names_of_rule (rule_over (system_table s) r) ≡ names_among (rule_prefix r) = names-over (system_table s) r ∙ sym (names-rule r (each_is s.rules i r is.rules there)) in
-    (r, there, ap are_paired (sym same) ∙ not_true (are_paired (names_of_rule (rule_over (system_table s) r))) found.1.1.1.1)
+    (r, there, ap are_paired (sym same) ∙ not-true (are_paired (names_of_rule (rule_over (system_table s) r))) found.1.1.1.1)
 
 -- a name that is found to occur a third time occurs three times
 occurrences-append : (n : ℕ) (ms ns : List ℕ) → occurrences n (ms ++ ns) ≡ occurrences n ms + occurrences n ns
@@ -207,22 +203,16 @@ abbrev pub alone : Phrase → SystemPhrase
 alone p = record { rules = []; config = p }
 
 config_count : (a : Result Configuration ConfigFault) (i : ℕ) → Err (NameCount i) ≡ as_text_answer a → ⊥
-config_count (Ok c) i e = cc
 config_count (Err TooMuch) i e = cc
-config_count (Err (Third n)) i e = cc
-config_count (Err NoRoom) i e = cc
+config_count _ i e = cc
 
 config_twice : (a : Result Configuration ConfigFault) (i : ℕ) → Err (Twice i) ≡ as_text_answer a → ⊥
-config_twice (Ok c) i e = cc
 config_twice (Err TooMuch) i e = cc
-config_twice (Err (Third n)) i e = cc
-config_twice (Err NoRoom) i e = cc
+config_twice _ i e = cc
 
 config_lopsided : (a : Result Configuration ConfigFault) (i : ℕ) → Err (Lopsided i) ≡ as_text_answer a → ⊥
-config_lopsided (Ok c) i e = cc
 config_lopsided (Err TooMuch) i e = cc
-config_lopsided (Err (Third n)) i e = cc
-config_lopsided (Err NoRoom) i e = cc
+config_lopsided _ i e = cc
 
 module _ (limits : Limits) (p : Phrase) (is : IsPhrase p) where
   third-config : (n : ℕ) → Err (Name n) ≡ sense_within limits p → (is_in_limits_within limits p ≡ true) × (third_occurrence (phrase_names p) ≡ Some n)

@@ -5,7 +5,7 @@ use Rattle.std.proofs.lemmas.List.{map-append}
 use Rattle.ic_term.specs.Symbol.{Symbol, texts}
 use Rattle.ic_text.specs.declared.token.Mark.{Mark}
 use Rattle.ic_text.specs.declared.token.Mark.TheVariants.{RightBrace, Less, Greater, Bar, Equals, Comma, Semicolon}
-use Rattle.ic_text.specs.Token.{Token, word, mark, words_among}
+use Rattle.ic_text.specs.Token.{Token, mark, words_among}
 use Rattle.ic_text.specs.Name.{is_name, name_number}
 use Rattle.ic_text.specs.Source.{Source, leaf, node, Sources, no_sources, more_sources, Sides, Phrase, IsPhrase, words, argument_words, further_words, sides_words, separated, phrase_words, source_symbols, phrase_symbols, phrase_names}
 use Rattle.ic_text.specs.SystemSource.{RulePhrase, SystemPhrase, IsSystemPhrase, agent_source, rule_words, rules_words, system_words, rule_symbols, system_symbols}
@@ -14,12 +14,8 @@ use Rattle.ic_text.specs.SystemSense.{system_table}
 use Rattle.ic_text.specs.Words.{prefix, prefix_of_sources, phrase_prefix, rules_prefix, symbols_among, names_among}
 use Rattle.ic_text.proofs.PrefixWords.{symbols_among-phrase, names_among-phrase}
 use Rattle.ic_text.proofs.JoinedPhrase.{joined_phrase, prefix-joined, symbols-joined, is-joined}
-use Rattle.ic_text.proofs.SymbolOrder.{symbols_after-append}
-
-pub words_among-append : (ts us : List Token) → words_among (ts ++ us) ≡ words_among ts ++ words_among us
-words_among-append [] us = refl
-words_among-append (word w ∷ ts) us = ap (λ l. w ∷ l) (words_among-append ts us)
-words_among-append (mark m ∷ ts) us = words_among-append ts us
+use Rattle.ic_text.specs.lemmas.SymbolOrder.{symbols_after-append}
+use Rattle.ic_text.specs.lemmas.WordRuns.{words_among-append}
 
 -- words in front of words
 both : (ts us : List Token) (v w : List Symbol) → words_among ts ≡ texts v → words_among us ≡ texts w

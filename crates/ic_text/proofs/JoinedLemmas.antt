@@ -5,9 +5,9 @@ use Rattle.ic_rules.specs.RuleFault.{Answers}
 use Rattle.ic_rules.specs.RuleSet.{Rules}
 use Rattle.ic_rules.specs.System.{SystemParts}
 use Rattle.ic_rules.specs.declared.rule_set.RuleFault.{RuleFault}
-use Rattle.ic_rules.specs.declared.rule_set.RuleFault.TheVariants.{Limit as TooMany, Arity as OtherArity, NameCount as Uncounted, Twice as Repeated, Lopsided as Uneven, Memory as NoRoom}
+use Rattle.ic_rules.specs.declared.rule_set.RuleFault.TheVariants.{Twice as Repeated, Lopsided as Uneven, Memory as NoRoom}
 use Rattle.ic_text.specs.declared.fault.TextFault.{TextFault}
-use Rattle.ic_text.specs.declared.fault.TextFault.TheVariants.{Syntax, Limit, Arity, NameCount, Name, Twice, Lopsided, Memory}
+use Rattle.ic_text.specs.declared.fault.TextFault.TheVariants.{Memory}
 use Rattle.ic_text.specs.inner.Built.{joined}
 use Rattle.ic_text.specs.inner.Numbered.{Gives}
 
@@ -20,46 +20,24 @@ GivesConfig result answer = Gives (λ c. c) result answer
 
 -- where memory ran out, nothing is said
 memory_says : (result answer : Result SystemParts TextFault) → GivesSystem result (Err Memory) → GivesSystem result answer
-memory_says (Ok v) answer told = cc
-memory_says (Err Syntax) answer told = cc
-memory_says (Err Limit) answer told = cc
-memory_says (Err Arity) answer told = cc
-memory_says (Err (NameCount i)) answer told = cc
-memory_says (Err (Name n)) answer told = cc
-memory_says (Err (Twice i)) answer told = cc
-memory_says (Err (Lopsided i)) answer told = cc
 memory_says (Err Memory) answer told = tt
+memory_says _ answer told = cc
 
 no_memory : (result : Result SystemParts TextFault) (rules : Result Rules RuleFault) (c : Result Configuration TextFault) → GivesSystem result (joined rules (Err Memory)) → GivesSystem result (joined rules c)
 no_memory result (Ok rs) c told = memory_says result (joined (Ok rs) c) told
-no_memory result (Err TooMany) c told = told
-no_memory result (Err (OtherArity n)) c told = told
-no_memory result (Err (Uncounted i)) c told = told
 no_memory result (Err (Repeated i)) c told = memory_says result (joined (Err (Repeated i)) c) told
 no_memory result (Err (Uneven i)) c told = memory_says result (joined (Err (Uneven i)) c) told
-no_memory result (Err NoRoom) c told = told
+no_memory result _ c told = told
 
 config_so : (result : Result SystemParts TextFault) (rules : Result Rules RuleFault) (config c : Result Configuration TextFault)
     → GivesConfig config c → GivesSystem result (joined rules config) → GivesSystem result (joined rules c)
-config_so result rules (Ok d) c is told = subst (λ x. GivesSystem result (joined rules x)) is told
-config_so result rules (Err Syntax) c is told = subst (λ x. GivesSystem result (joined rules x)) is told
-config_so result rules (Err Limit) c is told = subst (λ x. GivesSystem result (joined rules x)) is told
-config_so result rules (Err Arity) c is told = subst (λ x. GivesSystem result (joined rules x)) is told
-config_so result rules (Err (NameCount i)) c is told = subst (λ x. GivesSystem result (joined rules x)) is told
-config_so result rules (Err (Name n)) c is told = subst (λ x. GivesSystem result (joined rules x)) is told
-config_so result rules (Err (Twice i)) c is told = subst (λ x. GivesSystem result (joined rules x)) is told
-config_so result rules (Err (Lopsided i)) c is told = subst (λ x. GivesSystem result (joined rules x)) is told
 config_so result rules (Err Memory) c is told = no_memory result rules c told
+config_so result rules _ c is told = subst (λ x. GivesSystem result (joined rules x)) is told
 
 rules_so : (result : Result SystemParts TextFault) (rules r : Result Rules RuleFault) (c : Result Configuration TextFault)
     → Answers rules r → GivesSystem result (joined rules c) → GivesSystem result (joined r c)
-rules_so result (Ok rs) r c is told = subst (λ x. GivesSystem result (joined x c)) is told
-rules_so result (Err TooMany) r c is told = subst (λ x. GivesSystem result (joined x c)) is told
-rules_so result (Err (OtherArity n)) r c is told = subst (λ x. GivesSystem result (joined x c)) is told
-rules_so result (Err (Uncounted i)) r c is told = subst (λ x. GivesSystem result (joined x c)) is told
-rules_so result (Err (Repeated i)) r c is told = subst (λ x. GivesSystem result (joined x c)) is told
-rules_so result (Err (Uneven i)) r c is told = subst (λ x. GivesSystem result (joined x c)) is told
 rules_so result (Err NoRoom) r c is told = memory_says result (joined r c) told
+rules_so result _ r c is told = subst (λ x. GivesSystem result (joined x c)) is told
 
 -- what is made of these rules and this configuration is made of those that they answer for
 pub joined_so : (result : Result SystemParts TextFault) (rules r : Result Rules RuleFault) (config c : Result Configuration TextFault)

@@ -9,7 +9,7 @@ use Rattle.ic_term.specs.Symbol.{Symbol, fits_limits}
 use Rattle.ic_term.specs.declared.limits.TheConstants.{MAX_SYMBOL_TEXT, MAX_ARITY}
 use Rattle.ic_text.specs.declared.limits.TheConstants.{MAX_NAME}
 use Rattle.ic_text.specs.declared.misread.Limit.{Limit as Bound}
-use Rattle.ic_text.specs.declared.misread.Limit.TheVariants.{TextBytes, SymbolBytes, Arguments, NameNumber, Symbols, Rules, RuleNodes, Interface, Nodes}
+use Rattle.ic_text.specs.declared.misread.Limit.TheVariants.{SymbolBytes, Arguments, NameNumber, Symbols}
 use Rattle.ic_text.specs.declared.limits.Limits.{Limits}
 use Rattle.ic_text.specs.Limits.{most_symbols}
 use Rattle.ic_text.specs.Name.{is_name}
@@ -39,11 +39,7 @@ module _ (limits : Limits) (ws : List Symbol) (within : are_within limits ws ≡
       all_of (λ s. fits_limits s.text s.arity) (λ s. nat_le s.arity MAX_ARITY) (λ s is. (and_parts (nat_le (length s.text) MAX_SYMBOL_TEXT) (nat_le s.arity MAX_ARITY) is).1) (symbols_among ws) symbols
   keeps_each NameNumber = (and_parts (list_all (λ (s : Symbol). fits_limits s.text s.arity) (symbols_among ws)) (list_all (λ n. nat_le n MAX_NAME) (names_among ws)) of_words).1
   keeps_each Symbols = (and_parts (list_all (λ (s : Symbol). fits_limits s.text s.arity) (symbols_among ws) && list_all (λ n. nat_le n MAX_NAME) (names_among ws)) (nat_le (length (word_table ws)) (most_symbols limits)) within).1
-  keeps_each TextBytes = refl
-  keeps_each Rules = refl
-  keeps_each RuleNodes = refl
-  keeps_each Interface = refl
-  keeps_each Nodes = refl
+  keeps_each _ = refl
 
 le_test : (n m : ℕ) → n ≤ m → nat_le n m ≡ true
 le_test n m le = grind (arith, nat_tests)

@@ -21,15 +21,7 @@ word_isnt_blank b is = grind (arith, nat_tests)
 
 mark_isnt_blank : (m : Mark) → is_blank (mark_byte m) ≡ false
 mark_isnt_blank LeftBrace = refl
-mark_isnt_blank RightBrace = refl
-mark_isnt_blank Less = refl
-mark_isnt_blank Greater = refl
-mark_isnt_blank Bar = refl
-mark_isnt_blank Equals = refl
-mark_isnt_blank Comma = refl
-mark_isnt_blank Semicolon = refl
-mark_isnt_blank Open = refl
-mark_isnt_blank Close = refl
+mark_isnt_blank _ = refl
 
 -- a byte is that of its mark
 module _ (b : ℕ) (m : Mark) where

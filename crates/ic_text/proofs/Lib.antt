@@ -9,7 +9,6 @@ pub mod Scanning
 pub mod ScanningRules
 pub mod ScanningText
 pub mod SplitText
-pub mod TableLemmas
 pub mod Numbering
 pub mod BuildLemmas
 pub mod JoinedLemmas
@@ -27,9 +26,7 @@ pub mod WordTextLemmas
 pub mod OneReading
 pub mod OneSystem
 pub mod ReadBack
-pub mod WrittenTokens
 pub mod KeptBytes
-pub mod SymbolOrder
 pub mod ByteKinds
 pub mod InTextOrder
 pub mod NextAbove
@@ -40,9 +37,7 @@ pub mod Going
 pub mod Placing
 pub mod PlaceLaws
 pub mod Blaming
-pub mod WordPlaces
 pub mod Refusing
-pub mod FirstWords
 pub mod Uses
 pub mod Miscounts
 pub mod RuleWalk
@@ -54,7 +49,6 @@ pub mod Excesses
 pub mod RuleNodes
 pub mod Fitting
 pub mod Stopping
-pub mod OnePlace
 pub mod Ending
 pub mod Heads
 pub mod PassedLimits

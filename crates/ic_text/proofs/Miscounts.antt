@@ -4,7 +4,7 @@ use Rattle.std.specs.List.{list_all}
 use Rattle.std.specs.Str.{bytes_eq}
 use Rattle.std.specs.Cmp.{unsigned_Decides}
 use Rattle.std.proofs.Math.Numerals.{add-one}
-use Rattle.std.proofs.lemmas.Bool.{and_from}
+use Rattle.std.proofs.lemmas.Bool.{and_from, or_parts as neither}
 use Rattle.std.proofs.lemmas.Bool.Decides.{not_from_Decides}
 use Rattle.std.proofs.lemmas.List.{drop_at, take_all}
 use Rattle.std.proofs.lemmas.Slice.Eq.{bytes_eq-Decides}
@@ -17,10 +17,6 @@ use Rattle.ic_text.specs.WordFaults.{uses, is_wrong_use, is_miscounted}
 use Rattle.ic_text.specs.lemmas.NameLemmas.{name_text-name_number}
 use Rattle.ic_text.proofs.Blaming.{Standing}
 use Rattle.ic_text.proofs.Uses.{uses_all, uses_more, standing_in, occurrences-uses}
-
-neither : (a b : Bool) → (a || b) ≡ false → (a ≡ false) × (b ≡ false)
-neither true b e = cc
-neither false b e = (refl, e)
 
 not_equal : (m n : ℕ) → (m == n) ≡ false → m ≡ n → ⊥
 not_equal m n e same = not_from_Decides (m == n) (unsigned_Decides m n) e same
@@ -73,9 +69,8 @@ module _ (ws : List Symbol) where
             below (uses text (take k ws)) _ so_far here (uses_more text ws k w stands true e)
           where
             below : (m n : ℕ) → m ≤ 2 → (m ≡ 2 → ⊥) → n ≡ m + 1 → n ≤ 2
-            below zero n le other is = omega (arith, is)
-            below (suc zero) n le other is = omega (arith, is)
             below (suc (suc m)) n le other is = absurd (other (omega (arith, le)))
+            below _ n le other is = omega (arith, is)
 
     -- and one that stands before it doesn't stand only there
     pub never_alone : (k : ℕ) → k ≤ most → 0 < uses text (take k ws) → uses text ws ≡ 1 → ⊥

@@ -2,7 +2,7 @@
 use Rattle.std.proofs.Common.{◌≡◌, ℕ, ◌+◌, ◌<◌, ◌≤◌, Bool, true, false, not, ◌&&◌, cond, eqb, List, [], ◌∷◌, ◌++◌, Option, None, Some, Result, Ok, Err, map, length, refl, sym, ap, ◌∙◌, arith, append_assoc, append-nil, length-append}
 use Rattle.std.specs.Prelude.{nat_le, nat_lt}
 use Rattle.std.specs.List.{list_all, slice_get}
-use Rattle.std.proofs.lemmas.Bool.{le-leb, lt-ltb, ltb-true, ltb-false}
+use Rattle.std.proofs.lemmas.Bool.{le-leb, lt-ltb, ltb-true, ltb-false, and_right}
 use Rattle.std.proofs.lemmas.Bool.Decides.{nat_tests}
 use Rattle.ic_term.specs.Symbol.{Symbol, number_of_text, fits_limits, has_arity}
 use Rattle.ic_term.specs.declared.symbols.SymbolFault.{SymbolFault}
@@ -18,7 +18,7 @@ use Rattle.ic_text.specs.Limits.{most_symbols}
 use Rattle.ic_text.specs.Name.{is_name, name_number}
 use Rattle.ic_text.specs.inner.Numbered.{word_found, table_with, table_over, is_word_in_limits, is_word_over, word_from, unless_refused, numbered_words}
 use Rattle.ic_text.proofs.LimitLemmas.{symbols-low}
-use Rattle.ic_text.proofs.TableLemmas.{slice_get-append, slice_get-next, number_of_text-append, number_of_text-next, number_of_text-lt}
+use Rattle.ic_text.specs.lemmas.TableLemmas.{slice_get-append, slice_get-next, number_of_text-append, number_of_text-next, number_of_text-lt}
 
 abbrev pub Numbering : Type 0
 Numbering = Result (List Symbol × List Word) TextFault
@@ -70,12 +70,8 @@ pub data Outcome (limits : Limits) (table : List Symbol) (w : Symbol) (ws : List
   clashed : (n : ℕ) → word_found limits table w ≡ Err (OtherArity n) → is_word_in_limits w ≡ true → is_word_over (table_over (table_with table w) ws) w ≡ false
       → table_with table w ≡ table → Outcome limits table w ws
 
-pub and_right : (a b : Bool) → b ≡ false → (a && b) ≡ false
-and_right true b e = e
-and_right false b e = refl
-
-pub not_le : (n most : ℕ) → most < n → nat_le n most ≡ false
-not_le n most above = grind (arith, nat_tests)
+pub gt_test : (n most : ℕ) → most < n → nat_le n most ≡ false
+gt_test n most above = grind (arith, nat_tests)
 
 name_outcome : (limits : Limits) (table : List Symbol) (w : Symbol) (ws : List Symbol) → length table ≤ (most_symbols limits) → is_name w.text ≡ true → Outcome limits table w ws
 name_outcome limits table w ws fits named = by_limit (nat_le (name_number w.text) MAX_NAME) refl
@@ -131,7 +127,7 @@ module _ (limits : Limits) (table : List Symbol) (w : Symbol) (ws : List Symbol)
           (omega (arith, length_grown, ltb-true _ _ room))
       by_room false room =
           let long : most_symbols limits < length (table_over (table_with table w) ws) = omega (arith, ap length whole.1, length-append table (w ∷ whole.0), ltb-false _ _ room) in
-          limited (no_room limits table w named low found room) (and_right _ _ (not_le _ _ long))
+          limited (no_room limits table w named low found room) (and_right _ _ (gt_test _ _ long))
 
   -- a symbol that is in the table
   known_outcome : (n : ℕ) → number_of_text table w.text ≡ Some n → Outcome limits table w ws
@@ -191,9 +187,7 @@ refused_here a A1 B o C c v is over = rw (is, over) (by_cases c (A1 && B))
   where
     by_cases : (c d : Bool) → unless_refused {A = List Symbol × List Word} d (c && false) v ≡ cond d (Err Arity) (Err Limit)
     by_cases true true = refl
-    by_cases true false = refl
-    by_cases false true = refl
-    by_cases false false = refl
+    by_cases _ _ = refl
 
 pub go-is : (limits : Limits) (ws table : List Symbol) (clash : Bool) (items : List Word) → length table ≤ (most_symbols limits) → go limits table clash items ws ≡ answer limits table clash items ws
 go-is limits [] table clash items fits = by_clash clash

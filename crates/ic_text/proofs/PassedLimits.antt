@@ -3,7 +3,7 @@ use Rattle.std.proofs.Common.{◌≡◌, ℕ, zero, suc, ◌+◌, ◌-◌, ◌*�
 use Rattle.std.specs.Prelude.{nat_le, sum_by}
 use Rattle.std.specs.List.{Contains, flat_map, list_all, slice_get}
 use Rattle.std.specs.Option.{option_map}
-use Rattle.std.proofs.lemmas.Bool.{cases_lt, false≢true, and_parts, leb-true, leb-false}
+use Rattle.std.proofs.lemmas.Bool.{cases_lt, false≢true, and_parts, leb-true, leb-false, or_parts}
 use Rattle.std.proofs.lemmas.List.{length-take, length-take-le, take_all, take-append-drop, take-map}
 use Rattle.std.proofs.lemmas.Option.{slice_get-map}
 use Rattle.std.proofs.lemmas.List.Elements.{Contains-append_right}
@@ -35,16 +35,12 @@ use Rattle.ic_text.proofs.JoinedPhrase.{is-joined, joined_phrase, length-rules_p
 use Rattle.ic_text.proofs.PrefixWords.{length-phrase_prefix, length-prefix, names_among-append, names_among-phrase, symbols_among-append, symbols_among-phrase}
 use Rattle.ic_text.proofs.Refusing.{written-system}
 use Rattle.ic_text.proofs.RuleNodes.{long_rule}
-use Rattle.ic_text.proofs.SymbolOrder.{grows, symbols_after-append}
+use Rattle.ic_text.specs.lemmas.SymbolOrder.{grows, symbols_after-append}
 use Rattle.ic_text.proofs.Uses.{standing_in}
 
 and_first : (x : Bool) → (x && true) ≡ false → x ≡ false
 and_first true e = e
 and_first false e = refl
-
-or_parts : (x y : Bool) → (x || y) ≡ false → (x ≡ false) × (y ≡ false)
-or_parts true y e = absurd (false≢true (sym e))
-or_parts false y e = (refl, e)
 
 or_kept : (x y : Bool) → x ≡ false → (x || y) ≡ true → y ≡ true
 or_kept true y none e = absurd (false≢true (sym none))
@@ -163,10 +159,6 @@ module _ (limits : Limits) (s : SystemPhrase) (k : ℕ) where
       let over = leb-false (count_words true 0 (take (k + 1) row_of)) (2 * most_rules limits) (and_first _ is.passed) in
       let within = leb-true (count_words true 0 (take k row_of)) (2 * most_rules limits) (and_parts _ true (is.innocent k (omega arith) Rules)).0 in
       rule_too_many s.rules (most_rules limits) k (omega (arith, within, same_count true k)) (omega (arith, over, same_count true (k + 1)))
-
-  -- a word of the configuration
-  after_rules : (j : ℕ) → length row_of < j → j ≡ length row_of + (j - length row_of)
-  after_rules j less = omega (arith, less)
 
   pub interface_passed : IsLimitWordWithin limits Interface (written_system s) k → (most_interface limits < length s.config.interface) × (k ≡ length (rules_prefix s.rules) + length (flat_map prefix (take (most_interface limits) s.config.interface)))
   interface_passed is =

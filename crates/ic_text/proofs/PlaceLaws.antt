@@ -1,65 +1,31 @@
--- A place of a fault of syntax is the only one, and what stands before it is innocent; what going on is, in texts.
-use Rattle.std.proofs.Common.{◌≡◌, ◌↔◌, ℕ, zero, suc, ◌<◌, ◌≤◌, true, List, [], ◌∷◌, ◌++◌, Option, None, Some, length, take, refl, sym, ap, ◌∙◌, subst, arith, ⊎_elim}
-use Rattle.std.proofs.lemmas.Bool.{cases_lt}
-use Rattle.std.proofs.lemmas.List.{length-take-le, take_all}
+-- What going on is, in texts.
+use Rattle.std.proofs.Common.{◌≡◌, ◌↔◌, ℕ, zero, suc, List, [], ◌∷◌, ◌++◌, Option, Some, refl, sym, ap, ◌∙◌}
 use Rattle.ic_text.specs.declared.syntax.Part.{Part}
-use Rattle.ic_text.specs.declared.syntax.Part.TheVariants.{Start, RuleLeft, Turn, RuleRight, Begin, Interface, Left, Right, End}
+use Rattle.ic_text.specs.declared.syntax.Part.TheVariants.{Start, RuleLeft, Turn, Left}
 use Rattle.ic_text.specs.declared.syntax.Spot.{Spot}
-use Rattle.ic_text.specs.declared.syntax.Spot.TheVariants.{First, Due, FirstAgent, DueAgent, Symbol, After}
+use Rattle.ic_text.specs.declared.syntax.Spot.TheVariants.{Symbol, After, FirstAgent, DueAgent}
 use Rattle.ic_text.specs.declared.syntax.State.{State}
 use Rattle.ic_text.specs.Token.{Token, followed, tokens}
 use Rattle.ic_text.specs.Text.{text_of}
 use Rattle.ic_text.specs.Reading.{IsSpelling}
-use Rattle.ic_text.specs.Places.{is_between, GoesOn, IsLastPlace}
+use Rattle.ic_text.specs.Places.{GoesOn}
 use Rattle.ic_text.specs.inner.Syntax.{at_beginning, accepts}
 use Rattle.ic_text.specs.inner.Survey.{Leads}
 use Rattle.ic_text.specs.lemmas.ReadOnce.{IsTold, some-injective, none_is_some}
 use Rattle.ic_text.specs.lemmas.WordRuns.{tokens-parted}
-use Rattle.ic_text.proofs.WrittenTokens.{IsMarked, AreApart, tokens-text_of, name_is_word}
+use Rattle.ic_text.specs.lemmas.WrittenTokens.{IsMarked, AreApart, tokens-text_of, name_is_word}
 use Rattle.ic_text.proofs.Going.{term_end, closes, part_end, state_end, ended, leads-goes_on}
-use Rattle.ic_text.proofs.Placing.{between_end}
-
-pub one_place : (IsInnocent : List ℕ → Type 0) (text : List ℕ) (a b : ℕ) → IsLastPlace IsInnocent text a → IsLastPlace IsInnocent text b → a ≡ b
-one_place IsInnocent text a b is_a is_b = ⊎_elim (λ less. absurd (is_a.last b less is_b.within is_b.between is_b.innocent)) no_less (cases_lt a b)
-  where
-    no_less : b ≤ a → a ≡ b
-    no_less le = ⊎_elim (λ less. absurd (is_b.last a less is_a.within is_a.between is_a.innocent)) (λ ge. omega arith) (cases_lt b a)
-
-pub cut_place : (IsInnocent : List ℕ → Type 0) (text : List ℕ) (place cut : ℕ) → IsLastPlace IsInnocent text place
-    → IsLastPlace IsInnocent (take place text) cut → cut ≡ place
-cut_place IsInnocent text place cut is of_cut = ⊎_elim before (λ le. omega (arith, of_cut.within, long)) (cases_lt cut place)
-  where
-    long : length (take place text) ≡ place
-    long = length-take-le place text is.within
-
-    before : cut < place → cut ≡ place
-    before less =
-        let whole : take place (take place text) ≡ take place text = take_all place (take place text) (omega (arith, long)) in
-        let between : is_between (take place text) place ≡ true = ap (is_between (take place text)) (sym long) ∙ between_end (take place text) in
-        absurd (of_cut.last place less (omega (arith, long)) between (subst IsInnocent (sym whole) is.innocent))
 
 -- the tokens that end a phrase are apart
 part_end_marked : (p : Part) → IsMarked (part_end p)
 part_end_marked Start = tt
-part_end_marked RuleLeft = tt
-part_end_marked Turn = tt
-part_end_marked RuleRight = tt
-part_end_marked Begin = tt
-part_end_marked Interface = tt
-part_end_marked Left = tt
-part_end_marked Right = tt
-part_end_marked End = tt
+part_end_marked _ = tt
 
 part_end_apart : (p : Part) → AreApart (part_end p)
-part_end_apart Start = tt
 part_end_apart RuleLeft = (record { bytes = refl; one = refl }, tt, tt)
 part_end_apart Turn = (record { bytes = refl; one = refl }, tt, tt)
-part_end_apart RuleRight = tt
-part_end_apart Begin = tt
-part_end_apart Interface = tt
 part_end_apart Left = (record { bytes = refl; one = refl }, tt, tt)
-part_end_apart Right = tt
-part_end_apart End = tt
+part_end_apart _ = tt
 
 closes_marked : (d : ℕ) (p : Part) → IsMarked (closes d ++ part_end p)
 closes_marked zero p = part_end_marked p
@@ -70,12 +36,11 @@ closes_apart zero p = part_end_apart p
 closes_apart (suc d) p = closes_apart d p
 
 term_end_apart : (s : Spot) (r : List Token) → IsMarked r → AreApart r → AreApart (term_end s ++ r)
-term_end_apart First r marked apart = (name_is_word 0, marked, apart)
-term_end_apart Due r marked apart = (name_is_word 0, marked, apart)
 term_end_apart FirstAgent r marked apart = (record { bytes = refl; one = refl }, marked, apart)
 term_end_apart DueAgent r marked apart = (record { bytes = refl; one = refl }, marked, apart)
 term_end_apart Symbol r marked apart = apart
 term_end_apart After r marked apart = apart
+term_end_apart _ r marked apart = (name_is_word 0, marked, apart)
 
 state_end_apart : (st : State) → AreApart (state_end st)
 state_end_apart st = term_end_apart st.spot (closes st.depth ++ part_end st.part) (closes_marked st.depth st.part) (closes_apart st.depth st.part)
@@ -88,9 +53,8 @@ record AreParts (a b : Option (List Token)) (ws : List Token) : Type 0 where
   joined : ws ≡ front ++ rest
 
 parts : (a b : Option (List Token)) (ws : List Token) → followed a (followed (Some []) b) ≡ Some ws → AreParts a b ws
-parts None b ws e = absurd (none_is_some ws e)
-parts (Some ts) None ws e = absurd (none_is_some ws e)
 parts (Some ts) (Some us) ws e = record { front = ts; tokens = refl; rest = us; joined = sym (some-injective (ts ++ us) ws e) }
+parts _ _ ws e = absurd (none_is_some ws e)
 
 module _ {P : Type 0} (IsOne : P → Type 0) (words_of : P → List Token) (told : IsTold IsOne words_of) (part : Part)
     (tested : (ts : List Token) → told.test ts ≡ accepts (Some (at_beginning part)) ts) where

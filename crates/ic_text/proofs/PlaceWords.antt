@@ -6,10 +6,9 @@ use Rattle.std.proofs.lemmas.List.{drop_more, take-append-drop}
 use Rattle.ic_text.specs.Token.{Token, is_word_byte, mark_of, word_of, before, tokens_at, followed, tokens_after, tokens, words_among}
 use Rattle.ic_text.specs.Places.{IsWordPlace}
 use Rattle.ic_text.specs.lemmas.ReadOnce.{some-injective, none_is_some}
-use Rattle.ic_text.specs.lemmas.WordRuns.{followed-assoc}
-use Rattle.ic_text.proofs.InTextOrder.{words_among-append}
-use Rattle.ic_text.proofs.OnePlace.{apart_before}
-use Rattle.ic_text.proofs.WordPlaces.{ends_within, opened}
+use Rattle.ic_text.specs.lemmas.WordRuns.{followed-assoc, words_among-append}
+use Rattle.ic_text.specs.lemmas.OnePlace.{apart_before}
+use Rattle.ic_text.specs.lemmas.WordPlaces.{ends_within, opened}
 
 -- the longest run of word bytes with which a text begins, and what stands after it
 abbrev run_of : List ℕ → List ℕ

@@ -1,59 +1,20 @@
 -- A pass over a text that stops where the grammar takes no more.
-use Rattle.std.proofs.Common.{◌≡◌, ℕ, suc, ◌+◌, ◌-◌, ◌<◌, ◌≤◌, Bool, true, false, not, ◌&&◌, ◌||◌, eqb, List, [], ◌∷◌, ◌++◌, Option, None, Some, length, get_or, take, drop, refl, sym, ap, ◌∙◌, append_assoc, append-nil, arith, ⊎_elim}
+use Rattle.std.proofs.Common.{◌≡◌, ℕ, suc, ◌+◌, ◌-◌, ◌<◌, ◌≤◌, true, false, not, ◌&&◌, ◌||◌, eqb, List, [], ◌∷◌, ◌++◌, None, Some, length, get_or, take, drop, refl, sym, ap, ◌∙◌, append_assoc, arith, ⊎_elim}
 use Rattle.std.specs.List.{list_all}
 use Rattle.std.proofs.lemmas.Bool.{false≢true, cases_lt}
 use Rattle.std.proofs.lemmas.Bool.Decides.{nat_tests}
-use Rattle.std.proofs.lemmas.List.{drop_more, take_more, take-append-drop, take-take, drop-take, get_or_past}
+use Rattle.std.proofs.lemmas.List.{drop_more, take_more, take-append-drop, take-take, drop-take}
 use Rattle.std.proofs.lemmas.List.Folds.{list_all-append}
 use Rattle.ic_text.specs.declared.syntax.Part.{Part}
 use Rattle.ic_text.specs.declared.survey.Progress.{Progress}
-use Rattle.ic_text.specs.Token.{Token, is_word_byte, mark_of, word_of, before, tokens_at, followed, tokens}
+use Rattle.ic_text.specs.Token.{is_word_byte, mark_of, word_of, tokens_at, followed, tokens}
 use Rattle.ic_text.specs.Places.{is_between, IsLastPlace}
 use Rattle.ic_text.specs.inner.Survey.{taken, taken_after, taken_at, begun, Leads}
-use Rattle.ic_text.specs.lemmas.WordRuns.{tokens-parted, tokens-run}
+use Rattle.ic_text.specs.lemmas.WordRuns.{before-none, followed-followed, tokens-parted, tokens_of_run}
+use Rattle.ic_text.specs.lemmas.Between.{between_after, between_here, between_end}
 use Rattle.ic_text.proofs.TokenLemmas.{run_here}
 use Rattle.ic_text.proofs.Surveying.{after-followed, after-none}
 use Rattle.ic_text.proofs.Going.{none_isnt}
-
-before_nothing : (o : Option (List Token)) → before [] o ≡ o
-before_nothing None = refl
-before_nothing (Some ts) = refl
-
-nothing_after : (o : Option (List Token)) → followed o (Some []) ≡ o
-nothing_after None = refl
-nothing_after (Some ts) = ap Some (append-nil ts)
-
-followed-followed : (a b c : Option (List Token)) → followed (followed a b) c ≡ followed a (followed b c)
-followed-followed None b c = refl
-followed-followed (Some ts) None c = refl
-followed-followed (Some ts) (Some us) None = refl
-followed-followed (Some ts) (Some us) (Some vs) = ap Some (append_assoc ts us vs)
-
-apart_after : (z x : Bool) → (z || not (x && false)) ≡ true
-apart_after true x = refl
-apart_after false true = refl
-apart_after false false = refl
-
-apart_before : (z x : Bool) → (z || not (false && x)) ≡ true
-apart_before true x = refl
-apart_before false x = refl
-
--- a place after a byte of no word, and one in front of such a byte, aren't within a word
-pub between_after : (text : List ℕ) (place : ℕ) → is_word_byte (get_or text place 0) ≡ false → is_between text (place + 1) ≡ true
-between_after text place apart =
-    let back : place + 1 - 1 ≡ place = omega arith in
-    let other = is_word_byte (get_or text (place + 1) 0) in
-    ap (λ i. eqb (place + 1) 0 || not (is_word_byte (get_or text i 0) && other)) back
-    ∙ ap (λ w. eqb (place + 1) 0 || not (w && other)) apart
-    ∙ apart_before (eqb (place + 1) 0) other
-
-between_here : (text : List ℕ) (place : ℕ) → is_word_byte (get_or text place 0) ≡ false → is_between text place ≡ true
-between_here text place apart =
-    let other = is_word_byte (get_or text (place - 1) 0) in
-    ap (λ w. eqb place 0 || not (other && w)) apart ∙ apart_after (eqb place 0) other
-
-pub between_end : (text : List ℕ) → is_between text (length text) ≡ true
-between_end text = between_here text (length text) (ap is_word_byte (get_or_past text (length text) 0 (omega arith)))
 
 pub split_there : (text : List ℕ) (a b : ℕ) → a ≤ b → take b text ≡ take a text ++ take (b - a) (drop a text)
 split_there text a b le =
@@ -61,10 +22,6 @@ split_there text a b le =
     sym (take-append-drop a (take b text))
     ∙ ap (λ l. l ++ drop a (take b text)) (take-take a b text le)
     ∙ ap (λ l. take a text ++ l) (ap (λ n. drop a (take n text)) sum ∙ drop-take a (b - a) text)
-
-tokens_of_run : (run : List ℕ) → list_all is_word_byte run ≡ true → tokens run ≡ Some (word_of run)
-tokens_of_run [] all = refl
-tokens_of_run (b ∷ bs) all = tokens-run b bs all
 
 -- the tokens after a byte of no word
 split_tokens : (text : List ℕ) (place later : ℕ) → place < later → later ≤ length text → is_word_byte (get_or text place 0) ≡ false
@@ -86,16 +43,6 @@ pub record IsUnderway (part : Part) (text : List ℕ) (start place : ℕ) (p : P
   pub between : is_between text start ≡ true
   pub bytes : (i : ℕ) → start ≤ i → i < place → is_word_byte (get_or text i 0) ≡ true
   pub run : list_all is_word_byte (take (place - start) (drop start text)) ≡ true
-
-pub sets_out : (part : Part) (text : List ℕ) → IsUnderway part text 0 0 (begun part)
-sets_out part text = record {
-  begins = omega arith;
-  after = refl;
-  parts = λ rest. sym (before_nothing (tokens rest));
-  between = refl;
-  bytes = λ i above below. absurd (omega arith);
-  run = refl;
-}
 
 module _ (part : Part) (text : List ℕ) (start place : ℕ) (p : Progress) (way : IsUnderway part text start place p) where
   abbrev the_run : List ℕ
@@ -196,7 +143,7 @@ module _ (part : Part) (text : List ℕ) (start place : ℕ) (p : Progress) (way
                 ap (λ l. tokens (l ++ rest)) front
                 ∙ ap tokens (append_assoc (take place text) (the_byte ∷ []) rest)
                 ∙ tokens-parted (take place text) rest the_byte apart
-                ∙ ap (λ o. followed (tokens (take place text)) (followed here o)) (sym (before_nothing (tokens rest)))
+                ∙ ap (λ o. followed (tokens (take place text)) (followed here o)) (sym (before-none (tokens rest)))
                 ∙ ap (followed (tokens (take place text))) (sym (followed-followed here (Some []) (tokens rest)))
                 ∙ sym (followed-followed (tokens (take place text)) (followed here (Some [])) (tokens rest))
                 ∙ ap (λ o. followed o (tokens rest)) (sym (ap tokens front ∙ tokens-parted (take place text) [] the_byte apart));

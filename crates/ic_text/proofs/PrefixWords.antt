@@ -74,10 +74,9 @@ names_among-phrase p is =
 
 -- limits, table and arities of words, by their symbols and names
 shuffle : (a b c : Bool) → (a && (b && c)) ≡ (b && (a && c))
-shuffle true true c = refl
 shuffle true false c = refl
 shuffle false true c = refl
-shuffle false false c = refl
+shuffle _ _ c = refl
 
 pub limits-words : (ws : List Symbol) → list_all is_word_in_limits ws ≡ (list_all (λ s. fits_limits s.text s.arity) (symbols_among ws) && list_all (λ n. nat_le n MAX_NAME) (names_among ws))
 limits-words [] = refl

@@ -1,5 +1,5 @@
 -- Writing tokens one after the other.
-use Rattle.std.proofs.Common.{◌≡◌, ℕ, zero, suc, ◌+◌, ◌/◌, ◌%◌, ◌<◌, ◌≤◌, ◌^◌, true, Bool, List, [], ◌∷◌, ◌++◌, Option, None, Some, length, map, get_or, drop, drop-cons, add-one, IsTrue, refl, sym, ap, ◌∙◌, append_assoc, arith}
+use Rattle.std.proofs.Common.{◌≡◌, ℕ, zero, suc, ◌+◌, ◌/◌, ◌%◌, ◌<◌, ◌≤◌, ◌^◌, true, Bool, List, [], ◌∷◌, ◌++◌, Option, None, Some, length, map, get_or, drop, IsTrue, refl, sym, ap, ◌∙◌, append_assoc, arith}
 use Rattle.std.specs.Prelude.{option_map}
 use Rattle.std.specs.List.{slice_get, list_all}
 use Rattle.std.specs.Fmt.{decimal}
@@ -7,18 +7,17 @@ use Rattle.std.specs.Int.Digits.{digits_of}
 use Rattle.std.proofs.lemmas.Fmt.{decimal-digits_of}
 use Rattle.std.proofs.lemmas.Option.{slice_get_within}
 use Rattle.std.proofs.lemmas.Bool.{and_parts, false≢true}
-use Rattle.std.proofs.lemmas.Grind.{flat_map-append}
 use Rattle.ic_term.specs.Symbol.{Symbol, symbol_text, has_arity, is_tree_over, are_trees_over}
-use Rattle.ic_term.specs.Term.{tree, cell_tree, term_step, cell_step}
-use Rattle.ic_term.specs.declared.term.Cell.{Cell, out-Cell, fold_out-Cell}
-use Rattle.ic_term.specs.Tree.{Tree, agent, Trees, list_of, trees_of}
-use Rattle.ic_text.specs.declared.token.Mark.TheVariants.{Comma}
+use Rattle.ic_term.specs.Term.{tree, cell_tree}
+use Rattle.ic_term.specs.declared.term.Cell.{Cell, out-Cell}
+use Rattle.ic_term.specs.Tree.{agent, Trees, list_of, trees_of}
 use Rattle.ic_term.specs.declared.term.Term.{Term}
-use Rattle.ic_text.specs.Token.{Token, token_text}
+use Rattle.ic_term.specs.lemmas.TermLaws.{cell_tree-out as cell_tree-is}
+use Rattle.ic_text.specs.Token.{Token}
 use Rattle.ic_text.specs.Name.{name_text}
-use Rattle.ic_text.specs.Source.{Source, Sources, more_sources, words, argument_words, further_words, separated}
+use Rattle.ic_text.specs.Source.{Source, Sources, more_sources, words, argument_words, further_words}
 use Rattle.ic_text.specs.Text.{text_or_none, source_of, sources_of, text_of}
-use Rattle.ic_text.proofs.Grammar.{after_commas}
+use Rattle.ic_text.specs.lemmas.Separated.{text_of-append, next_of}
 
 -- a letter and digits are a name's text
 pub letter_and_digits : (n : ℕ) (old pushed new : List ℕ) → 26 ≤ n → n < 2 ^ 64 → pushed ≡ old ++ (97 + n % 26) ∷ [] → new ≡ pushed ++ decimal (n / 26) → new ≡ old ++ name_text n
@@ -42,24 +41,12 @@ abbrev pub sign_at : ℕ → ℕ
 sign_at zero = 40
 sign_at (suc n) = 44
 
--- what is left of lists with commas between them from a place on
-abbrev pub separated_from : ℕ → List (List Token) → List Token
-separated_from zero tss = separated Comma tss
-separated_from (suc n) tss = after_commas tss
-
--- an agent with its arguments as a list
-pub cell_tree-is : (cell : Cell) → cell_tree cell ≡ agent (out-Cell cell).sym (trees_of (map tree (out-Cell cell).args.items))
-cell_tree-is cell = fold_out-Cell Tree Tree term_step cell_step cell
-
 pub cell_over : (ss : List Symbol) (cell : Cell) → IsTrue (is_tree_over ss (cell_tree cell)) → ((out-Cell cell).sym < length ss) × (are_trees_over ss (trees_of (map tree (out-Cell cell).args.items)) ≡ true)
 cell_over ss cell over =
     let opened : is_tree_over ss (agent (out-Cell cell).sym (trees_of (map tree (out-Cell cell).args.items))) ≡ true = ap (is_tree_over ss) (sym (cell_tree-is cell)) ∙ over in
     (known_symbol ss (out-Cell cell).sym (trees_of (map tree (out-Cell cell).args.items)) opened, (and_parts _ _ opened).1)
 
 -- ---- a term more of an agent
-
-text_of-append : (ts us : List Token) → text_of (ts ++ us) ≡ text_of ts ++ text_of us
-text_of-append ts us = flat_map-append token_text ts us
 
 arguments_text : (i : ℕ) (t : Source) (ts : Sources) → text_of (arguments_from i (more_sources t ts)) ≡ sign_at i ∷ (text_of (words t) ++ text_of (further_words ts))
 arguments_text zero t ts = ap (λ l. 40 ∷ l) (text_of-append (words t) (further_words ts))
@@ -71,14 +58,11 @@ arguments_in ss ts = sources_of ss (trees_of (map tree ts))
 abbrev are_over : List Symbol → List Term → Bool
 are_over ss ts = are_trees_over ss (trees_of (map tree ts))
 
-next_term : {A : Type 0} (i : ℕ) (ts : List A) (t : A) → i < length ts → t ≡ get_or ts i t → drop i ts ≡ t ∷ drop (i + 1) ts
-next_term i ts t below is = rw add-one (drop-cons ts i t below ∙ ap (λ x. x ∷ drop (suc i) ts) (sym is))
-
 pub next_sign : (i : ℕ) → 44 ≡ sign_at (i + 1)
 next_sign i = let next : i + 1 ≡ suc i = omega arith in rw next refl
 
 pub next_over : (ss : List Symbol) (i : ℕ) (ts : List Term) (t : Term) → i < length ts → t ≡ get_or ts i t → are_over ss (drop i ts) ≡ true → are_over ss (drop (i + 1) ts) ≡ true
-next_over ss i ts t below is over = (and_parts _ _ (ap (are_over ss) (sym (next_term i ts t below is)) ∙ over)).1
+next_over ss i ts t below is over = (and_parts _ _ (ap (are_over ss) (sym (next_of i ts t below is)) ∙ over)).1
 
 pub next_whole : (ss : List Symbol) (i : ℕ) (ts : List Term) (t : Term) (sign : ℕ) (out pushed new whole : List ℕ) → i < length ts → t ≡ get_or ts i t → sign ≡ sign_at i
     → pushed ≡ out ++ sign ∷ [] → new ≡ pushed ++ text_of (words (source_of ss (tree t)))
@@ -91,7 +75,7 @@ next_whole ss i ts t sign out pushed new whole below is signed letter term all =
     let next : i + 1 ≡ suc i = omega arith in
     let after : arguments_from (i + 1) rest ≡ further_words rest = ap (λ n. arguments_from n rest) next in
     let split : text_of (arguments_from i (arguments_in ss (drop i ts))) ≡ sign_at i ∷ (this ++ left) =
-    ap (λ l. text_of (arguments_from i (arguments_in ss l))) (next_term i ts t below is) ∙ arguments_text i (source_of ss (tree t)) rest in
+    ap (λ l. text_of (arguments_from i (arguments_in ss l))) (next_of i ts t below is) ∙ arguments_text i (source_of ss (tree t)) rest in
     (λ k. term k ++ text_of (after k))
     ∙ ap (λ l. (l ++ this) ++ left) (letter ∙ ap (λ n. out ++ n ∷ []) signed)
     ∙ append_assoc (out ++ sign_at i ∷ []) this left ∙ append_assoc out (sign_at i ∷ []) (this ++ left)
@@ -114,46 +98,7 @@ first_whole ss cell out new text ts same known written =
 pub first_over : (ss : List Symbol) (cell : Cell) (ts : List Term) → ts ≡ (out-Cell cell).args.items → IsTrue (is_tree_over ss (cell_tree cell)) → are_over ss ts ≡ true
 first_over ss cell ts same over = ap (are_over ss) same ∙ (cell_over ss cell over).1
 
--- ---- one more of a list with commas between
-
--- a comma stands before each but the first
-abbrev pub Begun : ℕ → List ℕ → List ℕ → Type 0
-Begun zero out begun = begun ≡ out
-Begun (suc n) out begun = begun ≡ out ++ 44 ∷ []
-
-pub begun_first : (n : ℕ) (out begun : List ℕ) → n ≤ 0 → begun ≡ out → Begun n out begun
-begun_first zero out begun none is = is
-begun_first (suc n) out begun none is = absurd (omega (arith, none))
-
-pub begun_further : (n : ℕ) (out begun : List ℕ) → 0 < n → begun ≡ out ++ 44 ∷ [] → Begun n out begun
-begun_further zero out begun some is = absurd (omega (arith, some))
-begun_further (suc n) out begun some is = is
-
-further_text : (n : ℕ) (rest : List (List Token)) → text_of (separated_from (n + 1) rest) ≡ text_of (after_commas rest)
-further_text n rest = let next : n + 1 ≡ suc n = omega arith in ap (λ m. text_of (separated_from m rest)) next
-
-next_list : (n : ℕ) (ts : List Token) (rest : List (List Token)) (out begun new whole : List ℕ) → Begun n out begun → new ≡ begun ++ text_of ts
-    → out ++ text_of (separated_from n (ts ∷ rest)) ≡ whole → new ++ text_of (separated_from (n + 1) rest) ≡ whole
-next_list zero ts rest out begun new whole is put all =
-    (λ k. put k ++ further_text 0 rest k)
-    ∙ ap (λ l. (l ++ text_of ts) ++ text_of (after_commas rest)) is
-    ∙ append_assoc out (text_of ts) (text_of (after_commas rest))
-    ∙ ap (λ l. out ++ l) (sym (text_of-append ts (after_commas rest))) ∙ all
-next_list (suc n) ts rest out begun new whole is put all =
-    (λ k. put k ++ further_text (suc n) rest k)
-    ∙ ap (λ l. (l ++ text_of ts) ++ text_of (after_commas rest)) is
-    ∙ append_assoc (out ++ 44 ∷ []) (text_of ts) (text_of (after_commas rest))
-    ∙ append_assoc out (44 ∷ []) (text_of ts ++ text_of (after_commas rest))
-    ∙ ap (λ l. out ++ 44 ∷ l) (sym (text_of-append ts (after_commas rest))) ∙ all
-
-pub next_listed : {A B C : Type 0} (f : A → B) (g : B → C) (h : C → List Token) (n : ℕ) (xs : List A) (x : A) (out begun new whole : List ℕ)
-    → n < length xs → x ≡ get_or xs n x → Begun n out begun → new ≡ begun ++ text_of (h (g (f x)))
-    → out ++ text_of (separated_from n (map h (map g (map f (drop n xs))))) ≡ whole
-    → new ++ text_of (separated_from (n + 1) (map h (map g (map f (drop (n + 1) xs))))) ≡ whole
-next_listed f g h n xs x out begun new whole below is started put all =
-    next_list n (h (g (f x))) (map h (map g (map f (drop (n + 1) xs)))) out begun new whole started put
-    (ap (λ l. out ++ text_of (separated_from n (map h (map g (map f l))))) (sym (next_term n xs x below is)) ∙ all)
-
+-- what is so of all that are left is so of those after the next
 pub next_all : {A B : Type 0} (p : B → Bool) (f : A → B) (n : ℕ) (xs : List A) (x : A) → n < length xs → x ≡ get_or xs n x
     → list_all p (map f (drop n xs)) ≡ true → list_all p (map f (drop (n + 1) xs)) ≡ true
-next_all p f n xs x below is all = (and_parts _ _ (ap (λ l. list_all p (map f l)) (sym (next_term n xs x below is)) ∙ all)).1
+next_all p f n xs x below is all = (and_parts _ _ (ap (λ l. list_all p (map f l)) (sym (next_of n xs x below is)) ∙ all)).1

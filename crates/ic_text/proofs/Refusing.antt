@@ -8,7 +8,7 @@ use Rattle.std.proofs.lemmas.List.Folds.{flat_map-map}
 use Rattle.ic_term.specs.Symbol.{Symbol, texts}
 use Rattle.ic_term.specs.Configuration.{Configuration, third_occurrence}
 use Rattle.ic_term.specs.declared.config.ConfigFault.{ConfigFault}
-use Rattle.ic_term.specs.declared.config.ConfigFault.TheVariants.{Limit as TooMuch, Name as Third, Memory as NoRoom}
+use Rattle.ic_term.specs.declared.config.ConfigFault.TheVariants.{Limit as TooMuch}
 use Rattle.ic_rules.specs.RuleSet.{first_uncounted, first_repeated, first_lopsided}
 use Rattle.ic_rules.specs.System.{SystemParts}
 use Rattle.ic_text.specs.declared.fault.TextFault.{TextFault}
@@ -40,16 +40,12 @@ written-system s = ap (λ l. l ++ phrase_prefix s.config) (flat_map-map (λ (ws 
 
 -- a configuration is refused for neither
 pub config_syntax : (a : Result Configuration ConfigFault) → Err Syntax ≡ as_text_answer a → ⊥
-config_syntax (Ok c) e = cc
 config_syntax (Err TooMuch) e = cc
-config_syntax (Err (Third n)) e = cc
-config_syntax (Err NoRoom) e = cc
+config_syntax _ e = cc
 
 pub config_arity : (a : Result Configuration ConfigFault) → Err Arity ≡ as_text_answer a → ⊥
-config_arity (Ok c) e = cc
 config_arity (Err TooMuch) e = cc
-config_arity (Err (Third n)) e = cc
-config_arity (Err NoRoom) e = cc
+config_arity _ e = cc
 
 -- what is found after the arities is neither of syntax nor of arities
 abbrev pub found_after : (a b c d : Option ℕ) → SystemParts → Result SystemParts TextFault
@@ -156,5 +152,4 @@ module _ (limits : Limits) {P : Type 0} (IsOne : P → Type 0) (words_of : P →
     pub placed_at : (f : TextFault) (w at : Option ℕ) (d : Detail) → IsToldWord limits (written p) f w d → IsPlaceOf text w at → IsPlacedWithin limits IsOne words_of written text f at d
     placed_at f None None d is place = at_none f d is
     placed_at f (Some k) (Some at) d is place = at_word f k at d is place
-    placed_at f None (Some at) d is place = absurd place
-    placed_at f (Some k) None d is place = absurd place
+    placed_at f _ _ d is place = absurd place

@@ -4,20 +4,20 @@ use Rattle.std.specs.Prelude.{nat_le, nat_lt, sum_by}
 use Rattle.std.specs.List.{list_all, slice_get}
 use Rattle.std.proofs.lemmas.Bool.{and_from, and_parts, cases_lt, false≢true, leb-true, leb-false, lt-ltb, le-ltb, ltb-true, ltb-false}
 use Rattle.std.proofs.lemmas.List.Sums.{sum_by-cons}
+use Rattle.std.proofs.Math.Bool.{and-true}
 use Rattle.ic_term.specs.Symbol.{Symbol}
 use Rattle.ic_rules.specs.declared.limits.TheConstants.{MAX_RULE_NODES}
 use Rattle.ic_text.specs.declared.limits.Limits.{Limits}
 use Rattle.ic_text.specs.declared.limits.Limits.TheVariants.{Served, Wide}
-use Rattle.ic_text.specs.declared.prefix.Node.{Node}
 use Rattle.ic_text.specs.Source.{Source, leaf, node, Sources, no_sources, more_sources, count_of, nodes_of_sources, source_nodes}
 use Rattle.ic_text.specs.SystemSource.{RulePhrase, agent_source, rule_nodes}
 use Rattle.ic_text.specs.SystemSense.{rules_are_small}
 use Rattle.ic_text.specs.Words.{prefix, prefix_of_sources, rule_prefix, rules_prefix}
-use Rattle.ic_text.specs.WordFaults.{IsFirstWord, count_words, due_after, each_keeps, rule_nodes_keep}
+use Rattle.ic_text.specs.WordFaults.{IsFirstWord, count_words, each_keeps, rule_nodes_keep}
 use Rattle.ic_text.specs.inner.Counted.{due_over, nodes_over, side_over}
-use Rattle.ic_text.specs.inner.Prefix.{node_of, nodes_of}
 use Rattle.ic_text.proofs.Blaming.{Standing}
-use Rattle.ic_text.proofs.Counting.{count-both, count-rules, gt_test, le_test}
+use Rattle.ic_text.proofs.Numbering.{gt_test}
+use Rattle.ic_text.proofs.Counting.{count-both, count-rules, le_test}
 use Rattle.ic_text.proofs.Excesses.{within_fit}
 use Rattle.ic_text.proofs.JoinedPhrase.{length-rules_prefix}
 
@@ -46,10 +46,6 @@ abbrev next_nodes : ℕ → Bool → ℕ → ℕ
 next_nodes zero second n = cond second 0 n
 next_nodes (suc due) second n = n + 1
 
-and_true : (b : Bool) → (b && true) ≡ b
-and_true true = refl
-and_true false = refl
-
 and_assoc : (a b c : Bool) → (a && (b && c)) ≡ ((a && b) && c)
 and_assoc true b c = refl
 and_assoc false b c = refl
@@ -57,7 +53,7 @@ and_assoc false b c = refl
 keeps-push : (ws : List Symbol) (w : Symbol) (due : ℕ) (second : Bool) (n : ℕ)
     → each_keeps due second n (ws ++ w ∷ []) ≡ (each_keeps due second n ws && here_keeps (due_over due ws) (nodes_over due second n ws))
 keeps-push [] w zero second n = refl
-keeps-push [] w (suc due) second n = and_true (nat_lt n MAX_RULE_NODES)
+keeps-push [] w (suc due) second n = and-true (nat_lt n MAX_RULE_NODES)
 keeps-push (x ∷ ws) w zero second n = keeps-push ws w x.arity (not second) (cond second 0 n)
 keeps-push (x ∷ ws) w (suc due) second n =
     ap (λ b. nat_lt n MAX_RULE_NODES && b) (keeps-push ws w (due + x.arity) second (n + 1))
@@ -307,7 +303,7 @@ long_rule (r ∷ rs) n k kept passed = by (cases_lt k (length (rule_prefix r))) 
   where
     whole : each_keeps 0 true n (rule_prefix r) ≡ nat_le (rule_nodes r) MAX_RULE_NODES
     whole =
-        ap (each_keeps 0 true n) (sym (append-nil (rule_prefix r))) ∙ rule-within r [] n ∙ and_true (nat_le (rule_nodes r) MAX_RULE_NODES)
+        ap (each_keeps 0 true n) (sym (append-nil (rule_prefix r))) ∙ rule-within r [] n ∙ and-true (nat_le (rule_nodes r) MAX_RULE_NODES)
 
     first : k < length (rule_prefix r) → (b : Bool) → nat_le (rule_nodes r) MAX_RULE_NODES ≡ b → MAX_RULE_NODES < rule_nodes r
     first low true few =

@@ -46,9 +46,6 @@ pending_fits [] = omega arith
 pending_fits (t ∷ ps) = omega (arith, pending_fits ps, some_prefix t, length-append (prefix t) (flat_map prefix ps))
 
 module _ (ws : List Symbol) (rs : List RulePhrase) (rest : List Symbol) where
-  pub walk_begins : ws ≡ rules_prefix rs ++ rest → Walking ws rs rest 0 0 0
-  walk_begins e = record { pending = []; due_is = refl; next = e }
-
   pub walk_bound : (k due rules : ℕ) → Walking ws rs rest k due rules → due ≤ length ws - k
   walk_bound k due rules v =
       let left : List Symbol = rules_prefix (drop rules rs) ++ rest in

@@ -21,10 +21,8 @@ abbrev pub with_term : List Symbol → Scanned → Scanned
 with_term ns s = made (ns ++ s.nodes) s.counts 0 (term_more s.counts s.terms)
 
 no_list_opens : (ts : List Token) → IsClosed ts → (scan ts).arity ≡ 0
-no_list_opens [] closed = refl
-no_list_opens (word text ∷ ts) closed = refl
 no_list_opens (mark Open ∷ ts) closed = absurd closed
-no_list_opens (mark m ∷ ts) closed = refl
+no_list_opens _ closed = refl
 
 mutual
   pub scan-words : (t : Source) (r : List Token) → IsClosed r → scan (words t ++ r) ≡ with_term (prefix t) (scan r)

@@ -1,10 +1,9 @@
 -- A text is scanned from its end, byte by byte.
-use Rattle.std.proofs.Common.{◌≡◌, ℕ, suc, ◌+◌, ◌-◌, ◌<◌, ◌≤◌, ◌^◌, Bool, true, false, cond, List, [], ◌∷◌, ◌++◌, Option, None, Some, length, take, drop, get_or, refl, sym, ap, ◌∙◌, subst, append_assoc, append-nil, arith, length-append}
+use Rattle.std.proofs.Common.{◌≡◌, ℕ, suc, ◌+◌, ◌-◌, ◌<◌, ◌≤◌, ◌^◌, true, false, List, [], ◌∷◌, ◌++◌, Option, None, Some, length, take, drop, get_or, refl, sym, ap, ◌∙◌, subst, append_assoc, append-nil, arith, length-append}
 use Rattle.std.specs.List.{AllByRecursion}
 use Rattle.std.proofs.Math.Seq.{drop-length}
 use Rattle.std.proofs.lemmas.List.{drop_more, length-take, take-append-drop}
-use Rattle.ic_text.specs.declared.token.Mark.{Mark}
-use Rattle.ic_text.specs.Token.{Token, is_blank, is_word_byte, mark_of, word_of, before, followed, tokens_at, tokens_after, tokens}
+use Rattle.ic_text.specs.Token.{Token, is_word_byte, mark_of, word_of, before, followed, tokens_at, tokens_after, tokens}
 use Rattle.ic_text.specs.inner.Prefix.{Scanned, scan, scan_run}
 use Rattle.ic_text.specs.lemmas.ReadOnce.{some-injective}
 use Rattle.ic_text.specs.lemmas.WordRuns.{tokens-parted}
@@ -130,21 +129,6 @@ tokens_here text place all inside apart is =
     let parts : text ≡ take place text ++ b ∷ drop (place + 1) text = sym (take-append-drop place text) ∙ ap (λ l. take place text ++ l) (drop_more text place 0 inside) in
     followed_some (tokens (take place text)) (tokens_at b (mark_of b)) (tokens (drop (place + 1) text)) all
     (sym (tokens-parted (take place text) (drop (place + 1) text) b apart) ∙ ap tokens (sym parts) ∙ is)
-
-blank_tokens : (b : ℕ) (o : Option Mark) (us : List Token) → o ≡ None → tokens_at b o ≡ Some us → tokens_at b o ≡ Some []
-blank_tokens b (Some m) us none e = cc
-blank_tokens b None us none e = by_blank (is_blank b) e
-  where
-    by_blank : (t : Bool) → ◌≡◌ {A = Option (List Token)} (cond t (Some []) None) (Some us) → ◌≡◌ {A = Option (List Token)} (cond t (Some []) None) (Some [])
-    by_blank true e = refl
-    by_blank false e = cc
-
--- a blank has none
-pub no_tokens_here : (text : List ℕ) (place : ℕ) (all : List Token) → place < length text → is_word_byte (get_or text place 0) ≡ false → tokens text ≡ Some all
-    → mark_of (get_or text place 0) ≡ None → tokens_at (get_or text place 0) (mark_of (get_or text place 0)) ≡ Some []
-no_tokens_here text place all inside apart is none =
-    let found = tokens_here text place all inside apart is in
-    blank_tokens (get_or text place 0) (mark_of (get_or text place 0)) found.0 none found.1
 
 -- so all is scanned where the run goes to the beginning
 pub whole_run : (text : List ℕ) (place end : ℕ) → place ≡ 0 → take end text ≡ take (end - place) (drop place text)

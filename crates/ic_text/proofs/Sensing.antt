@@ -2,9 +2,9 @@
 use Rattle.std.proofs.Common.{◌≡◌, ℕ, ◌+◌, ◌≤◌, ◌^◌, Bool, true, false, ◌&&◌, cond, List, [], ◌∷◌, ◌++◌, Option, None, Some, Result, Ok, Err, length, map, refl, sym, ap, ◌∙◌, arith}
 use Rattle.std.specs.Prelude.{nat_le, nat_lt, sum_by}
 use Rattle.std.specs.List.{flat_map, list_all}
-use Rattle.std.proofs.lemmas.List.{length-map}
 use Rattle.std.proofs.lemmas.List.Sums.{sum_by-cons}
 use Rattle.std.proofs.lemmas.Bool.{false≢true, and_parts, le-leb, leb-true, lt-ltb}
+use Rattle.std.proofs.lemmas.List.Folds.{flat_map-map}
 use Rattle.ic_term.specs.Symbol.{Symbol, fits_limits}
 use Rattle.ic_term.specs.Tree.{names, names_of, nodes, nodes_of, pair_names, pair_nodes}
 use Rattle.ic_term.specs.Configuration.{Configuration, configuration_names, configuration_nodes, one_above, third_occurrence, is_within_wide, unless_third, wide_restored}
@@ -14,23 +14,17 @@ use Rattle.ic_flat.specs.declared.word.Word.{Word}
 use Rattle.ic_text.specs.declared.limits.Limits.{Limits}
 use Rattle.ic_text.specs.declared.limits.TheConstants.{MAX_NAME}
 use Rattle.ic_text.specs.declared.fault.TextFault.{TextFault}
-use Rattle.ic_text.specs.declared.fault.TextFault.TheVariants.{Syntax, Limit, Arity, NameCount, Name, Twice, Lopsided, Memory}
+use Rattle.ic_text.specs.declared.fault.TextFault.TheVariants.{Limit, Arity, Memory}
 use Rattle.ic_text.specs.Limits.{most_interface, most_nodes, most_symbols}
 use Rattle.ic_text.specs.Source.{Source, leaf, node, Sources, no_sources, more_sources, Sides, Phrase, IsPhrase, source_names, names_of_sources, source_nodes, nodes_of_sources, phrase_names, phrase_symbols, phrase_nodes}
 use Rattle.ic_text.specs.Sense.{symbols_after, symbol_table, has_its_arity, numbered_tree, numbered_trees, numbered_pair, numbered_phrase, unless_third_name, sense_within}
-use Rattle.ic_text.specs.declared.prefix.Node.{Node}
-use Rattle.ic_text.specs.inner.Prefix.{node_of, nodes_of as words_of}
 use Rattle.ic_text.specs.Words.{phrase_prefix}
 use Rattle.ic_text.specs.inner.Numbered.{table_over, is_word_in_limits, is_word_over, word_from, unless_refused, numbered_words, as_text_answer, Refuses}
 use Rattle.ic_flat.specs.Words.{forest}
 use Rattle.ic_text.specs.inner.Built.{IsPaired, configuration_from}
-use Rattle.ic_text.proofs.PrefixWords.{symbols_among-phrase, names_among-phrase, limits-words, table-words, arities-words, length-phrase_prefix}
+use Rattle.ic_text.proofs.PrefixWords.{symbols_among-phrase, names_among-phrase, limits-words, table-words, arities-words}
 use Rattle.ic_text.proofs.LimitLemmas.{nodes-low}
 use Rattle.ic_text.proofs.BuiltTrees.{configuration_from-built, paired-phrase}
-
-flat_map-map : {A B C : Type 0} (f : B → List C) (g : A → B) (xs : List A) → flat_map f (map g xs) ≡ flat_map (λ x. f (g x)) xs
-flat_map-map f g [] = refl
-flat_map-map f g (x ∷ xs) = ap (λ l. f (g x) ++ l) (flat_map-map f g xs)
 
 pub sum_by-map : {A B : Type 0} (f : B → ℕ) (g : A → B) (xs : List A) → sum_by f (map g xs) ≡ sum_by (λ x. f (g x)) xs
 sum_by-map f g [] = refl
@@ -190,14 +184,5 @@ sense-unfit limits p = by_cases _ (nat_le (length p.interface) (most_interface l
 
 -- a refusal stays where a function goes on with values alone
 pub Refuses-through : {A B : Type 0} (f : Result A TextFault → Result B TextFault) (stays : (e : TextFault) → f (Err e) ≡ Err e) (e : TextFault) (a : Result A TextFault) → Refuses e a → Refuses e (f a)
-Refuses-through f stays Syntax a is = sym (stays Syntax) ∙ ap f is
-Refuses-through f stays Limit a is = sym (stays Limit) ∙ ap f is
-Refuses-through f stays Arity a is = sym (stays Arity) ∙ ap f is
-Refuses-through f stays (NameCount i) a is = sym (stays (NameCount i)) ∙ ap f is
-Refuses-through f stays (Name n) a is = sym (stays (Name n)) ∙ ap f is
-Refuses-through f stays (Twice i) a is = sym (stays (Twice i)) ∙ ap f is
-Refuses-through f stays (Lopsided i) a is = sym (stays (Lopsided i)) ∙ ap f is
 Refuses-through f stays Memory a is = tt
-
-pub nodes_are : (ns : List Node) (p : Phrase) → words_of ns ≡ phrase_prefix p → length ns ≡ phrase_nodes p
-nodes_are ns p same = sym (length-map ns node_of) ∙ ap length same ∙ length-phrase_prefix p
+Refuses-through f stays e a is = sym (stays e) ∙ ap f is

@@ -2,13 +2,13 @@
 use Rattle.std.proofs.Common.{◌≡◌, ℕ, Bool, true, false, cond, eqb, List, [], ◌∷◌, ◌++◌, Option, None, Some, append-nil, refl, sym, ap, ◌∙◌, subst}
 use Rattle.std.proofs.lemmas.Bool.{false≢true, eqb-true}
 use Rattle.ic_text.specs.declared.token.Mark.{Mark}
-use Rattle.ic_text.specs.declared.token.Mark.TheVariants.{LeftBrace, RightBrace, Less, Greater, Bar, Equals, Comma, Semicolon, Open, Close}
+use Rattle.ic_text.specs.declared.token.Mark.TheVariants.{RightBrace}
 use Rattle.ic_text.specs.Token.{Token, mark, is_blank, is_word_byte, mark_of, word_of, before, followed, tokens_at, tokens_after, tokens}
 use Rattle.ic_text.specs.inner.Braces.{split_at_brace}
 use Rattle.ic_text.specs.lemmas.ReadOnce.{some-injective, none_is_some}
 use Rattle.ic_text.proofs.GrammarSystem.{in_front, split_at_brace as split_tokens}
 use Rattle.ic_text.proofs.KeptBytes.{byte_of_mark}
-use Rattle.ic_text.proofs.WordPlaces.{opened}
+use Rattle.ic_text.specs.lemmas.WordPlaces.{opened}
 
 -- bytes in front of those before the first `}`
 abbrev pub bytes_in_front : List ℕ → List ℕ × List ℕ → List ℕ × List ℕ
@@ -33,15 +33,7 @@ word_isnt_brace b is = by_test (eqb b 125) refl
 module _ (b : ℕ) (other : eqb b 125 ≡ false) where
   split-mark : (m : Mark) → mark_of b ≡ Some m → (ts : List Token) → split_tokens (mark m ∷ ts) ≡ in_front (mark m ∷ []) (split_tokens ts)
   split-mark RightBrace is ts = absurd (false≢true (sym other ∙ ap (λ n. eqb n 125) (byte_of_mark b RightBrace is)))
-  split-mark LeftBrace is ts = refl
-  split-mark Less is ts = refl
-  split-mark Greater is ts = refl
-  split-mark Bar is ts = refl
-  split-mark Equals is ts = refl
-  split-mark Comma is ts = refl
-  split-mark Semicolon is ts = refl
-  split-mark Open is ts = refl
-  split-mark Close is ts = refl
+  split-mark _ is ts = refl
 
   split-here : (o : Option Mark) → mark_of b ≡ o → (us ts : List Token) → tokens_at b o ≡ Some us → split_tokens (us ++ ts) ≡ in_front us (split_tokens ts)
   split-here (Some m) is us ts at = subst (λ l. split_tokens (l ++ ts) ≡ in_front l (split_tokens ts)) (some-injective (mark m ∷ []) us at) (split-mark m is ts)

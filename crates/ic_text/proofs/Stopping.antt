@@ -3,6 +3,8 @@ use Rattle.std.proofs.Common.{◌≡◌, ℕ, ◌+◌, ◌<◌, ◌≤◌, inl, 
 use Rattle.std.specs.Prelude.{IfSome}
 use Rattle.std.proofs.lemmas.Bool.{false≢true, and_from}
 use Rattle.std.proofs.lemmas.Bool.Decides.{nat_tests}
+use Rattle.std.proofs.lemmas.Map.Views.{exact_unsigned_eq as equal}
+use Rattle.std.proofs.Math.Bool.{and-false}
 use Rattle.ic_term.specs.Symbol.{Symbol}
 use Rattle.ic_term.specs.declared.symbols.SymbolFault.{SymbolFault}
 use Rattle.ic_text.specs.declared.excess.Excess.{Excess}
@@ -12,7 +14,7 @@ use Rattle.ic_text.specs.declared.limits.Limits.{Limits}
 use Rattle.ic_text.specs.declared.misread.Detail.{Detail}
 use Rattle.ic_text.specs.declared.misread.Detail.TheVariants.{Nothing, Passed, Arities}
 use Rattle.ic_text.specs.declared.misread.Limit.{Limit as Bound}
-use Rattle.ic_text.specs.declared.misread.Limit.TheVariants.{TextBytes, SymbolBytes, Arguments, NameNumber, Symbols, Rules, RuleNodes, Interface, Nodes}
+use Rattle.ic_text.specs.declared.misread.Limit.TheVariants.{SymbolBytes, Arguments, NameNumber, Symbols}
 use Rattle.ic_flat.specs.declared.word.Word.{Word}
 use Rattle.ic_text.specs.declared.prefix.Node.{Node}
 use Rattle.ic_text.specs.declared.refusal.Refusal.{Refusal}
@@ -23,9 +25,6 @@ use Rattle.ic_text.specs.inner.Numbered.{Refuses, counted_words, numbered_words}
 use Rattle.ic_text.specs.inner.Prefix.{node_of, nodes_of}
 use Rattle.ic_text.proofs.Keeping.{keeps_each}
 use Rattle.ic_text.specs.inner.Refused.{IsBefore, IsExcessAt, IsStoppedIn, IsToldIn, IsToldWord, IsWordIn, IsWordLimit, Stops, are_within}
-
-equal : (n m : ℕ) → eqb n m ≡ true → n ≡ m
-equal n m e = grind (arith, nat_tests)
 
 unequal : (n m : ℕ) → eqb n m ≡ false → (n ≡ m → ⊥)
 unequal n m e = grind (arith, nat_tests)
@@ -89,32 +88,20 @@ pub none_after : (o : Option Excess) (size k : ℕ) → size ≤ k → IfSome o 
 none_after None size k end inside before = refl
 none_after (Some x) size k end inside before = absurd (omega (arith, end, inside, before))
 
-and_false : (x : Bool) → (x && false) ≡ false
-and_false true = refl
-and_false false = refl
-
 -- the limits of counts come before those of words
 no_word_limit : (limits : Limits) (b : Bound) (ws : List Symbol) → rank b < 5 → keeps limits b ws ≡ true
-no_word_limit limits TextBytes ws less = refl
-no_word_limit limits Rules ws less = refl
-no_word_limit limits RuleNodes ws less = refl
-no_word_limit limits Interface ws less = refl
-no_word_limit limits Nodes ws less = refl
 no_word_limit limits SymbolBytes ws less = absurd (omega (arith, less))
 no_word_limit limits Arguments ws less = absurd (omega (arith, less))
 no_word_limit limits NameNumber ws less = absurd (omega (arith, less))
 no_word_limit limits Symbols ws less = absurd (omega (arith, less))
+no_word_limit limits _ ws less = refl
 
 of_counts : (limits : Limits) (w : Written) (j : ℕ) (b : Bound) → counts_keep limits b w j ≡ false → rank b ≤ 4
-of_counts limits w j TextBytes e = omega arith
-of_counts limits w j Rules e = omega arith
-of_counts limits w j RuleNodes e = omega arith
-of_counts limits w j Interface e = omega arith
-of_counts limits w j Nodes e = omega arith
 of_counts limits w j SymbolBytes e = absurd (false≢true (sym e))
 of_counts limits w j Arguments e = absurd (false≢true (sym e))
 of_counts limits w j NameNumber e = absurd (false≢true (sym e))
 of_counts limits w j Symbols e = absurd (false≢true (sym e))
+of_counts limits w j _ e = omega arith
 
 -- a refusal of words is one of what is written
 module _ (limits : Limits) (w : Written) where
@@ -141,7 +128,7 @@ module _ (limits : Limits) (w : Written) where
   count_limit x is within = record {
     inside = is.inside;
     innocent = λ j le b. and_from (keeps limits b (take j (all_words w))) _ (keeps_each limits (take j (all_words w)) (within j le) b) (is.kept j le b);
-    passed = ap (λ y. keeps limits x.limit (take (x.word + 1) (all_words w)) && y) is.passed ∙ and_false (keeps limits x.limit (take (x.word + 1) (all_words w)));
+    passed = ap (λ y. keeps limits x.limit (take (x.word + 1) (all_words w)) && y) is.passed ∙ and-false (keeps limits x.limit (take (x.word + 1) (all_words w)));
     first = λ b less.
         and_from (keeps limits b (take (x.word + 1) (all_words w))) _ (no_word_limit limits b (take (x.word + 1) (all_words w)) (omega (arith, less, of_counts limits w (x.word + 1) x.limit is.passed))) (is.first b less);
   }

@@ -3,12 +3,12 @@ use Rattle.std.proofs.Common.{◌≡◌, ℕ, ◌+◌, ◌<◌, ◌≤◌, Bool,
 use Rattle.std.proofs.lemmas.Bool.{cond_both, eqb-true}
 use Rattle.std.proofs.lemmas.List.{drop_more}
 use Rattle.ic_text.specs.declared.token.Mark.{Mark}
-use Rattle.ic_text.specs.declared.token.Mark.TheVariants.{LeftBrace, RightBrace, Less, Greater, Bar, Equals, Comma, Semicolon, Open, Close}
+use Rattle.ic_text.specs.declared.token.Mark.TheVariants.{LeftBrace, Bar, Comma, Open, Close}
 use Rattle.ic_text.specs.Token.{Token, mark, mark_byte, is_blank, is_word_byte, mark_of, word_of, tokens_at, tokens_after}
 use Rattle.ic_text.specs.inner.Tail.{Passed, pass_byte, pass_close, pass_end, pass_next, pass_word, passed_over}
 use Rattle.ic_text.specs.lemmas.ReadOnce.{some-injective, none_is_some}
 use Rattle.ic_text.proofs.KeptBytes.{byte_of_mark}
-use Rattle.ic_text.proofs.WordPlaces.{opened}
+use Rattle.ic_text.specs.lemmas.WordPlaces.{opened}
 use Rattle.ic_text.proofs.TailSteps.{pass_mark, pass_all}
 
 abbrev is_run : List ℕ → Bool
@@ -22,15 +22,7 @@ run-more (x ∷ run) b = refl
 -- a mark by its byte
 mark-passed : (m : Mark) (t : Passed) → pass_mark m t ≡ pass_byte (mark_byte m) t
 mark-passed LeftBrace t = refl
-mark-passed RightBrace t = refl
-mark-passed Less t = refl
-mark-passed Greater t = refl
-mark-passed Bar t = refl
-mark-passed Equals t = refl
-mark-passed Comma t = refl
-mark-passed Semicolon t = refl
-mark-passed Open t = refl
-mark-passed Close t = refl
+mark-passed _ t = refl
 
 -- a byte of no mark is none of these
 module _ (b : ℕ) (none : mark_of b ≡ None) where

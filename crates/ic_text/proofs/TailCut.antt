@@ -6,7 +6,7 @@ use Rattle.std.proofs.lemmas.Bool.{false≢true}
 use Rattle.std.proofs.lemmas.List.{drop_more, take-append-drop}
 use Rattle.ic_term.specs.Symbol.{Symbol}
 use Rattle.ic_text.specs.declared.token.Mark.{Mark}
-use Rattle.ic_text.specs.declared.token.Mark.TheVariants.{LeftBrace, RightBrace, Less, Greater, Bar, Equals, Comma, Semicolon, Open, Close}
+use Rattle.ic_text.specs.declared.token.Mark.TheVariants.{LeftBrace}
 use Rattle.ic_text.specs.Token.{Token, mark, is_blank, is_word_byte, mark_of, word_of, before, followed, tokens_at, tokens_after, tokens}
 use Rattle.ic_text.specs.inner.Prefix.{Cut, IsBegunAt, cut_at, cut_from, scan}
 use Rattle.ic_text.specs.inner.Tail.{IsTailOf, Passed, nothing_passed}
@@ -18,7 +18,7 @@ use Rattle.ic_text.proofs.Scanning.{counts_room, scan_fits}
 use Rattle.ic_text.proofs.ScanningText.{length-word_of, no_more_run, nothing_scanned}
 use Rattle.ic_text.proofs.TailBytes.{over-tokens}
 use Rattle.ic_text.proofs.TailSteps.{IsPassed, all-passed, pass_all}
-use Rattle.ic_text.proofs.WordPlaces.{opened}
+use Rattle.ic_text.specs.lemmas.WordPlaces.{opened}
 
 -- a text has no more tokens than bytes
 at-most-one : (b : ℕ) (o : Option Mark) (us : List Token) → tokens_at b o ≡ Some us → length us ≤ 1
@@ -108,15 +108,7 @@ begun-is-cut text skip place c all is (inr v) = goes-on text place v.0 v.1 skip 
 any-arity : (m : Mark) (ns : List Symbol) (cs : List ℕ) (a k skip : ℕ)
     → cut_at (Some m) (record { seen = record { nodes = ns; counts = cs; arity = 0; terms = k }; skip = skip }) ≡ cut_at (Some m) (record { seen = record { nodes = ns; counts = cs; arity = a; terms = k }; skip = skip })
 any-arity LeftBrace ns cs a k skip = refl
-any-arity RightBrace ns cs a k skip = refl
-any-arity Less ns cs a k skip = refl
-any-arity Greater ns cs a k skip = refl
-any-arity Bar ns cs a k skip = refl
-any-arity Equals ns cs a k skip = refl
-any-arity Comma ns cs a k skip = refl
-any-arity Semicolon ns cs a k skip = refl
-any-arity Open ns cs a k skip = refl
-any-arity Close ns cs a k skip = refl
+any-arity _ ns cs a k skip = refl
 
 module _ (text : List ℕ) (skip place : ℕ) (t : Passed) (tail : IsTailOf text skip place t) (all : List Token) (spelled : tokens text ≡ Some all) where
   abbrev byte : ℕ

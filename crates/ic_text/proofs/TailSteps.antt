@@ -77,13 +77,12 @@ isnt-zero d = ne_eqb (suc d) 0 (λ e. omega (arith, e))
 -- a word
 word-terms : (d : ℕ) (b : Bool) (ns : List ℕ) (k n : ℕ) → d ≤ length ns
     → unless_closed (drop d ns) k + unless_barred b (term_more ns n) ≡ unless_closed (drop d ns) (cond (d == 0 && not b) (k + 1) k) + unless_barred b n
-word-terms zero true [] k n closes = refl
 word-terms zero true (c ∷ ns) k n closes = refl
 word-terms zero false [] k n closes = omega arith
-word-terms zero false (c ∷ ns) k n closes = refl
 word-terms (suc d) b [] k n closes = absurd (omega (arith, closes))
 word-terms (suc d) true (c ∷ ns) k n closes = rw (isnt-zero d) refl
 word-terms (suc d) false (c ∷ ns) k n closes = rw (isnt-zero d) refl
+word-terms zero _ _ k n closes = refl
 
 join-word : (text : List ℕ) (t : Passed) (s : Scanned) (r : Passed) → Joins (pass_word t) s r → Joins t (scan_step (word text) s) r
 join-word text t s r j = record {
@@ -161,10 +160,9 @@ comma-counts (suc d) k [] = refl
 comma-counts (suc d) k (c ∷ ns) = rw (isnt-zero d) refl
 
 comma-terms : (d k : ℕ) (ns : List ℕ) → unless_closed (drop d (one_more ns)) k ≡ unless_closed (drop d ns) k
-comma-terms zero k [] = refl
 comma-terms zero k (c ∷ ns) = refl
 comma-terms (suc d) k [] = refl
-comma-terms (suc d) k (c ∷ ns) = refl
+comma-terms _ k _ = refl
 
 as-many : (ns : List ℕ) → length (one_more ns) ≡ length ns
 as-many [] = refl

@@ -19,8 +19,8 @@ use Rattle.ic_text.specs.SystemSource.{RulePhrase, SystemPhrase}
 use Rattle.ic_text.specs.Words.{Written, all_words, in_a_row, rule_prefix, symbols_among, system_prefix, written_system}
 use Rattle.ic_text.specs.WordFaults.{IsMiscount, IsRuleWord, IsSecondUse, IsThirdWord, agree, is_wrong_use, uses, word_table, words_before}
 use Rattle.ic_text.proofs.PrefixWords.{symbols_among-append}
-use Rattle.ic_text.proofs.SymbolOrder.{added, found, has_text, known_is, later_is_known, texts_after}
-use Rattle.ic_text.proofs.TableLemmas.{number_of_text-next, slice_get-append, slice_get-next}
+use Rattle.ic_text.specs.lemmas.SymbolOrder.{added, found, has_text, known_is, later_is_known, texts_after}
+use Rattle.ic_text.specs.lemmas.TableLemmas.{number_of_text-next, slice_get-append, slice_get-next}
 use Rattle.ic_text.proofs.Uses.{standing_in, uses_more}
 use Rattle.ic_text.proofs.Refusing.{written-system}
 

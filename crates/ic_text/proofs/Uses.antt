@@ -18,7 +18,7 @@ use Rattle.ic_text.specs.Words.{names_among}
 use Rattle.ic_text.specs.WordFaults.{uses, at_most_twice, IsFirstWord}
 use Rattle.ic_text.specs.lemmas.NameLemmas.{is_name-name_text, name_number-name_text, name_text-name_number}
 use Rattle.ic_text.proofs.Blaming.{Standing}
-use Rattle.ic_text.proofs.Numbering.{not_le}
+use Rattle.ic_text.proofs.Numbering.{gt_test}
 
 -- one if a word has a text
 abbrev one_if : List ℕ → Symbol → ℕ
@@ -93,7 +93,7 @@ pub third_here : (n : ℕ) (ws : List Symbol) (k : ℕ) (w : Symbol) → Standin
 third_here n ws k w stands two same = record {
   inside = stands.inside;
   innocent = λ j le. le-leb (uses (name_text n) (take j ws)) 2 (omega (arith, uses_front (name_text n) ws j k le, two));
-  guilty = not_le (uses (name_text n) (take (k + 1) ws)) 2 (omega (arith, uses_more (name_text n) ws k w stands true same, two));
+  guilty = gt_test (uses (name_text n) (take (k + 1) ws)) 2 (omega (arith, uses_more (name_text n) ws k w stands true same, two));
 }
 
 -- whether a name is this one, by its number

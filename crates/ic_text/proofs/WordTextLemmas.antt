@@ -1,31 +1,26 @@
 -- Texts of terms that are written word by word.
 use Rattle.std.proofs.Common.{◌≡◌, ℕ, zero, suc, ◌+◌, ◌-◌, ◌*◌, ◌<◌, ◌≤◌, List, [], ◌∷◌, ◌++◌, Bool, true, false, Option, None, Some, length, map, get_or, take, drop, reverse, refl, sym, ap, subst, ◌∙◌, append_assoc, append-nil, arith}
-use Rattle.std.specs.Prelude.{slice_get, option_map}
-use Rattle.std.specs.List.{flat_map, list_all}
+use Rattle.std.specs.Prelude.{slice_get}
+use Rattle.std.specs.List.{flat_map}
 use Rattle.std.specs.Option.{option_to_list}
-use Rattle.std.proofs.lemmas.Bool.{and_parts, false≢true}
-use Rattle.std.proofs.lemmas.Option.{slice_get_within}
 use Rattle.std.proofs.lemmas.List.{drop_more, drop-drop, length-drop, length-map, take-map, drop-map, take_at, drop_at, reverse-append, reverse-reverse}
-use Rattle.std.proofs.lemmas.Grind.{flat_map-append}
 use Rattle.ic_term.specs.Tree.{Tree, agent, trees_of}
-use Rattle.ic_term.specs.Symbol.{Symbol, symbol_text, has_arity}
+use Rattle.ic_term.specs.Symbol.{Symbol}
 use Rattle.ic_term.specs.Configuration.{Configuration}
 use Rattle.ic_flat.specs.declared.word.Word.{Word}
 use Rattle.ic_flat.specs.declared.word.Word.TheVariants.{Name, Agent}
-use Rattle.ic_flat.specs.Words.{arguments, with_word, forest, IsWhole, is_word_over}
+use Rattle.ic_flat.specs.Words.{arguments, with_word, forest, IsWhole}
 use Rattle.ic_flat.specs.Flat.{pairs_of, sides, configuration_words}
 use Rattle.ic_flat.specs.lemmas.WordLaws.{whole-drop, length-forest, forest-le}
 use Rattle.ic_flat.specs.lemmas.FlatLaws.{forest-configuration_words}
-use Rattle.ic_text.specs.declared.token.Mark.TheVariants.{Bar, Comma, Equals, Greater}
-use Rattle.ic_text.specs.Token.{Token, token_text, mark}
+use Rattle.ic_text.specs.declared.token.Mark.TheVariants.{Bar, Comma, Greater}
+use Rattle.ic_text.specs.Token.{Token, mark}
 use Rattle.ic_text.specs.Source.{words, further_words, sides_words, separated}
-use Rattle.ic_text.specs.Text.{text_or_none, source_of, sources_of, sides_of, text_of, printed}
-use Rattle.ic_text.specs.inner.Printing.{term_text, terms_text, equation_text, equations_text}
+use Rattle.ic_text.specs.Text.{text_or_none, source_of, sources_of, sides_of, text_of, term_text, printed}
+use Rattle.ic_text.specs.inner.Printing.{terms_text, equations_text}
 use Rattle.ic_text.specs.inner.WordTexts.{word_text, closing, coming, lacking, needed, after_word, Begins, comma_before, first_text}
 use Rattle.ic_text.proofs.Grammar.{after_commas}
-
-text_of-append : (ts us : List Token) → text_of (ts ++ us) ≡ text_of ts ++ text_of us
-text_of-append ts us = flat_map-append token_text ts us
+use Rattle.ic_text.specs.lemmas.Separated.{text_of-append}
 
 -- ---- the stack of what agents lack
 
@@ -85,32 +80,6 @@ closed_all start out_start old new out is none all = record {
   text = λ texts few. ap (λ due. out ++ closing due texts) (sym none) ∙ is.text texts few;
   many = ap lacking (sym none) ∙ is.many;
   ended = λ e. all;
-}
-
--- ---- what is written after a word
-
-pub opened : (n : ℕ) (due new out out' : List ℕ) → 0 < n → new ≡ (n - 1) ∷ due → out' ≡ out ++ 40 ∷ []
-    → Begins (after_word n due) (n + lacking due) out out' true new
-opened n due new out out' some pushed put =
-    let on : suc (n - 1) ≡ n = omega arith in record {
-      text = λ texts few.
-          ap (λ l. l ++ coming true new texts) put ∙ append_assoc out (40 ∷ []) (coming true new texts)
-          ∙ ap (λ l. out ++ 40 ∷ coming true l texts) pushed ∙ ap (λ m. out ++ after_word m due texts) on;
-      many = ap (needed true) pushed ∙ omega arith;
-      ended = λ e. absurd cc;
-    }
-
-pub closed : (n : ℕ) (due new out out' : List ℕ) (more : Bool) → n ≤ 0 → Begins (closing due) (lacking due) out out' more new
-    → Begins (after_word n due) (n + lacking due) out out' more new
-closed zero due new out out' more none begins = record { text = λ texts few. begins.text texts (omega (arith, few)); many = omega (arith, begins.many); ended = begins.ended }
-closed (suc n) due new out out' more none begins = absurd (omega arith)
-
-pub headed : (head : List ℕ) (rest : List (List ℕ) → List ℕ) (count : ℕ) (out begun new due : List ℕ) (more : Bool) → begun ≡ out ++ head
-    → Begins rest count begun new more due → Begins (λ texts. head ++ rest texts) count out new more due
-headed head rest count out begun new due more put begins = record {
-  text = λ texts few. begins.text texts few ∙ ap (λ l. l ++ rest texts) put ∙ append_assoc out head (rest texts);
-  many = begins.many;
-  ended = begins.ended;
 }
 
 -- ---- a word, and the terms after it
@@ -227,27 +196,6 @@ pub IsPrinting-none : {ss : List Symbol} {ws : List Word} {place end : ℕ} {mor
     → IsPrinting ss ws place end more (reverse due) start out → more ≡ false → due ≡ []
 IsPrinting-none due is done = sym (reverse-reverse due) ∙ ap reverse (is.ended done)
 
--- ---- known symbols
-
-pub word-known : (ss : List Symbol) (s arity : ℕ) → is_word_over ss (Agent s arity) ≡ true → s < length ss
-word-known ss s arity over = by_symbol (slice_get ss s) refl over
-  where
-    by_symbol : (o : Option Symbol) → slice_get ss s ≡ o → has_arity arity o ≡ true → s < length ss
-    by_symbol None e has = absurd (false≢true has)
-    by_symbol (Some x) e has = slice_get_within ss s x e
-
-pub known-text : (ss : List Symbol) (s : ℕ) (text : List ℕ) → symbol_text ss s ≡ Some text → text_or_none (slice_get ss s) ≡ text
-known-text ss s text known = by_symbol (slice_get ss s) known
-  where
-    by_symbol : (o : Option Symbol) → option_map (λ (x : Symbol). x.text) o ≡ Some text → text_or_none o ≡ text
-    by_symbol None e = cc
-    by_symbol (Some x) e = cc
-
-pub over-at : (ss : List Symbol) (ws : List Word) (i : ℕ) (d : Word) → list_all (is_word_over ss) ws ≡ true → i < length ws → is_word_over ss (get_or ws i d) ≡ true
-over-at ss [] i d over there = absurd (omega arith)
-over-at ss (w ∷ ws) zero d over there = (and_parts (is_word_over ss w) (list_all (is_word_over ss) ws) over).0
-over-at ss (w ∷ ws) (suc i) d over there = over-at ss ws i d (and_parts (is_word_over ss w) (list_all (is_word_over ss) ws) over).1 (omega arith)
-
 -- ---- lists with commas between
 
 module _ {X S : Type 0} (view : X → S) (spell : S → List Token) where
@@ -287,19 +235,6 @@ module _ {X S : Type 0} (view : X → S) (spell : S → List Token) where
 
 -- ---- equations
 
-equation-text : (ss : List Symbol) (t u : Tree) → equation_text ss (record { left = t; right = u }) ≡ term_text ss t ++ 61 ∷ term_text ss u
-equation-text ss t u = text_of-append (words (source_of ss t)) (mark Equals ∷ words (source_of ss u))
-
-pub equation-written : (ss : List Symbol) (ts us : List Tree) (old first begun new : List ℕ) → 2 ≤ length ts → us ≡ drop 1 ts
-    → first ≡ old ++ first_text (term_text ss) ts → begun ≡ first ++ 61 ∷ [] → new ≡ begun ++ first_text (term_text ss) us
-    → new ≡ old ++ first_text (equation_text ss) (pairs_of ts)
-equation-written ss [] us old first begun new two after left sign right = absurd (omega arith)
-equation-written ss (t ∷ []) us old first begun new two after left sign right = absurd (omega arith)
-equation-written ss (t ∷ u ∷ ts) us old first begun new two after left sign right =
-    right ∙ (λ i. (sign ∙ ap (λ l. l ++ 61 ∷ []) left) i ++ first_text (term_text ss) (after i))
-    ∙ append_assoc (old ++ term_text ss t) (61 ∷ []) (term_text ss u) ∙ append_assoc old (term_text ss t) (61 ∷ term_text ss u)
-    ∙ ap (λ l. old ++ l) (sym (equation-text ss t u))
-
 pub pairs_of-drop : (ts : List Tree) → pairs_of (drop 2 ts) ≡ drop 1 (pairs_of ts)
 pairs_of-drop [] = refl
 pairs_of-drop (t ∷ []) = refl
@@ -307,9 +242,8 @@ pairs_of-drop (t ∷ u ∷ ts) = refl
 
 pub length-pairs_of : (ts : List Tree) (n : ℕ) → length ts ≡ 2 * n → length (pairs_of ts) ≡ n
 length-pairs_of [] n even = omega arith
-length-pairs_of (t ∷ []) n even = absurd (omega arith)
-length-pairs_of (t ∷ u ∷ ts) zero even = absurd (omega arith)
 length-pairs_of (t ∷ u ∷ ts) (suc n) even = let fewer : length ts ≡ 2 * n = omega arith in ap suc (length-pairs_of ts n fewer)
+length-pairs_of _ _ even = absurd (omega arith)
 
 -- ---- a configuration
 

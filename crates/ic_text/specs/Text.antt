@@ -12,7 +12,7 @@ use Rattle.ic_text.specs.declared.fault.TextFault.TheVariants.{Syntax, Limit, Ar
 use Rattle.ic_text.specs.Limits.{most_bytes}
 use Rattle.ic_text.specs.Token.{Token, token_text}
 use Rattle.ic_text.specs.Name.{name_text}
-use Rattle.ic_text.specs.Source.{Source, leaf, node, Sources, no_sources, more_sources, Sides, Phrase, IsPhrase, phrase_words}
+use Rattle.ic_text.specs.Source.{Source, leaf, node, Sources, no_sources, more_sources, Sides, Phrase, IsPhrase, words, phrase_words}
 use Rattle.ic_text.specs.Sense.{sense_within}
 use Rattle.ic_text.specs.Reading.{IsSpelling, IsReadingWithin}
 
@@ -67,6 +67,10 @@ configuration_words table c = phrase_words (phrase_of table c)
 -- tokens without blanks between them
 abbrev pub text_of : List Token → List ℕ
 text_of ts = flat_map token_text ts
+
+-- the text of a term
+abbrev pub term_text : List Symbol → Tree → List ℕ
+term_text table t = text_of (words (source_of table t))
 
 -- the text of a configuration: its tokens without blanks (this project's choice)
 abbrev pub printed : List Symbol → Configuration → List ℕ

@@ -5,8 +5,8 @@ ghost use Rattle.std.specs.List.{list_all};
 ghost use Rattle.ic_term.specs.Symbol.{is_over};
 ghost use Rattle.ic_flat.specs.Words.{arguments, forest, IsWhole, is_word_over};
 ghost use Rattle.ic_flat.specs.Flat.{configuration_of, pairs_of};
-ghost use Rattle.ic_text.specs.Text.{printed};
-ghost use Rattle.ic_text.specs.inner.Printing.{term_text, terms_text, equation_text, equations_text};
+ghost use Rattle.ic_text.specs.Text.{term_text, printed};
+ghost use Rattle.ic_text.specs.inner.Printing.{terms_text, equation_text, equations_text};
 ghost use Rattle.ic_text.specs.inner.WordTexts.{word_text, closing, lacking, after_word, Begins, comma_before, first_text};
 
 use crate::print::put_name;

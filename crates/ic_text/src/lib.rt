@@ -38,7 +38,7 @@ pub use flat_print::{print_flat, put_flat, put_words};
 pub use limits::{Limits, MAX_NAME, MAX_TEXT, MAX_WIDE_TEXT};
 pub use misread::{Detail, Limit, Misread};
 pub use name::{is_numeral, number_in};
-pub use print::{print_config, print_fault, put_config, put_decimal, put_name};
+pub use print::{print_config, print_fault, put_cell, put_config, put_decimal, put_name};
 pub use read::{find_config, find_flat_config, find_wide_config, read_config};
 pub use survey::is_system;
 pub use system::{find_flat_system, find_system, find_wide_system, read_flat_system, read_system};

@@ -6,8 +6,8 @@ ghost use Rattle.std.specs.List.{list_all};
 ghost use Rattle.ic_term.specs.Symbol.{is_tree_over, is_pair_over, is_over};
 ghost use Rattle.ic_term.specs.Term.{tree, cell_tree, pair};
 ghost use Rattle.ic_text.specs.Name.{name_text};
-ghost use Rattle.ic_text.specs.inner.Printing.{term_text, terms_text, equation_text, equations_text};
-ghost use Rattle.ic_text.specs.Text.{printed, fault_text};
+ghost use Rattle.ic_text.specs.inner.Printing.{terms_text, equation_text, equations_text};
+ghost use Rattle.ic_text.specs.Text.{term_text, printed, fault_text};
 
 use crate::fault::TextFault;
 use ic_term::{Cell, Config, Equation, Symbols, Term};
@@ -45,9 +45,10 @@ fn put_term(symbols: &Symbols, term: &Term, out: &mut Vec<u8>) -> Result<(), All
     }
 }
 
-/// Appends an agent.
+/// Appends the text of an agent. Recurses on nesting, which the number of its nodes bounds. Where a growth is refused a part
+/// of it may stand there.
 #[cycle(put)]
-fn put_cell(symbols: &Symbols, cell: &Cell, out: &mut Vec<u8>) -> Result<(), AllocError>
+pub fn put_cell(symbols: &Symbols, cell: &Cell, out: &mut Vec<u8>) -> Result<(), AllocError>
     requires { IsTrue (is_tree_over symbols.now (cell_tree cell.now)) }
     ensures { OnOk result
         (out.new.items ≡ out.old.items ++ term_text symbols.now (cell_tree cell.now)) }

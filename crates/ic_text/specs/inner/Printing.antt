@@ -6,10 +6,7 @@ use Rattle.ic_text.specs.declared.token.Mark.TheVariants.{Comma}
 use Rattle.ic_text.specs.Source.{words, sides_words, separated}
 use Rattle.ic_text.specs.Text.{source_of, sides_of, text_of}
 
--- the text of a term, and of terms with commas between them
-abbrev pub term_text : List Symbol → Tree → List ℕ
-term_text table t = text_of (words (source_of table t))
-
+-- the text of terms with commas between them
 abbrev pub terms_text : List Symbol → List Tree → List ℕ
 terms_text table ts = text_of (separated Comma (map words (map (source_of table) ts)))
 

@@ -1,8 +1,7 @@
 use Rattle.std.proofs.Common.{◌++◌, length, drop, ap, ◌∙◌, arith, length-drop, drop-drop}
 use Rattle.ic_flat.specs.Words.{forest}
 use Rattle.ic_text.specs.Source.{words}
-use Rattle.ic_text.specs.Text.{source_of}
-use Rattle.ic_text.specs.inner.Printing.{term_text}
+use Rattle.ic_text.specs.Text.{source_of, term_text}
 use Rattle.ic_text.specs.inner.WordTexts.{first_text}
 use Rattle.ic_text.proofs.WordTextLemmas.{word-there, list-next}
 use Rattle.ic_text.proofs.flat_print.put_interface.Goals as goal

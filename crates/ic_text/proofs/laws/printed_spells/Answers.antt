@@ -1,5 +1,5 @@
 use Rattle.ic_text.specs.Text.{phrase_of}
-use Rattle.ic_text.proofs.WrittenTokens.{tokens-phrase_words}
+use Rattle.ic_text.specs.lemmas.WrittenTokens.{tokens-phrase_words}
 use Rattle.ic_text.proofs.laws.printed_spells.Goals as goal
 
 pub returns : goal.returns

@@ -1,7 +1,7 @@
 use Rattle.ic_text.specs.Source.{IsPhrase, phrase_words}
 use Rattle.ic_text.specs.SystemSource.{IsSystemPhrase, system_words}
 use Rattle.ic_text.specs.Places.{GoesOn}
-use Rattle.ic_text.proofs.PlaceLaws.{cut_place}
+use Rattle.ic_text.specs.lemmas.Between.{cut_place}
 use Rattle.ic_text.proofs.laws.the_text_before_a_fault_is_innocent.Goals as goal
 
 pub returns : goal.returns

@@ -1,5 +1,5 @@
 use Rattle.std.proofs.Common.{refl}
-use Rattle.ic_text.proofs.OnePlace.{one_bound, one_limit}
+use Rattle.ic_text.specs.lemmas.OnePlace.{one_bound, one_limit}
 use Rattle.ic_text.proofs.laws.words_before_a_passed_limit_are_innocent.Goals as goal
 
 pub returns : goal.returns

@@ -8,7 +8,7 @@ use Rattle.ic_flat.specs.declared.word.Word.TheVariants.{Agent}
 use Rattle.ic_text.specs.Limits.{most_symbols}
 use Rattle.ic_text.specs.inner.Prefix.{node_of}
 use Rattle.ic_text.specs.inner.Numbered.{agent_word}
-use Rattle.ic_text.proofs.TableLemmas.{numbered_again, stays_with}
+use Rattle.ic_text.specs.lemmas.TableLemmas.{numbered_again, stays_with}
 use Rattle.ic_text.proofs.number.number_word.Goals as goal
 
 pub returns-in-Some-number_again-clause-word : goal.returns-in-Some-number_again-clause-word

@@ -1,5 +1,5 @@
 use Rattle.std.proofs.Common.{true, false, sym, ◌∙◌, arith}
-use Rattle.ic_text.proofs.WordPlaces.{found_word, none_left, counts_more, ends_more}
+use Rattle.ic_text.specs.lemmas.WordPlaces.{found_word, none_left, counts_more, ends_more}
 use Rattle.ic_text.proofs.place.word_place.Goals as goal
 use Rattle.ic_text.proofs.place.word_place.Goals.{then-begins_word+else-words-word, else-begins_word}
 

@@ -1,5 +1,5 @@
 use Rattle.std.proofs.Common.{◌≡◌, ◌≤◌, false, take}
-use Rattle.ic_text.proofs.WordPlaces.{begun_words, ends_within}
+use Rattle.ic_text.specs.lemmas.WordPlaces.{begun_words, ends_within}
 use Rattle.ic_text.proofs.place.word_place.Given as goal
 
 -- so many words begin before the place, and it is after a byte of a word or after none

@@ -1,9 +1,11 @@
-use Rattle.std.proofs.Common.{refl}
+use Rattle.std.proofs.Common.{map, refl}
 use Rattle.ic_term.specs.Symbol.{is_pair_over}
 use Rattle.ic_term.specs.Term.{pair}
+use Rattle.ic_text.specs.declared.token.Mark.TheVariants.{Comma}
 use Rattle.ic_text.specs.Source.{sides_words}
 use Rattle.ic_text.specs.Text.{sides_of}
-use Rattle.ic_text.proofs.PrintLemmas.{Begun, begun_first, begun_further, next_all, next_listed}
+use Rattle.ic_text.proofs.PrintLemmas.{next_all}
+use Rattle.ic_text.specs.lemmas.Separated.{Begun, begun_first, begun_further, next_listed}
 use Rattle.ic_text.proofs.print.put_equations.Goals as goal
 use Rattle.ic_text.proofs.print.put_equations.Goals.{then-place-gt0+in_ok-push, else-place-gt0}
 
@@ -14,12 +16,13 @@ loop-place-preserved c =
     let n = c.loop-place.place in
     let x = c.index-equations-place.result in
     let out = c.loop-place.out.items in
-    let begun : Begun n out c.if-place-gt0.out.items = elim c.if-place-gt0.branch [
-      | then-place-gt0+in_ok-push w ↦ begun_further n out c.if-place-gt0.out.items w.if-place-gt0.true (rw w.out-is w.in_ok-push.ensures.items)
-      | else-place-gt0 w ↦ begun_first n out c.if-place-gt0.out.items w.if-place-gt0.false (rw w.out-is refl)
+    let begun : Begun Comma n out c.if-place-gt0.out.items = elim c.if-place-gt0.branch [
+      | then-place-gt0+in_ok-push w ↦ begun_further Comma n out c.if-place-gt0.out.items w.if-place-gt0.true (rw w.out-is w.in_ok-push.ensures.items)
+      | else-place-gt0 w ↦ begun_first Comma n out c.if-place-gt0.out.items w.if-place-gt0.false (rw w.out-is refl)
     ] in
     record {
       over = next_all (is_pair_over ss) pair n xs x c.loop-place-test.true c.index-equations-place.is c.loop-place.invariant.over;
-      whole = next_listed pair (sides_of ss) sides_words n xs x out c.if-place-gt0.out.items c.put_equation.new.out.items _ c.loop-place-test.true c.index-equations-place.is begun
+      whole = next_listed Comma (λ l. map sides_words (map (sides_of ss) (map pair l))) (λ e. sides_words (sides_of ss (pair e))) (λ e l. refl)
+          n xs x out c.if-place-gt0.out.items c.put_equation.new.out.items _ c.loop-place-test.true c.index-equations-place.is begun
           c.in_ok-put_equation.ensures c.loop-place.invariant.whole;
     }

@@ -3,7 +3,7 @@ use Rattle.std.proofs.lemmas.Result.{err_from_is_err_and}
 use Rattle.ic_text.specs.inner.Numbered.{word_found}
 use Rattle.ic_text.specs.inner.Prefix.{node_of}
 use Rattle.ic_text.proofs.Blaming.{found_number, takes_word, takes_clash, stops_limit}
-use Rattle.ic_text.proofs.TableLemmas.{number_of_text-lt}
+use Rattle.ic_text.specs.lemmas.TableLemmas.{number_of_text-lt}
 use Rattle.ic_text.proofs.number.Numbering.take.Goals as goal
 
 pub arity-requires : goal.arity-requires

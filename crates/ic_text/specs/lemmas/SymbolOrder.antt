@@ -7,11 +7,15 @@ use Rattle.std.proofs.lemmas.Slice.Eq.{bytes_eq-Decides}
 use Rattle.std.proofs.Math.Bool.{or-false, or_assoc}
 use Rattle.ic_term.specs.Symbol.{Symbol, texts, number_of_text, with_symbol}
 use Rattle.ic_text.specs.Sense.{symbols_after}
-use Rattle.ic_text.proofs.TableLemmas.{position-cons, slice_get-next}
+use Rattle.ic_text.specs.lemmas.TableLemmas.{position-cons, slice_get-next}
 
 -- whether one of the symbols has this text
 abbrev pub has_text : List ℕ → List Symbol → Bool
-has_text text ss = list_any (λ s. bytes_eq text s.text) ss
+has_text text ss = list_any (bytes_eq text) (texts ss)
+
+pub any_text : (text : List ℕ) (ss : List Symbol) → has_text text ss ≡ list_any (λ (s : Symbol). bytes_eq text s.text) ss
+any_text text [] = refl
+any_text text (s ∷ ss) = ap (λ b. bytes_eq text s.text || b) (any_text text ss)
 
 some-map : (o : Option ℕ) → is_some (option_map (λ k. 1 + k) o) ≡ is_some o
 some-map None = refl

@@ -17,9 +17,9 @@ use Rattle.ic_text.specs.Words.{Written, all_words}
 use Rattle.ic_text.specs.WordFaults.{IsFaultWordWithin, IsLimitWordWithin, IsMiscount, IsThirdWord, agree, at_most_twice, is_miscounted, keeps_so_far, rank}
 use Rattle.ic_text.specs.Places.{IsPlacedWithin, IsPlacedWordWithin, IsWordPlace, is_between}
 use Rattle.ic_text.specs.lemmas.ReadOnce.{IsTold, one_phrase}
-use Rattle.ic_text.proofs.FirstWords.{one_first}
-use Rattle.ic_text.proofs.PlaceLaws.{one_place}
-use Rattle.ic_text.proofs.WordPlaces.{begun_words, begun-push, ends_within, ends-push, run_words}
+use Rattle.ic_text.specs.lemmas.FirstWords.{one_first}
+use Rattle.ic_text.specs.lemmas.Between.{one_place}
+use Rattle.ic_text.specs.lemmas.WordPlaces.{begun_words, begun-push, ends_within, ends-push, run_words}
 
 -- of two numbers neither of which is less, both are the same
 neither_less : (j k : ℕ) → (j < k → ⊥) → (k < j → ⊥) → j ≡ k
@@ -46,14 +46,7 @@ limit_of_rank n =
 
 of_its_rank : (a : Bound) → limit_of_rank (rank a) ≡ a
 of_its_rank TextBytes = refl
-of_its_rank Rules = refl
-of_its_rank RuleNodes = refl
-of_its_rank Interface = refl
-of_its_rank Nodes = refl
-of_its_rank SymbolBytes = refl
-of_its_rank Arguments = refl
-of_its_rank NameNumber = refl
-of_its_rank Symbols = refl
+of_its_rank _ = refl
 
 rank_before : (limits : Limits) (a b : Bound) (w : Written) (j k : ℕ) → IsLimitWordWithin limits a w j → IsLimitWordWithin limits b w k → rank a < rank b → ⊥
 rank_before limits a b w j k is_j is_k less =

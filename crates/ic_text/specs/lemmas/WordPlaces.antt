@@ -6,8 +6,8 @@ use Rattle.ic_text.specs.declared.token.Mark.{Mark}
 use Rattle.ic_text.specs.Token.{Token, mark, is_blank, is_word_byte, mark_of, word_of, before, tokens_at, followed, tokens_after, tokens, words_among}
 use Rattle.ic_text.specs.Places.{is_between, IsWordPlace}
 use Rattle.ic_text.specs.lemmas.ReadOnce.{some-injective, none_is_some}
-use Rattle.ic_text.proofs.InTextOrder.{words_among-append}
-use Rattle.ic_text.proofs.Placing.{between_after}
+use Rattle.ic_text.specs.lemmas.WordRuns.{words_among-append}
+use Rattle.ic_text.specs.lemmas.Between.{between_after}
 
 -- how many words begin in bytes that stand after a word byte, or after none
 abbrev pub begun_words : Bool → List ℕ → ℕ

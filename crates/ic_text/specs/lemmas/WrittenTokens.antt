@@ -8,12 +8,14 @@ use Rattle.std.proofs.lemmas.Bool.{and_parts, and_from, false≢true}
 use Rattle.std.proofs.lemmas.Bool.Decides.{nat_tests}
 use Rattle.ic_term.specs.Symbol.{is_symbol_text}
 use Rattle.ic_text.specs.declared.token.Mark.{Mark}
-use Rattle.ic_text.specs.declared.token.Mark.TheVariants.{LeftBrace, RightBrace, Less, Greater, Bar, Equals, Comma, Semicolon, Open, Close}
-use Rattle.ic_text.specs.Token.{Token, word, mark, is_word_byte, mark_byte, word_of, before, tokens_after, tokens}
+use Rattle.ic_text.specs.declared.token.Mark.TheVariants.{RightBrace, Semicolon, LeftBrace, Less, Greater, Bar, Equals, Comma}
+use Rattle.ic_text.specs.Token.{Token, word, mark, is_word_byte, mark_byte, word_of, before, followed, tokens_after, tokens}
 use Rattle.ic_text.specs.Name.{name_text}
 use Rattle.ic_text.specs.Source.{Source, leaf, node, Sources, no_sources, more_sources, Sides, Phrase, IsSource, AreSources, IsPhrase, words, argument_words, further_words, sides_words, separated, phrase_words}
 use Rattle.ic_text.specs.Text.{text_of}
-use Rattle.ic_text.proofs.Grammar.{after_commas}
+use Rattle.ic_text.specs.SystemSource.{RulePhrase, IsRulePhrase, agent_source, rule_words, rules_words}
+use Rattle.ic_text.specs.lemmas.Separated.{each_after, text_of-append}
+use Rattle.ic_text.specs.lemmas.WordRuns.{tokens-parted}
 
 -- word bytes join the run before them
 run_on : (w r run : List ℕ) → list_all is_word_byte w ≡ true → tokens_after run (w ++ r) ≡ tokens_after (run ++ w) r
@@ -25,15 +27,7 @@ run_on (b ∷ w) r run all =
 -- a mark ends the run
 mark_ends : (m : Mark) (r run : List ℕ) → tokens_after run (mark_byte m ∷ r) ≡ before (word_of run) (before (mark m ∷ []) (tokens_after [] r))
 mark_ends LeftBrace r run = refl
-mark_ends RightBrace r run = refl
-mark_ends Less r run = refl
-mark_ends Greater r run = refl
-mark_ends Bar r run = refl
-mark_ends Equals r run = refl
-mark_ends Comma r run = refl
-mark_ends Semicolon r run = refl
-mark_ends Open r run = refl
-mark_ends Close r run = refl
+mark_ends _ r run = refl
 
 -- what may stand between marks
 pub record IsWordText (w : List ℕ) : Type 0 where
@@ -114,31 +108,48 @@ mutual
   apart-further (more_sources t ts) r are apart =
       subst AreApart (sym (append_assoc (words t) (further_words ts) r)) (apart-words t (further_words ts ++ r) are.0 (further_marked ts r) (apart-further ts r are.1 apart))
 
--- lists of tokens that stand apart, with commas between them
-module _ {A : Type 0} (P : A → Type 0) (f : A → List Token) (each : (x : A) (r : List Token) → P x → IsMarked r → AreApart r → AreApart (f x ++ r)) where
-  after_marked : (xs : List A) (r : List Token) → IsMarked r → IsMarked (after_commas (map f xs) ++ r)
+-- lists of tokens that stand apart, with a mark between them
+module _ {A : Type 0} (P : A → Type 0) (m : Mark) (f : A → List Token) (each : (x : A) (r : List Token) → P x → IsMarked r → AreApart r → AreApart (f x ++ r)) where
+  after_marked : (xs : List A) (r : List Token) → IsMarked r → IsMarked (each_after m (map f xs) ++ r)
   after_marked [] r marked = marked
   after_marked (x ∷ xs) r marked = tt
 
-  apart-after : (xs : List A) (r : List Token) → AllByRecursion P xs → IsMarked r → AreApart r → AreApart (after_commas (map f xs) ++ r)
+  apart-after : (xs : List A) (r : List Token) → AllByRecursion P xs → IsMarked r → AreApart r → AreApart (each_after m (map f xs) ++ r)
   apart-after [] r are marked apart = apart
   apart-after (x ∷ xs) r are marked apart =
-      subst AreApart (sym (append_assoc (f x) (after_commas (map f xs)) r)) (each x (after_commas (map f xs) ++ r) are.0 (after_marked xs r marked) (apart-after xs r are.1 marked apart))
+      subst AreApart (sym (append_assoc (f x) (each_after m (map f xs)) r)) (each x (each_after m (map f xs) ++ r) are.0 (after_marked xs r marked) (apart-after xs r are.1 marked apart))
 
-  apart-separated : (xs : List A) (r : List Token) → AllByRecursion P xs → IsMarked r → AreApart r → AreApart (separated Comma (map f xs) ++ r)
+  pub apart-separated : (xs : List A) (r : List Token) → AllByRecursion P xs → IsMarked r → AreApart r → AreApart (separated m (map f xs) ++ r)
   apart-separated [] r are marked apart = apart
-  apart-separated (x ∷ xs) r are marked apart =
-      subst AreApart (sym (append_assoc (f x) (after_commas (map f xs)) r)) (each x (after_commas (map f xs) ++ r) are.0 (after_marked xs r marked) (apart-after xs r are.1 marked apart))
+  apart-separated (x ∷ xs) r are marked apart = apart-after (x ∷ xs) r are marked apart
 
 apart-sides : (e : Sides) (r : List Token) → IsSource e.left × IsSource e.right → IsMarked r → AreApart r → AreApart (sides_words e ++ r)
 apart-sides e r are marked apart =
     subst AreApart (sym (append_assoc (words e.left) (mark Equals ∷ words e.right) r)) (apart-words e.left (mark Equals ∷ (words e.right ++ r)) are.0 tt (apart-words e.right r are.1 marked apart))
 
+pub apart-rule_words : (p : RulePhrase) (r : List Token) → IsRulePhrase p → IsMarked r → AreApart r → AreApart (rule_words p ++ r)
+apart-rule_words p r is marked apart =
+    let right = words (agent_source p.right) in
+    subst AreApart (sym (append_assoc (words (agent_source p.left)) (mark Greater ∷ mark Less ∷ right) r))
+    (apart-words (agent_source p.left) (mark Greater ∷ mark Less ∷ (right ++ r)) is.0 tt (apart-words (agent_source p.right) r is.1 marked apart))
+
 apart-phrase_words : (p : Phrase) → IsPhrase p → AreApart (phrase_words p)
 apart-phrase_words p is =
     let r = separated Comma (map sides_words p.equations) ++ mark Greater ∷ [] in
-    let equations : AreApart r = apart-separated (λ (e : Sides). IsSource e.left × IsSource e.right) sides_words apart-sides p.equations (mark Greater ∷ []) is.equations tt tt in
-    apart-separated IsSource words apart-words p.interface (mark Bar ∷ r) is.interface tt equations
+    let equations : AreApart r = apart-separated (λ (e : Sides). IsSource e.left × IsSource e.right) Comma sides_words apart-sides p.equations (mark Greater ∷ []) is.equations tt tt in
+    apart-separated IsSource Comma words apart-words p.interface (mark Bar ∷ r) is.interface tt equations
 
 pub tokens-phrase_words : (p : Phrase) → IsPhrase p → tokens (text_of (phrase_words p)) ≡ Some (phrase_words p)
 tokens-phrase_words p is = tokens-text_of (phrase_words p) (apart-phrase_words p is)
+
+-- rules in braces, a space and what is read after it
+pub tokens-braces : (rs : List RulePhrase) (text : List ℕ) (ts : List Token) → AllByRecursion IsRulePhrase rs → tokens text ≡ Some ts
+    → tokens ((123 ∷ (text_of (rules_words rs) ++ 125 ∷ [])) ++ 32 ∷ text) ≡ Some (mark LeftBrace ∷ (rules_words rs ++ mark RightBrace ∷ ts))
+tokens-braces rs text ts are reads =
+    let braces : List Token = mark LeftBrace ∷ (rules_words rs ++ mark RightBrace ∷ []) in
+    let written : text_of braces ≡ 123 ∷ (text_of (rules_words rs) ++ 125 ∷ []) = ap (λ l. 123 ∷ l) (text_of-append (rules_words rs) (mark RightBrace ∷ [])) in
+    let apart : AreApart braces = apart-separated IsRulePhrase Semicolon rule_words apart-rule_words rs (mark RightBrace ∷ []) are tt tt in
+    ap (λ l. tokens (l ++ 32 ∷ text)) (sym written)
+    ∙ tokens-parted (text_of braces) text 32 refl
+    ∙ (λ i. followed (tokens-text_of braces apart i) (followed (Some []) (reads i)))
+    ∙ ap (λ l. Some (mark LeftBrace ∷ l)) (append_assoc (rules_words rs) (mark RightBrace ∷ []) ts)
