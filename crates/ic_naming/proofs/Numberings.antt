@@ -2,6 +2,7 @@
 use Rattle.std.proofs.Common.{◌≡◌, ℕ, ◌≤◌, ◌==◌, ◌&&◌, List, Bool, true, false, cond, get_or, refl, sym, ap, ◌∙◌, arith}
 use Rattle.std.specs.Prelude.{nat_le, unwrap_or}
 use Rattle.std.proofs.lemmas.Bool.{leb-true}
+use Rattle.std.proofs.Math.Bool.{and-false}
 use Rattle.ic_term.specs.Configuration.{occurrences}
 use Rattle.ic_rules.specs.Renaming.{first_occurrences}
 use Rattle.ic_names.specs.Table.{found}
@@ -12,10 +13,6 @@ use Rattle.ic_naming.specs.Naming.{is_counted_kept, is_kept, spare_numbers, told
 use Rattle.ic_naming.specs.inner.Numbering.{AreCounts, IsNumbering, counted, told_by}
 use Rattle.ic_naming.proofs.Places.{place-le}
 
-no_name : (a : Bool) → (a && false) ≡ false
-no_name true = refl
-no_name false = refl
-
 -- by its count a name is kept that is kept in the list
 pub kept_so : (names : List ℕ) (counts : NameTable) → AreCounts names counts → (name : ℕ) → is_counted_kept (counted counts name) name ≡ is_kept names name
 kept_so names counts are name = by_test (nat_le name MAX_NAME) refl
@@ -23,8 +20,8 @@ kept_so names counts are name = by_test (nat_le name MAX_NAME) refl
     by_test : (b : Bool) → nat_le name MAX_NAME ≡ b → is_counted_kept (counted counts name) name ≡ is_kept names name
     by_test true low = ap (λ (times : ℕ). (times == 1) && nat_le name MAX_NAME) (are name (leb-true name MAX_NAME low))
     by_test false high =
-        ap (λ (b : Bool). (counted counts name == 1) && b) high ∙ no_name (counted counts name == 1)
-        ∙ sym (ap (λ (b : Bool). (occurrences name names == 1) && b) high ∙ no_name (occurrences name names == 1))
+        ap (λ (b : Bool). (counted counts name == 1) && b) high ∙ and-false (counted counts name == 1)
+        ∙ sym (ap (λ (b : Bool). (occurrences name names == 1) && b) high ∙ and-false (occurrences name names == 1))
 
 told_at : (names : List ℕ) (n : Numbering) → IsNumbering names n → (name : ℕ) → told_by n name ≡ told_name names name
 told_at names n is name =

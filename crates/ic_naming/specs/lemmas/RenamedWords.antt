@@ -44,9 +44,8 @@ module _ (f : ℕ → ℕ) where
   word_over-renamed ss (Agent s arity ∷ ws) = ap (λ b. has_arity arity (slice_get ss s) && b) (word_over-renamed ss ws)
 
   pairs_of-renamed : (ts : List Tree) → pairs_of (map (renamed f) ts) ≡ map (renamed_pair f) (pairs_of ts)
-  pairs_of-renamed [] = refl
-  pairs_of-renamed (t ∷ []) = refl
   pairs_of-renamed (t ∷ u ∷ ts) = ap (λ es. renamed_pair f (record { left = t; right = u }) ∷ es) (pairs_of-renamed ts)
+  pairs_of-renamed _ = refl
 
   pub interface-renamed : (ws : List Word) (terms next : ℕ)
       → (configuration_of (map (renamed_word f) ws) terms next).interface ≡ map (renamed f) (configuration_of ws terms next).interface

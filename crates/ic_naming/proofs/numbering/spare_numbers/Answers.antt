@@ -1,7 +1,7 @@
 use Rattle.std.proofs.Common.{◌≡◌, ◌+◌, ◌<◌, ◌≤◌, not, filter, get_or, length, sym, ap, ◌∙◌, arith}
 use Rattle.std.specs.List.{range_with_len}
 use Rattle.ic_naming.specs.Naming.{is_kept}
-use Rattle.ic_naming.specs.lemmas.Spare.{one_kept, one_spare}
+use Rattle.ic_rules.specs.lemmas.Spared.{one_taken, one_spare}
 use Rattle.ic_naming.proofs.Numberings.{kept_so}
 use Rattle.ic_naming.proofs.Spares.{spare_front}
 use Rattle.ic_naming.proofs.numbering.spare_numbers.Goals as goal
@@ -29,5 +29,5 @@ loop-number-preserved c =
     let known : c.is_kept.result ≡ is_kept names k = c.is_kept.ensures ∙ kept_so names c.args.counts.now c.requires k in
     elim c.if-not-is_kept.branch [
       | then-not-is_kept+in_ok-push w ↦ rw (w.spare-is, w.in_ok-push.ensures.items) (one_spare (is_kept names) k so_far c.loop-number.invariant (sym known ∙ w.if-not-is_kept.true))
-      | else-not-is_kept w ↦ rw w.spare-is (one_kept (is_kept names) k so_far c.loop-number.invariant (sym known ∙ w.if-not-is_kept.false))
+      | else-not-is_kept w ↦ rw w.spare-is (one_taken (is_kept names) k so_far c.loop-number.invariant (sym known ∙ w.if-not-is_kept.false))
     ]
