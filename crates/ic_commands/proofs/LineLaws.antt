@@ -28,15 +28,14 @@ use Rattle.ic_commands.specs.declared.line.Line.{Line}
 use Rattle.ic_commands.specs.declared.line.Line.TheVariants.{Blank, Command as Asks, Run}
 use Rattle.ic_commands.specs.declared.line.Opening.TheVariants as opening
 use Rattle.ic_commands.specs.declared.line.Verb.{Verb}
-use Rattle.ic_commands.specs.declared.line.Verb.TheVariants.{Pause, Resume, Cancel, Fetch}
+use Rattle.ic_commands.specs.declared.line.Verb.TheVariants.{Pause}
 use Rattle.ic_commands.specs.LineSource.{nothing, copy, about, list, run, is_number, verb_text}
 use Rattle.ic_commands.specs.LineSense.{submitted, asked, fits_budget, unless_long, line_sense}
 use Rattle.ic_commands.specs.LineText.{ReadsLine}
 use Rattle.ic_commands.specs.inner.Line.{HasNoWord, number_word, is_number_or_none, IsLineOf, ReadsAfter}
 use Rattle.ic_text.specs.lemmas.NameLemmas.{is_name-name_text, name_number-name_text, name_text-name_number}
 use Rattle.ic_text.specs.lemmas.NameTexts.{name_text-digits}
-use Rattle.ic_text.specs.lemmas.WordRuns.{tokens-parted, tokens-run}
-use Rattle.ic_commands.proofs.WordSplits.{before-none}
+use Rattle.ic_text.specs.lemmas.WordRuns.{tokens-parted, tokens-run, before-none}
 use Rattle.ic_commands.proofs.LineReading.{is_sense, is_sense_after, reads_line}
 use Rattle.ic_commands.proofs.LineParts.{job_name-parts, copy_sense, copy_short, short_name, word_of-named, are_within, submit_read, submit_past_read, submit_alone, submit_too_long}
 
@@ -182,15 +181,11 @@ too_long name many = grind (arith, nat_tests)
 
 verb_alone : (verb : Verb) → tokens (verb_text verb) ≡ Some (word_of (verb_text verb))
 verb_alone Pause = refl
-verb_alone Resume = refl
-verb_alone Cancel = refl
-verb_alone Fetch = refl
+verb_alone _ = refl
 
 verb_short : (verb : Verb) → length (verb_text verb) ≤ 6
 verb_short Pause = omega arith
-verb_short Resume = omega arith
-verb_short Cancel = omega arith
-verb_short Fetch = omega arith
+verb_short _ = omega arith
 
 pub about_long : (verb : Verb) (name : List ℕ) → IsTrue (is_job_word name) → MAX_JOB_NAME < length name → length name + 7 ≤ MAX_TEXT
     → ReadsLine (verb_text verb ++ 32 ∷ name) (Err Limit)

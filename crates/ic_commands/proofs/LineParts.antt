@@ -20,19 +20,19 @@ use Rattle.ic_text.specs.Reading.{IsSpelling}
 use Rattle.ic_text.specs.SystemSource.{SystemPhrase, IsSystemPhrase, system_words}
 use Rattle.ic_text.specs.SystemSense.{system_sense}
 use Rattle.ic_text.specs.SystemText.{ReadsSystem}
-use Rattle.ic_commands.specs.LineSource.{LinePhrase, nothing, submit, copy, about, list, run, is_number, IsLine, number_words, line_words}
+use Rattle.ic_commands.specs.LineSource.{LinePhrase, submit, copy, is_number, IsLine, number_words, line_words}
 use Rattle.ic_commands.specs.LineSense.{unless_long, fits_budget, unless_unfit, submitted, line_sense}
 use Rattle.ic_commands.specs.LineText.{IsSubmitText}
 use Rattle.ic_commands.specs.inner.Line.{HasNoWord, number_word, is_number_or_none, is_nothing, opening_text, opening_of, IsLineOf, IsSubmitLine, ReadsAfter}
 use Rattle.ic_text.specs.lemmas.ReadOnce.{some-injective, none_is_some}
 use Rattle.ic_commands.proofs.LineReading.{is_sense_after, text-opening_of, opening_in, opens, opening_in-line, after_one}
-use Rattle.ic_commands.proofs.WordSplits.{before-none, front_word, front_is}
+use Rattle.ic_text.specs.lemmas.WordRuns.{before-none}
+use Rattle.ic_commands.proofs.WordSplits.{front_word, front_is}
 
 -- a text of no tokens
 pub nothing_is : (o : Option (List Token)) → is_nothing o ≡ true → o ≡ Some []
-nothing_is None is = absurd (false≢true is)
 nothing_is (Some []) is = refl
-nothing_is (Some (t ∷ ts)) is = absurd (false≢true is)
+nothing_is _ is = absurd (false≢true is)
 
 -- a job's name is a word of its bytes that isn't too long
 pub job_name-parts : (w : List ℕ) → is_job_name w ≡ (is_job_word w && nat_le (length w) MAX_JOB_NAME)
@@ -88,12 +88,8 @@ named_some : (w text : List ℕ) (ts : List Token) (p : LinePhrase) → (w ≡ [
 named_some w text ts p apart is e = by_line p is (ap opening_in e ∙ opening_in-line p) (ap after_one e)
   where
     by_line : (p : LinePhrase) → IsLine p → Some opening.Submit ≡ opens p → word_of w ++ ts ≡ after_one (line_words p) → IsNamed w (Some ts) p
-    by_line nothing is first rest = cc
     by_line (submit n most s) is first rest = named_as w n ts most s is (front_is w text (Some ts) (word n ∷ (number_words most ++ system_words s)) apart (ap Some rest)) rest
-    by_line (copy a b) is first rest = cc
-    by_line (about verb n) is first rest = cc
-    by_line list is first rest = cc
-    by_line (run n) is first rest = cc
+    by_line _ is first rest = cc
 
 named_in : (w text : List ℕ) (o : Option (List Token)) (p : LinePhrase) → (w ≡ [] → HasNoWord text o) → IsLine p
     → before (word_of (codes "submit")) (before (word_of w) o) ≡ Some (line_words p) → IsNamed w o p
@@ -245,12 +241,8 @@ record IsCopy (ts : List Token) : Type 0 where
   tokens : ts ≡ word old ∷ word new ∷ []
 
 copy_by : (ts : List Token) (p : LinePhrase) → IsLine p → Some opening.Copy ≡ opens p → ts ≡ after_one (line_words p) → IsCopy ts
-copy_by ts nothing is first rest = cc
-copy_by ts (submit n most s) is first rest = cc
 copy_by ts (copy a b) is first rest = record { old = a; new = b; old_named = is.0; new_named = is.1; tokens = rest }
-copy_by ts (about verb n) is first rest = cc
-copy_by ts list is first rest = cc
-copy_by ts (run n) is first rest = cc
+copy_by ts _ is first rest = cc
 
 copy_in : (o : Option (List Token)) (p : LinePhrase) → IsLine p → before (word_of (codes "copy")) o ≡ Some (line_words p) → (ts : List Token) × (o ≡ Some ts) × IsCopy ts
 copy_in None p is e = absurd (none_is_some (line_words p) e)

@@ -8,7 +8,7 @@ use Rattle.ic_text.specs.declared.fault.TextFault.{TextFault}
 use Rattle.ic_commands.specs.declared.line.Line.{Line}
 use Rattle.ic_commands.specs.declared.line.Opening.{Opening}
 use Rattle.ic_commands.specs.declared.line.Opening.TheVariants as opening
-use Rattle.ic_commands.specs.declared.line.Verb.TheVariants.{Pause, Resume, Cancel, Fetch}
+use Rattle.ic_commands.specs.declared.line.Verb.TheVariants.{Pause}
 use Rattle.ic_text.specs.Token.{Token, word, mark, word_of, before, tokens}
 use Rattle.ic_commands.specs.LineSource.{LinePhrase, nothing, submit, copy, about, list, run, IsLine, number_words, line_words}
 use Rattle.ic_commands.specs.LineSense.{line_sense}
@@ -19,24 +19,12 @@ use Rattle.ic_text.specs.lemmas.ReadOnce.{some-injective}
 
 -- the words that open a line, each by its text
 pub opening_of-text : (o : Opening) → opening_of (opening_text o) ≡ Some o
-opening_of-text opening.Submit = refl
-opening_of-text opening.Copy = refl
 opening_of-text (opening.About Pause) = refl
-opening_of-text (opening.About Resume) = refl
-opening_of-text (opening.About Cancel) = refl
-opening_of-text (opening.About Fetch) = refl
-opening_of-text opening.List = refl
-opening_of-text opening.Run = refl
+opening_of-text _ = refl
 
 pub word_of-opening : (o : Opening) → word_of (opening_text o) ≡ word (opening_text o) ∷ []
-word_of-opening opening.Submit = refl
-word_of-opening opening.Copy = refl
 word_of-opening (opening.About Pause) = refl
-word_of-opening (opening.About Resume) = refl
-word_of-opening (opening.About Cancel) = refl
-word_of-opening (opening.About Fetch) = refl
-word_of-opening opening.List = refl
-word_of-opening opening.Run = refl
+word_of-opening _ = refl
 
 find-passes : (p : Opening → Bool) (os : List Opening) (o : Opening) → find p os ≡ Some o → p o ≡ true
 find-passes p [] o e = cc
@@ -64,12 +52,8 @@ opens list = Some opening.List
 opens (run digits) = Some opening.Run
 
 pub opening_in-line : (p : LinePhrase) → opening_in (line_words p) ≡ opens p
-opening_in-line nothing = refl
-opening_in-line (submit name most s) = refl
-opening_in-line (copy old new) = refl
 opening_in-line (about verb name) = opening_of-text (opening.About verb)
-opening_in-line list = refl
-opening_in-line (run digits) = refl
+opening_in-line _ = refl
 
 -- the tokens after the first word
 abbrev pub after_one : List Token → List Token
@@ -109,47 +93,19 @@ OneSystem (run digits) = Unit {0}
 same_line : (p q : LinePhrase) → OneSystem p → IsLine q → opens p ≡ opens q → second_word (line_words p) ≡ second_word (line_words q)
     → after_one (after_one (line_words p)) ≡ after_one (after_one (line_words q)) → p ≡ q
 same_line nothing nothing one is_q first second rest = refl
-same_line nothing (submit m k t) one is_q first second rest = cc
-same_line nothing (copy c d) one is_q first second rest = cc
 same_line nothing (about w m) one is_q first second rest = cc
-same_line nothing list one is_q first second rest = cc
-same_line nothing (run m) one is_q first second rest = cc
-same_line (submit n j s) nothing one is_q first second rest = cc
 same_line (submit n j s) (submit m k t) one is_q first second rest =
     let numbers = sym (number_first-of j s) ∙ ap number_first rest ∙ number_first-of k t in
     let system = one t is_q.2 (sym (after_number-of j s) ∙ ap after_number rest ∙ after_number-of k t) in
     λ i. submit (second i) (numbers i) (system i)
-same_line (submit n j s) (copy c d) one is_q first second rest = cc
-same_line (submit n j s) (about w m) one is_q first second rest = cc
-same_line (submit n j s) list one is_q first second rest = cc
-same_line (submit n j s) (run m) one is_q first second rest = cc
-same_line (copy a b) nothing one is_q first second rest = cc
-same_line (copy a b) (submit m k t) one is_q first second rest = cc
 same_line (copy a b) (copy c d) one is_q first second rest =
     let last : Some b ≡ Some d = ap number_first rest in
     let same : b ≡ d = cc in
     λ i. copy (second i) (same i)
-same_line (copy a b) (about w m) one is_q first second rest = cc
-same_line (copy a b) list one is_q first second rest = cc
-same_line (copy a b) (run m) one is_q first second rest = cc
 same_line (about v n) nothing one is_q first second rest = cc
-same_line (about v n) (submit m k t) one is_q first second rest = cc
-same_line (about v n) (copy c d) one is_q first second rest = cc
-same_line (about v n) (about w m) one is_q first second rest = cc
-same_line (about v n) list one is_q first second rest = cc
-same_line (about v n) (run m) one is_q first second rest = cc
-same_line list nothing one is_q first second rest = cc
-same_line list (submit m k t) one is_q first second rest = cc
-same_line list (copy c d) one is_q first second rest = cc
-same_line list (about w m) one is_q first second rest = cc
 same_line list list one is_q first second rest = refl
-same_line list (run m) one is_q first second rest = cc
-same_line (run n) nothing one is_q first second rest = cc
-same_line (run n) (submit m k t) one is_q first second rest = cc
-same_line (run n) (copy c d) one is_q first second rest = cc
-same_line (run n) (about w m) one is_q first second rest = cc
-same_line (run n) list one is_q first second rest = cc
 same_line (run n) (run m) one is_q first second rest = ap run second
+same_line _ _ one is_q first second rest = cc
 
 pub line_words-injective : (p q : LinePhrase) → OneSystem p → IsLine q → line_words p ≡ line_words q → p ≡ q
 line_words-injective p q one is_q same =

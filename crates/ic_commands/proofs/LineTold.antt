@@ -6,7 +6,7 @@ use Rattle.ic_text.specs.SystemSource.{SystemPhrase, IsSystemPhrase, system_word
 use Rattle.ic_text.specs.lemmas.ReadOnce.{IsTold}
 use Rattle.ic_commands.specs.declared.line.Opening.{Opening}
 use Rattle.ic_commands.specs.declared.line.Opening.TheVariants as opening
-use Rattle.ic_commands.specs.declared.line.Verb.TheVariants.{Pause, Resume, Cancel, Fetch}
+use Rattle.ic_commands.specs.declared.line.Verb.TheVariants.{Pause}
 use Rattle.ic_commands.specs.LineSource.{LinePhrase, nothing, submit, copy, about, list, run, IsLine, is_number, number_words, line_words}
 use Rattle.ic_rules.specs.JobName.{is_job_word}
 use Rattle.ic_commands.specs.inner.Line.{opening_text, opening_of}
@@ -68,28 +68,16 @@ module _ (told_systems : IsTold IsSystemPhrase system_words) where
       (Some digits, s.0, (named, parts.0, s.1), ap (λ us. word digits ∷ us) s.2)
 
   found-after : (o : Opening) (ts : List Token) → stands_after o ts ≡ true → LineBy (word (opening_text o) ∷ ts)
-  found-after opening.Submit [] e = absurd (false≢true e)
   found-after opening.Submit (mark m ∷ ts) e = absurd (false≢true e)
   found-after opening.Submit (word name ∷ ts) e =
       let parts = and_parts (is_job_word name) (named_stands ts) e in
       let by = found-named name ts parts.0 parts.1 in
       (submit name by.0 by.1, by.2, ap (λ us. word (opening_text opening.Submit) ∷ word name ∷ us) by.3)
-  found-after opening.Copy [] e = absurd (false≢true e)
-  found-after opening.Copy (mark m ∷ ts) e = absurd (false≢true e)
-  found-after opening.Copy (word old ∷ []) e = absurd (false≢true e)
-  found-after opening.Copy (word old ∷ mark m ∷ ts) e = absurd (false≢true e)
   found-after opening.Copy (word old ∷ word new ∷ []) e = (copy old new, and_parts (is_job_word old) (is_job_word new) e, refl)
-  found-after opening.Copy (word old ∷ word new ∷ t ∷ ts) e = absurd (false≢true e)
-  found-after (opening.About verb) [] e = absurd (false≢true e)
-  found-after (opening.About verb) (mark m ∷ ts) e = absurd (false≢true e)
   found-after (opening.About verb) (word name ∷ []) e = (about verb name, e, refl)
-  found-after (opening.About verb) (word name ∷ t ∷ ts) e = absurd (false≢true e)
   found-after opening.List [] e = (list, tt, refl)
-  found-after opening.List (t ∷ ts) e = absurd (false≢true e)
-  found-after opening.Run [] e = absurd (false≢true e)
-  found-after opening.Run (mark m ∷ ts) e = absurd (false≢true e)
   found-after opening.Run (word digits ∷ []) e = (run digits, e, refl)
-  found-after opening.Run (word digits ∷ t ∷ ts) e = absurd (false≢true e)
+  found-after _ _ e = absurd (false≢true e)
 
   found-line : (ts : List Token) → is_line ts ≡ true → LineBy ts
   found-line [] e = (nothing, tt, refl)
@@ -110,22 +98,15 @@ module _ (told_systems : IsTold IsSystemPhrase system_words) where
   line_words-test (copy old new) is =
       let first : is_job_word old ≡ true = is.0 in let second : is_job_word new ≡ true = is.1 in λ i. first i && second i
   line_words-test (about Pause name) is = is
-  line_words-test (about Resume name) is = is
-  line_words-test (about Cancel name) is = is
-  line_words-test (about Fetch name) is = is
   line_words-test list is = refl
-  line_words-test (run digits) is = is
+  line_words-test _ is = is
 
   only-line : (ts : List Token) → LineBy ts → is_line ts ≡ true
   only-line ts line = ap is_line line.2 ∙ line_words-test line.0 line.1
 
   one_system : (p : LinePhrase) → IsLine p → OneSystem p
-  one_system nothing is = tt
   one_system (submit name most s) is = λ t is_t same. told_systems.injective s t is.2 is_t same
-  one_system (copy old new) is = tt
-  one_system (about verb name) is = tt
-  one_system list is = tt
-  one_system (run digits) is = tt
+  one_system _ is = tt
 
   pub told_lines : IsTold IsLine line_words
   told_lines = record {

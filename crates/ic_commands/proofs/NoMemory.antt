@@ -18,7 +18,7 @@ use Rattle.ic_text.specs.Source.{phrase_names}
 use Rattle.ic_text.specs.Sense.{has_its_arity}
 use Rattle.ic_text.specs.SystemSource.{system_symbols}
 use Rattle.ic_text.specs.SystemSense.{is_system_in_limits, system_table, rules_over, system_parts, unless_found, system_sense}
-use Rattle.ic_commands.specs.LineSource.{LinePhrase, nothing, submit, copy, about, list, run}
+use Rattle.ic_commands.specs.LineSource.{LinePhrase, submit, copy, about, run}
 use Rattle.ic_commands.specs.LineSense.{fits_budget, submitted, line_sense}
 use Rattle.ic_commands.specs.LineText.{ReadsLine}
 
@@ -63,14 +63,13 @@ copy_wants true false line = refl
 copy_wants false second line = refl
 
 line_wants : (p : LinePhrase) → wants (line_sense p) ≡ false
-line_wants nothing = refl
 line_wants (submit name most s) = submit_wants (nat_le (length name) MAX_JOB_NAME) (fits_budget most) name (option_map number_in most) (system_sense s)
     (system_wants (is_system_in_limits s) (list_all (has_its_arity (system_table s)) (system_symbols s)) (first_uncounted (rules_over s)) (third_occurrence (phrase_names s.config))
     (first_repeated (rules_over s)) (first_lopsided (rules_over s)) (system_parts s))
 line_wants (copy old new) = copy_wants (nat_le (length old) MAX_JOB_NAME) (nat_le (length new) MAX_JOB_NAME) _
 line_wants (about verb name) = unless_wants (nat_le (length name) MAX_JOB_NAME) _
-line_wants list = refl
 line_wants (run digits) = unless_wants (nat_le (number_in digits) MAX_RUN) _
+line_wants _ = refl
 
 another : (a : Result Line TextFault) → Err Memory ≡ a → wants a ≡ false → ⊥
 another a same apart = false≢true (sym apart ∙ ap wants (sym same))

@@ -1,6 +1,6 @@
 -- Lines in their plainest form.
-use Rattle.std.proofs.Common.{◌≡◌, ℕ, List, [], ◌∷◌, ◌++◌, ◌≤◌, Option, None, Some, Ok, length, refl, sym, ap, subst, arith, append-nil, append_assoc, ◌∙◌}
-use Rattle.std.specs.Prelude.{codes, map, Bool, false, Contains, IsTrue}
+use Rattle.std.proofs.Common.{◌≡◌, ℕ, List, [], ◌∷◌, ◌++◌, ◌≤◌, None, Some, Ok, length, refl, sym, ap, subst, arith, append-nil, append_assoc, ◌∙◌}
+use Rattle.std.specs.Prelude.{codes, map, false, Contains, IsTrue}
 use Rattle.std.specs.List.{flat_map, join_with_byte}
 use Rattle.std.specs.Fmt.{decimal}
 use Rattle.ic_jobs.specs.declared.command.Command.{Command}
@@ -13,14 +13,14 @@ use Rattle.ic_jobs.specs.declared.state.State.TheVariants.{Running, Paused, Done
 use Rattle.ic_jobs.specs.declared.reply.Refusal.{Refusal}
 use Rattle.ic_jobs.specs.declared.reply.Refusal.TheVariants.{Taken, Full, NoJob, NotRunning, NotPaused}
 use Rattle.ic_jobs.specs.declared.reply.Reply.{Reply}
-use Rattle.ic_jobs.specs.declared.reply.Reply.TheVariants.{Accepted, Okay, Shown, Listed, Refused, Moved, Halted}
+use Rattle.ic_jobs.specs.declared.reply.Reply.TheVariants.{Shown, Listed}
 use Rattle.ic_text.specs.Token.{words_among}
 use Rattle.ic_text.specs.declared.limits.TheConstants.{MAX_TEXT}
 use Rattle.ic_commands.specs.declared.line.Line.{Line}
 use Rattle.ic_commands.specs.declared.line.Line.TheVariants.{Blank, Command as Asks, Run}
 use Rattle.ic_commands.specs.declared.line.Verb.{Verb}
 use Rattle.ic_commands.specs.declared.line.Verb.TheVariants.{Pause, Resume, Cancel, Fetch}
-use Rattle.ic_commands.specs.LineSource.{LinePhrase, nothing, submit, copy, about, list, run, line_words}
+use Rattle.ic_commands.specs.LineSource.{LinePhrase, submit, line_words}
 use Rattle.ic_commands.specs.LineText.{ReadsLine}
 use Rattle.ic_commands.specs.LinePlain.{IsOfJob, IsCopyOf, AsksPlainly, IsPlainly, phrase_texts}
 use Rattle.ic_commands.specs.ReplyText.{listed_text, listed_word, reply_text, reply_words}
@@ -74,13 +74,8 @@ plain_line (Asks c) text is = plain_command c text is
 plain_line (Run n) text is = subst (λ t. ReadsLine t (Ok (Run n))) (sym is.1) (run_text n is.0)
 
 pub phrase_texts_are : (p : LinePhrase) → words_among (line_words p) ≡ phrase_texts p
-phrase_texts_are nothing = refl
 phrase_texts_are (submit name None s) = refl
-phrase_texts_are (submit name (Some digits) s) = refl
-phrase_texts_are (copy old new) = refl
-phrase_texts_are (about verb name) = refl
-phrase_texts_are list = refl
-phrase_texts_are (run digits) = refl
+phrase_texts_are _ = refl
 
 pub all_verbs : (verb : Verb) → Contains (Pause ∷ Resume ∷ Cancel ∷ Fetch ∷ []) verb
 all_verbs Pause = (0, omega arith, refl)
@@ -110,10 +105,6 @@ listed_joined first [] = append-nil first
 listed_joined first (j ∷ js) = ap (λ x. first ++ 32 ∷ x) (listed_joined (listed_word j) js)
 
 pub reply_joined : (r : Reply) → reply_text r ≡ join_with_byte 32 (reply_words r)
-reply_joined Accepted = refl
-reply_joined Okay = refl
 reply_joined (Shown job) = simp append_assoc
 reply_joined (Listed jobs) = listed_joined (codes "jobs") jobs
-reply_joined (Refused refusal) = refl
-reply_joined Moved = refl
-reply_joined Halted = refl
+reply_joined _ = refl

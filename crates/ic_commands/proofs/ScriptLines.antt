@@ -1,5 +1,5 @@
 -- Lines of scripts.
-use Rattle.std.proofs.Common.{◌≡◌, ◌≤◌, ◌+◌, ℕ, Bool, true, false, cond, List, [], ◌∷◌, ◌++◌, Option, None, Some, Result, Ok, Err, length, refl, sym, ap, ◌∙◌, arith}
+use Rattle.std.proofs.Common.{◌≡◌, ◌≤◌, ◌+◌, ℕ, Bool, true, false, cond, List, [], ◌∷◌, ◌++◌, None, Some, Result, Ok, Err, length, refl, sym, ap, ◌∙◌, arith}
 use Rattle.std.specs.Prelude.{codes, nat_le}
 use Rattle.std.specs.Str.{bytes_eq}
 use Rattle.std.proofs.lemmas.Bool.{false≢true}
@@ -10,29 +10,21 @@ use Rattle.ic_text.specs.declared.fault.TextFault.{TextFault}
 use Rattle.ic_text.specs.declared.fault.TextFault.TheVariants.{Syntax, Limit, Memory}
 use Rattle.ic_commands.specs.declared.line.Line.{Line}
 use Rattle.ic_commands.specs.declared.line.Line.TheVariants.{Blank, Command as Asks, Run}
-use Rattle.ic_commands.specs.declared.line.Verb.TheVariants.{Pause, Resume, Cancel, Fetch}
+use Rattle.ic_commands.specs.declared.line.Verb.TheVariants.{Pause}
 use Rattle.ic_text.specs.Name.{number_in}
-use Rattle.ic_text.specs.Token.{Token, word, mark, word_of, before, tokens}
-use Rattle.ic_commands.specs.LineSource.{LinePhrase, nothing, submit, copy, about, list, run, line_words}
+use Rattle.ic_text.specs.Token.{word_of, before, tokens}
+use Rattle.ic_commands.specs.LineSource.{LinePhrase, about, run, line_words}
 use Rattle.ic_commands.specs.LineSense.{line_sense}
 use Rattle.ic_commands.specs.LineText.{SpellsLine, ReadsLine}
 use Rattle.ic_commands.specs.ScriptSense.{without_run, script_sense, ReadsScriptLine}
 use Rattle.ic_commands.specs.inner.Line.{HasNoWord}
 use Rattle.ic_commands.specs.inner.ScriptLine.{is_run}
-use Rattle.ic_text.specs.lemmas.ReadOnce.{some-injective, none_is_some}
-use Rattle.ic_text.specs.lemmas.WordRuns.{tokens-parted}
-use Rattle.ic_commands.proofs.WordSplits.{before-none, front_word, front_is}
+use Rattle.ic_text.specs.lemmas.WordRuns.{tokens-parted, before-none}
+use Rattle.ic_commands.proofs.WordSplits.{front_word, front_is}
 
 opens_run : (p : LinePhrase) → bytes_eq (front_word (line_words p)) (codes "run") ≡ is_run p
-opens_run nothing = refl
-opens_run (submit name most s) = refl
-opens_run (copy old new) = refl
 opens_run (about Pause name) = refl
-opens_run (about Resume name) = refl
-opens_run (about Cancel name) = refl
-opens_run (about Fetch name) = refl
-opens_run list = refl
-opens_run (run digits) = refl
+opens_run _ = refl
 
 -- the first word tells whether a line is a run
 pub tells_run : (text w rest : List ℕ) → tokens text ≡ before (word_of w) (tokens rest) → (w ≡ [] → HasNoWord rest (tokens rest))
@@ -43,20 +35,12 @@ tells_run text w rest split apart p spells =
 -- ---- readings
 
 run_sense : (p : LinePhrase) → is_run p ≡ true → Err Syntax ≡ script_sense p
-run_sense nothing e = absurd (false≢true e)
-run_sense (submit name most s) e = absurd (false≢true e)
-run_sense (copy old new) e = absurd (false≢true e)
-run_sense (about verb name) e = absurd (false≢true e)
-run_sense list e = absurd (false≢true e)
 run_sense (run digits) e = refl
+run_sense _ e = absurd (false≢true e)
 
 other_sense : (p : LinePhrase) → is_run p ≡ false → without_run (line_sense p) ≡ script_sense p
-other_sense nothing e = refl
-other_sense (submit name most s) e = refl
-other_sense (copy old new) e = refl
-other_sense (about verb name) e = refl
-other_sense list e = refl
 other_sense (run digits) e = absurd (false≢true (sym e))
+other_sense _ e = refl
 
 pub reads_run : (text : List ℕ) → length text ≤ MAX_TEXT → ((p : LinePhrase) → SpellsLine text p → is_run p ≡ true) → ReadsScriptLine text (Err Syntax)
 reads_run text short runs = record {
@@ -76,12 +60,8 @@ reads_other text a others reads = record {
 -- ---- laws
 
 not_run : (p : LinePhrase) → ((digits : List ℕ) → p ≡ run digits → ⊥) → is_run p ≡ false
-not_run nothing none = refl
-not_run (submit name most s) none = refl
-not_run (copy old new) none = refl
-not_run (about verb name) none = refl
-not_run list none = refl
 not_run (run digits) none = absurd (none digits refl)
+not_run _ none = refl
 
 pub reads_unless_run : (text : List ℕ) (a : Result Line TextFault) → ((digits : List ℕ) → ¬ SpellsLine text (run digits)) → ReadsLine text a
     → ReadsScriptLine text (without_run a)
@@ -93,16 +73,12 @@ reads_unless_run text a none reads =
 
 -- what is read as so much is no run with another number
 same_sense : (p : LinePhrase) (a : Result Line TextFault) → a ≡ line_sense p → ((k : ℕ) → a ≡ Ok (Run k) → ⊥) → (a ≡ Err Limit → ⊥) → without_run a ≡ script_sense p
-same_sense nothing a e run_apart limit_apart = ap without_run e
-same_sense (submit name most s) a e run_apart limit_apart = ap without_run e
-same_sense (copy old new) a e run_apart limit_apart = ap without_run e
-same_sense (about verb name) a e run_apart limit_apart = ap without_run e
-same_sense list a e run_apart limit_apart = ap without_run e
 same_sense (run digits) a e run_apart limit_apart = by_number (nat_le (number_in digits) MAX_RUN) e
   where
     by_number : (within : Bool) → a ≡ cond within (Ok (Run (number_in digits))) (Err Limit) → without_run a ≡ Err Syntax
     by_number true is = absurd (run_apart (number_in digits) is)
     by_number false is = absurd (limit_apart is)
+same_sense _ a e run_apart limit_apart = ap without_run e
 
 reads_same : (text : List ℕ) (a : Result Line TextFault) → ((k : ℕ) → a ≡ Ok (Run k) → ⊥) → (a ≡ Err Limit → ⊥) → ReadsLine text a → ReadsScriptLine text (without_run a)
 reads_same text a run_apart limit_apart reads = record {
@@ -118,12 +94,8 @@ pub reads_blank : (text : List ℕ) → ReadsLine text (Ok Blank) → ReadsScrip
 reads_blank text reads = reads_same text (Ok Blank) (λ k e. cc) (λ e. cc) reads
 
 run_or_same : (p : LinePhrase) (k : ℕ) → Ok (Run k) ≡ line_sense p → Err Syntax ≡ script_sense p
-run_or_same nothing k e = ap without_run e
-run_or_same (submit name most s) k e = ap without_run e
-run_or_same (copy old new) k e = ap without_run e
-run_or_same (about verb name) k e = ap without_run e
-run_or_same list k e = ap without_run e
 run_or_same (run digits) k e = refl
+run_or_same _ k e = ap without_run e
 
 pub reads_numbered : (text : List ℕ) (k : ℕ) → ReadsLine text (Ok (Run k)) → ReadsScriptLine text (Err Syntax)
 reads_numbered text k reads = record {
@@ -148,17 +120,11 @@ run_alone = reads_run (codes "run") (omega arith) (tells_run (codes "run") (code
 
 pub memory_of : (a : Result Line TextFault) → Err Memory ≡ without_run a → Err Memory ≡ a
 memory_of (Ok Blank) e = cc
-memory_of (Ok (Asks c)) e = cc
-memory_of (Ok (Run k)) e = cc
-memory_of (Err fault) e = cc
+memory_of _ e = cc
 
 memory_sense : (p : LinePhrase) → Err Memory ≡ script_sense p → Err Memory ≡ line_sense p
-memory_sense nothing e = memory_of (line_sense nothing) e
-memory_sense (submit name most s) e = memory_of (line_sense (submit name most s)) e
-memory_sense (copy old new) e = memory_of (line_sense (copy old new)) e
-memory_sense (about verb name) e = memory_of (line_sense (about verb name)) e
-memory_sense list e = memory_of (line_sense list) e
 memory_sense (run digits) e = cc
+memory_sense p e = memory_of (line_sense p) e
 
 pub memory_reads : (text : List ℕ) → ReadsScriptLine text (Err Memory) → ReadsLine text (Err Memory)
 memory_reads text reads = record {

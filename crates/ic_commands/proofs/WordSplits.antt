@@ -1,17 +1,10 @@
 -- A text that is taken apart at its first word.
-use Rattle.std.proofs.Common.{◌≡◌, ℕ, zero, suc, ◌+◌, ◌<◌, false, List, [], ◌∷◌, Option, None, Some, ◌++◌, length, get_or, take, drop, refl, sym, ap, ◌∙◌, subst, arith, length-drop, ◌-◌}
+use Rattle.std.proofs.Common.{◌≡◌, ℕ, zero, suc, ◌+◌, ◌<◌, false, List, [], ◌∷◌, Option, None, Some, length, get_or, take, drop, refl, sym, ap, ◌∙◌, subst, arith, length-drop, ◌-◌}
 use Rattle.std.proofs.lemmas.List.{drop_more, take_all}
 use Rattle.ic_text.specs.lemmas.ReadOnce.{some-injective, none_is_some}
 use Rattle.ic_text.specs.Token.{Token, word, mark, is_blank, is_word_byte, mark_of, word_of, before, tokens_at, followed, tokens_after, tokens}
+use Rattle.ic_text.specs.lemmas.WordRuns.{tokens-apart}
 use Rattle.ic_commands.specs.inner.Line.{HasNoWord, BeginsApart}
-
-pub before-none : (o : Option (List Token)) → before [] o ≡ o
-before-none None = refl
-before-none (Some ts) = refl
-
--- a byte that no word holds begins a text without a word
-tokens-apart : (b : ℕ) (bs : List ℕ) → is_word_byte b ≡ false → tokens (b ∷ bs) ≡ followed (tokens_at b (mark_of b)) (tokens bs)
-tokens-apart b bs apart = rw apart (before-none _)
 
 no_word : (b : ℕ) (bs : List ℕ) → is_word_byte b ≡ false → is_blank b ≡ false → HasNoWord (b ∷ bs) (tokens (b ∷ bs))
 no_word b bs apart filled = subst (HasNoWord (b ∷ bs)) (sym (tokens-apart b bs apart))
@@ -58,9 +51,8 @@ front_word (word w ∷ ts) = w
 front_word (mark m ∷ ts) = []
 
 unworded : (rest : List ℕ) (ts : List Token) → HasNoWord rest (Some ts) → front_word ts ≡ []
-unworded rest [] apart = refl
 unworded rest (word w ∷ ts) apart = absurd apart
-unworded rest (mark m ∷ ts) apart = refl
+unworded rest _ apart = refl
 
 -- it is the one that stands in front
 pub front_is : (w rest : List ℕ) (o : Option (List Token)) (ts : List Token) → (w ≡ [] → HasNoWord rest o) → before (word_of w) o ≡ Some ts → front_word ts ≡ w
