@@ -1,34 +1,19 @@
 -- Tokens of a text that is parted between its words and marks.
-use Rattle.std.proofs.Common.{◌≡◌, ℕ, ◌+◌, ◌-◌, ◌<◌, Bool, true, false, not, ◌&&◌, ◌||◌, eqb, List, [], ◌∷◌, ◌++◌, Option, None, Some, length, get_or, refl, sym, ap, ◌∙◌, append_assoc, append-nil, arith, length-append}
+use Rattle.std.proofs.Common.{◌≡◌, ℕ, ◌+◌, ◌-◌, ◌<◌, true, false, not, ◌&&◌, ◌||◌, eqb, List, [], ◌∷◌, ◌++◌, Some, length, get_or, refl, sym, ap, ◌∙◌, append-nil, arith, length-append}
 use Rattle.std.specs.List.{list_all}
 use Rattle.std.proofs.lemmas.Bool.{and_parts}
 use Rattle.std.proofs.lemmas.Bool.Decides.{nat_tests}
 use Rattle.std.proofs.lemmas.List.{get_or_past, get_or-append-add}
 use Rattle.std.proofs.Math.Seq.{get_or-append_seam}
-use Rattle.ic_text.specs.Token.{Token, is_blank, is_word_byte, mark_of, word_of, before, tokens_at, followed, tokens}
+use Rattle.ic_text.specs.Token.{is_blank, is_word_byte, mark_of, word_of, before, tokens_at, followed, tokens}
 use Rattle.ic_text.specs.Places.{is_between}
-use Rattle.ic_text.specs.lemmas.WordRuns.{tokens-parted, tokens-run}
+use Rattle.ic_text.specs.lemmas.WordRuns.{before-none, tokens-apart, tokens-parted, tokens_of_run}
+use Rattle.ic_text.specs.lemmas.Between.{between_after, between_here}
 
 -- no word goes on with this text
 abbrev pub IsApart : List ℕ → Type 0
 IsApart [] = Unit {0}
 IsApart (b ∷ bs) = is_word_byte b ≡ false
-
-pub before-none : (o : Option (List Token)) → before [] o ≡ o
-before-none None = refl
-before-none (Some ts) = refl
-
-pub before-before : (a b : List Token) (o : Option (List Token)) → before a (before b o) ≡ before (a ++ b) o
-before-before a b None = refl
-before-before a b (Some ts) = ap Some (sym (append_assoc a b ts))
-
-tokens_of_run : (run : List ℕ) → list_all is_word_byte run ≡ true → tokens run ≡ Some (word_of run)
-tokens_of_run [] all = refl
-tokens_of_run (b ∷ bs) all = tokens-run b bs all
-
--- a byte that no word holds begins a text without a word
-pub tokens-apart : (b : ℕ) (bs : List ℕ) → is_word_byte b ≡ false → tokens (b ∷ bs) ≡ followed (tokens_at b (mark_of b)) (tokens bs)
-tokens-apart b bs apart = rw apart (before-none _)
 
 -- a word stands before what is apart from it
 pub tokens-word : (run z : List ℕ) → list_all is_word_byte run ≡ true → IsApart z → tokens (run ++ z) ≡ before (word_of run) (tokens z)
@@ -56,33 +41,14 @@ tokens-blanks (b ∷ bs) z all =
 
 -- ---- places between words and marks
 
-apart_after : (z x : Bool) → (z || not (x && false)) ≡ true
-apart_after true x = refl
-apart_after false true = refl
-apart_after false false = refl
-
-apart_before : (z x : Bool) → (z || not (false && x)) ≡ true
-apart_before true x = refl
-apart_before false x = refl
-
 -- a place in front of what is apart isn't within a word
 pub between_front : (a b : List ℕ) → IsApart b → is_between (a ++ b) (length a) ≡ true
-between_front a [] apart =
-    let other = is_word_byte (get_or (a ++ []) (length a - 1) 0) in
-    let end : is_word_byte (get_or (a ++ []) (length a) 0) ≡ false = ap is_word_byte (get_or_past (a ++ []) (length a) 0 (omega (arith, length-append a []))) in
-    ap (λ w. eqb (length a) 0 || not (other && w)) end ∙ apart_after (eqb (length a) 0) other
-between_front a (c ∷ b) apart =
-    let other = is_word_byte (get_or (a ++ c ∷ b) (length a - 1) 0) in
-    let here : is_word_byte (get_or (a ++ c ∷ b) (length a) 0) ≡ false = ap is_word_byte (get_or-append_seam a c b 0) ∙ apart in
-    ap (λ w. eqb (length a) 0 || not (other && w)) here ∙ apart_after (eqb (length a) 0) other
+between_front a [] apart = between_here (a ++ []) (length a) (ap is_word_byte (get_or_past (a ++ []) (length a) 0 (omega (arith, length-append a []))))
+between_front a (c ∷ b) apart = between_here (a ++ c ∷ b) (length a) (ap is_word_byte (get_or-append_seam a c b 0) ∙ apart)
 
 -- nor is one after a byte that no word holds
-pub between_after : (a b : List ℕ) (c : ℕ) → is_word_byte c ≡ false → is_between (a ++ c ∷ b) (length a + 1) ≡ true
-between_after a b c apart =
-    let back : length a + 1 - 1 ≡ length a = omega arith in
-    let other = is_word_byte (get_or (a ++ c ∷ b) (length a + 1) 0) in
-    let after : is_word_byte (get_or (a ++ c ∷ b) (length a + 1 - 1) 0) ≡ false = ap (λ i. is_word_byte (get_or (a ++ c ∷ b) i 0)) back ∙ ap is_word_byte (get_or-append_seam a c b 0) ∙ apart in
-    ap (λ w. eqb (length a + 1) 0 || not (w && other)) after ∙ apart_before (eqb (length a + 1) 0) other
+pub between_next : (a b : List ℕ) (c : ℕ) → is_word_byte c ≡ false → is_between (a ++ c ∷ b) (length a + 1) ≡ true
+between_next a b c apart = between_after (a ++ c ∷ b) (length a) (ap is_word_byte (get_or-append_seam a c b 0) ∙ apart)
 
 -- a place of the text after a front is one of the whole
 pub between_within : (a b : List ℕ) (at : ℕ) → 0 < at → is_between (a ++ b) (length a + at) ≡ is_between b at

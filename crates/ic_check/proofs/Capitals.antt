@@ -1,15 +1,11 @@
 -- Symbols that look like names have no rule.
-use Rattle.std.proofs.Common.{◌≡◌, ℕ, ◌==◌, ◌&&◌, List, [], ◌∷◌, Bool, true, false, not, refl}
+use Rattle.std.proofs.Common.{◌≡◌, ℕ, ◌==◌, ◌&&◌, List, [], ◌∷◌, true, false, not, refl}
 use Rattle.std.specs.List.{list_any}
-use Rattle.std.proofs.lemmas.Bool.{and_left, and_parts, and_right, or_from, or_parts}
+use Rattle.std.proofs.lemmas.Bool.{and_left, and_parts, and_right, or_from, or_parts, not-true}
 use Rattle.ic_rules.specs.Rule.{Rule, stands_for}
 use Rattle.ic_rules.specs.RuleSet.{has_pair}
 use Rattle.ic_check.specs.Letters.{is_letter, is_side, looks_like_name, makes_twice}
 use Rattle.ic_check.specs.Meanings.{HasNoRule}
-
-false_of : (b : Bool) → not b ≡ true → b ≡ false
-false_of true e = cc
-false_of false e = refl
 
 no_pair : (i other : ℕ) (r : Rule) → is_side i r ≡ false → has_pair i other r ≡ false
 no_pair i other r none =
@@ -28,4 +24,4 @@ without_rule rs i other text arity looks =
     let twice = list_any (makes_twice i) rs in
     let parts = and_parts (is_letter text arity) (none && twice) looks in
     let both = and_parts none twice parts.1 in
-    no_pairs i other rs (false_of (list_any (is_side i) rs) both.0)
+    no_pairs i other rs (not-true (list_any (is_side i) rs) both.0)

@@ -1,20 +1,13 @@
 -- Each symbol of a text is among those that are gone through.
-use Rattle.std.proofs.Common.{◌≡◌, ◌⊎◌, ℕ, zero, suc, ◌==◌, ◌||◌, Bool, true, false, List, [], ◌∷◌, ◌++◌, Some, inl, inr, slice_get, refl, ap, ◌∙◌, eq-eqb}
+use Rattle.std.proofs.Common.{◌≡◌, ◌⊎◌, ℕ, zero, suc, ◌==◌, true, List, [], ◌∷◌, ◌++◌, Some, inl, inr, slice_get, refl, ap, ◌∙◌, eq-eqb}
 use Rattle.std.specs.List.{flat_map}
 use Rattle.std.proofs.lemmas.List.Folds.{list_any-append}
+use Rattle.std.proofs.lemmas.Bool.{or_left as left_true, or_right as right_true}
 use Rattle.ic_term.specs.Configuration.{Configuration}
 use Rattle.ic_term.specs.Tree.{Tree, name, agent, Trees, no_trees, more_trees, Pair}
 use Rattle.ic_rules.specs.Rule.{Rule}
 use Rattle.ic_check.specs.Meanings.{StandsIn, StandsInSome, is_among}
 use Rattle.ic_check.specs.Symbols.{config_symbols, made_symbols, pair_symbols, rule_symbols, symbols, symbols_of, text_symbols}
-
-left_true : (a b : Bool) → a ≡ true → (a || b) ≡ true
-left_true true b is = refl
-left_true false b is = cc
-
-right_true : (a b : Bool) → b ≡ true → (a || b) ≡ true
-right_true true b is = refl
-right_true false b is = is
 
 module _ (s : ℕ) where
   among_first : (a b : List ℕ) → is_among s a ≡ true → is_among s (a ++ b) ≡ true

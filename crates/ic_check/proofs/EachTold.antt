@@ -1,6 +1,7 @@
 -- Each warning has its line in what is told.
 use Rattle.std.proofs.Common.{◌≡◌, ℕ, zero, suc, ◌+◌, ◌&&◌, ◌==◌, Bool, true, false, List, [], ◌∷◌, ◌++◌, Some, codes, slice_get, take, drop, refl, sym, ap, ◌∙◌, append_assoc, append-nil, subst, arith}
 use Rattle.std.specs.List.{AllByRecursion, flat_map}
+use Rattle.std.proofs.lemmas.Option.{same_Some}
 use Rattle.ic_term.specs.Configuration.{Configuration, configuration_names}
 use Rattle.ic_term.specs.Symbol.{Symbol}
 use Rattle.ic_term.specs.Tree.{Pair}
@@ -17,9 +18,6 @@ use Rattle.ic_check.proofs.Once.{each_symbol, name_told, once_told}
 use Rattle.ic_check.proofs.Placed.{AreOf, all_free_of, all_letters_of, all_ruleless_of, all_unused_of, any_words, both_of, either_of, lines_append, once_of, ruleless_of, told_of}
 use Rattle.ic_check.proofs.Reached.{one_reach}
 use Rattle.ic_check.proofs.Stuck.{stuck_told}
-
-one : {T : Type 0} (x y : T) → Some x ≡ Some y → x ≡ y
-one x y e = cc
 
 -- lines of warnings, whatever their words are
 abbrev Any : List ℕ → Type 0
@@ -51,7 +49,7 @@ each_ruleless place rs [] zero a b p at is none = cc
 each_ruleless place rs [] (suc i) a b p at is none = cc
 each_ruleless place rs (e ∷ es) zero a b p at is none =
     let words = codes "no rule for " ++ pair_text rs.symbols a b in
-    let same : e ≡ p = one e p at in
+    let same : e ≡ p = same_Some e p at in
     let told : ruleless_line place rs e.left e.right ≡ warning_line place words = ap (λ (q : Pair). ruleless_line place rs q.left q.right) same ∙ stuck_told place rs p a b is none in
     ahead place words (ruleless_line place rs e.left e.right) (ruleless_lines place rs es) (alone place words (ruleless_line place rs e.left e.right) told)
     (all_ruleless_of Any place rs (any_words rs) es)
@@ -82,7 +80,7 @@ each_unused place among rs [] k zero n r is at not = cc
 each_unused place among rs [] k (suc i) n r is at not = cc
 each_unused place among rs (x ∷ xs) k zero n r is at not =
     let words = unused_words rs.symbols n r in
-    let same : x ≡ r = one x r at in
+    let same : x ≡ r = same_Some x r at in
     let number : k ≡ n = omega (arith, is) in
     let silent : unused_line place among rs.symbols n r ≡ warning_line place words = rw not refl in
     let told : unused_line place among rs.symbols k x ≡ warning_line place words = (λ i. unused_line place among rs.symbols (number i) (same i)) ∙ silent in
@@ -97,7 +95,7 @@ each_free place all [] zero n at once = cc
 each_free place all [] (suc i) n at once = cc
 each_free place all (x ∷ xs) zero n at once =
     let words = free_words n in
-    let same : x ≡ n = one x n at in
+    let same : x ≡ n = same_Some x n at in
     let told : free_line place all x ≡ warning_line place words = ap (free_line place all) same ∙ name_told place all n once in
     ahead place words (free_line place all x) (free_lines place all xs) (alone place words (free_line place all x) told) (all_free_of Any place all (λ m. tt) xs)
 each_free place all (x ∷ xs) (suc i) n at once =
@@ -117,7 +115,7 @@ each_letter place ls [] k zero n s is at looks = cc
 each_letter place ls [] k (suc i) n s is at looks = cc
 each_letter place ls (x ∷ xs) k zero n s is at looks =
     let words = letter_words s.text in
-    let same : x ≡ s = one x s at in
+    let same : x ≡ s = same_Some x s at in
     let number : k ≡ n = omega (arith, is) in
     let here : letter_line place ls n s.text s.arity ≡ warning_line place words = rw looks refl in
     let told : letter_line place ls k x.text x.arity ≡ warning_line place words = (λ i. letter_line place ls (number i) (same i).text (same i).arity) ∙ here in

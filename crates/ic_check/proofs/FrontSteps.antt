@@ -2,7 +2,7 @@
 use Rattle.std.proofs.Common.{◌≡◌, ℕ, ◌+◌, ◌-◌, Bool, true, false, if◌then◌else◌, List, [], ◌∷◌, ◌++◌, Option, None, Some, length, length-append, refl, sym, ap, ◌∙◌, subst, append_assoc, arith}
 use Rattle.std.specs.List.{list_all}
 use Rattle.std.proofs.lemmas.Bool.{and_from, and_parts}
-use Rattle.ic_commands.specs.LineSource.{LinePhrase, nothing, submit, copy, about, list, run, line_words}
+use Rattle.ic_commands.specs.LineSource.{LinePhrase, nothing, submit, run, line_words}
 use Rattle.ic_text.specs.Places.{IsWordPlace, is_between}
 use Rattle.ic_text.specs.Token.{Token, word, is_blank, is_word_byte, before, tokens, words_among}
 use Rattle.ic_diagnostics.specs.Sights.{first_word}
@@ -11,9 +11,10 @@ use Rattle.ic_check.specs.inner.Fronts.{IsFilled, IsFront, IsPassed, after_blank
 use Rattle.ic_check.specs.declared.due.Due.{Due}
 use Rattle.ic_check.specs.declared.due.Due.TheVariants.{Command, SubmitName, Budget, System, OldName, NewName, VerbName, Number, Nothing}
 use Rattle.ic_check.specs.declared.due.LineLimit.{LineLimit}
-use Rattle.ic_check.proofs.Apart.{IsApart, before-before, before-none, between_after, between_front, blank_apart, tokens-blanks, tokens-word}
+use Rattle.ic_text.specs.lemmas.WordRuns.{before-before, before-none}
+use Rattle.ic_check.proofs.Apart.{IsApart, between_next, between_front, blank_apart, tokens-blanks, tokens-word}
 use Rattle.ic_check.proofs.OwnWords.{KnownVerbs, due_then, first_of-assoc, none_isnt}
-use Rattle.ic_check.proofs.Stops.{parted, word_here}
+use Rattle.ic_check.proofs.Stops.{word_here, parted}
 
 -- ---- blanks
 
@@ -43,7 +44,7 @@ cut (b ∷ bs) = by (is_blank b) refl (cut bs)
 
 -- a place after blanks is between words
 between_blanks : (a bs r : List ℕ) (b : ℕ) → list_all is_blank (b ∷ bs) ≡ true → is_between (a ++ ((b ∷ bs) ++ r)) (length a + length (b ∷ bs)) ≡ true
-between_blanks a [] r b all = between_after a r b (blank_apart b (and_parts (is_blank b) true all).0)
+between_blanks a [] r b all = between_next a r b (blank_apart b (and_parts (is_blank b) true all).0)
 between_blanks a (c ∷ cs) r b all =
     let assoc : (a ++ b ∷ []) ++ ((c ∷ cs) ++ r) ≡ a ++ ((b ∷ c ∷ cs) ++ r) = append_assoc a (b ∷ []) ((c ∷ cs) ++ r) in
     let size : length (a ++ b ∷ []) + length (c ∷ cs) ≡ length a + length (b ∷ c ∷ cs) = omega (arith, length-append a (b ∷ [])) in
@@ -66,14 +67,7 @@ apart_cut (b ∷ bs) x y apart = apart
 -- nothing is due after no word
 no_empty : (due next : Due) → due_after due [] ≡ Some next → ⊥
 no_empty Command next e = none_isnt next e
-no_empty SubmitName next e = none_isnt next e
-no_empty Budget next e = none_isnt next e
-no_empty System next e = none_isnt next e
-no_empty OldName next e = none_isnt next e
-no_empty NewName next e = none_isnt next e
-no_empty VerbName next e = none_isnt next e
-no_empty Number next e = none_isnt next e
-no_empty Nothing next e = none_isnt next e
+no_empty _ next e = none_isnt next e
 
 -- words that lead to what is due are all words
 abbrev IsCounted : List Token → Type 0
@@ -82,10 +76,7 @@ IsCounted ts = length (words_among ts) ≡ length ts
 whole_counted : (p : LinePhrase) → IsWhole p → IsCounted (line_words p)
 whole_counted nothing is = absurd is
 whole_counted (submit name most s) is = absurd is
-whole_counted (copy old new) is = refl
-whole_counted (about verb name) is = refl
-whole_counted list is = refl
-whole_counted (run digits) is = refl
+whole_counted _ is = refl
 
 counted : (due : Due) (ts : List Token) → IsDue due ts → IsCounted ts
 counted Command ts is = subst IsCounted (sym is) refl
@@ -106,9 +97,8 @@ passed_more : (line : List ℕ) (k at : ℕ) (found passed : Option (ℕ × Line
     → IsPassed line (first_of found (first_at k limit None)) (earlier passed at limit)
 passed_more line k at None None None there is = tt
 passed_more line k at None None (Some l) there is = (there, refl)
-passed_more line k at None (Some p) limit there is = absurd is
-passed_more line k at (Some f) None limit there is = absurd is
 passed_more line k at (Some f) (Some p) limit there is = is
+passed_more line k at _ _ limit there is = absurd is
 
 -- before the first word
 pub sets_out : (line : List ℕ) → IsFront line Command (after_blanks line) None

@@ -2,9 +2,11 @@
 use Rattle.std.proofs.Common.{◌≡◌, ◌⊎◌, inl, inr, ℕ, zero, suc, ◌+◌, ◌<◌, ◌==◌, List, [], ◌∷◌, ◌++◌, Bool, true, false, ◌≤◌, ◌||◌, IsTrue, length, drop, drop-cons, get_or, add-one, append-nil, append_assoc, refl, sym, ap, ◌∙◌, subst, arith, slice_index_or, if◌then◌else◌}
 use Rattle.std.specs.Cmp.{unsigned_Decides}
 use Rattle.std.specs.List.{AllByRecursion, remove}
-use Rattle.std.proofs.lemmas.List.{drop_all, get_or_read}
+use Rattle.std.proofs.lemmas.List.{drop_all}
 use Rattle.std.proofs.lemmas.List.Folds.{list_any-append}
+use Rattle.std.proofs.lemmas.Bool.{or_left, or_right, or_cases}
 use Rattle.ic_rules.specs.Rule.{Rule}
+use Rattle.ic_rules.specs.lemmas.NumberingLaws.{self_eq as is_itself}
 use Rattle.ic_term.specs.Configuration.{Configuration}
 use Rattle.ic_check.specs.Symbols.{config_symbols}
 use Rattle.ic_check.specs.Reach.{AllAmong, IsKeptBy, IsReach}
@@ -14,23 +16,8 @@ use Rattle.ic_check.proofs.Listing.{from_place}
 
 -- ---- symbols among others
 
-or_cases : (a b : Bool) → (a || b) ≡ true → (a ≡ true) ⊎ (b ≡ true)
-or_cases true b e = inl refl
-or_cases false b e = inr e
-
-or_left : (a b : Bool) → a ≡ true → (a || b) ≡ true
-or_left true b e = refl
-or_left false b e = cc
-
-or_right : (a b : Bool) → b ≡ true → (a || b) ≡ true
-or_right true b e = refl
-or_right false b e = e
-
 same_symbol : (x s : ℕ) → (x == s) ≡ true → x ≡ s
 same_symbol x s e = (unsigned_Decides x s).0 e
-
-is_itself : (x : ℕ) → (x == x) ≡ true
-is_itself x = (unsigned_Decides x x).1 refl
 
 holds_all : (xs ys : List ℕ) (s : ℕ) → holds (xs ++ ys) s ≡ (holds xs s || holds ys s)
 holds_all xs ys s = list_any-append (λ t. t == s) xs ys
@@ -232,15 +219,13 @@ kept_from among r m is kept left right =
 
 all_kept_by : (among : ℕ → Bool) (rs : List Rule) (ms : List Making) → AreMakings rs ms → AllByRecursion (IsKept among) ms → AllByRecursion (IsKeptBy among) rs
 all_kept_by among [] [] are all = tt
-all_kept_by among [] (m ∷ ms) are all = absurd are
-all_kept_by among (r ∷ rs) [] are all = absurd are
 all_kept_by among (r ∷ rs) (m ∷ ms) are all = (kept_by among r m are.0 all.0, all_kept_by among rs ms are.1 all.1)
+all_kept_by among _ _ are all = absurd are
 
 all_kept_from : (among : ℕ → Bool) (rs : List Rule) (ms : List Making) → AreMakings rs ms → AllByRecursion (IsKeptBy among) rs → AllByRecursion (IsKept among) ms
 all_kept_from among [] [] are all = tt
-all_kept_from among [] (m ∷ ms) are all = absurd are
-all_kept_from among (r ∷ rs) [] are all = absurd are
 all_kept_from among (r ∷ rs) (m ∷ ms) are all = (kept_from among r m are.0 all.0, all_kept_from among rs ms are.1 all.1)
+all_kept_from among _ _ are all = absurd are
 
 -- symbols of the configuration, joined and grown, are the reach
 pub is_reach : (rs : List Rule) (c : Configuration) (symbols first seen : List ℕ) (ms : List Making) → symbols ≡ config_symbols c → Joins [] symbols first
@@ -271,15 +256,3 @@ makings_next rs i r ms new m below at is put so_far more rest =
 pub makings_end : (rs : List Rule) (i : ℕ) (ms : List Making) → length rs ≤ i → GoesOnWith rs (drop i rs) ms → AreMakings rs ms
 makings_end rs i ms past so_far =
     subst (AreMakings rs) (append-nil ms) (so_far [] (subst (λ (l : List Rule). AreMakings l []) (sym (drop_all i rs past)) tt))
-
--- ---- the first that is ready
-
-pub none_before : (seen : List ℕ) (ws : List Making) (i : ℕ) (m : Making) → i < length ws → m ≡ get_or ws i m → ¬ IsReady seen m
-    → (HasNoReady seen (drop i ws) → HasNoReady seen ws) → HasNoReady seen (drop (i + 1) ws) → HasNoReady seen ws
-none_before seen ws i m below at unready so_far rest = so_far (subst (HasNoReady seen) (sym (from_place ws i m below at)) (unready, rest))
-
-pub none_at_all : (seen : List ℕ) (ws : List Making) (i : ℕ) → length ws ≤ i → (HasNoReady seen (drop i ws) → HasNoReady seen ws) → HasNoReady seen ws
-none_at_all seen ws i past so_far = so_far (subst (HasNoReady seen) (sym (drop_all i ws past)) tt)
-
-pub ready_at : (seen : List ℕ) (ws : List Making) (i : ℕ) (m : Making) → i < length ws → m ≡ get_or ws i m → IsReady seen m → IsReadyAt seen ws i
-ready_at seen ws i m below at is = (below, λ n e. subst (IsReady seen) (get_or_read ws i m below at n ∙ sym e) is)

@@ -2,31 +2,26 @@
 use Rattle.std.proofs.Common.{◌≡◌, ◌≢◌, ◌⊎◌, ℕ, ◌+◌, ◌≤◌, ◌==◌, ◌&&◌, ◌||◌, List, [], ◌∷◌, ◌++◌, Bool, true, false, not, cond, Some, map, refl, sym, ap, ◌∙◌, arith, inl, inr, eq-eqb, if◌then◌else◌, subst as transport}
 use Rattle.std.specs.Cmp.{unsigned_Decides}
 use Rattle.std.specs.List.{flat_map, list_all, list_any}
-use Rattle.std.proofs.lemmas.Bool.{and_parts, or_from, or_parts}
+use Rattle.std.proofs.lemmas.Bool.{and_parts, or_from, or_parts, not-true}
 use Rattle.std.proofs.lemmas.Grind.{flat_map-append}
 use Rattle.std.proofs.lemmas.List.Folds.{list_any-append}
-use Rattle.std.proofs.lemmas.List.Sums.{sum_by-append, sum_by-cons}
 use Rattle.ic_names.specs.declared.table.NameTable.{NameTable}
 use Rattle.ic_term.specs.Tree.{Tree, name, agent, Pair}
 use Rattle.ic_term.specs.Configuration.{Configuration, occurrences}
 use Rattle.ic_rules.specs.Rule.{Rule}
 use Rattle.ic_settle.specs.Settling.{Binding, subst, subst_pair}
 use Rattle.ic_settle.specs.NameSteps.{Binds, NameStep}
+use Rattle.ic_settle.specs.lemmas.SubstitutionLaws.{occurrences-append as count_both}
 use Rattle.ic_round.specs.Firing.{Active, oriented, rule_of_sides}
 use Rattle.ic_round.specs.Steps.{Interaction, Step, Steps, collect, indirection, interaction, no_steps, then_step}
 use Rattle.ic_round.specs.lemmas.NameStepLemmas.{collect_step, indirection_step}
+use Rattle.ic_round.specs.lemmas.FreshNames.{occurrences-cons as count_cons}
 use Rattle.ic_check.specs.Meeting.{are_apart, are_once, has_use, is_agent, joins_agents, pair_sides, side_names}
 use Rattle.ic_check.specs.Warnings.{idle_line, idle_words, warning_line}
 use Rattle.ic_check.specs.inner.Tallies.{IsTally, tallied}
 use Rattle.ic_check.proofs.Tallying.{same_once}
 
 -- ---- the names that are sides, counted
-
-count_cons : (x n : ℕ) (ns : List ℕ) → occurrences x (n ∷ ns) ≡ cond (n == x) 1 0 + occurrences x ns
-count_cons x n ns = sum_by-cons (λ m. cond (m == x) 1 0) n ns
-
-count_both : (x : ℕ) (ms ns : List ℕ) → occurrences x (ms ++ ns) ≡ occurrences x ms + occurrences x ns
-count_both x ms ns = sum_by-append (λ m. cond (m == x) 1 0) ms ns
 
 once_by : (all ms : List ℕ) (m x : ℕ) (b : Bool) → (m == x) ≡ b → occurrences m all ≡ 1 → (occurrences x ms ≡ 0) ⊎ (occurrences x all ≡ 1)
     → (occurrences x (m ∷ ms) ≡ 0) ⊎ (occurrences x all ≡ 1)
@@ -64,15 +59,11 @@ record Apart (es : List Pair) : Type 0 where
   none : list_any joins_agents es ≡ false
   lone : (x : ℕ) → occurrences x (flat_map pair_sides es) ≤ 1
 
-false_of : (b : Bool) → not b ≡ true → b ≡ false
-false_of true e = cc
-false_of false e = refl
-
 apart_from : (es : List Pair) → are_apart es ≡ true → Apart es
 apart_from es is =
     let all : List ℕ = flat_map pair_sides es in
     let parts = and_parts (not (list_any joins_agents es)) (are_once all all) is in
-    record { none = false_of (list_any joins_agents es) parts.0; lone = λ x. at_most all x parts.1 }
+    record { none = not-true (list_any joins_agents es) parts.0; lone = λ x. at_most all x parts.1 }
 
 -- ---- no interaction
 

@@ -9,11 +9,13 @@ use Rattle.ic_rules.specs.JobName.{is_job_word}
 use Rattle.ic_rules.specs.RuleSet.{first_lopsided, first_repeated, first_uncounted}
 use Rattle.ic_rules.specs.System.{SystemParts}
 use Rattle.ic_rules.specs.declared.job_name.TheConstants.{MAX_JOB_NAME}
-use Rattle.ic_commands.specs.LineSense.{fits_budget, line_sense, submitted}
+use Rattle.ic_commands.specs.LineSense.{asked, fits_budget, line_sense, submitted}
 use Rattle.ic_commands.specs.LineSource.{LinePhrase, nothing, submit, copy, about, list, run, IsLine, is_number, line_words}
 use Rattle.ic_commands.specs.LineText.{ReadsLine, SpellsLine}
 use Rattle.ic_commands.specs.declared.limits.TheConstants.{MAX_RUN}
 use Rattle.ic_commands.specs.declared.line.Line.{Line}
+use Rattle.ic_commands.specs.declared.line.Line.TheVariants.{Blank, Command as Asks, Run}
+use Rattle.ic_jobs.specs.declared.command.Command.TheVariants as command
 use Rattle.ic_text.specs.Name.{number_in}
 use Rattle.ic_text.specs.Places.{GoesOn, IsPlaced, IsPlacedWord, IsSyntaxPlace, IsWordPlace, is_between}
 use Rattle.ic_text.specs.Sense.{has_its_arity}
@@ -24,22 +26,22 @@ use Rattle.ic_text.specs.SystemText.{ReadsSystem, SpellsSystem}
 use Rattle.ic_text.specs.Token.{Token, word, mark, before, tokens, words_among}
 use Rattle.ic_text.specs.Words.{written_system}
 use Rattle.ic_text.specs.declared.fault.TextFault.{TextFault}
-use Rattle.ic_text.specs.declared.fault.TextFault.TheVariants.{Syntax, Limit, Arity, NameCount, Name, Twice, Lopsided, Memory}
+use Rattle.ic_text.specs.declared.fault.TextFault.TheVariants.{Syntax, Limit, Arity, NameCount, Name, Twice, Lopsided}
 use Rattle.ic_text.specs.declared.limits.TheConstants.{MAX_TEXT}
 use Rattle.ic_text.specs.declared.misread.Detail.{Detail}
-use Rattle.ic_text.specs.declared.misread.Detail.TheVariants.{Nothing as Plain, Passed as Bound, Arities}
-use Rattle.ic_text.specs.declared.misread.Limit.TheVariants.{TextBytes, SymbolBytes, Arguments, NameNumber, Symbols, Rules, RuleNodes, Interface, Nodes}
+use Rattle.ic_text.specs.declared.misread.Detail.TheVariants.{Nothing as Plain, Passed as Bound}
+use Rattle.ic_text.specs.declared.misread.Limit.TheVariants.{TextBytes}
 use Rattle.ic_text.specs.lemmas.ReadOnce.{none_is_some, some-injective}
 use Rattle.ic_diagnostics.specs.Sights.{first_word}
-use Rattle.ic_check.specs.LinePlaces.{IsDue, IsInSystem, IsLinePlace, IsOwnPlace, IsSought, IsSystemPlace, IsWhole, first_at, is_system_due, own_passed, submit_front}
+use Rattle.ic_check.specs.LinePlaces.{IsDue, IsInSystem, IsLinePlace, IsOwnPlace, IsSought, IsSystemPlace, IsWhole, first_at, is_system_due, long_name, own_passed, submit_front, unfit_budget, unless_fit}
 use Rattle.ic_check.specs.inner.Fronts.{IsFilled, IsFront, IsPassed, due_after, first_of, passed_in}
 use Rattle.ic_check.specs.inner.Inner.{IsInner, IsInnerOf, place_of}
 use Rattle.ic_check.specs.declared.due.Due.{Due}
-use Rattle.ic_check.specs.declared.due.Due.TheVariants.{Command, SubmitName, Budget, System, OldName, NewName, VerbName, Number, Nothing}
+use Rattle.ic_check.specs.declared.due.Due.TheVariants.{Command, Budget, System, Nothing}
 use Rattle.ic_check.specs.declared.due.LineLimit.{LineLimit}
 use Rattle.ic_check.specs.declared.due.LineLimit.TheVariants.{LineBytes, NameBytes, BudgetRounds, RunRounds}
 use Rattle.ic_check.specs.declared.line_places.LinePlace.{LinePlace}
-use Rattle.ic_check.proofs.Apart.{between_front}
+use Rattle.ic_text.specs.lemmas.Between.{between_end}
 use Rattle.ic_check.proofs.OwnWords.{Ends, KnownVerbs, begins, ends, first_of-none, mark_isnt, passed_words, takes, whole_is_line}
 use Rattle.ic_check.proofs.Stops.{HeadIs, Heads, heads, here_tokens, stops_here, stops_in, tokens_there, word_there}
 
@@ -51,26 +53,11 @@ same_fault f g e = cc
 fine_isnt : {V A : Type 0} (v : V) (f : TextFault) → ◌≡◌ {A = Result V TextFault} (Ok v) (Err f) → A
 fine_isnt v f e = cc
 
-syntax_isnt : {V A : Type 0} (f : TextFault) → (f ≡ Syntax → ⊥) → ◌≡◌ {A = Result V TextFault} (Err f) (Err Syntax) → A
-syntax_isnt f other e = absurd (other (same_fault f Syntax e))
-
 -- a system that is spelled is no fault of syntax
 no_syntax_found : (o : Option ℕ) (fault : ℕ → TextFault) (answer : Result SystemParts TextFault) → ((n : ℕ) → fault n ≡ Syntax → ⊥) → (answer ≡ Err Syntax → ⊥)
     → unless_found o fault answer ≡ Err Syntax → ⊥
 no_syntax_found None fault answer one rest e = rest e
 no_syntax_found (Some n) fault answer one rest e = one n (same_fault (fault n) Syntax e)
-
-count_isnt : (n : ℕ) → NameCount n ≡ Syntax → ⊥
-count_isnt n e = cc
-
-name_isnt : (n : ℕ) → Name n ≡ Syntax → ⊥
-name_isnt n e = cc
-
-twice_isnt : (n : ℕ) → Twice n ≡ Syntax → ⊥
-twice_isnt n e = cc
-
-lopsided_isnt : (n : ℕ) → Lopsided n ≡ Syntax → ⊥
-lopsided_isnt n e = cc
 
 pub no_syntax : (s : SystemPhrase) → system_sense s ≡ Err Syntax → ⊥
 no_syntax s e = by (is_system_in_limits s) (list_all (has_its_arity (system_table s)) (system_symbols s)) e
@@ -82,79 +69,61 @@ no_syntax s e = by (is_system_in_limits s) (list_all (has_its_arity (system_tabl
         (unless_found (first_lopsided (rules_over s)) Lopsided (Ok (system_parts s)))))
         else Err Arity) else Err Limit) ≡ Err Syntax → ⊥
     by true true e =
-        no_syntax_found (first_uncounted (rules_over s)) NameCount _ count_isnt (no_syntax_found (third_occurrence (phrase_names s.config)) Name _ name_isnt
-        (no_syntax_found (first_repeated (rules_over s)) Twice _ twice_isnt (no_syntax_found (first_lopsided (rules_over s)) Lopsided _ lopsided_isnt (fine_isnt (system_parts s) Syntax)))) e
+        no_syntax_found (first_uncounted (rules_over s)) NameCount _ (λ n e. cc) (no_syntax_found (third_occurrence (phrase_names s.config)) Name _ (λ n e. cc)
+        (no_syntax_found (first_repeated (rules_over s)) Twice _ (λ n e. cc) (no_syntax_found (first_lopsided (rules_over s)) Lopsided _ (λ n e. cc) (fine_isnt (system_parts s) Syntax)))) e
     by true false e = cc
     by false b e = cc
 
 -- ---- words that pass a limit
 
-long_by : (short : Bool) (l : LineLimit) (answer : Result Line TextFault) → (if short then None else Some NameBytes) ≡ Some l → (if short then answer else Err Limit) ≡ Err Limit
-long_by true l answer e = cc
-long_by false l answer e = refl
+-- what a line means that keeps its limits, and what one means of which a word passes one
+abbrev fine : LinePhrase → Result Line TextFault
+fine nothing = Ok Blank
+fine (submit name most s) = submitted name (option_map number_in most) (system_sense s)
+fine (copy old new) = Ok (Asks (command.CopyJob old new))
+fine (about verb name) = Ok (Asks (asked verb name))
+fine list = Ok (Asks command.List)
+fine (run digits) = Ok (Run (number_in digits))
+
+abbrev limited : Option (ℕ × LineLimit) → Result Line TextFault → Result Line TextFault
+limited None answer = answer
+limited (Some passed) answer = Err Limit
+
+limited_if : (k : ℕ) (fits : Bool) (l : LineLimit) (later : Option (ℕ × LineLimit)) (answer : Result Line TextFault)
+    → (if fits then limited later answer else Err Limit) ≡ limited (first_at k (unless_fit fits l) later) answer
+limited_if k true l later answer = refl
+limited_if k false l later answer = refl
+
+sense_is : (p : LinePhrase) → line_sense p ≡ limited (own_passed p) (fine p)
+sense_is (submit name most s) =
+    ap (λ (x : Result Line TextFault). if nat_le (length name) MAX_JOB_NAME then x else Err Limit) (limited_if 2 (fits_budget most) BudgetRounds None (fine (submit name most s)))
+    ∙ limited_if 1 (nat_le (length name) MAX_JOB_NAME) NameBytes (first_at 2 (unfit_budget most) None) (fine (submit name most s))
+sense_is (copy old new) =
+    ap (λ (x : Result Line TextFault). if nat_le (length old) MAX_JOB_NAME then x else Err Limit) (limited_if 2 (nat_le (length new) MAX_JOB_NAME) NameBytes None (fine (copy old new)))
+    ∙ limited_if 1 (nat_le (length old) MAX_JOB_NAME) NameBytes (first_at 2 (long_name new) None) (fine (copy old new))
+sense_is (about verb name) = limited_if 1 (nat_le (length name) MAX_JOB_NAME) NameBytes None (fine (about verb name))
+sense_is (run digits) = limited_if 1 (nat_le (number_in digits) MAX_RUN) RunRounds None (fine (run digits))
+sense_is _ = refl
 
 -- a line of which a word passes a limit is refused for it
 pub own_limit : (p : LinePhrase) (k : ℕ) (l : LineLimit) → own_passed p ≡ Some (k, l) → line_sense p ≡ Err Limit
-own_limit nothing k l e = cc
-own_limit (submit name most s) k l e = by (nat_le (length name) MAX_JOB_NAME) (fits_budget most) (submitted name (option_map number_in most) (system_sense s)) e
-  where
-    by : (a b : Bool) (answer : Result Line TextFault) → first_at 1 (if a then None else Some NameBytes) (first_at 2 (if b then None else Some BudgetRounds) None) ≡ Some (k, l)
-        → (if a then (if b then answer else Err Limit) else Err Limit) ≡ Err Limit
-    by true true answer e = cc
-    by true false answer e = refl
-    by false b answer e = refl
-own_limit (copy old new) k l e = by (nat_le (length old) MAX_JOB_NAME) (nat_le (length new) MAX_JOB_NAME) _ e
-  where
-    by : (a b : Bool) (answer : Result Line TextFault) → first_at 1 (if a then None else Some NameBytes) (first_at 2 (if b then None else Some NameBytes) None) ≡ Some (k, l)
-        → (if a then (if b then answer else Err Limit) else Err Limit) ≡ Err Limit
-    by true true answer e = cc
-    by true false answer e = refl
-    by false b answer e = refl
-own_limit (about verb name) k l e = by (nat_le (length name) MAX_JOB_NAME) _ e
-  where
-    by : (a : Bool) (answer : Result Line TextFault) → first_at 1 (if a then None else Some NameBytes) None ≡ Some (k, l) → (if a then answer else Err Limit) ≡ Err Limit
-    by true answer e = cc
-    by false answer e = refl
-own_limit list k l e = cc
-own_limit (run digits) k l e = by (nat_le (number_in digits) MAX_RUN) _ e
-  where
-    by : (a : Bool) (answer : Result Line TextFault) → first_at 1 (if a then None else Some RunRounds) None ≡ Some (k, l) → (if a then answer else Err Limit) ≡ Err Limit
-    by true answer e = cc
-    by false answer e = refl
+own_limit p k l e = sense_is p ∙ ap (λ o. limited o (fine p)) e
 
 -- a whole line that keeps its limits is fine
+fine_whole : (p : LinePhrase) → IsWhole p → (v : Line) × (fine p ≡ Ok v)
+fine_whole (copy old new) whole = (Asks (command.CopyJob old new), refl)
+fine_whole (about verb name) whole = (Asks (asked verb name), refl)
+fine_whole list whole = (Asks command.List, refl)
+fine_whole (run digits) whole = (Run (number_in digits), refl)
+fine_whole _ whole = absurd whole
+
 pub whole_fine : {A : Type 0} (p : LinePhrase) (f : TextFault) → IsWhole p → own_passed p ≡ None → line_sense p ≡ Err f → A
-whole_fine nothing f whole none e = absurd whole
-whole_fine (submit name most s) f whole none e = absurd whole
-whole_fine {A} (copy old new) f whole none e = by (nat_le (length old) MAX_JOB_NAME) (nat_le (length new) MAX_JOB_NAME) _ none e
-  where
-    by : (a b : Bool) (v : Line) → first_at 1 (if a then None else Some NameBytes) (first_at 2 (if b then None else Some NameBytes) None) ≡ None
-        → (if a then (if b then Ok v else Err Limit) else Err Limit) ≡ Err f → A
-    by true true v none e = fine_isnt v f e
-    by true false v none e = cc
-    by false b v none e = cc
-whole_fine {A} (about verb name) f whole none e = by (nat_le (length name) MAX_JOB_NAME) _ none e
-  where
-    by : (a : Bool) (v : Line) → first_at 1 (if a then None else Some NameBytes) None ≡ None → (if a then Ok v else Err Limit) ≡ Err f → A
-    by true v none e = fine_isnt v f e
-    by false v none e = cc
-whole_fine list f whole none e = fine_isnt _ f e
-whole_fine {A} (run digits) f whole none e = by (nat_le (number_in digits) MAX_RUN) _ none e
-  where
-    by : (a : Bool) (v : Line) → first_at 1 (if a then None else Some RunRounds) None ≡ None → (if a then Ok v else Err Limit) ≡ Err f → A
-    by true v none e = fine_isnt v f e
-    by false v none e = cc
+whole_fine p f whole none e = let (v, same) = fine_whole p whole in fine_isnt v f (sym same ∙ ap (λ o. limited o (fine p)) (sym none) ∙ sym (sense_is p) ∙ e)
 
 -- a submit that keeps its limits is read as its system
 pub submit_fits : (name : List ℕ) (most : Option (List ℕ)) (s : SystemPhrase) → own_passed (submit name most s) ≡ None
     → line_sense (submit name most s) ≡ submitted name (option_map number_in most) (system_sense s)
-submit_fits name most s none = by (nat_le (length name) MAX_JOB_NAME) (fits_budget most) (submitted name (option_map number_in most) (system_sense s)) none
-  where
-    by : (a b : Bool) (answer : Result Line TextFault) → first_at 1 (if a then None else Some NameBytes) (first_at 2 (if b then None else Some BudgetRounds) None) ≡ None
-        → (if a then (if b then answer else Err Limit) else Err Limit) ≡ answer
-    by true true answer none = refl
-    by true false answer none = cc
-    by false b answer none = cc
+submit_fits name most s none = sense_is (submit name most s) ∙ ap (λ o. limited o (fine (submit name most s))) none
 
 -- no word passes the limit of a line
 abbrev is_of_line : Option (ℕ × LineLimit) → Bool
@@ -164,34 +133,20 @@ is_of_line (Some (k, BudgetRounds)) = false
 is_of_line (Some (k, RunRounds)) = false
 is_of_line None = false
 
-not_of_line : {A : Type 0} (k : ℕ) (o : Option (ℕ × LineLimit)) → is_of_line o ≡ false → o ≡ Some (k, LineBytes) → A
-not_of_line k o other e = absurd (false≢true (sym other ∙ ap is_of_line e))
+of_words : (k : ℕ) (fits : Bool) (l : LineLimit) (later : Option (ℕ × LineLimit)) → is_of_line (Some (k, l)) ≡ false → is_of_line later ≡ false
+    → is_of_line (first_at k (unless_fit fits l) later) ≡ false
+of_words k true l later own rest = rest
+of_words k false l later own rest = own
+
+passed_by_words : (p : LinePhrase) → is_of_line (own_passed p) ≡ false
+passed_by_words (submit name most s) = of_words 1 (nat_le (length name) MAX_JOB_NAME) NameBytes _ refl (of_words 2 (fits_budget most) BudgetRounds None refl refl)
+passed_by_words (copy old new) = of_words 1 (nat_le (length old) MAX_JOB_NAME) NameBytes _ refl (of_words 2 (nat_le (length new) MAX_JOB_NAME) NameBytes None refl refl)
+passed_by_words (about verb name) = of_words 1 (nat_le (length name) MAX_JOB_NAME) NameBytes None refl refl
+passed_by_words (run digits) = of_words 1 (nat_le (number_in digits) MAX_RUN) RunRounds None refl refl
+passed_by_words _ = refl
 
 no_bytes : {A : Type 0} (p : LinePhrase) (k : ℕ) → own_passed p ≡ Some (k, LineBytes) → A
-no_bytes nothing k e = not_of_line k None refl e
-no_bytes {A} (submit name most s) k e = by (nat_le (length name) MAX_JOB_NAME) (fits_budget most) e
-  where
-    by : (a b : Bool) → first_at 1 (if a then None else Some NameBytes) (first_at 2 (if b then None else Some BudgetRounds) None) ≡ Some (k, LineBytes) → A
-    by true true e = not_of_line k _ refl e
-    by true false e = not_of_line k _ refl e
-    by false b e = not_of_line k _ refl e
-no_bytes {A} (copy old new) k e = by (nat_le (length old) MAX_JOB_NAME) (nat_le (length new) MAX_JOB_NAME) e
-  where
-    by : (a b : Bool) → first_at 1 (if a then None else Some NameBytes) (first_at 2 (if b then None else Some NameBytes) None) ≡ Some (k, LineBytes) → A
-    by true true e = not_of_line k _ refl e
-    by true false e = not_of_line k _ refl e
-    by false b e = not_of_line k _ refl e
-no_bytes {A} (about verb name) k e = by (nat_le (length name) MAX_JOB_NAME) e
-  where
-    by : (a : Bool) → first_at 1 (if a then None else Some NameBytes) None ≡ Some (k, LineBytes) → A
-    by true e = not_of_line k _ refl e
-    by false e = not_of_line k _ refl e
-no_bytes list k e = not_of_line k None refl e
-no_bytes {A} (run digits) k e = by (nat_le (number_in digits) MAX_RUN) e
-  where
-    by : (a : Bool) → first_at 1 (if a then None else Some RunRounds) None ≡ Some (k, LineBytes) → A
-    by true e = not_of_line k _ refl e
-    by false e = not_of_line k _ refl e
+no_bytes p k e = absurd (false≢true (sym (passed_by_words p) ∙ ap is_of_line e))
 
 -- ---- where a system is refused
 
@@ -199,30 +154,14 @@ no_bytes {A} (run digits) k e = by (nat_le (number_in digits) MAX_RUN) e
 pub word_placed : (text : List ℕ) (f : TextFault) (at : ℕ) (d : Detail) → (f ≡ Syntax → ⊥) → length text ≤ MAX_TEXT
     → IsPlaced IsSystemPhrase system_words written_system text f (Some at) d → IsPlacedWord IsSystemPhrase system_words written_system text f at d
 word_placed text Syntax at d other short is = absurd (other refl)
-word_placed text Limit at Plain other short is = is
 word_placed text Limit at (Bound TextBytes) other short is = absurd (omega (arith, is.0, short))
-word_placed text Limit at (Bound SymbolBytes) other short is = is
-word_placed text Limit at (Bound Arguments) other short is = is
-word_placed text Limit at (Bound NameNumber) other short is = is
-word_placed text Limit at (Bound Symbols) other short is = is
-word_placed text Limit at (Bound Rules) other short is = is
-word_placed text Limit at (Bound RuleNodes) other short is = is
-word_placed text Limit at (Bound Interface) other short is = is
-word_placed text Limit at (Bound Nodes) other short is = is
-word_placed text Limit at (Arities m n) other short is = is
-word_placed text Arity at d other short is = is
-word_placed text (NameCount i) at d other short is = is
-word_placed text (Name n) at d other short is = is
-word_placed text (Twice i) at d other short is = is
-word_placed text (Lopsided i) at d other short is = is
-word_placed text Memory at d other short is = is
+word_placed text _ at _ other short is = is
 
 -- the place of one of syntax, of which no more is known
 syntax_placed : (text : List ℕ) (at : ℕ) (d : Detail) → IsPlaced IsSystemPhrase system_words written_system text Syntax (Some at) d
     → (d ≡ Plain) × IsSyntaxPlace IsSystemPhrase system_words text at
 syntax_placed text at Plain is = (refl, is)
-syntax_placed text at (Bound b) is = absurd is.refused
-syntax_placed text at (Arities m n) is = absurd is.refused
+syntax_placed text at _ is = absurd is.refused
 
 -- the words of a submit before its system
 pub record IsSubmit (words : List Token) : Type 0 where
@@ -233,33 +172,19 @@ pub record IsSubmit (words : List Token) : Type 0 where
   pub is : words ≡ submit_front name most
 
 pub submit_of : (due : Due) (words : List Token) → is_system_due due ≡ true → IsDue due words → IsSubmit words
-submit_of Command words system is = absurd (false≢true system)
-submit_of SubmitName words system is = absurd (false≢true system)
 submit_of Budget words system (name, named, is) = record { name = name; most = None; named = named; number = tt; is = is }
 submit_of System words system (name, named, digits, number, is) = record { name = name; most = Some digits; named = named; number = number; is = is }
-submit_of OldName words system is = absurd (false≢true system)
-submit_of NewName words system is = absurd (false≢true system)
-submit_of VerbName words system is = absurd (false≢true system)
-submit_of Number words system is = absurd (false≢true system)
-submit_of Nothing words system is = absurd (false≢true system)
+submit_of _ words system is = absurd (false≢true system)
 
 -- ---- the place
 
 abbrev Placed : List ℕ → TextFault → ℕ → Due → Option (ℕ × LineLimit) → Option (ℕ × Detail) → Type 0
 Placed line f at due passed inner = IsLinePlace line f (place_of f at due passed inner).at (place_of f at due passed inner).detail
 
--- nothing, or more
-abbrev Filled : List ℕ → Type 0
-Filled [] = ⊥
-Filled (b ∷ bs) = Unit {0}
-
-all_between : (text : List ℕ) → is_between text (length text) ≡ true
-all_between text = ap (λ l. is_between l (length text)) (sym (append-nil text)) ∙ between_front text [] tt
-
-all_heads : (b : ℕ) (bs : List ℕ) → IsFilled (b ∷ bs) → Heads (first_word (b ∷ bs)) (tokens (b ∷ bs))
+pub all_heads : (b : ℕ) (bs : List ℕ) → IsFilled (b ∷ bs) → Heads (first_word (b ∷ bs)) (tokens (b ∷ bs))
 all_heads b bs filled =
     subst (λ (l : List ℕ). Heads (first_word (b ∷ bs)) (tokens l)) (take_all (length (b ∷ bs)) (b ∷ bs) (omega arith))
-    (heads (b ∷ bs) (length (b ∷ bs)) filled (omega arith) (omega arith) (all_between (b ∷ bs)))
+    (heads (b ∷ bs) (length (b ∷ bs)) filled (omega arith) (omega arith) (between_end (b ∷ bs)))
 
 module _ (known : KnownVerbs) (line : List ℕ) (fault : TextFault) (reads : ReadsLine line (Err fault)) (short : length line ≤ MAX_TEXT) (due : Due) (rest : List ℕ) (passed : Option (ℕ × LineLimit))
     (is : IsFront line due rest passed) (stop : due_after due (first_word rest) ≡ None) where
@@ -348,9 +273,7 @@ module _ (known : KnownVerbs) (line : List ℕ) (fault : TextFault) (reads : Rea
   limit_place : (p : LinePhrase) → SpellsLine line p → (k place : ℕ) (l : LineLimit) → own_passed p ≡ Some (k, l) → IsWordPlace line k place
       → (inner : Option (ℕ × Detail)) → Placed line Limit at due (Some (place, l)) inner
   limit_place p spells k place LineBytes e there inner = no_bytes p k e
-  limit_place p spells k place NameBytes e there inner = limit_at p spells k place NameBytes e there
-  limit_place p spells k place BudgetRounds e there inner = limit_at p spells k place BudgetRounds e there
-  limit_place p spells k place RunRounds e there inner = limit_at p spells k place RunRounds e there
+  limit_place p spells k place l e there inner = limit_at p spells k place l e there
 
   -- a spelled line is refused for a limit of its words, or, where they pass none, as this says
   by_limits : (inner : Option (ℕ × Detail)) (p : LinePhrase) → SpellsLine line p → own_passed p ≡ is.found
@@ -360,12 +283,11 @@ module _ (known : KnownVerbs) (line : List ℕ) (fault : TextFault) (reads : Rea
       by : (found other : Option (ℕ × LineLimit)) → own_passed p ≡ found → IsPassed line found other → (own_passed p ≡ None → other ≡ None → Placed line fault at due None inner)
           → Placed line fault at due other inner
       by None None e placed fits = fits e refl
-      by None (Some o) e placed fits = absurd placed
-      by (Some f) None e placed fits = absurd placed
       by (Some (k, l)) (Some (place, other)) e placed fits =
           let limit : fault ≡ Limit = same_fault fault Limit (sym (is_refused p spells) ∙ own_limit p k l e) in
           subst (λ (f : TextFault). Placed line f at due (Some (place, other)) inner) (sym limit)
           (subst (λ (x : LineLimit). Placed line Limit at due (Some (place, x)) inner) (sym placed.1) (limit_place p spells k place l e placed.0 inner))
+      by _ _ e placed fits = absurd placed
 
   -- ---- without a system
 
@@ -405,13 +327,7 @@ module _ (known : KnownVerbs) (line : List ℕ) (fault : TextFault) (reads : Rea
       by_due : rest ≡ [] → (d : Due) → d ≡ due → IsDue d is.words → Placed line fault at due passed None
       by_due none Command e so = nothing_place so none
       by_due none Nothing e (p, whole, so) = whole_place p whole so none
-      by_due none SubmitName e so = unended none (λ x. subst Ends (sym e) x)
-      by_due none Budget e so = unended none (λ x. subst Ends (sym e) x)
-      by_due none System e so = unended none (λ x. subst Ends (sym e) x)
-      by_due none OldName e so = unended none (λ x. subst Ends (sym e) x)
-      by_due none NewName e so = unended none (λ x. subst Ends (sym e) x)
-      by_due none VerbName e so = unended none (λ x. subst Ends (sym e) x)
-      by_due none Number e so = unended none (λ x. subst Ends (sym e) x)
+      by_due none _ e so = unended none (λ x. subst Ends (sym e) x)
 
       by : (text : List ℕ) → rest ≡ text → Placed line fault at due passed None
       by [] none = by_due none due refl is.stands
@@ -454,14 +370,8 @@ module _ (known : KnownVerbs) (line : List ℕ) (fault : TextFault) (reads : Rea
         where
           never : (d : Due) → is_system_due d ≡ true → Ends d → ⊥
           never Command so e = false≢true so
-          never SubmitName so e = e
-          never Budget so e = e
-          never System so e = e
-          never OldName so e = e
-          never NewName so e = e
-          never VerbName so e = e
-          never Number so e = e
           never Nothing so e = false≢true so
+          never _ so e = e
 
           by : (text : List ℕ) → rest ≡ text → ⊥
           by [] none = never due system (ends_here none p spells)
@@ -525,13 +435,7 @@ module _ (known : KnownVerbs) (line : List ℕ) (fault : TextFault) (reads : Rea
 
       place_as : (f : TextFault) → (f ≡ Syntax → ⊥) → IsSystemPlace line f (at + i) d → Placed line f at due None (Some (i, d))
       place_as Syntax apart is = absurd (apart refl)
-      place_as Limit apart is = is
-      place_as Arity apart is = is
-      place_as (NameCount n) apart is = is
-      place_as (Name n) apart is = is
-      place_as (Twice n) apart is = is
-      place_as (Lopsided n) apart is = is
-      place_as Memory apart is = is
+      place_as _ apart is = is
 
       pub system_word : Placed line fault at due passed (Some (i, d))
       system_word =
@@ -549,13 +453,7 @@ module _ (known : KnownVerbs) (line : List ℕ) (fault : TextFault) (reads : Rea
     pub system_place : (inner : Option (ℕ × Detail)) → IsInner rest inner → Placed line fault at due passed inner
     system_place None (s, spells, parts, fine) = system_fine s spells parts fine
     system_place (Some (i, d)) (Syntax, refused, placed) = system_syntax refused i d placed
-    system_place (Some (i, d)) (Limit, refused, placed) = by_word Limit (λ e. cc) refused i d placed
-    system_place (Some (i, d)) (Arity, refused, placed) = by_word Arity (λ e. cc) refused i d placed
-    system_place (Some (i, d)) (NameCount n, refused, placed) = by_word (NameCount n) (λ e. cc) refused i d placed
-    system_place (Some (i, d)) (Name n, refused, placed) = by_word (Name n) (λ e. cc) refused i d placed
-    system_place (Some (i, d)) (Twice n, refused, placed) = by_word (Twice n) (λ e. cc) refused i d placed
-    system_place (Some (i, d)) (Lopsided n, refused, placed) = by_word (Lopsided n) (λ e. cc) refused i d placed
-    system_place (Some (i, d)) (Memory, refused, placed) = by_word Memory (λ e. cc) refused i d placed
+    system_place (Some (i, d)) (other, refused, placed) = by_word other (λ e. cc) refused i d placed
 
   -- ---- either way
 

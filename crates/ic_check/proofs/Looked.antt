@@ -9,7 +9,7 @@ use Rattle.ic_rules.specs.declared.job_name.TheConstants.{MAX_JOB_NAME}
 use Rattle.ic_jobs.specs.declared.limits.TheConstants.{MAX_BUDGET}
 use Rattle.ic_commands.specs.LinePlain.{phrase_texts}
 use Rattle.ic_commands.specs.LineSense.{fits_budget}
-use Rattle.ic_commands.specs.LineSource.{LinePhrase, nothing, submit, copy, about, list, run, IsLine, is_number, line_words}
+use Rattle.ic_commands.specs.LineSource.{LinePhrase, submit, copy, about, run, IsLine, is_number, line_words}
 use Rattle.ic_commands.specs.declared.limits.TheConstants.{MAX_RUN}
 use Rattle.ic_text.specs.Name.{number_in}
 use Rattle.ic_text.specs.SystemSource.{SystemPhrase, IsSystemPhrase, system_words}
@@ -61,10 +61,8 @@ due_next SubmitName w is = (Budget, ap (λ (b : Bool). if_stands b Budget) is)
 due_next Budget w is = (System, ap (λ (b : Bool). if_stands b System) is)
 due_next System w is = absurd (false≢true is)
 due_next OldName w is = (NewName, ap (λ (b : Bool). if_stands b NewName) is)
-due_next NewName w is = (Nothing, ap (λ (b : Bool). if_stands b Nothing) is)
-due_next VerbName w is = (Nothing, ap (λ (b : Bool). if_stands b Nothing) is)
-due_next Number w is = (Nothing, ap (λ (b : Bool). if_stands b Nothing) is)
 due_next Nothing w is = absurd (false≢true is)
+due_next _ w is = (Nothing, ap (λ (b : Bool). if_stands b Nothing) is)
 
 module _ (known : KnownVerbs) where
   pub goes_with_word : (due : Due) (front : List Token) (w : List ℕ) → IsDue due front → is_looked_for due w ≡ true → GoesWith front (word w)
@@ -143,7 +141,6 @@ unfit_so n e = ⊎_elim (λ more. inr more) few (cases_lt MAX_BUDGET n)
     few most = ⊎_elim (fits most) (λ none. inl (omega (arith, none))) (cases_lt 0 n)
 
 pub limit_is_passed : (p : LinePhrase) (k : ℕ) (limit : LineLimit) → own_passed p ≡ Some (k, limit) → PassesAt p k limit
-limit_is_passed nothing k limit e = nothing_passed k limit e
 limit_is_passed (submit name None s) k limit e = by (nat_le (length name) MAX_JOB_NAME) refl e
   where
     by : (a : Bool) → nat_le (length name) MAX_JOB_NAME ≡ a → first_at 1 (if a then None else Some NameBytes) None ≡ Some (k, limit) → PassesAt (submit name None s) k limit
@@ -168,9 +165,9 @@ limit_is_passed (about verb name) k limit e = by (nat_le (length name) MAX_JOB_N
     by : (a : Bool) → nat_le (length name) MAX_JOB_NAME ≡ a → first_at 1 (if a then None else Some NameBytes) None ≡ Some (k, limit) → PassesAt (about verb name) k limit
     by true p e = nothing_passed k limit e
     by false p e = passes_as (about verb name) 1 k NameBytes limit e (name, refl, long_so name p)
-limit_is_passed list k limit e = nothing_passed k limit e
 limit_is_passed (run digits) k limit e = by (nat_le (number_in digits) MAX_RUN) refl e
   where
     by : (a : Bool) → nat_le (number_in digits) MAX_RUN ≡ a → first_at 1 (if a then None else Some RunRounds) None ≡ Some (k, limit) → PassesAt (run digits) k limit
     by true p e = nothing_passed k limit e
     by false p e = passes_as (run digits) 1 k RunRounds limit e (digits, refl, many_so digits p)
+limit_is_passed _ k limit e = nothing_passed k limit e

@@ -1,9 +1,9 @@
 -- Looks at files, joined in their order.
-use Rattle.std.proofs.Common.{◌≡◌, ℕ, ◌+◌, ◌<◌, ◌≤◌, Bool, true, false, ◌||◌, List, [], ◌∷◌, ◌++◌, Option, None, Some, length, get_or, take, refl, sym, ap, subst, ◌∙◌, append-nil, append_assoc}
+use Rattle.std.proofs.Common.{◌≡◌, ℕ, ◌+◌, ◌<◌, Bool, true, false, ◌||◌, List, [], ◌∷◌, ◌++◌, Option, None, Some, length, get_or, take, refl, sym, ap, subst, ◌∙◌, append-nil, append_assoc}
 use Rattle.std.specs.Prelude.{map, if◌then◌else◌}
 use Rattle.std.specs.List.{flat_map, list_any}
 use Rattle.std.specs.Io.KnownBytes.{Appends, Keeps}
-use Rattle.std.proofs.lemmas.List.{map-append, take-map, take_more, take_all}
+use Rattle.std.proofs.lemmas.List.{map-append, take-map, take_more}
 use Rattle.std.proofs.lemmas.List.Concat.{flat_map-append}
 use Rattle.std.proofs.lemmas.List.Folds.{list_any-append}
 use Rattle.ic_check.specs.Content.{Content, unread}
@@ -32,9 +32,8 @@ appends_more (Some xs) (Some ys) (Some zs) a b p q = q ∙ ap (λ c. c ++ b) p �
 looks_join : (layout : Layout) (Gives : List ℕ → Content → Type 0) (ps : List (List ℕ)) (ls : List Look) (qs : List (List ℕ)) (ms : List Look)
     → AreLooks layout Gives ps ls → AreLooks layout Gives qs ms → AreLooks layout Gives (ps ++ qs) (ls ++ ms)
 looks_join layout Gives [] [] qs ms one two = two
-looks_join layout Gives [] (l ∷ ls) qs ms one two = absurd one
-looks_join layout Gives (p ∷ ps) [] qs ms one two = absurd one
 looks_join layout Gives (p ∷ ps) (l ∷ ls) qs ms one two = (one.0, looks_join layout Gives ps ls qs ms one.1 two)
+looks_join layout Gives _ _ qs ms one two = absurd one
 
 -- what is found, by whether one isn't looked over and whether one has a fault
 abbrev found_by : (is_unread has_fault : Bool) → Verdict
@@ -42,11 +41,10 @@ found_by r f = if r then Unread else (if f then Faulty else Fine)
 
 found_join : (r s f g : Bool) → found_by (r || s) (f || g) ≡ worse (found_by r f) (found_by s g)
 found_join true s f g = refl
-found_join false true true g = refl
 found_join false true false g = refl
 found_join false false true true = refl
 found_join false false true false = refl
-found_join false false false g = refl
+found_join _ _ _ _ = refl
 
 verdict_join : (ls ms : List Look) → verdict_of (ls ++ ms) ≡ worse (verdict_of ls) (verdict_of ms)
 verdict_join ls ms =
@@ -79,9 +77,6 @@ module _ (layout : Layout) (Gives : List ℕ → Content → Type 0) where
     found = refl;
   }
 
-  pub over_none : (c : Option (List ℕ)) (a : List ℕ) → LooksOver layout Gives [] c c a a Fine
-  over_none c a = record { looks = []; each = tt; written = appends_none c; beside = sym (append-nil a); found = refl }
-
   over_join : (ps qs : List (List ℕ)) (old mid new : Option (List ℕ)) (a b c : List ℕ) (v w : Verdict)
       → LooksOver layout Gives ps old mid a b v → LooksOver layout Gives qs mid new b c w → LooksOver layout Gives (ps ++ qs) old new a c (worse v w)
   over_join ps qs old mid new a b c v w one two = record {
@@ -103,12 +98,6 @@ module _ (layout : Layout) (Gives : List ℕ → Content → Type 0) where
       subst (λ (ps : List (List ℕ)). LooksOver layout Gives ps old new a c (worse v w))
       (sym (ap (map f) (take_more xs i x below ∙ ap (λ y. take i xs ++ y ∷ []) (sym is)) ∙ map-append f (take i xs) (x ∷ [])))
       (over_join (map f (take i xs)) (f x ∷ []) old mid new a b c v w one two)
-
-  -- all files
-  pub over_all : {X : Type 0} (f : X → List ℕ) (xs : List X) (i : ℕ) (old new : Option (List ℕ)) (a b : List ℕ) (v : Verdict) → length xs ≤ i
-      → LooksOver layout Gives (map f (take i xs)) old new a b v → LooksOver layout Gives (map f xs) old new a b v
-  over_all f xs i old new a b v past one =
-      subst (λ (ps : List (List ℕ)). LooksOver layout Gives ps old new a b v) (ap (map f) (take_all i xs past)) one
 
   -- those so far, where nothing more is written or told
   pub over_front : {X : Type 0} (f : X → List ℕ) (xs : List X) (i : ℕ) (old mid new : Option (List ℕ)) (a b c : List ℕ) (v : Verdict)

@@ -1,9 +1,10 @@
 -- The place in a file of a line, and of a place in it.
-use Rattle.std.proofs.Common.{◌≡◌, ℕ, zero, suc, ◌+◌, ◌≤◌, ◌==◌, ◌||◌, Bool, true, false, if◌then◌else◌, List, [], ◌∷◌, ◌++◌, codes, length, take, refl, sym, ap, ◌∙◌, arith, append_assoc, subst}
+use Rattle.std.proofs.Common.{◌≡◌, ℕ, zero, suc, ◌+◌, ◌≤◌, ◌==◌, Bool, true, false, if◌then◌else◌, List, [], ◌∷◌, ◌++◌, codes, length, take, refl, sym, ap, ◌∙◌, arith, append_assoc, subst}
 use Rattle.std.specs.Cmp.{unsigned_Decides}
 use Rattle.std.specs.Fmt.{decimal}
 use Rattle.std.specs.List.{AllByRecursion, concat, count_by, flat_map, list_any, onto_first}
 use Rattle.std.proofs.lemmas.List.Sums.{sum_by-append}
+use Rattle.std.proofs.lemmas.Bool.{or_parts as or_none, or_right as or_true, or_from as or_both}
 use Rattle.ic_settle.specs.lemmas.SubstitutionLaws.{occurrences_none}
 use Rattle.ic_lines.specs.Lines.{ended, has_feed, lines}
 use Rattle.ic_text.specs.declared.fault.TextFault.{TextFault}
@@ -66,24 +67,12 @@ parted_at (b ∷ bs) above line below e = at_byte b bs (b == 10) refl (parted_at
 
 -- ---- line feeds
 
-or_none : (a b : Bool) → (a || b) ≡ false → (a ≡ false) × (b ≡ false)
-or_none true b e = cc
-or_none false b e = (refl, e)
-
-or_both : (a b : Bool) → a ≡ false → b ≡ false → (a || b) ≡ false
-or_both a b e f = (λ i. e i || b) ∙ f
-
-or_true : (a b : Bool) → b ≡ true → (a || b) ≡ true
-or_true true b e = refl
-or_true false b e = e
-
 open_take : (at : ℕ) (line : List ℕ) → has_feed line ≡ false → has_feed (take at line) ≡ false
 open_take zero [] e = refl
-open_take zero (b ∷ bs) e = refl
-open_take (suc at) [] e = refl
 open_take (suc at) (b ∷ bs) e =
     let parts = or_none (b == 10) (has_feed bs) e in
     or_both (b == 10) (has_feed (take at bs)) parts.0 (open_take at bs parts.1)
+open_take _ _ e = refl
 
 no_feeds : (bs : List ℕ) → has_feed bs ≡ false → count_by is_feed bs ≡ 0
 no_feeds bs e = occurrences_none 10 bs e
@@ -162,28 +151,15 @@ within_line line Syntax at (Sought due) is = is.0.within
 within_line line Syntax at (Within Plain) is = is.0.within
 within_line line Syntax at (Within (Bound b)) is = omega (arith, is.place.inside)
 within_line line Syntax at (Within (Arities m n)) is = omega (arith, is.place.inside)
-within_line line Syntax at (Passed limit) is = absurd is
 within_line line Limit at (Passed LineBytes) is = omega (arith, is.0, is.1)
 within_line line Limit at (Passed NameBytes) is = omega (arith, is.place.inside)
 within_line line Limit at (Passed BudgetRounds) is = omega (arith, is.place.inside)
 within_line line Limit at (Passed RunRounds) is = omega (arith, is.place.inside)
 within_line line Limit at (Within detail) is = omega (arith, is.place.inside)
-within_line line Limit at (Sought due) is = absurd is
 within_line line Arity at (Within detail) is = omega (arith, is.place.inside)
-within_line line Arity at (Passed limit) is = absurd is
-within_line line Arity at (Sought due) is = absurd is
 within_line line (NameCount i) at (Within detail) is = omega (arith, is.place.inside)
-within_line line (NameCount i) at (Passed limit) is = absurd is
-within_line line (NameCount i) at (Sought due) is = absurd is
 within_line line (Name n) at (Within detail) is = omega (arith, is.place.inside)
-within_line line (Name n) at (Passed limit) is = absurd is
-within_line line (Name n) at (Sought due) is = absurd is
 within_line line (Twice i) at (Within detail) is = omega (arith, is.place.inside)
-within_line line (Twice i) at (Passed limit) is = absurd is
-within_line line (Twice i) at (Sought due) is = absurd is
 within_line line (Lopsided i) at (Within detail) is = omega (arith, is.place.inside)
-within_line line (Lopsided i) at (Passed limit) is = absurd is
-within_line line (Lopsided i) at (Sought due) is = absurd is
 within_line line Memory at (Within detail) is = omega (arith, is.place.inside)
-within_line line Memory at (Passed limit) is = absurd is
-within_line line Memory at (Sought due) is = absurd is
+within_line line _ at _ is = absurd is

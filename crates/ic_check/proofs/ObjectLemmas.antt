@@ -1,30 +1,24 @@
 -- Lemmas: the object of a line has what the line tells.
-use Rattle.std.proofs.Common.{◌≡◌, ℕ, zero, suc, ◌+◌, ◌<◌, ◌/◌, ◌%◌, Bool, true, false, ◌||◌, List, [], ◌∷◌, ◌++◌, codes, drop, map, refl, sym, ap, ap₂, ◌∙◌, append_assoc, arith}
+use Rattle.std.proofs.Common.{◌≡◌, ℕ, zero, suc, ◌+◌, ◌<◌, ◌/◌, ◌%◌, Bool, true, false, List, [], ◌∷◌, ◌++◌, codes, drop, map, refl, ap, ap₂, ◌∙◌, append_assoc, arith}
 use Rattle.std.specs.Prelude.{◌==◌, nat_lt, if◌then◌else◌}
 use Rattle.std.specs.Cmp.{unsigned_Decides}
 use Rattle.std.specs.Fmt.{decimal, digits, digits_onto, digit_glyph}
 use Rattle.std.specs.Int.Digits.{AllBelowBase, digits_of}
 use Rattle.std.specs.List.{flat_map, list_any}
-use Rattle.std.proofs.lemmas.Bool.{or_from, false_from_ne_true, false≢true}
+use Rattle.std.proofs.lemmas.Bool.{or_from, false_from_ne_true, or_parts as both_false}
 use Rattle.std.proofs.lemmas.Int.Digits.{all_below_base_digits_of}
 use Rattle.std.proofs.lemmas.List.Folds.{list_any-append}
 use Rattle.ic_lines.specs.Lines.{has_feed, lines}
 use Rattle.ic_text.specs.Name.{name_text}
 use Rattle.ic_text.specs.Text.{fault_text}
 use Rattle.ic_text.specs.declared.fault.TextFault.{TextFault}
-use Rattle.ic_text.specs.declared.fault.TextFault.TheVariants.{Syntax, Limit, Arity, NameCount, Name, Twice, Lopsided, Memory}
+use Rattle.ic_text.specs.declared.fault.TextFault.TheVariants.{Syntax, NameCount, Name, Twice, Lopsided}
 use Rattle.ic_check.specs.Objects.{fault_fields, finding_fields, front_to, line_object, object_of, objects_of, rest_after}
+use Rattle.ic_rules.specs.lemmas.NumberingLaws.{self_eq as itself}
 
 -- a byte of this value stands in a text
 abbrev pub has : ℕ → List ℕ → Bool
 has byte text = list_any (λ b. b == byte) text
-
-itself : (b : ℕ) → (b == b) ≡ true
-itself b = (unsigned_Decides b b).1 refl
-
-both_false : (a b : Bool) → (a || b) ≡ false → (a ≡ false) × (b ≡ false)
-both_false true b e = absurd (false≢true (sym e))
-both_false false b e = (refl, e)
 
 pub front_at : (byte : ℕ) (a rest : List ℕ) → has byte a ≡ false → front_to byte (a ++ byte ∷ rest) ≡ a
 front_at byte [] rest none = ap (λ (t : Bool). if t then [] else byte ∷ front_to byte rest) (itself byte)
@@ -95,9 +89,6 @@ module _ (v : ℕ) (apart : IsApart v) where
   of_decimal n = onto 64 n [] refl
 
 fault_colon : (fault : TextFault) → has 58 (fault_text fault) ≡ false
-fault_colon Syntax = refl
-fault_colon Limit = refl
-fault_colon Arity = refl
 fault_colon (NameCount i) = joined 58 (codes "bad namecount ") (decimal (i + 1)) refl (of_decimal 58 colon_apart (i + 1))
 fault_colon (Name n) = joined 58 (codes "bad name ") (name_text n) refl (name_colon n)
   where
@@ -112,12 +103,9 @@ fault_colon (Name n) = joined 58 (codes "bad name ") (name_text n) refl (name_co
         (glyphs (digits_of 10 (n / 26)) (all_below_base_digits_of 10 (n / 26) (omega arith)))
 fault_colon (Twice i) = joined 58 (codes "bad twice ") (decimal (i + 1)) refl (of_decimal 58 colon_apart (i + 1))
 fault_colon (Lopsided i) = joined 58 (codes "bad lopsided ") (decimal (i + 1)) refl (of_decimal 58 colon_apart (i + 1))
-fault_colon Memory = refl
+fault_colon _ = refl
 
 pub fault_feed : (fault : TextFault) → has 10 (fault_text fault) ≡ false
-fault_feed Syntax = refl
-fault_feed Limit = refl
-fault_feed Arity = refl
 fault_feed (NameCount i) = joined 10 (codes "bad namecount ") (decimal (i + 1)) refl (of_decimal 10 feed_apart (i + 1))
 fault_feed (Name n) = joined 10 (codes "bad name ") (name_text n) refl (name_feed n)
   where
@@ -131,17 +119,11 @@ fault_feed (Name n) = joined 10 (codes "bad name ") (name_text n) refl (name_fee
         (false_from_ne_true ((97 + n % 26) == 10) (λ same. omega (arith, (unsigned_Decides (97 + n % 26) 10).0 same))) (glyphs (digits_of 10 (n / 26)))
 fault_feed (Twice i) = joined 10 (codes "bad twice ") (decimal (i + 1)) refl (of_decimal 10 feed_apart (i + 1))
 fault_feed (Lopsided i) = joined 10 (codes "bad lopsided ") (decimal (i + 1)) refl (of_decimal 10 feed_apart (i + 1))
-fault_feed Memory = refl
+fault_feed _ = refl
 
 pub is_fault : (fault : TextFault) (words : List ℕ) → finding_fields (fault_text fault) words ≡ fault_fields (fault_text fault) words
 is_fault Syntax words = refl
-is_fault Limit words = refl
-is_fault Arity words = refl
-is_fault (NameCount i) words = refl
-is_fault (Name n) words = refl
-is_fault (Twice i) words = refl
-is_fault (Lopsided i) words = refl
-is_fault Memory words = refl
+is_fault _ words = refl
 
 -- ---- lines
 

@@ -17,7 +17,7 @@ use Rattle.ic_text.specs.Name.{name_text}
 use Rattle.ic_text.specs.Text.{fault_text, text_or_none}
 use Rattle.ic_text.specs.Token.{is_word_byte}
 use Rattle.ic_text.specs.declared.fault.TextFault.{TextFault}
-use Rattle.ic_text.specs.declared.fault.TextFault.TheVariants.{Syntax, Limit, Arity, NameCount, Name, Twice, Lopsided, Memory}
+use Rattle.ic_text.specs.declared.fault.TextFault.TheVariants.{NameCount, Name, Twice, Lopsided}
 use Rattle.ic_text.specs.declared.misread.Detail.{Detail}
 use Rattle.ic_text.specs.declared.misread.Detail.TheVariants.{Nothing, Passed, Arities}
 use Rattle.ic_text.specs.declared.misread.Limit.{Limit as Bound}
@@ -27,7 +27,7 @@ use Rattle.ic_diagnostics.specs.Lines.{column, last_line, line_number, told_at}
 use Rattle.ic_diagnostics.specs.Sights.{first_word, is_again, is_joined, opens_comment, opens_order_mark, sight_at}
 use Rattle.ic_diagnostics.specs.Telling.{after_in_config, after_in_system, after_mark, argument_sentence, config_sentence, count_words, limit_sentence, namecount_sentence, of_rule, opened, order_mark_sentence, plain_sentence, sentence, sight_sentence, stand_sentence, syntax_sentence, system_sentence, wants_term}
 use Rattle.ic_diagnostics.specs.declared.sights.Sight.{Sight}
-use Rattle.ic_diagnostics.specs.declared.sights.Sight.TheVariants.{Blank, End, SystemMark, ConfigMark, CommandWord, Comment, OrderMark, NoName, NoSymbol, Small, Expanded, Applied, Empty, Ended, Trailing, Listed, Equated, Late, Argument, After, Crossing, Crossed, Front, AfterMark}
+use Rattle.ic_diagnostics.specs.declared.sights.Sight.TheVariants.{Argument, After, AfterMark}
 use Rattle.ic_diagnostics.specs.declared.stands.Stand.{Stand}
 use Rattle.ic_diagnostics.specs.declared.stands.Stand.TheVariants as standing
 use Rattle.ic_diagnostics.specs.declared.telling.Kind.{Kind}
@@ -140,89 +140,36 @@ stand_free other standing.Second opens free = opened_free opens (codes "; or } i
 stand_free other standing.Interface opens free = opened_free opens (codes ", or | is looked for here") refl
 stand_free other standing.Left opens free = opened_free opens (codes "= is looked for here") refl
 stand_free other standing.Right opens free = opened_free opens (codes ", or > is looked for here") refl
-stand_free other standing.Front opens free = free
-stand_free other standing.Rules opens free = free
-stand_free other standing.Over opens free = free
+stand_free other _ opens free = free
 
 argument_free : (opens : Bool) → has_feed (argument_sentence opens) ≡ false
 argument_free opens = opened_free opens (codes ", or ) is looked for here") refl
 
 config_free : (sight : Sight) → has_feed (config_sentence sight) ≡ false
-config_free Blank = refl
-config_free End = refl
-config_free SystemMark = refl
-config_free ConfigMark = refl
-config_free CommandWord = refl
-config_free Comment = refl
-config_free OrderMark = refl
-config_free NoName = refl
-config_free NoSymbol = refl
-config_free Small = refl
-config_free Expanded = refl
-config_free Applied = refl
-config_free Empty = refl
-config_free Ended = refl
-config_free Trailing = refl
-config_free Listed = refl
-config_free Equated = refl
-config_free Late = refl
 config_free (Argument opens) = argument_free opens
 config_free (After s opens) = stand_free (codes "no configuration goes on with this") s opens refl
-config_free Crossing = refl
-config_free Crossed = refl
-config_free Front = refl
 config_free (AfterMark b) = in_config_free b
+config_free _ = refl
 
 system_free : (sight : Sight) → has_feed (system_sentence sight) ≡ false
-system_free Blank = refl
-system_free End = refl
-system_free SystemMark = refl
-system_free ConfigMark = refl
-system_free CommandWord = refl
-system_free Comment = refl
-system_free OrderMark = refl
-system_free NoName = refl
-system_free NoSymbol = refl
-system_free Small = refl
-system_free Expanded = refl
-system_free Applied = refl
-system_free Empty = refl
-system_free Ended = refl
-system_free Trailing = refl
-system_free Listed = refl
-system_free Equated = refl
-system_free Late = refl
 system_free (Argument opens) = argument_free opens
 system_free (After s opens) = stand_free (codes "no system goes on with this") s opens refl
-system_free Crossing = refl
-system_free Crossed = refl
-system_free Front = refl
 system_free (AfterMark b) = in_system_free b
+system_free _ = refl
 
 syntax_free : (kind : Kind) (sight : Sight) → has_feed (syntax_sentence kind sight) ≡ false
 syntax_free Config sight = config_free sight
 syntax_free System sight = system_free sight
 
 plain_free : (kind : Kind) (fault : TextFault) (sight : Sight) → has_feed (plain_sentence kind fault sight) ≡ false
-plain_free kind Syntax sight = syntax_free kind sight
-plain_free kind Limit sight = syntax_free kind sight
-plain_free kind Arity sight = syntax_free kind sight
-plain_free kind (NameCount i) sight = syntax_free kind sight
 plain_free kind (Name n) sight = refl
 plain_free kind (Twice i) sight = refl
 plain_free kind (Lopsided i) sight = refl
-plain_free kind Memory sight = syntax_free kind sight
+plain_free kind _ sight = syntax_free kind sight
 
 limit_free : (limit : Bound) → has_feed (limit_sentence limit) ≡ false
 limit_free bound.TextBytes = refl
-limit_free bound.SymbolBytes = refl
-limit_free bound.Arguments = refl
-limit_free bound.NameNumber = refl
-limit_free bound.Symbols = refl
-limit_free bound.Rules = refl
-limit_free bound.RuleNodes = refl
-limit_free bound.Interface = refl
-limit_free bound.Nodes = refl
+limit_free _ = refl
 
 -- the word with which a text begins has none
 word_free : (text : List ℕ) → has_feed (first_word text) ≡ false
@@ -245,30 +192,23 @@ rule_free i words free =
 
 sight_free : (kind : Kind) (fault : TextFault) (detail : Detail) (text : List ℕ) (again : Bool) (sight : Sight)
     → has_feed (sight_sentence kind fault detail (first_word text) again sight) ≡ false
-sight_free kind Syntax Nothing text again sight = plain_free kind Syntax sight
-sight_free kind Limit Nothing text again sight = plain_free kind Limit sight
-sight_free kind Arity Nothing text again sight = plain_free kind Arity sight
 sight_free kind (NameCount i) Nothing text again sight =
     rule_free i (namecount_sentence (first_word text) again)
     (all_free (codes "in a rule each name stands exactly twice: " ∷ first_word text ∷ count_words again ∷ []) (refl, (word_free text, (count_free again, tt))))
-sight_free kind (Name n) Nothing text again sight = plain_free kind (Name n) sight
 sight_free kind (Twice i) Nothing text again sight = rule_free i (plain_sentence kind (Twice i) sight) (plain_free kind (Twice i) sight)
 sight_free kind (Lopsided i) Nothing text again sight = rule_free i (plain_sentence kind (Lopsided i) sight) (plain_free kind (Lopsided i) sight)
-sight_free kind Memory Nothing text again sight = plain_free kind Memory sight
 sight_free kind fault (Passed limit) text again sight = limit_free limit
 sight_free kind fault (Arities first here) text again sight =
     all_free (codes "a symbol has one arity: " ∷ first_word text ∷ codes " has " ∷ decimal here ∷ codes " here and " ∷ decimal first ∷ codes " where it stands first" ∷ [])
     (refl, (word_free text, (refl, (decimal_free here, (refl, (decimal_free first, (refl, tt)))))))
+sight_free kind fault Nothing text again sight = plain_free kind fault sight
 
 fault_free : (fault : TextFault) → has_feed (fault_text fault) ≡ false
-fault_free Syntax = refl
-fault_free Limit = refl
-fault_free Arity = refl
 fault_free (NameCount i) = both_free (codes "bad namecount ") (decimal (i + 1)) refl (decimal_free (i + 1))
 fault_free (Name n) = both_free (codes "bad name ") (name_text n) refl (name_free n)
 fault_free (Twice i) = both_free (codes "bad twice ") (decimal (i + 1)) refl (decimal_free (i + 1))
 fault_free (Lopsided i) = both_free (codes "bad lopsided ") (decimal (i + 1)) refl (decimal_free (i + 1))
-fault_free Memory = refl
+fault_free _ = refl
 
 -- ---- the line of a fault
 ends_so : (parts : List (List ℕ)) → concat (parts ++ (10 ∷ []) ∷ []) ≡ ended (concat parts)
@@ -302,20 +242,11 @@ one_fault file kind text (Some at) fault detail free =
 
 due_free : (rest : List ℕ) (due : Due) → has_feed (due_sentence rest due) ≡ false
 due_free rest due.Command = either_free (opens_text rest) whole_text_sentence (sought_sentence due.Command) refl refl
-due_free rest due.SubmitName = refl
-due_free rest due.Budget = refl
-due_free rest due.System = refl
-due_free rest due.OldName = refl
-due_free rest due.NewName = refl
-due_free rest due.VerbName = refl
-due_free rest due.Number = refl
-due_free rest due.Nothing = refl
+due_free rest _ = refl
 
 line_limit_free : (limit : LineLimit) → has_feed (line_limit_sentence limit) ≡ false
 line_limit_free line_limit.LineBytes = refl
-line_limit_free line_limit.NameBytes = refl
-line_limit_free line_limit.BudgetRounds = refl
-line_limit_free line_limit.RunRounds = refl
+line_limit_free _ = refl
 
 line_words_free : (line : List ℕ) (fault : TextFault) (at : ℕ) (detail : LineDetail) → has_feed (line_sentence line fault at detail) ≡ false
 line_words_free line fault at (Sought due) =

@@ -76,7 +76,6 @@ due_then known SubmitName next ts w is e =
 due_then known Budget next ts w (name, named, is) e =
     let so = stands (is_number w) System next e in
     due_is System next _ so.1 (name, named, w, so.0, ap (λ (l : List Token). l ++ word w ∷ []) is)
-due_then known System next ts w is e = absurd (none_isnt next e)
 due_then known OldName next ts w is e =
     let so = stands (is_job_word w) NewName next e in
     due_is NewName next _ so.1 (w, so.0, ap (λ (l : List Token). l ++ word w ∷ []) is)
@@ -90,7 +89,7 @@ due_then known VerbName next ts w (v, verb, is) e =
 due_then known Number next ts w is e =
     let so = stands (is_number w) Nothing next e in
     due_is Nothing next _ so.1 (run w, so.0, ap (λ (l : List Token). l ++ word w ∷ []) is)
-due_then known Nothing next ts w is e = absurd (none_isnt next e)
+due_then known _ next ts w is e = absurd (none_isnt next e)
 
 -- ---- some line begins so
 
@@ -109,10 +108,7 @@ begins_as ts us rest p same is e = (p, rest, is, e ∙ ap (λ (l : List Token). 
 pub whole_is_line : (p : LinePhrase) → IsWhole p → IsLine p
 whole_is_line nothing is = absurd is
 whole_is_line (submit name most s) is = absurd is
-whole_is_line (copy old new) is = is
-whole_is_line (about verb name) is = is
-whole_is_line list is = is
-whole_is_line (run digits) is = is
+whole_is_line _ is = is
 
 abbrev a : List ℕ
 a = codes "a"
@@ -147,23 +143,11 @@ opens list = Some Nothing
 opens (run digits) = Some Number
 
 opening-line : KnownVerbs → (p : LinePhrase) → opening (line_words p) ≡ opens p
-opening-line known nothing = refl
-opening-line known (submit name most s) = refl
-opening-line known (copy old new) = refl
 opening-line known (about verb name) = known.opens verb
-opening-line known list = refl
-opening-line known (run digits) = refl
+opening-line known _ = refl
 
 opened_so : KnownVerbs → (p : LinePhrase) (ts : List Token) → line_words p ≡ ts → opens p ≡ opening ts
 opened_so known p ts e = sym (opening-line known p) ∙ ap opening e
-
-abbrev rest_of : List Token → List Token
-rest_of [] = []
-rest_of (t ∷ ts) = ts
-
-token_of : List Token → Token → Token
-token_of [] t = t
-token_of (t ∷ ts) u = t
 
 first_same : (t u : Token) (ts us : List Token) → t ∷ ts ≡ u ∷ us → t ≡ u
 first_same t u ts us e = cc
@@ -207,65 +191,37 @@ takes_command known list t ts e = takes_first known list Nothing t ts refl e
 takes_command known (run digits) t ts e = takes_first known (run digits) Number t ts refl e
 
 takes_submit : (p : LinePhrase) (t : Token) (ts : List Token) → IsLine p → opens p ≡ Some SubmitName → line_words p ≡ word (codes "submit") ∷ t ∷ ts → Takes SubmitName t ts
-takes_submit nothing t ts is o e = cc
 takes_submit (submit n most s) t ts is o e = takes_word SubmitName n t ts (number_words most ++ system_words s) (taken_if (is_job_word n) Budget is.0) (rest_same _ _ _ _ e)
-takes_submit (copy x y) t ts is o e = cc
-takes_submit (about verb n) t ts is o e = cc
-takes_submit list t ts is o e = cc
-takes_submit (run ds) t ts is o e = cc
+takes_submit _ t ts is o e = cc
 
 takes_budget : (name : List ℕ) (p : LinePhrase) (t : Token) (ts : List Token) → IsLine p → opens p ≡ Some SubmitName → line_words p ≡ word (codes "submit") ∷ word name ∷ t ∷ ts → Takes Budget t ts
-takes_budget name nothing t ts is o e = cc
 takes_budget name (submit n None s) t ts is o e = takes_mark Budget s t ts refl is.2 (rest_same _ _ _ _ (rest_same _ _ _ _ e))
 takes_budget name (submit n (Some ds) s) t ts is o e = takes_word Budget ds t ts (system_words s) (taken_if (is_number ds) System is.1) (rest_same _ _ _ _ (rest_same _ _ _ _ e))
-takes_budget name (copy x y) t ts is o e = cc
-takes_budget name (about verb n) t ts is o e = cc
-takes_budget name list t ts is o e = cc
-takes_budget name (run ds) t ts is o e = cc
+takes_budget name _ t ts is o e = cc
 
 pub mark_isnt : {A : Type 0} (s : SystemPhrase) (w : List ℕ) (ts : List Token) → system_words s ≡ word w ∷ ts → A
 mark_isnt s w ts e = cc
 
 takes_system : (name : List ℕ) (digits : List ℕ) (p : LinePhrase) (t : Token) (ts : List Token) → IsLine p → opens p ≡ Some SubmitName → line_words p ≡ word (codes "submit") ∷ word name ∷ word digits ∷ t ∷ ts → Takes System t ts
-takes_system name digits nothing t ts is o e = cc
 takes_system name digits (submit n None s) t ts is o e = mark_isnt s digits (t ∷ ts) (rest_same _ _ _ _ (rest_same _ _ _ _ e))
 takes_system name digits (submit n (Some ds) s) t ts is o e = takes_mark System s t ts refl is.2 (rest_same _ _ _ _ (rest_same _ _ _ _ (rest_same _ _ _ _ e)))
-takes_system name digits (copy x y) t ts is o e = cc
-takes_system name digits (about verb n) t ts is o e = cc
-takes_system name digits list t ts is o e = cc
-takes_system name digits (run ds) t ts is o e = cc
+takes_system name digits _ t ts is o e = cc
 
 takes_old : (p : LinePhrase) (t : Token) (ts : List Token) → IsLine p → opens p ≡ Some OldName → line_words p ≡ word (codes "copy") ∷ t ∷ ts → Takes OldName t ts
-takes_old nothing t ts is o e = cc
-takes_old (submit n most s) t ts is o e = cc
 takes_old (copy x y) t ts is p e = takes_word OldName x t ts (word y ∷ []) (taken_if (is_job_word x) NewName is.0) (rest_same _ _ _ _ e)
-takes_old (about verb n) t ts is o e = cc
-takes_old list t ts is o e = cc
-takes_old (run ds) t ts is o e = cc
+takes_old _ t ts is o e = cc
 
 takes_new : (old : List ℕ) (p : LinePhrase) (t : Token) (ts : List Token) → IsLine p → opens p ≡ Some OldName → line_words p ≡ word (codes "copy") ∷ word old ∷ t ∷ ts → Takes NewName t ts
-takes_new old nothing t ts is o e = cc
-takes_new old (submit n most s) t ts is o e = cc
 takes_new old (copy x y) t ts is p e = takes_word NewName y t ts [] (taken_if (is_job_word y) Nothing is.1) (rest_same _ _ _ _ (rest_same _ _ _ _ e))
-takes_new old (about verb n) t ts is o e = cc
-takes_new old list t ts is o e = cc
-takes_new old (run ds) t ts is o e = cc
+takes_new old _ t ts is o e = cc
 
 takes_verb : (v : List ℕ) (p : LinePhrase) (t : Token) (ts : List Token) → IsLine p → opens p ≡ Some VerbName → line_words p ≡ word v ∷ t ∷ ts → Takes VerbName t ts
-takes_verb v nothing t ts is o e = cc
-takes_verb v (submit n most s) t ts is o e = cc
-takes_verb v (copy x y) t ts is o e = cc
 takes_verb v (about verb n) t ts is o e = takes_word VerbName n t ts [] (taken_if (is_job_word n) Nothing is) (rest_same _ _ _ _ e)
-takes_verb v list t ts is o e = cc
-takes_verb v (run ds) t ts is o e = cc
+takes_verb v _ t ts is o e = cc
 
 takes_run : (p : LinePhrase) (t : Token) (ts : List Token) → IsLine p → opens p ≡ Some Number → line_words p ≡ word (codes "run") ∷ t ∷ ts → Takes Number t ts
-takes_run nothing t ts is o e = cc
-takes_run (submit n most s) t ts is o e = cc
-takes_run (copy x y) t ts is o e = cc
-takes_run (about verb n) t ts is o e = cc
-takes_run list t ts is o e = cc
 takes_run (run ds) t ts is o e = takes_word Number ds t ts [] (taken_if (is_number ds) Nothing is) (rest_same _ _ _ _ e)
+takes_run _ t ts is o e = cc
 
 verb_opened : KnownVerbs → (v : List ℕ) → is_verb v ≡ true → opened v ≡ Some VerbName
 verb_opened known v verb = let (asks, same) = verb_of known v verb in ap opened (sym same) ∙ known.opens asks
@@ -275,29 +231,10 @@ takes_whole : (q p : LinePhrase) (t : Token) (ts : List Token) → IsWhole q →
 takes_whole nothing p t ts whole o e = absurd whole
 takes_whole (submit name most s) p t ts whole o e = absurd whole
 takes_whole (copy old new) (copy x y) t ts whole same e = nothing_more t ts (rest_same _ _ _ _ (rest_same _ _ _ _ (rest_same _ _ _ _ e)))
-takes_whole (copy old new) nothing t ts whole same e = cc
-takes_whole (copy old new) (submit n most s) t ts whole same e = cc
-takes_whole (copy old new) (about verb n) t ts whole same e = cc
-takes_whole (copy old new) list t ts whole same e = cc
-takes_whole (copy old new) (run ds) t ts whole same e = cc
 takes_whole (about asks name) (about verb n) t ts whole same e = nothing_more t ts (rest_same _ _ _ _ (rest_same _ _ _ _ e))
-takes_whole (about asks name) nothing t ts whole same e = cc
-takes_whole (about asks name) (submit n most s) t ts whole same e = cc
-takes_whole (about asks name) (copy x y) t ts whole same e = cc
-takes_whole (about asks name) list t ts whole same e = cc
-takes_whole (about asks name) (run ds) t ts whole same e = cc
 takes_whole list list t ts whole same e = nothing_more t ts (rest_same _ _ _ _ e)
-takes_whole list nothing t ts whole same e = cc
-takes_whole list (submit n most s) t ts whole same e = cc
-takes_whole list (copy x y) t ts whole same e = cc
-takes_whole list (about verb n) t ts whole same e = cc
-takes_whole list (run ds) t ts whole same e = cc
 takes_whole (run digits) (run ds) t ts whole same e = nothing_more t ts (rest_same _ _ _ _ (rest_same _ _ _ _ e))
-takes_whole (run digits) nothing t ts whole same e = cc
-takes_whole (run digits) (submit n most s) t ts whole same e = cc
-takes_whole (run digits) (copy x y) t ts whole same e = cc
-takes_whole (run digits) (about verb n) t ts whole same e = cc
-takes_whole (run digits) list t ts whole same e = cc
+takes_whole _ _ t ts whole same e = cc
 
 opening_more : (ts us : List Token) (d : Due) → opening ts ≡ Some d → opening (ts ++ us) ≡ opening ts
 opening_more [] us d e = cc
@@ -305,12 +242,11 @@ opening_more (word w ∷ ts) us d e = refl
 opening_more (mark m ∷ ts) us d e = refl
 
 opens_whole : (q : LinePhrase) → IsWhole q → (d : Due) × (opens q ≡ Some d)
-opens_whole nothing whole = absurd whole
-opens_whole (submit name most s) whole = absurd whole
 opens_whole (copy old new) whole = (OldName, refl)
 opens_whole (about verb name) whole = (VerbName, refl)
 opens_whole list whole = (Nothing, refl)
 opens_whole (run digits) whole = (Number, refl)
+opens_whole _ whole = absurd whole
 
 after_tokens : (p : LinePhrase) (ts us rest : List Token) → line_words p ≡ ts ++ rest → ts ≡ us → line_words p ≡ us ++ rest
 after_tokens p ts us rest e same = e ∙ ap (λ (l : List Token). l ++ rest) same
@@ -349,11 +285,7 @@ submit_after name None m ts (submit n None s) o e = (n, None, s, refl, rest_same
 submit_after name None m ts (submit n (Some ds) s) o e = word_mark ds m (first_same _ _ _ _ (rest_same _ _ _ _ (rest_same _ _ _ _ e)))
 submit_after name (Some d) m ts (submit n None s) o e = mark_isnt s d (mark m ∷ ts) (rest_same _ _ _ _ (rest_same _ _ _ _ e))
 submit_after name (Some d) m ts (submit n (Some ds) s) o e = (n, Some ds, s, refl, rest_same _ _ _ _ (rest_same _ _ _ _ (rest_same _ _ _ _ e)))
-submit_after name most m ts nothing o e = let wrong : ⊥ = cc in absurd wrong
-submit_after name most m ts (copy x y) o e = let wrong : ⊥ = cc in absurd wrong
-submit_after name most m ts (about verb n) o e = let wrong : ⊥ = cc in absurd wrong
-submit_after name most m ts list o e = let wrong : ⊥ = cc in absurd wrong
-submit_after name most m ts (run ds) o e = let wrong : ⊥ = cc in absurd wrong
+submit_after name most m ts _ o e = let wrong : ⊥ = cc in absurd wrong
 
 -- what goes on after a mark of a submit's system is a submit
 pub submit_only : KnownVerbs → (front : List Token) (name : List ℕ) (most : Option (List ℕ)) (m : _) (ts rest : List Token) (p : LinePhrase)
@@ -377,69 +309,40 @@ Ends VerbName = ⊥
 Ends Number = ⊥
 Ends Nothing = Unit {0}
 
-no_end : {A : Type 0} (t : Token) (ts : List Token) → t ∷ ts ≡ [] → A
+pub no_end : {A : Type 0} (t : Token) (ts : List Token) → t ∷ ts ≡ [] → A
 no_end t ts e = cc
 
 ends_submit : (p : LinePhrase) → opens p ≡ Some SubmitName → line_words p ≡ word (codes "submit") ∷ [] → ⊥
-ends_submit nothing o e = cc
 ends_submit (submit n most s) o e = no_end _ _ (rest_same _ _ _ _ e)
-ends_submit (copy x y) o e = cc
-ends_submit (about verb n) o e = cc
-ends_submit list o e = cc
-ends_submit (run ds) o e = cc
+ends_submit _ o e = cc
 
 ends_budget : (name : List ℕ) (p : LinePhrase) → opens p ≡ Some SubmitName → line_words p ≡ word (codes "submit") ∷ word name ∷ [] → ⊥
-ends_budget name nothing o e = cc
 ends_budget name (submit n None s) o e = no_end _ _ (rest_same _ _ _ _ (rest_same _ _ _ _ e))
 ends_budget name (submit n (Some ds) s) o e = no_end _ _ (rest_same _ _ _ _ (rest_same _ _ _ _ e))
-ends_budget name (copy x y) o e = cc
-ends_budget name (about verb n) o e = cc
-ends_budget name list o e = cc
-ends_budget name (run ds) o e = cc
+ends_budget name _ o e = cc
 
 ends_system : (name : List ℕ) (digits : List ℕ) (p : LinePhrase) → opens p ≡ Some SubmitName → line_words p ≡ word (codes "submit") ∷ word name ∷ word digits ∷ [] → ⊥
-ends_system name digits nothing o e = cc
 ends_system name digits (submit n None s) o e = mark_isnt s digits [] (rest_same _ _ _ _ (rest_same _ _ _ _ e))
 ends_system name digits (submit n (Some ds) s) o e = no_end _ _ (rest_same _ _ _ _ (rest_same _ _ _ _ (rest_same _ _ _ _ e)))
-ends_system name digits (copy x y) o e = cc
-ends_system name digits (about verb n) o e = cc
-ends_system name digits list o e = cc
-ends_system name digits (run ds) o e = cc
+ends_system name digits _ o e = cc
 
 ends_old : (p : LinePhrase) → opens p ≡ Some OldName → line_words p ≡ word (codes "copy") ∷ [] → ⊥
-ends_old nothing o e = cc
-ends_old (submit n most s) o e = cc
 ends_old (copy x y) o e = no_end _ _ (rest_same _ _ _ _ e)
-ends_old (about verb n) o e = cc
-ends_old list o e = cc
-ends_old (run ds) o e = cc
+ends_old _ o e = cc
 
 ends_new : (old : List ℕ) (p : LinePhrase) → opens p ≡ Some OldName → line_words p ≡ word (codes "copy") ∷ word old ∷ [] → ⊥
-ends_new old nothing o e = cc
-ends_new old (submit n most s) o e = cc
 ends_new old (copy x y) o e = no_end _ _ (rest_same _ _ _ _ (rest_same _ _ _ _ e))
-ends_new old (about verb n) o e = cc
-ends_new old list o e = cc
-ends_new old (run ds) o e = cc
+ends_new old _ o e = cc
 
 ends_verb : (v : List ℕ) (p : LinePhrase) → opens p ≡ Some VerbName → line_words p ≡ word v ∷ [] → ⊥
-ends_verb v nothing o e = cc
-ends_verb v (submit n most s) o e = cc
-ends_verb v (copy x y) o e = cc
 ends_verb v (about verb n) o e = no_end _ _ (rest_same _ _ _ _ e)
-ends_verb v list o e = cc
-ends_verb v (run ds) o e = cc
+ends_verb v _ o e = cc
 
 ends_run : (p : LinePhrase) → opens p ≡ Some Number → line_words p ≡ word (codes "run") ∷ [] → ⊥
-ends_run nothing o e = cc
-ends_run (submit n most s) o e = cc
-ends_run (copy x y) o e = cc
-ends_run (about verb n) o e = cc
-ends_run list o e = cc
 ends_run (run ds) o e = no_end _ _ (rest_same _ _ _ _ e)
+ends_run _ o e = cc
 
 pub ends : KnownVerbs → (due : Due) (us : List Token) (p : LinePhrase) → IsDue due us → line_words p ≡ us → Ends due
-ends known Command us p is e = tt
 ends known SubmitName us p is e = let f = e ∙ is in ends_submit p (opened_so known p _ f) f
 ends known Budget us p (name, named, is) e = let f = e ∙ is in ends_budget name p (opened_so known p _ f) f
 ends known System us p (name, named, digits, number, is) e = let f = e ∙ is in ends_system name digits p (opened_so known p _ f) f
@@ -447,7 +350,7 @@ ends known OldName us p is e = let f = e ∙ is in ends_old p (opened_so known p
 ends known NewName us p (old, named, is) e = let f = e ∙ is in ends_new old p (opened_so known p _ f) f
 ends known VerbName us p (v, verb, is) e = let f = e ∙ is in ends_verb v p (opened_so known p _ f ∙ verb_opened known v verb) f
 ends known Number us p is e = let f = e ∙ is in ends_run p (opened_so known p _ f) f
-ends known Nothing us p is e = tt
+ends known _ us p is e = tt
 
 -- ---- words that pass a limit
 
@@ -461,7 +364,6 @@ first_of-assoc (Some f) b c = refl
 
 -- the first of a line's words that passes a limit
 pub passed_words : KnownVerbs → (p : LinePhrase) → IsLine p → passed_in (Some Command) 0 (line_words p) ≡ own_passed p
-passed_words known nothing is = refl
 passed_words known (submit name None s) is = let named : is_job_word name ≡ true = is.0 in rw named refl
 passed_words known (submit name (Some digits) s) is =
     let named : is_job_word name ≡ true = is.0 in
@@ -475,5 +377,5 @@ passed_words known (about verb name) is =
     let named : is_job_word name ≡ true = is in
     let opens : opened (verb_text verb) ≡ Some VerbName = known.opens verb in
     ap (λ (o : Option Due). passed_in o 1 (word name ∷ [])) opens ∙ rw named refl
-passed_words known list is = refl
 passed_words known (run digits) is = let number : is_number digits ≡ true = is in rw number refl
+passed_words known _ is = refl

@@ -8,7 +8,7 @@ use Rattle.ic_rules.specs.Rule.{Rule}
 use Rattle.ic_rules.specs.RuleSet.{Rules, rule_for}
 use Rattle.ic_jobs.specs.declared.command.Command.TheVariants as command
 use Rattle.ic_commands.specs.declared.line.Line.{Line}
-use Rattle.ic_commands.specs.declared.line.Line.TheVariants.{Blank, Command as Asks, Run}
+use Rattle.ic_commands.specs.declared.line.Line.TheVariants.{Command as Asks}
 use Rattle.ic_text.specs.declared.fault.TextFault.{TextFault}
 use Rattle.ic_check.specs.Checking.{TellsAnswer, TellsLine, TellsLines, WarnsOf}
 use Rattle.ic_check.specs.Meanings.{IsToldAt}
@@ -132,15 +132,8 @@ nothing_of : (place told : List ℕ) → told ≡ [] → AreLinesOf place told
 nothing_of place told none = ([], none)
 
 asked_of : (place : List ℕ) (asked : Line) (told : List ℕ) → WarnsOf place asked told → AreLinesOf place told
-asked_of place Blank told is = nothing_of place told is
-asked_of place (Run k) told is = nothing_of place told is
 asked_of place (Asks (command.Submit job s budget)) told is = warnings_of place s.rules s.config told is
-asked_of place (Asks (command.CopyJob old new)) told is = nothing_of place told is
-asked_of place (Asks (command.Pause job)) told is = nothing_of place told is
-asked_of place (Asks (command.Resume job)) told is = nothing_of place told is
-asked_of place (Asks (command.Cancel job)) told is = nothing_of place told is
-asked_of place (Asks (command.Fetch job)) told is = nothing_of place told is
-asked_of place (Asks command.List) told is = nothing_of place told is
+asked_of place _ told is = nothing_of place told is
 
 warned_of : (place told : List ℕ) (OfFault : TextFault → List ℕ → Type 0) (answer : Result Line TextFault) → TellsAnswer (WarnsOf place) OfFault answer told false → AreLinesOf place told
 warned_of place told OfFault (Ok asked) is = asked_of place asked told is.0

@@ -23,9 +23,7 @@ use Rattle.ic_round.specs.lemmas.SettledLemmas.{settled_over}
 use Rattle.ic_check.specs.Symbols.{config_symbols, made_symbols, pair_symbols, symbols, symbols_of}
 use Rattle.ic_check.specs.Reach.{AllAmong, IsClosed, IsKeptBy, IsReach, IsTakenBy}
 use Rattle.ic_check.specs.Warnings.{unused_line, unused_words, warning_line}
-
-and_both : {a b : Bool} → a ≡ true → b ≡ true → (a && b) ≡ true
-and_both {a} {b} first second = rw (first, second) refl
+use Rattle.ic_settle.specs.lemmas.SubstitutionLaws.{and_both}
 
 -- ---- all of two lists
 
@@ -53,9 +51,8 @@ mask among (s ∷ ss) = masked (among 0) s ∷ mask (λ k. among (suc k)) ss
 
 at_mask : (among : ℕ → Bool) (ss : List Symbol) (k : ℕ) → slice_get (mask among ss) k ≡ option_map (masked (among k)) (slice_get ss k)
 at_mask among [] zero = refl
-at_mask among [] (suc k) = refl
-at_mask among (s ∷ ss) zero = refl
 at_mask among (s ∷ ss) (suc k) = at_mask (λ j. among (suc j)) ss k
+at_mask among _ _ = refl
 
 same_masked : (n : ℕ) (o : Option Symbol) → has_arity n (option_map (masked true) o) ≡ has_arity n o
 same_masked n None = refl
@@ -334,10 +331,9 @@ told_never_taken rs c among i n r place set over reach there told =
     never_taken rs c among i n r set over reach there (told_aside (among r.left && among r.right) (warning_line place (unused_words rs.symbols i r)) told)
 
 same_bool : (a b : Bool) → (a ≡ true → b ≡ true) → (b ≡ true → a ≡ true) → a ≡ b
-same_bool true true f g = refl
 same_bool true false f g = sym (f refl)
 same_bool false true f g = g refl
-same_bool false false f g = refl
+same_bool _ _ f g = refl
 
 pub one_reach : (rs : List Rule) (c : Configuration) (among other : ℕ → Bool) → IsReach rs c among → IsReach rs c other → (s : ℕ) → among s ≡ other s
 one_reach rs c among other first second s = same_bool (among s) (other s) (first.least other second.closed s) (second.least among first.closed s)

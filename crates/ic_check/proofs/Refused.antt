@@ -1,21 +1,13 @@
 -- What a session is told of its lines that are refused.
-use Rattle.std.proofs.Common.{◌≡◌, ℕ, ◌+◌, List, [], ◌∷◌, ◌++◌, Ok, Err, refl, sym, subst, append-nil, append_assoc}
+use Rattle.std.proofs.Common.{◌≡◌, ℕ, ◌+◌, List, [], ◌∷◌, ◌++◌, Ok, refl, sym, subst, append-nil, append_assoc}
 use Rattle.ic_lines.specs.Lines.{lines}
 use Rattle.ic_commands.specs.LineText.{ReadsLine}
 use Rattle.ic_commands.specs.declared.line.Line.{Line}
-use Rattle.ic_text.specs.declared.fault.TextFault.{TextFault}
-use Rattle.ic_check.specs.LinePlaces.{IsLinePlace}
-use Rattle.ic_check.specs.Sessions.{TellsRefusal, TellsRefusals, refusal_line}
-use Rattle.ic_check.specs.declared.line_places.LineDetail.{LineDetail}
+use Rattle.ic_check.specs.Sessions.{TellsRefusal, TellsRefusals}
 
 -- what is told of a line is appended
 abbrev pub AppendsRefusal : (number : ℕ) (line old new : List ℕ) → Type 0
 AppendsRefusal number line old new = (told : List ℕ) × TellsRefusal number line told × (new ≡ old ++ told)
-
-pub refusal_told : (number : ℕ) (line : List ℕ) (fault : TextFault) (at : ℕ) (detail : LineDetail) (old new : List ℕ) → ReadsLine line (Err fault)
-    → IsLinePlace line fault at detail → new ≡ old ++ refusal_line number line fault at detail → AppendsRefusal number line old new
-refusal_told number line fault at detail old new reads is put =
-    (refusal_line number line fault at detail, (Err fault, reads, (at, detail, is, refl)), put)
 
 pub nothing_told : (number : ℕ) (line : List ℕ) (asked : Line) (old : List ℕ) → ReadsLine line (Ok asked) → AppendsRefusal number line old old
 nothing_told number line asked old reads = ([], (Ok asked, reads, refl), sym (append-nil old))

@@ -7,7 +7,7 @@ use Rattle.ic_rules.specs.System.{SystemParts}
 use Rattle.ic_rules.specs.declared.job_name.TheConstants.{MAX_JOB_NAME}
 use Rattle.ic_jobs.specs.declared.command.Command.{Command}
 use Rattle.ic_commands.specs.LineSense.{fits_budget, line_sense, submitted}
-use Rattle.ic_commands.specs.LineSource.{LinePhrase, nothing, submit, copy, about, list, run, line_words, verb_text}
+use Rattle.ic_commands.specs.LineSource.{LinePhrase, submit, copy, about, run, line_words, verb_text}
 use Rattle.ic_commands.specs.LineText.{ReadsLine, SpellsLine}
 use Rattle.ic_commands.specs.ScriptSense.{ReadsScriptLine, script_sense, without_run}
 use Rattle.ic_commands.specs.declared.line.Line.{Line}
@@ -23,7 +23,8 @@ use Rattle.ic_check.specs.Checking.{TellsAnswer}
 use Rattle.ic_check.specs.Scripts.{TellsByRun, TellsScriptLine}
 use Rattle.ic_check.specs.Telling.{blanks_before}
 use Rattle.ic_check.specs.inner.Fronts.{IsFilled, after_blanks, after_word}
-use Rattle.ic_check.proofs.Apart.{tokens-apart, tokens-blanks, tokens-word}
+use Rattle.ic_text.specs.lemmas.WordRuns.{tokens-apart}
+use Rattle.ic_check.proofs.Apart.{tokens-blanks, tokens-word}
 use Rattle.ic_check.proofs.Stops.{no_more, one_more, parted}
 
 -- ---- the word with which tokens begin
@@ -127,13 +128,12 @@ submit_asked name budget (Ok v) = refl
 submit_asked name budget (Err fault) = refl
 
 other_sense : (p : LinePhrase) → begins_run (line_words p) ≡ false → asks_run (line_sense p) ≡ false
-other_sense nothing e = refl
 other_sense (submit name most s) e =
     if_asked (nat_le (length name) MAX_JOB_NAME) _ (if_asked (fits_budget most) _ (submit_asked name (option_map number_in most) (system_sense s)))
 other_sense (copy old new) e = if_asked (nat_le (length old) MAX_JOB_NAME) _ (if_asked (nat_le (length new) MAX_JOB_NAME) _ refl)
 other_sense (about verb name) e = if_asked (nat_le (length name) MAX_JOB_NAME) _ refl
-other_sense list e = refl
 other_sense (run digits) e = absurd (false≢true (sym e))
+other_sense _ e = refl
 
 no_fault : (k : ℕ) (answer : Result Line TextFault) → answer ≡ Ok (Run k) → answer ≡ Err Syntax → ⊥
 no_fault k answer is fault = let same : Ok (Run k) ≡ Err Syntax = sym is ∙ fault in cc
@@ -145,10 +145,8 @@ other_asked line short other k answer reads is =
     no_fault k answer is (reads.malformed short never)
 
 same_ok : (answer : Result Line TextFault) → ((k : ℕ) → answer ≡ Ok (Run k) → ⊥) → not (is_ok answer) ≡ not (is_ok (without_run answer))
-same_ok (Ok Blank) none = refl
-same_ok (Ok (Asks c)) none = refl
 same_ok (Ok (Run k)) none = absurd (none k refl)
-same_ok (Err fault) none = refl
+same_ok _ none = refl
 
 answer_told : {V : Type 0} (OfValue : V → List ℕ → Type 0) (OfFault : TextFault → List ℕ → Type 0) (answer : Result V TextFault) (told : List ℕ) (faulty : Bool)
     → TellsAnswer OfValue OfFault answer told faulty → faulty ≡ not (is_ok answer)
@@ -159,12 +157,9 @@ module _ (no_verb : (verb : _) → bytes_eq (verb_text verb) (codes "run") ≡ f
     (one : (text : List ℕ) (a b : Result (Option Command) TextFault) → ReadsScriptLine text a → ReadsScriptLine text b → a ≡ b)
     (others : (text : List ℕ) (a : Result Line TextFault) → ((digits : List ℕ) → SpellsLine text (run digits) → ⊥) → ReadsLine text a → ReadsScriptLine text (without_run a)) where
   run_sense : (p : LinePhrase) → begins_run (line_words p) ≡ true → Err Syntax ≡ script_sense p
-  run_sense nothing e = absurd (false≢true e)
-  run_sense (submit name most s) e = absurd (false≢true e)
-  run_sense (copy old new) e = absurd (false≢true e)
   run_sense (about verb name) e = absurd (false≢true (sym (no_verb verb) ∙ e))
-  run_sense list e = absurd (false≢true e)
   run_sense (run digits) e = refl
+  run_sense _ e = absurd (false≢true e)
 
   run_read : (line : List ℕ) → length line ≤ MAX_TEXT → is_run line ≡ true → ReadsScriptLine line (Err Syntax)
   run_read line short is = record {

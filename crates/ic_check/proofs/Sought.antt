@@ -5,14 +5,14 @@ use Rattle.std.specs.List.{list_all}
 use Rattle.std.proofs.lemmas.Bool.Decides.{nat_tests}
 use Rattle.ic_rules.specs.declared.job_name.TheConstants.{MAX_JOB_NAME}
 use Rattle.ic_commands.specs.LineSense.{fits_budget}
-use Rattle.ic_commands.specs.LineSource.{LinePhrase, nothing, submit, copy, about, list, run, line_words}
+use Rattle.ic_commands.specs.LineSource.{LinePhrase, submit, copy, about, run, line_words}
 use Rattle.ic_commands.specs.declared.limits.TheConstants.{MAX_RUN}
 use Rattle.ic_text.specs.Name.{number_in}
 use Rattle.ic_text.specs.Places.{IsWordPlace}
 use Rattle.ic_text.specs.Token.{Token, word, mark, is_word_byte, tokens, words_among}
 use Rattle.ic_text.specs.declared.fault.TextFault.TheVariants.{Syntax, Limit}
 use Rattle.ic_text.specs.declared.misread.Detail.{Detail}
-use Rattle.ic_text.specs.declared.misread.Detail.TheVariants.{Nothing as Plain, Passed as Bound, Arities}
+use Rattle.ic_text.specs.declared.misread.Detail.TheVariants.{Nothing as Plain}
 use Rattle.ic_text.specs.lemmas.ReadOnce.{some-injective}
 use Rattle.ic_check.specs.LinePlaces.{IsDue, IsLinePlace, IsOwnPlace, first_at, own_passed}
 use Rattle.ic_check.specs.Meanings.{IsSubmitWithSystem, Passes}
@@ -23,7 +23,7 @@ use Rattle.ic_check.specs.declared.line_places.LineDetail.TheVariants.{Sought, P
 use Rattle.ic_check.proofs.Looked.{limit_is_passed}
 use Rattle.ic_check.proofs.OnePlace.{word_next}
 use Rattle.ic_check.proofs.OwnWords.{KnownVerbs, submit_only}
-use Rattle.ic_check.proofs.Stops.{among_both}
+use Rattle.ic_text.specs.lemmas.WordRuns.{words_among-append}
 
 -- ---- what is looked for
 
@@ -36,16 +36,13 @@ pub within_submit : KnownVerbs → (line : List ℕ) (at : ℕ) (detail : Detail
 within_submit known line at Plain front rest p is same goes =
     let (name, most, m, ts, e) = is.1 in
     (m, ts, submit_only known front name most m ts rest p (some-injective front _ (sym same ∙ e)) goes)
-within_submit known line at (Bound b) front rest p is same goes = absurd is.refused
-within_submit known line at (Arities m n) front rest p is same goes = absurd is.refused
+within_submit known line at _ front rest p is same goes = absurd is.refused
 
 -- ---- the word that passes a limit
 
 pub own_of : (line : List ℕ) (at : ℕ) (limit : LineLimit) → (limit ≡ LineBytes → ⊥) → IsLinePlace line Limit at (Passed limit) → IsOwnPlace line limit at
 own_of line at LineBytes other is = absurd (other refl)
-own_of line at NameBytes other is = is
-own_of line at BudgetRounds other is = is
-own_of line at RunRounds other is = is
+own_of line at _ other is = is
 
 same_word : (o : Option (List ℕ)) (v w : List ℕ) → o ≡ Some v → o ≡ Some w → v ≡ w
 same_word o v w e f = let same : Some v ≡ Some w = sym e ∙ f in cc
@@ -85,7 +82,6 @@ second_only p limit name first fits j w some less there =
     subst (λ (v : List ℕ). length v ≤ MAX_JOB_NAME) same (short_so name fits)
 
 keeps_names : (p : LinePhrase) → KeepsNames p (own_passed p)
-keeps_names nothing = tt
 keeps_names (submit name most s) = by (nat_le (length name) MAX_JOB_NAME) (fits_budget most) refl
   where
     by : (a b : Bool) → nat_le (length name) MAX_JOB_NAME ≡ a
@@ -105,12 +101,12 @@ keeps_names (about verb name) = by (nat_le (length name) MAX_JOB_NAME)
     by : (a : Bool) → KeepsNames (about verb name) (first_at 1 (if a then None else Some NameBytes) None)
     by true = tt
     by false = one_only (about verb name) NameBytes
-keeps_names list = tt
 keeps_names (run digits) = by (nat_le (number_in digits) MAX_RUN)
   where
     by : (a : Bool) → KeepsNames (run digits) (first_at 1 (if a then None else Some RunRounds) None)
     by true = tt
     by false = one_only (run digits) RunRounds
+keeps_names _ = tt
 
 -- the words of a front are those of the whole
 get_front : (vs ws : List (List ℕ)) (j : ℕ) (w : List ℕ) → slice_get vs j ≡ Some w → (slice_get (vs ++ ws) j ≡ Some w) × (j < length vs)
@@ -125,6 +121,6 @@ names_before line at limit front j w other is same some there =
     let (v, ts, goes) = word_next line own.word at own.place (line_words own.phrase) own.spells.tokens in
     let fronts : front ≡ own.place.front = some-injective front own.place.front (sym same ∙ own.place.tokens) in
     let (here, below) = get_front (words_among own.place.front) (words_among (word v ∷ ts)) j w (ap (λ (l : List Token). slice_get (words_among l) j) (sym fronts) ∙ there) in
-    let whole : words_among (line_words own.phrase) ≡ words_among own.place.front ++ words_among (word v ∷ ts) = ap words_among goes ∙ among_both own.place.front (word v ∷ ts) in
+    let whole : words_among (line_words own.phrase) ≡ words_among own.place.front ++ words_among (word v ∷ ts) = ap words_among goes ∙ words_among-append own.place.front (word v ∷ ts) in
     let keeps : KeepsNames own.phrase (Some (own.word, limit)) = subst (KeepsNames own.phrase) own.passed (keeps_names own.phrase) in
     keeps j w some (omega (arith, below, own.place.before)) (ap (λ (l : List (List ℕ)). slice_get l j) whole ∙ here)

@@ -1,16 +1,17 @@
 -- Where a text stops to go on to a phrase, after a front of it.
 use Rattle.std.proofs.Common.{◌≡◌, ℕ, zero, suc, ◌+◌, ◌-◌, ◌<◌, ◌≤◌, Bool, true, false, not, ◌&&◌, ◌||◌, eqb, List, [], ◌∷◌, ◌++◌, Option, None, Some, if◌then◌else◌, length, get_or, take, drop, refl, sym, ap, ◌∙◌, subst, append_assoc, append-nil, arith, ⊎_elim, length-append}
 use Rattle.std.specs.List.{list_all}
-use Rattle.std.proofs.lemmas.Bool.{false≢true, and_from, and_parts, cases_lt}
+use Rattle.std.proofs.lemmas.Bool.{false≢true, and_parts, cases_lt, and_from}
 use Rattle.std.proofs.lemmas.Bool.Decides.{nat_tests}
-use Rattle.std.proofs.lemmas.List.{get_or_append_left, get_or-append-add, length-take-le, take-append-drop, take_all}
+use Rattle.std.proofs.lemmas.List.{get_or_append_left, get_or-append-add, take-append-drop}
 use Rattle.std.proofs.Math.Seq.{take-append-add}
 use Rattle.ic_text.specs.Token.{Token, word, mark, is_blank, is_word_byte, mark_of, before, tokens_at, followed, tokens, words_among}
-use Rattle.ic_text.specs.Places.{GoesOn, IsLastPlace, IsSyntaxPlace, IsWordPlace, is_between}
+use Rattle.ic_text.specs.Places.{GoesOn, IsSyntaxPlace, IsWordPlace, is_between}
 use Rattle.ic_text.specs.lemmas.ReadOnce.{none_is_some, some-injective}
 use Rattle.ic_diagnostics.specs.Sights.{first_word}
 use Rattle.ic_check.specs.inner.Fronts.{IsFilled, after_word}
-use Rattle.ic_check.proofs.Apart.{IsApart, between_front, between_within, tokens-apart, tokens-word}
+use Rattle.ic_text.specs.lemmas.WordRuns.{tokens-apart, words_among-append}
+use Rattle.ic_check.proofs.Apart.{IsApart, between_within, tokens-word}
 
 -- ---- the word with which a text begins
 
@@ -74,9 +75,8 @@ each_byte (b ∷ bs) (suc i) all less = each_byte bs i (and_parts (is_word_byte 
 
 apart_front : (k : ℕ) (z : List ℕ) → IsApart z → IsApart (take k z)
 apart_front zero [] apart = tt
-apart_front zero (c ∷ z) apart = tt
-apart_front (suc k) [] apart = tt
 apart_front (suc k) (c ∷ z) apart = apart
+apart_front _ _ apart = tt
 
 -- a place of a word and what is apart from it, that isn't within the word, is after the word
 after_run : (run z : List ℕ) (at : ℕ) → list_all is_word_byte run ≡ true → 0 < at → is_between (run ++ z) at ≡ true → length run ≤ at
@@ -137,11 +137,6 @@ heads (c ∷ cs) at filled some most between = by (is_word_byte c) refl
         (subst (λ (l : List ℕ). Heads [] (tokens l)) (sym cut) (heads_apart c (take k cs) e filled))
 
 -- ---- after a front with these tokens
-
-pub among_both : (ts us : List Token) → words_among (ts ++ us) ≡ words_among ts ++ words_among us
-among_both [] us = refl
-among_both (word w ∷ ts) us = ap (λ (l : List (List ℕ)). w ∷ l) (among_both ts us)
-among_both (mark m ∷ ts) us = among_both ts us
 
 before_some : (front ts us : List Token) → before front (Some ts) ≡ Some us → us ≡ front ++ ts
 before_some front ts us e = sym (some-injective (front ++ ts) us e)
@@ -251,7 +246,7 @@ module _ (a b : List ℕ) (front : List Token) (parts : (x y : List ℕ) → b �
     between = between_at at is.between;
     front = front ++ is.front;
     tokens = tokens_there at ∙ ap (before front) is.tokens;
-    before = ap length (among_both front is.front) ∙ length-append (words_among front) (words_among is.front) ∙ ap (λ n. length (words_among front) + n) is.before;
+    before = ap length (words_among-append front is.front) ∙ length-append (words_among front) (words_among is.front) ∙ ap (λ n. length (words_among front) + n) is.before;
   }
 
   -- the first word after the front stands there
@@ -267,26 +262,3 @@ module _ (a b : List ℕ) (front : List Token) (parts : (x y : List ℕ) → b �
         tokens = here_tokens;
         before = refl;
       }
-
--- ---- a place is the only one, and what stands before it is innocent
-
-pub one_place : (IsInnocent : List ℕ → Type 0) (text : List ℕ) (a b : ℕ) → IsLastPlace IsInnocent text a → IsLastPlace IsInnocent text b → a ≡ b
-one_place IsInnocent text a b is_a is_b = ⊎_elim (λ less. absurd (is_a.last b less is_b.within is_b.between is_b.innocent)) no_less (cases_lt a b)
-  where
-    no_less : b ≤ a → a ≡ b
-    no_less le = ⊎_elim (λ less. absurd (is_b.last a less is_a.within is_a.between is_a.innocent)) (λ ge. omega arith) (cases_lt b a)
-
-pub cut_place : (IsInnocent : List ℕ → Type 0) (text : List ℕ) (place cut : ℕ) → IsLastPlace IsInnocent text place
-    → IsLastPlace IsInnocent (take place text) cut → cut ≡ place
-cut_place IsInnocent text place cut is of_cut = ⊎_elim before_place (λ le. omega (arith, of_cut.within, long)) (cases_lt cut place)
-  where
-    long : length (take place text) ≡ place
-    long = length-take-le place text is.within
-
-    before_place : cut < place → cut ≡ place
-    before_place less =
-        let whole : take place (take place text) ≡ take place text = take_all place (take place text) (omega (arith, long)) in
-        let end : is_between (take place text) (length (take place text)) ≡ true =
-        ap (λ l. is_between l (length (take place text))) (sym (append-nil (take place text))) ∙ between_front (take place text) [] tt in
-        let between : is_between (take place text) place ≡ true = ap (is_between (take place text)) (sym long) ∙ end in
-        absurd (of_cut.last place less (omega (arith, long)) between (subst IsInnocent (sym whole) is.innocent))

@@ -4,6 +4,7 @@ use Rattle.std.specs.Cmp.{unsigned_Decides}
 use Rattle.std.specs.List.{list_any, position_from}
 use Rattle.std.proofs.lemmas.Bool.{and_parts}
 use Rattle.std.proofs.lemmas.List.Sums.{sum_by-append, sum_by-cons}
+use Rattle.std.proofs.Math.Bool.{and-false}
 use Rattle.ic_term.specs.Tree.{Tree, name, agent, Pair}
 use Rattle.ic_term.specs.Configuration.{Configuration}
 use Rattle.ic_rules.specs.Rule.{Rule, stands_for}
@@ -78,9 +79,8 @@ inert rs a b p found is none e = inert_at rs a b p.left p.right found is none e
 
 at_length : (before after : List Pair) (p : Pair) (i : ℕ) → length before ≡ i → slice_get (before ++ p ∷ after) i ≡ Some p
 at_length [] after p zero e = refl
-at_length [] after p (suc i) e = absurd (omega (arith, e))
-at_length (q ∷ before) after p zero e = absurd (omega (arith, e))
 at_length (q ∷ before) after p (suc i) e = at_length before after p i (omega (arith, e))
+at_length _ after p _ e = absurd (omega (arith, e))
 
 same_some : (p q : Pair) → Some p ≡ Some q → p ≡ q
 same_some p q e = cc
@@ -113,14 +113,10 @@ no_facing rs a b p found none e = by (faces a b p) refl
     by true is = absurd (inert rs a b p found is none e)
     by false is = refl
 
-no_right : (x : Bool) → (x && false) ≡ false
-no_right true = refl
-no_right false = refl
-
 bound_apart : (a b : ℕ) (p : Pair) (bound : Binding) → Binds p bound → faces a b p ≡ false
 bound_apart a b p bound side = elim side [
   | inl e ↦ ap (faces a b) e
-  | inr e ↦ ap (faces a b) e ∙ no_right (is_of a bound.term)
+  | inr e ↦ ap (faces a b) e ∙ and-false (is_of a bound.term)
 ]
 
 still_of : (x s : ℕ) (u t : Tree) → is_of s t ≡ true → is_of s (subst x u t) ≡ true
@@ -133,10 +129,9 @@ still_faces a b x u p is =
     and_both (still_of x a u p.left parts.0) (still_of x b u p.right parts.1)
 
 no_fewer : (x y : Bool) → (x ≡ true → y ≡ true) → cond x 1 0 ≤ cond y 1 0
-no_fewer true true so = omega arith
 no_fewer true false so = let bad = so refl in cc
 no_fewer false true so = omega arith
-no_fewer false false so = omega arith
+no_fewer _ _ so = omega arith
 
 all_stay : (a b x : ℕ) (u : Tree) (es : List Pair) → facing a b es ≤ facing a b (map (subst_pair x u) es)
 all_stay a b x u [] = omega arith

@@ -15,10 +15,10 @@ use Rattle.ic_text.specs.SystemText.{SpellsSystem}
 use Rattle.ic_text.specs.Token.{Token, word, mark, is_word_byte, mark_of, before, followed, tokens, tokens_at}
 use Rattle.ic_text.specs.Words.{written_system}
 use Rattle.ic_text.specs.declared.fault.TextFault.{TextFault}
-use Rattle.ic_text.specs.declared.fault.TextFault.TheVariants.{Syntax, Limit, Arity, NameCount, Name, Twice, Lopsided, Memory}
+use Rattle.ic_text.specs.declared.fault.TextFault.TheVariants.{Syntax}
 use Rattle.ic_text.specs.declared.limits.TheConstants.{MAX_TEXT}
 use Rattle.ic_text.specs.declared.misread.Detail.{Detail}
-use Rattle.ic_text.specs.lemmas.WordRuns.{tokens-parted}
+use Rattle.ic_text.specs.lemmas.WordRuns.{followed-followed, tokens-parted, before-none, tokens-apart}
 use Rattle.ic_diagnostics.specs.Sights.{first_word}
 use Rattle.ic_check.specs.LinePlaces.{IsDue, IsLinePlace, IsSystemPlace, first_at, own_passed, submit_front}
 use Rattle.ic_check.specs.Meanings.{IsSubmitFront}
@@ -27,7 +27,6 @@ use Rattle.ic_check.specs.declared.due.Due.{Due}
 use Rattle.ic_check.specs.declared.due.Due.TheVariants.{Budget, System}
 use Rattle.ic_check.specs.declared.due.LineLimit.TheVariants.{NameBytes, BudgetRounds}
 use Rattle.ic_check.specs.declared.line_places.LineDetail.TheVariants.{Within}
-use Rattle.ic_check.proofs.Apart.{before-none, tokens-apart}
 use Rattle.ic_check.proofs.LinePlacing.{word_placed}
 use Rattle.ic_check.proofs.OwnWords.{KnownVerbs, takes}
 use Rattle.ic_check.proofs.Stops.{HeadIs, stops_in, word_there}
@@ -37,12 +36,6 @@ use Rattle.ic_check.proofs.Stops.{HeadIs, stops_in, word_there}
 nothing_after : (o : Option (List Token)) → followed o (Some []) ≡ o
 nothing_after None = refl
 nothing_after (Some ts) = ap Some (append-nil ts)
-
-followed-followed : (a b c : Option (List Token)) → followed (followed a b) c ≡ followed a (followed b c)
-followed-followed None b c = refl
-followed-followed (Some ts) None c = refl
-followed-followed (Some ts) (Some us) None = refl
-followed-followed (Some ts) (Some us) (Some vs) = ap Some (append_assoc ts us vs)
 
 both_words : (z x y : Bool) → (z || not (x && y)) ≡ true → z ≡ false → y ≡ true → x ≡ false
 both_words true x y e first is = absurd (false≢true (sym first))
@@ -107,13 +100,7 @@ kept_so name most s named fits =
 
 place_as : (line : List ℕ) (f : TextFault) (at : ℕ) (d : Detail) → (f ≡ Syntax → ⊥) → IsSystemPlace line f at d → IsLinePlace line f at (Within d)
 place_as line Syntax at d apart is = absurd (apart refl)
-place_as line Limit at d apart is = is
-place_as line Arity at d apart is = is
-place_as line (NameCount n) at d apart is = is
-place_as line (Name n) at d apart is = is
-place_as line (Twice n) at d apart is = is
-place_as line (Lopsided n) at d apart is = is
-place_as line Memory at d apart is = is
+place_as line _ at d apart is = is
 
 module _ (known : KnownVerbs) (front text name : List ℕ) (most : Option (List ℕ)) (is : IsSubmitFront front text name most) where
   abbrev words : List Token

@@ -1,7 +1,7 @@
 -- No system goes on to another: after its `|` there is one `>`, and that ends it.
-use Rattle.std.proofs.Common.{◌≡◌, ℕ, Bool, true, false, not, ◌&&◌, eqb, List, [], ◌∷◌, ◌++◌, map, if◌then◌else◌, refl, sym, ap, ◌∙◌, append_assoc, append-nil}
+use Rattle.std.proofs.Common.{◌≡◌, ℕ, Bool, true, not, ◌&&◌, eqb, List, [], ◌∷◌, ◌++◌, map, if◌then◌else◌, refl, sym, ap, ◌∙◌, append_assoc, append-nil}
 use Rattle.std.specs.List.{flat_map, list_all}
-use Rattle.std.proofs.lemmas.Bool.{and_from, and_parts, false≢true}
+use Rattle.std.proofs.lemmas.Bool.{and_from, and_parts, not-true}
 use Rattle.std.proofs.lemmas.List.Folds.{list_all-append}
 use Rattle.ic_text.specs.Source.{Source, leaf, node, Sources, no_sources, more_sources, Sides, words, argument_words, further_words, separated, sides_words}
 use Rattle.ic_text.specs.SystemSource.{RulePhrase, SystemPhrase, agent_source, rule_words, system_words}
@@ -22,17 +22,13 @@ after : ℕ → List Token → List Token
 after b [] = []
 after b (t ∷ ts) = if eqb (byte_of t) b then ts else after b ts
 
-untrue : (is : Bool) → not is ≡ true → is ≡ false
-untrue true e = absurd (false≢true e)
-untrue false e = refl
-
 stop : (b : ℕ) (t : Token) (ts : List Token) → eqb (byte_of t) b ≡ true → after b (t ∷ ts) ≡ ts
 unfolding after
 stop b t ts is = ap (λ (x : Bool). if x then ts else after b ts) is
 
 pass : (b : ℕ) (t : Token) (ts : List Token) → other b t ≡ true → after b (t ∷ ts) ≡ after b ts
 unfolding after
-pass b t ts is = ap (λ (x : Bool). if x then ts else after b ts) (untrue (eqb (byte_of t) b) is)
+pass b t ts is = ap (λ (x : Bool). if x then ts else after b ts) (not-true (eqb (byte_of t) b) is)
 
 skip : (b : ℕ) (ts rest : List Token) → list_all (other b) ts ≡ true → after b (ts ++ rest) ≡ after b rest
 skip b [] rest all = refl

@@ -1,21 +1,14 @@
 -- What is told of texts.
-use Rattle.std.proofs.Common.{◌≡◌, ◌≢◌, ℕ, ◌+◌, ◌||◌, List, [], ◌∷◌, ◌++◌, Bool, true, false, Option, None, Some, Result, Ok, Err, IfOk, OnOk, refl, sym, ap, ◌∙◌, subst, append-nil, append_assoc}
+use Rattle.std.proofs.Common.{◌≡◌, ℕ, ◌+◌, ◌||◌, List, [], ◌∷◌, ◌++◌, Bool, true, false, Option, Some, Result, Ok, Err, OnOk, refl, sym, ap, ◌∙◌, subst, append-nil, append_assoc}
+use Rattle.std.proofs.Math.Bool.{or-false}
 use Rattle.ic_term.specs.Configuration.{Configuration, configuration_names}
 use Rattle.ic_term.specs.Symbol.{Symbol}
 use Rattle.ic_rules.specs.RuleSet.{Rules}
-use Rattle.ic_rules.specs.System.{SystemParts}
 use Rattle.ic_lines.specs.Lines.{lines}
-use Rattle.ic_text.specs.Places.{IsPlaced}
-use Rattle.ic_text.specs.Source.{IsPhrase, phrase_words}
-use Rattle.ic_text.specs.SystemSource.{IsSystemPhrase, system_words}
-use Rattle.ic_text.specs.SystemText.{ReadsSystem}
 use Rattle.ic_text.specs.Text.{Reads}
-use Rattle.ic_text.specs.Words.{written_phrase, written_system}
 use Rattle.ic_text.specs.declared.fault.TextFault.{TextFault}
-use Rattle.ic_text.specs.declared.fault.TextFault.TheVariants.{Memory, Syntax}
-use Rattle.ic_text.specs.declared.misread.Detail.{Detail}
-use Rattle.ic_diagnostics.specs.declared.telling.Kind.TheVariants.{Config, System}
-use Rattle.ic_check.specs.Checking.{TellsConfig, TellsEach, TellsLine, TellsSystem, before, told_fault, told_line_fault}
+use Rattle.ic_text.specs.declared.fault.TextFault.TheVariants.{Syntax}
+use Rattle.ic_check.specs.Checking.{TellsConfig, TellsEach, TellsLine, before, told_line_fault}
 use Rattle.ic_check.specs.Scripts.{TellsByRun, TellsScriptLine, run_place, run_sentence}
 use Rattle.ic_check.specs.Telling.{placed_line}
 use Rattle.ic_check.specs.LinePlaces.{IsLinePlace}
@@ -33,32 +26,9 @@ Appends Tells old new faulty = (told : List ℕ) × Tells told faulty × (new �
 pub config_fine : (file text : List ℕ) (v : List Symbol × Configuration) (out : List ℕ) → Reads text (Ok v) → Appends (TellsConfig file text) out out false
 config_fine file text v out reads = ([], (Ok v, reads, (refl, refl)), sym (append-nil out))
 
-pub config_told : (file text : List ℕ) (fault : TextFault) (place : Option ℕ) (detail : Detail) {E : Type 0} (r : Result Bool E) (old new : List ℕ)
-    → (fault ≢ Memory → Reads text (Err fault)) → IsPlaced IsPhrase phrase_words written_phrase text fault place detail
-    → IfOk r (λ faulty. faulty ≡ true) → IfOk r (λ faulty. fault ≢ Memory) → OnOk r (new ≡ old ++ told_fault file Config text place fault detail)
-    → IfOk r (λ faulty. Appends (TellsConfig file text) old new faulty)
-config_told file text fault place detail (Ok faulty) old new reads placed faulted known put =
-    (told_fault file Config text place fault detail, (Err fault, reads known, ((place, detail, placed, refl), faulted)), put)
-config_told file text fault place detail (Err e) old new reads placed faulted known put = tt
-
-pub system_told : (file text : List ℕ) (fault : TextFault) (place : Option ℕ) (detail : Detail) {E : Type 0} (r : Result Bool E) (old new : List ℕ)
-    → (fault ≢ Memory → ReadsSystem text (Err fault)) → IsPlaced IsSystemPhrase system_words written_system text fault place detail
-    → IfOk r (λ faulty. faulty ≡ true) → IfOk r (λ faulty. fault ≢ Memory) → OnOk r (new ≡ old ++ told_fault file System text place fault detail)
-    → IfOk r (λ faulty. Appends (TellsSystem file text) old new faulty)
-system_told file text fault place detail (Ok faulty) old new reads placed faulted known put =
-    (told_fault file System text place fault detail, (Err fault, reads known, ((place, detail, placed, refl), faulted)), put)
-system_told file text fault place detail (Err e) old new reads placed faulted known put = tt
-
 -- the warnings of a system are appended
 abbrev pub AppendsWarnings : List ℕ → Rules → Configuration → (old new : List ℕ) → Type 0
 AppendsWarnings place rs c old new = (told : List ℕ) × Warns place rs c told × (new ≡ old ++ told)
-
-pub system_warned : (file text : List ℕ) (s : SystemParts) (rs : Rules) (c : Configuration) (old new : List ℕ) → ReadsSystem text (Ok s) → rs ≡ s.rules → c ≡ s.config
-    → AppendsWarnings file rs c old new → Appends (TellsSystem file text) old new false
-system_warned file text s rs c old new reads are is warned =
-    let warns : Warns file s.rules s.config warned.0 =
-    subst (λ (d : Configuration). Warns file s.rules d warned.0) is (subst (λ (r : Rules). Warns file r c warned.0) are warned.1) in
-    (warned.0, (Ok s, reads, (warns, refl)), warned.2)
 
 -- the six kinds of warnings, one after the other
 pub warned : {T E : Type 0} (place : List ℕ) (rs : Rules) (c : Configuration) (all seen ns old one two three four five new line : List ℕ) (r : Result T E) → all ≡ text_symbols rs.rules c
@@ -100,10 +70,6 @@ or_assoc : (a b d : Bool) → ((a || b) || d) ≡ (a || (b || d))
 or_assoc true b d = refl
 or_assoc false b d = refl
 
-or_false : (a : Bool) → (a || false) ≡ a
-or_false true = refl
-or_false false = refl
-
 module _ (One : ℕ → List ℕ → List ℕ → Bool → Type 0) where
   pub line_more : (text rest line after so_far told : List ℕ) (number : ℕ) (faulty here : Bool) → lines rest ≡ line ∷ lines after
       → One number line told here → GoesOn One text rest number so_far faulty → GoesOn One text after (number + 1) (so_far ++ told) (faulty || here)
@@ -116,7 +82,7 @@ module _ (One : ℕ → List ℕ → List ℕ → Bool → Type 0) where
   pub lines_end : (text rest so_far : List ℕ) (number : ℕ) (faulty : Bool) → rest ≡ [] → GoesOn One text rest number so_far faulty → TellsEach One 1 (lines text) so_far faulty
   lines_end text rest so_far number faulty none goes =
       let there = goes [] false (subst (λ (l : List ℕ). TellsEach One number (lines l) [] false) (sym none) (refl, refl)) in
-      subst (λ (b : Bool). TellsEach One 1 (lines text) so_far b) (or_false faulty)
+      subst (λ (b : Bool). TellsEach One 1 (lines text) so_far b) (or-false faulty)
       (subst (λ (l : List ℕ). TellsEach One 1 (lines text) l (faulty || false)) (append-nil so_far) there)
 
 pub run_told : (file line : List ℕ) (number at : ℕ) (old new : List ℕ) → run_place line ≡ Some at
@@ -124,8 +90,3 @@ pub run_told : (file line : List ℕ) (number at : ℕ) (old new : List ℕ) →
 run_told file line number at old new is put =
     let words = placed_line file (before number) line at Syntax run_sentence in
     (words, subst (λ (place : Option ℕ). TellsByRun place file number line words true) (sym is) (refl, refl), put)
-
-pub other_told : (file line : List ℕ) (number : ℕ) (old new : List ℕ) (faulty : Bool) → run_place line ≡ None
-    → Appends (TellsLine file number line) old new faulty → Appends (TellsScriptLine file number line) old new faulty
-other_told file line number old new faulty none (told, tells, put) =
-    (told, subst (λ (place : Option ℕ). TellsByRun place file number line told faulty) (sym none) tells, put)

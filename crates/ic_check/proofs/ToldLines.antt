@@ -12,11 +12,11 @@ use Rattle.ic_rules.specs.declared.job_name.TheConstants.{MAX_JOB_NAME}
 use Rattle.ic_jobs.specs.declared.command.Command.{Command}
 use Rattle.ic_jobs.specs.declared.command.Command.TheVariants as command
 use Rattle.ic_commands.specs.LineSense.{asked, fits_budget, line_sense, submitted, unless_long, unless_unfit}
-use Rattle.ic_commands.specs.LineSource.{LinePhrase, nothing, submit, copy, about, list, run, IsLine}
+use Rattle.ic_commands.specs.LineSource.{LinePhrase, submit, copy, about, run, IsLine}
 use Rattle.ic_commands.specs.LineText.{ReadsLine}
 use Rattle.ic_commands.specs.declared.limits.TheConstants.{MAX_RUN}
 use Rattle.ic_commands.specs.declared.line.Line.{Line}
-use Rattle.ic_commands.specs.declared.line.Line.TheVariants.{Blank, Command as Asks, Run}
+use Rattle.ic_commands.specs.declared.line.Line.TheVariants.{Command as Asks, Run}
 use Rattle.ic_lines.specs.Lines.{ended, has_feed, lines}
 use Rattle.ic_text.specs.Name.{number_in}
 use Rattle.ic_text.specs.Sense.{has_its_arity, symbols_after}
@@ -142,7 +142,6 @@ same_asked a b answer p q = cc
 -- what is asked of a job is no submit
 module _ (no_submit : (verb : _) (w name : List ℕ) (s : SystemParts) (budget : Option ℕ) → asked verb w ≡ command.Submit name s budget → ⊥) where
   line_texts : (p : LinePhrase) (name : List ℕ) (s : SystemParts) (budget : Option ℕ) → IsLine p → line_sense p ≡ Ok (Asks (command.Submit name s budget)) → are_texts s.rules.symbols ≡ true
-  line_texts nothing name s budget is e = cc
   line_texts (submit w most p) name s budget is e = submitted_texts name w most budget p s is.2 e
   line_texts (copy old new) name s budget is e = by (nat_le (length old) MAX_JOB_NAME) (nat_le (length new) MAX_JOB_NAME) e
     where
@@ -155,12 +154,12 @@ module _ (no_submit : (verb : _) (w name : List ℕ) (s : SystemParts) (budget :
       by : (a : Bool) → (if a then Ok (Asks (asked verb w)) else Err Limit) ≡ Ok (Asks (command.Submit name s budget)) → are_texts s.rules.symbols ≡ true
       by false e = cc
       by true e = absurd (no_submit verb w name s budget (same_asked (asked verb w) (command.Submit name s budget) (Ok (Asks (asked verb w))) refl e))
-  line_texts list name s budget is e = cc
   line_texts (run digits) name s budget is e = by (nat_le (number_in digits) MAX_RUN) e
     where
       by : (a : Bool) → (if a then Ok (Run (number_in digits)) else Err Limit) ≡ Ok (Asks (command.Submit name s budget)) → are_texts s.rules.symbols ≡ true
       by false e = cc
       by true e = cc
+  line_texts _ name s budget is e = cc
 
   read_line_texts : (line name : List ℕ) (s : SystemParts) (budget : Option ℕ) → ReadsLine line (Ok (Asks (command.Submit name s budget))) → are_texts s.rules.symbols ≡ true
   read_line_texts line name s budget reads = by (are_texts s.rules.symbols) refl
@@ -224,15 +223,8 @@ module _ (no_submit : (verb : _) (w name : List ℕ) (s : SystemParts) (budget :
       subst AreLines (sym is.0.3) (one_line _ (one_fault file System text place fault detail free))
 
   asked_lines : (line : List ℕ) (number : ℕ) (what : Line) (told : List ℕ) → ReadsLine line (Ok what) → WarnsOf (place_text file (Some number)) what told → AreLines told
-  asked_lines line number Blank told reads is = no_lines told is
-  asked_lines line number (Run k) told reads is = no_lines told is
   asked_lines line number (Asks (command.Submit job s budget)) told reads is = warns_lines (Some number) s told (read_line_texts no_submit line job s budget reads) is
-  asked_lines line number (Asks (command.CopyJob old new)) told reads is = no_lines told is
-  asked_lines line number (Asks (command.Pause job)) told reads is = no_lines told is
-  asked_lines line number (Asks (command.Resume job)) told reads is = no_lines told is
-  asked_lines line number (Asks (command.Cancel job)) told reads is = no_lines told is
-  asked_lines line number (Asks (command.Fetch job)) told reads is = no_lines told is
-  asked_lines line number (Asks command.List) told reads is = no_lines told is
+  asked_lines line number _ told reads is = no_lines told is
 
   line_lines : (number : ℕ) (line told : List ℕ) (faulty : Bool) → TellsLine file number line told faulty → AreLines told
   line_lines number line told faulty (Ok what, reads, is) = asked_lines line number what told reads is.0

@@ -1,5 +1,5 @@
 -- A line that is cut before the word for which it is refused wants more.
-use Rattle.std.proofs.Common.{◌≡◌, ℕ, ◌<◌, ◌≤◌, Bool, true, false, List, [], ◌∷◌, ◌++◌, Option, None, Some, Err, length, take, refl, sym, ap, ◌∙◌, append-nil, arith}
+use Rattle.std.proofs.Common.{◌≡◌, ℕ, ◌<◌, ◌≤◌, Bool, true, false, List, [], ◌∷◌, ◌++◌, Option, None, Some, Err, length, take, refl, sym, ap, ◌∙◌, arith}
 use Rattle.std.specs.Prelude.{◌+◌, if◌then◌else◌, nat_le, nat_lt}
 use Rattle.std.proofs.lemmas.Bool.Decides.{nat_tests}
 use Rattle.std.proofs.lemmas.List.{length-take, length-take-le, take_all}
@@ -16,7 +16,7 @@ use Rattle.ic_text.specs.declared.fault.TextFault.{TextFault}
 use Rattle.ic_text.specs.declared.fault.TextFault.TheVariants.{Syntax, Limit}
 use Rattle.ic_text.specs.declared.limits.TheConstants.{MAX_TEXT}
 use Rattle.ic_text.specs.declared.misread.Detail.{Detail}
-use Rattle.ic_text.specs.declared.misread.Detail.TheVariants.{Nothing as Plain, Passed as Bound, Arities}
+use Rattle.ic_text.specs.declared.misread.Detail.TheVariants.{Passed as Bound, Arities}
 use Rattle.ic_text.specs.lemmas.ReadOnce.{some-injective}
 use Rattle.ic_check.specs.LinePlaces.{IsDue, IsLinePlace, IsOwnPlace, IsSystemPlace, IsWhole, first_at, own_passed, submit_front}
 use Rattle.ic_check.specs.declared.due.Due.{Due}
@@ -24,16 +24,13 @@ use Rattle.ic_check.specs.declared.due.Due.TheVariants.{Budget, System, Nothing}
 use Rattle.ic_check.specs.declared.due.LineLimit.{LineLimit}
 use Rattle.ic_check.specs.declared.due.LineLimit.TheVariants.{LineBytes, NameBytes, BudgetRounds, RunRounds}
 use Rattle.ic_check.specs.declared.line_places.LineDetail.{LineDetail}
-use Rattle.ic_check.specs.declared.line_places.LineDetail.TheVariants.{Sought, Passed, Within}
-use Rattle.ic_check.proofs.Apart.{between_front}
+use Rattle.ic_check.specs.declared.line_places.LineDetail.TheVariants.{Passed, Within}
+use Rattle.ic_text.specs.lemmas.Between.{between_end}
 use Rattle.ic_check.proofs.OnePlace.{word_next}
-use Rattle.ic_check.proofs.OwnWords.{KnownVerbs, takes}
+use Rattle.ic_check.proofs.OwnWords.{KnownVerbs, takes, no_end as word_isnt}
 use Rattle.ic_check.proofs.SystemEnds.{no_system_more}
 
 -- ---- no line but the empty one goes on to another
-
-word_isnt : {A : Type 0} (t : Token) (ts : List Token) → t ∷ ts ≡ [] → A
-word_isnt t ts e = cc
 
 whole_more : KnownVerbs → (q p : LinePhrase) (w : List ℕ) (ts : List Token) → IsWhole q → IsLine p → line_words p ≡ line_words q ++ word w ∷ ts → ⊥
 whole_more known q p w ts whole other e = takes known Nothing (line_words q) p (word w) ts (q, whole, refl) other e refl
@@ -51,10 +48,8 @@ no_line_more known (submit name None s) p w ts (named, number, phrase) other som
     word_isnt (word w) ts (system_more known Budget (submit_front name None) s _ _ p (word w ∷ ts) (name, named, refl) other refl e)
 no_line_more known (submit name (Some digits) s) p w ts (named, number, phrase) other some e =
     word_isnt (word w) ts (system_more known System (submit_front name (Some digits)) s _ _ p (word w ∷ ts) (name, named, digits, number, refl) other refl e)
-no_line_more known (copy old new) p w ts one other some e = whole_more known (copy old new) p w ts one other e
-no_line_more known (about verb name) p w ts one other some e = whole_more known (about verb name) p w ts one other e
 no_line_more known list p w ts one other some e = whole_more known list p w ts tt other e
-no_line_more known (run digits) p w ts one other some e = whole_more known (run digits) p w ts one other e
+no_line_more known q p w ts one other some e = whole_more known q p w ts one other e
 
 -- ---- the word for which a line is refused
 
@@ -75,29 +70,26 @@ pub data Spot (line : List ℕ) (fault : TextFault) (at : ℕ) (detail : LineDet
 
 pub spot : (line : List ℕ) (f : TextFault) (at : ℕ) (d : LineDetail) → (f ≡ Syntax → ⊥) → IsLinePlace line f at d → Spot line f at d
 spot line Syntax at d other is = absurd (other refl)
-spot line Limit at (Sought due) other is = absurd is
 spot line Limit at (Passed LineBytes) other is = long refl is.0 is.1
 spot line Limit at (Passed NameBytes) other is = own NameBytes is
 spot line Limit at (Passed BudgetRounds) other is = own BudgetRounds is
 spot line Limit at (Passed RunRounds) other is = own RunRounds is
 spot line Limit at (Within d) other is = inside d is
 spot line f at (Within d) other is = inside d is
-spot line f at d other is = absurd is
+spot line _ at _ other is = absurd is
 
 -- one of syntax
 pub syntax_spot : (line : List ℕ) (at : ℕ) (d : LineDetail) → IsLinePlace line Syntax at d → IsSyntaxPlace IsLine line_words line at
-syntax_spot line at (Sought due) is = is.0
-syntax_spot line at (Within Plain) is = is.0
 syntax_spot line at (Within (Bound b)) is = absurd is.refused
 syntax_spot line at (Within (Arities m n)) is = absurd is.refused
 syntax_spot line at (Passed l) is = absurd is
+syntax_spot line at _ is = is.0
 
 abbrev is_later : Option (ℕ × LineLimit) → Bool
 is_later None = true
 is_later (Some (k, limit)) = nat_lt 0 k
 
 later_own : (p : LinePhrase) → is_later (own_passed p) ≡ true
-later_own nothing = refl
 later_own (submit name most s) = by (nat_le (length name) MAX_JOB_NAME) (fits_budget most)
   where
     by : (a b : Bool) → is_later (first_at 1 (if a then None else Some NameBytes) (first_at 2 (if b then None else Some BudgetRounds) None)) ≡ true
@@ -115,12 +107,12 @@ later_own (about verb name) = by (nat_le (length name) MAX_JOB_NAME)
     by : (a : Bool) → is_later (first_at 1 (if a then None else Some NameBytes) None) ≡ true
     by true = refl
     by false = refl
-later_own list = refl
 later_own (run digits) = by (nat_le (number_in digits) MAX_RUN)
   where
     by : (a : Bool) → is_later (first_at 1 (if a then None else Some RunRounds) None) ≡ true
     by true = refl
     by false = refl
+later_own _ = refl
 
 above_none : (k : ℕ) → nat_lt 0 k ≡ true → 0 < k
 above_none k is = grind (arith, nat_tests)
@@ -155,11 +147,9 @@ end_place : (line : List ℕ) (at : ℕ) → at ≤ length line → (p : LinePhr
 end_place line at within p front rest same one goes =
     let size : length (take at line) ≡ at = length-take-le at line within in
     let whole : take at (take at line) ≡ take at line = take_all at (take at line) (omega (arith, size)) in
-    let end : is_between (take at line) (length (take at line)) ≡ true =
-    ap (λ l. is_between l (length (take at line))) (sym (append-nil (take at line))) ∙ between_front (take at line) [] tt in
     record {
       within = omega (arith, size);
-      between = ap (is_between (take at line)) (sym size) ∙ end;
+      between = ap (is_between (take at line)) (sym size) ∙ between_end (take at line);
       innocent = record { front = front; tokens = ap tokens whole ∙ same; phrase = p; is = one; rest = rest; goes_on = goes };
       last = λ later above below between goes. absurd (omega (arith, above, below, size));
     }

@@ -372,8 +372,6 @@ pub fn a_fault_of_a_line_has_one_place()
         → IsLinePlace line fault a d → IsLinePlace line fault b e → a ≡ b }
 {
     ic_commands::laws::one_line_reading();
-    ic_text::laws::words_before_a_passed_limit_are_innocent();
-    ic_text::laws::words_before_the_first_are_innocent();
 }
 
 /// The line before a fault is innocent. A line that is cut before a fault of syntax has such a fault only at its end,

@@ -8,20 +8,14 @@ use Rattle.ic_check.proofs.OwnWords.{KnownVerbs}
 use Rattle.ic_check.proofs.Submits.{submit_refused, submit_syntax}
 use Rattle.ic_check.proofs.laws.a_submit_is_told_where_its_system_is_refused.Goals as goal
 
-pub returns-clause-syntax : goal.returns-clause-syntax
-returns-clause-syntax c =
+pub returns : goal.returns
+returns c =
     let verbs = c.command_words_are.ensures.all_verbs in
     let known : KnownVerbs = record {
       opens = each_of_four (λ verb. opened (verb_text verb) ≡ Some VerbName) _ _ _ _ verbs refl refl refl refl;
       all = four_origins verb_text _ _ _ _ (codes "pause") (codes "resume") (codes "cancel") (codes "fetch") verbs refl refl refl refl;
     } in
-    λ front text name most at is place. submit_syntax known front text name most is at place
-
-pub returns-clause-other : goal.returns-clause-other
-returns-clause-other c =
-    let verbs = c.command_words_are.ensures.all_verbs in
-    let known : KnownVerbs = record {
-      opens = each_of_four (λ verb. opened (verb_text verb) ≡ Some VerbName) _ _ _ _ verbs refl refl refl refl;
-      all = four_origins verb_text _ _ _ _ (codes "pause") (codes "resume") (codes "cancel") (codes "fetch") verbs refl refl refl refl;
-    } in
-    λ front text name most fault at detail is short named fits apart placed. submit_refused known front text name most is short named fits fault at detail apart placed
+    record {
+      syntax = λ front text name most at is place. submit_syntax known front text name most is at place;
+      other = λ front text name most fault at detail is short named fits apart placed. submit_refused known front text name most is short named fits fault at detail apart placed;
+    }

@@ -6,39 +6,23 @@ use Rattle.ic_check.specs.inner.Fronts.{opened}
 use Rattle.ic_check.specs.declared.due.Due.TheVariants.{VerbName}
 use Rattle.ic_check.proofs.CommandWords.{each_of_four, four_origins}
 use Rattle.ic_check.proofs.OwnWords.{KnownVerbs}
-use Rattle.ic_check.proofs.Stops.{cut_place, one_place}
+use Rattle.ic_text.specs.lemmas.Between.{cut_place, one_place}
 use Rattle.ic_check.proofs.Unfinished.{at_word, ends_place, not_too_long, spot, syntax_spot, too_long, wants_more}
 use Rattle.ic_check.proofs.laws.the_line_before_a_fault_is_innocent.Goals as goal
 
-pub returns-clause-cut : goal.returns-clause-cut
-returns-clause-cut c = λ line at cut is of_cut. cut_place (GoesOn IsLine line_words) line at cut is of_cut
-
-pub returns-clause-one : goal.returns-clause-one
-returns-clause-one c = λ line a b is_a is_b. one_place (GoesOn IsLine line_words) line a b is_a is_b
-
-pub returns-clause-syntax : goal.returns-clause-syntax
-returns-clause-syntax c = λ line at cut detail is of_cut. cut_place (GoesOn IsLine line_words) line at cut (syntax_spot line at detail is) of_cut
-
-pub returns-clause-other : goal.returns-clause-other
-returns-clause-other c =
+pub returns : goal.returns
+returns c =
     let verbs = c.command_words_are.ensures.all_verbs in
     let known : KnownVerbs = record {
       opens = each_of_four (λ verb. opened (verb_text verb) ≡ Some VerbName) _ _ _ _ verbs refl refl refl refl;
       all = four_origins verb_text _ _ _ _ (codes "pause") (codes "resume") (codes "cancel") (codes "fetch") verbs refl refl refl refl;
     } in
-    λ line fault at detail other kept is. wants_more known line at (at_word line fault at detail kept (spot line fault at detail other is))
-
-pub returns-clause-end : goal.returns-clause-end
-returns-clause-end c =
-    let verbs = c.command_words_are.ensures.all_verbs in
-    let known : KnownVerbs = record {
-      opens = each_of_four (λ verb. opened (verb_text verb) ≡ Some VerbName) _ _ _ _ verbs refl refl refl refl;
-      all = four_origins verb_text _ _ _ _ (codes "pause") (codes "resume") (codes "cancel") (codes "fetch") verbs refl refl refl refl;
-    } in
-    λ line fault at detail kept is. ends_place known line fault at detail kept is
-
-pub returns-clause-short : goal.returns-clause-short
-returns-clause-short c = λ line at is. not_too_long line at is
-
-pub returns-clause-long : goal.returns-clause-long
-returns-clause-long c = λ line at is. too_long line at is
+    record {
+      cut = λ line at cut is of_cut. cut_place (GoesOn IsLine line_words) line at cut is of_cut;
+      one = λ line a b is_a is_b. one_place (GoesOn IsLine line_words) line a b is_a is_b;
+      syntax = λ line at cut detail is of_cut. cut_place (GoesOn IsLine line_words) line at cut (syntax_spot line at detail is) of_cut;
+      other = λ line fault at detail other kept is. wants_more known line at (at_word line fault at detail kept (spot line fault at detail other is));
+      end = λ line fault at detail kept is. ends_place known line fault at detail kept is;
+      short = λ line at is. not_too_long line at is;
+      long = λ line at is. too_long line at is;
+    }

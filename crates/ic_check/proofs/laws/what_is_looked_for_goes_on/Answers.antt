@@ -9,59 +9,27 @@ use Rattle.ic_check.proofs.OwnWords.{KnownVerbs}
 use Rattle.ic_check.proofs.Sought.{due_there, within_submit}
 use Rattle.ic_check.proofs.laws.what_is_looked_for_goes_on.Goals as goal
 
-pub returns-clause-word : goal.returns-clause-word
-returns-clause-word c =
+pub returns : goal.returns
+returns c =
     let verbs = c.command_words_are.ensures.all_verbs in
     let known : KnownVerbs = record {
       opens = each_of_four (λ verb. opened (verb_text verb) ≡ Some VerbName) _ _ _ _ verbs refl refl refl refl;
       all = four_origins verb_text _ _ _ _ (codes "pause") (codes "resume") (codes "cancel") (codes "fetch") verbs refl refl refl refl;
     } in
-    λ due front w is. (
-      word_looked_for known c.lines_begin_with_command_words.ensures.each c.command_words_are.ensures.lines due front w is,
-      goes_with_word known due front w is,
-    )
-
-pub returns-clause-mark : goal.returns-clause-mark
-returns-clause-mark c =
-    let verbs = c.command_words_are.ensures.all_verbs in
-    let known : KnownVerbs = record {
-      opens = each_of_four (λ verb. opened (verb_text verb) ≡ Some VerbName) _ _ _ _ verbs refl refl refl refl;
-      all = four_origins verb_text _ _ _ _ (codes "pause") (codes "resume") (codes "cancel") (codes "fetch") verbs refl refl refl refl;
-    } in
-    mark_looked_for known
-
-pub returns-clause-system : goal.returns-clause-system
-returns-clause-system c = goes_with_system
-
-pub returns-clause-told_word : goal.returns-clause-told_word
-returns-clause-told_word c =
-    let verbs = c.command_words_are.ensures.all_verbs in
-    let known : KnownVerbs = record {
-      opens = each_of_four (λ verb. opened (verb_text verb) ≡ Some VerbName) _ _ _ _ verbs refl refl refl refl;
-      all = four_origins verb_text _ _ _ _ (codes "pause") (codes "resume") (codes "cancel") (codes "fetch") verbs refl refl refl refl;
-    } in
-    λ line at due front w place same. (
-      word_looked_for known c.lines_begin_with_command_words.ensures.each c.command_words_are.ensures.lines due front w (due_there line at due front place same),
-      goes_with_word known due front w (due_there line at due front place same),
-    )
-
-pub returns-clause-told_mark : goal.returns-clause-told_mark
-returns-clause-told_mark c =
-    let verbs = c.command_words_are.ensures.all_verbs in
-    let known : KnownVerbs = record {
-      opens = each_of_four (λ verb. opened (verb_text verb) ≡ Some VerbName) _ _ _ _ verbs refl refl refl refl;
-      all = four_origins verb_text _ _ _ _ (codes "pause") (codes "resume") (codes "cancel") (codes "fetch") verbs refl refl refl refl;
-    } in
-    λ line at due front m rest p place same. mark_looked_for known due front m rest p (due_there line at due front place same)
-
-pub returns-clause-told_system : goal.returns-clause-told_system
-returns-clause-told_system c = λ line at due front s place same. goes_with_system due front s (due_there line at due front place same)
-
-pub returns-clause-within : goal.returns-clause-within
-returns-clause-within c =
-    let verbs = c.command_words_are.ensures.all_verbs in
-    let known : KnownVerbs = record {
-      opens = each_of_four (λ verb. opened (verb_text verb) ≡ Some VerbName) _ _ _ _ verbs refl refl refl refl;
-      all = four_origins verb_text _ _ _ _ (codes "pause") (codes "resume") (codes "cancel") (codes "fetch") verbs refl refl refl refl;
-    } in
-    within_submit known
+    record {
+      word =
+          λ due front w is. (
+            word_looked_for known c.lines_begin_with_command_words.ensures.each c.command_words_are.ensures.lines due front w is,
+            goes_with_word known due front w is,
+          );
+      mark = mark_looked_for known;
+      system = goes_with_system;
+      told_word =
+          λ line at due front w place same. (
+            word_looked_for known c.lines_begin_with_command_words.ensures.each c.command_words_are.ensures.lines due front w (due_there line at due front place same),
+            goes_with_word known due front w (due_there line at due front place same),
+          );
+      told_mark = λ line at due front m rest p place same. mark_looked_for known due front m rest p (due_there line at due front place same);
+      told_system = λ line at due front s place same. goes_with_system due front s (due_there line at due front place same);
+      within = within_submit known;
+    }
