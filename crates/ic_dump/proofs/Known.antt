@@ -1,5 +1,5 @@
 -- The symbols of what is written are those of the table.
-use Rattle.std.proofs.Common.{◌≡◌, ℕ, zero, suc, ◌<◌, true, false, List, [], ◌∷◌, ◌++◌, Option, None, Some, map, length, get_or, slice_get, IsTrue, inl, inr, refl, sym, ap, ◌∙◌, arith}
+use Rattle.std.proofs.Common.{◌≡◌, ℕ, ◌<◌, true, false, List, [], ◌∷◌, ◌++◌, Option, None, Some, map, length, get_or, slice_get, IsTrue, inl, inr, refl, sym, ap, ◌∙◌, arith}
 use Rattle.std.specs.List.{flat_map, list_all, AllByRecursion}
 use Rattle.std.specs.Str.{bytes_eq}
 use Rattle.std.specs.Cmp.{unsigned_Decides}
@@ -17,6 +17,7 @@ use Rattle.ic_rules.specs.lemmas.FitLaws.{are_trees_over-trees_of}
 use Rattle.ic_text.specs.Source.{Source, leaf, node, Sources, no_sources, more_sources, Sides, IsSource, AreSources, count_of, source_symbols, symbols_of_sources}
 use Rattle.ic_text.specs.SystemSource.{RulePhrase, IsRulePhrase, agent_source, rule_symbols}
 use Rattle.ic_text.specs.Text.{text_or_none, source_of, sources_of, sides_of}
+use Rattle.ic_text.specs.lemmas.WrittenBack.{text-get_or}
 use Rattle.ic_dump.specs.Writing.{agent_of, rule_of}
 use Rattle.ic_dump.proofs.Lists.{All-join, All-split, All-at}
 
@@ -86,13 +87,6 @@ module _ (table : List Symbol) where
   known_rules [] over = tt
   known_rules (r ∷ rs) over =
       All-join (Known table) (rule_symbols (rule_of table r)) (flat_map rule_symbols (map (rule_of table) rs)) (known_rule r over.0) (known_rules rs over.1)
-
--- the text at a place
-pub text-get_or : (ss : List Symbol) (n : ℕ) → get_or (texts ss) n [] ≡ text_or_none (slice_get ss n)
-text-get_or [] zero = refl
-text-get_or [] (suc n) = refl
-text-get_or (s ∷ ss) zero = refl
-text-get_or (s ∷ ss) (suc n) = text-get_or ss n
 
 text_there : (ss : List Symbol) (n : ℕ) (s : Symbol) → slice_get ss n ≡ Some s → get_or (texts ss) n [] ≡ s.text
 text_there ss n s there = text-get_or ss n ∙ ap text_or_none there

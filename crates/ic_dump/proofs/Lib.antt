@@ -3,7 +3,6 @@ pub mod RuleLemmas
 pub mod NodeNames
 pub mod Dumps
 pub mod Lists
-pub mod Tokens
 pub mod Known
 pub mod Table
 pub mod Turned

@@ -28,12 +28,13 @@ use Rattle.ic_text.specs.Sense.{has_its_arity}
 use Rattle.ic_text.specs.SystemSense.{system_table, is_system_in_limits, rule_over, rules_over, system_parts, unless_found, system_sense}
 use Rattle.ic_text.specs.Text.{source_of, sides_of}
 use Rattle.ic_naming.specs.lemmas.ToldNames.{firsts_within, numbers_below}
+use Rattle.ic_text.specs.lemmas.WrittenBack.{phrase_back}
 use Rattle.ic_dump.specs.Writing.{rule_of, system_of}
 use Rattle.ic_dump.proofs.Lists.{All-join, All-split, All-at}
 use Rattle.ic_dump.proofs.NodeNames.{list_names_within}
 use Rattle.ic_dump.proofs.Known.{Known, known_rules, known_interface, known_equations, interface_is, equations_are, rules_are}
 use Rattle.ic_dump.proofs.Table.{Placed, all_placed, all_agree, no_more_symbols}
-use Rattle.ic_dump.proofs.Turned.{turned_rule, rule_names_written, rule_nodes_written, interface_names_written, equation_names_written, interface_nodes_written, equation_nodes_written, interface_back, equations_back, rule_back, numbered_turned}
+use Rattle.ic_dump.proofs.Turned.{turned_rule, rule_names_written, rule_nodes_written, interface_names_written, equation_names_written, interface_nodes_written, equation_nodes_written, rule_back, numbered_turned}
 use Rattle.ic_dump.proofs.Rules.{BothMoved, rules_moved, none_uncounted, none_repeated, none_lopsided}
 
 -- what is known of a system whose names may stand in a text
@@ -140,6 +141,9 @@ module _ (s : SystemParts) (is : IsWhole s) where
       and_from _ _ (and_from _ _ (and_from _ _ (and_from _ _ (and_from _ _ (and_from _ _ fits names) (le-leb (length (system_table p)) MAX_SYMBOLS symbols)) rules) rule_sum)
       (le-leb (length p.config.interface) MAX_INTERFACE interface)) (le-leb (phrase_nodes p.config) MAX_NODES nodes_few)
 
+  agree_all : list_all (has_its_arity (system_table (system_of s))) (system_symbols (system_of s)) ≡ true
+  agree_all = all_agree (system_table (system_of s)) (system_symbols (system_of s)) placed_all
+
   moved_all : AllByRecursion (BothMoved s.rules.symbols (system_table (system_of s))) s.rules.rules
   moved_all =
       rules_moved s.rules.symbols (system_table (system_of s)) s.rules.rules rules_over_table
@@ -158,19 +162,19 @@ module _ (s : SystemParts) (is : IsWhole s) where
         let rs = s.rules.rules in
         chosen (is_system_in_limits (system_of s)) (list_all (has_its_arity read) (system_symbols (system_of s))) (first_uncounted (rules_over (system_of s)))
         (third_occurrence (phrase_names (system_of s).config)) (first_repeated (rules_over (system_of s))) (first_lopsided (rules_over (system_of s)))
-        (system_parts (system_of s)) in_limits (all_agree read (system_symbols (system_of s)) placed_all)
+        (system_parts (system_of s)) in_limits agree_all
         (ap first_uncounted rules_turned ∙ none_uncounted table read rs is.rules.each)
         (ap third_occurrence names_written ∙ (third (configuration_names s.config)).1 is.config.twice)
         (ap first_repeated rules_turned ∙ none_repeated table read is.symbols rs moved_all is.rules.single)
         (ap first_lopsided rules_turned ∙ none_lopsided table read is.symbols same two rs is.rules.each moved_all)
 
-  rules_back : (rs : List Rule) → AllByRecursion IsRule rs → AllByRecursion (Placed (system_table (system_of s))) (flat_map rule_symbols (map (rule_of s.rules.symbols) rs))
+  rules_back : (rs : List Rule) → AllByRecursion IsRule rs → list_all (has_its_arity (system_table (system_of s))) (flat_map rule_symbols (map (rule_of s.rules.symbols) rs)) ≡ true
       → map (rule_of (system_table (system_of s))) (map numbered (map (rule_over (system_table (system_of s))) (map (rule_of s.rules.symbols) rs))) ≡ map (rule_of s.rules.symbols) rs
-  rules_back [] are placed = refl
-  rules_back (r ∷ rs) are placed =
+  rules_back [] are agree = refl
+  rules_back (r ∷ rs) are agree =
       let table = s.rules.symbols in
       let read = system_table (system_of s) in
-      let parts = All-split (Placed read) (rule_symbols (rule_of table r)) (flat_map rule_symbols (map (rule_of table) rs)) placed in
+      let parts = and_parts _ _ (sym (list_all-append (has_its_arity read) (rule_symbols (rule_of table r)) (flat_map rule_symbols (map (rule_of table) rs))) ∙ agree) in
       let here : rule_of read (numbered (turned_rule table read r)) ≡ rule_of table r =
       ap (rule_of read) (numbered-same (turned_rule table read r) (numbered_turned table read r are.0.in_order)) ∙ rule_back read (rule_of table r) parts.0 in
       λ i. here i ∷ rules_back rs are.1 parts.1 i
@@ -179,9 +183,7 @@ module _ (s : SystemParts) (is : IsWhole s) where
   pub written_again : system_of (system_parts (system_of s)) ≡ system_of s
   written_again =
       let read = system_table (system_of s) in
-      let parts = All-split (Placed read) (flat_map rule_symbols (system_of s).rules) (phrase_symbols (system_of s).config) placed_all in
-      let sides = All-split (Placed read) (flat_map source_symbols (system_of s).config.interface) (flat_map (λ (e : Sides). source_symbols e.left ++ source_symbols e.right) (system_of s).config.equations) parts.1 in
+      let parts = and_parts _ _ (sym (list_all-append (has_its_arity read) (flat_map rule_symbols (system_of s).rules) (phrase_symbols (system_of s).config)) ∙ agree_all) in
       let rules = rules_back s.rules.rules is.rules.each parts.0 in
-      let interface = interface_back read (system_of s).config.interface sides.0 in
-      let equations = equations_back read (system_of s).config.equations sides.1 in
-      λ i. record { rules = rules i; config = record { interface = interface i; equations = equations i } }
+      let config = phrase_back read (system_of s).config parts.1 in
+      λ i. record { rules = rules i; config = config i }

@@ -28,9 +28,8 @@ asked j = Ok (Asks (submit_of j))
 
 -- ---- what is dumped are lines that aren't too long
 whole_by : (missing : Option (List ℕ)) (long : Option JobParts) (made bytes : List ℕ) → unless_missing missing (unless_long long (Ok made)) ≡ Ok bytes → (long ≡ None) × (bytes ≡ made)
-whole_by (Some name) long made bytes e = (cc, cc)
-whole_by None (Some j) made bytes e = (cc, cc)
 whole_by None None made bytes e = (refl, cc)
+whole_by _ _ made bytes e = (cc, cc)
 
 whole : (names : List (List ℕ)) (t : List JobParts) (bytes : List ℕ) → dumped names t ≡ Ok bytes → (find is_too_long (chosen names t) ≡ None) × (bytes ≡ lines_of (chosen names t))
 whole names t bytes e = whole_by (first_missing names t) (find is_too_long (chosen names t)) (lines_of (chosen names t)) bytes e

@@ -23,7 +23,7 @@ use Rattle.ic_dump.specs.Telling.{told_system, job_line}
 use Rattle.ic_dump.specs.Told.{told}
 use Rattle.ic_dump.specs.Filling.{read_again, submit_of}
 use Rattle.ic_dump.specs.Alike.{Submits}
-use Rattle.ic_dump.proofs.Tokens.{system_read}
+use Rattle.ic_text.specs.lemmas.WrittenTokens.{tokens-braces}
 use Rattle.ic_dump.proofs.Sense.{IsWhole, is_system, has_sense, written_again}
 use Rattle.ic_dump.proofs.Told.{told_renamed, told_whole}
 
@@ -34,14 +34,14 @@ module _ (spells : (table : List Symbol) (c : Configuration) → IsPhrase (phras
       let phrase = is_system s is in
       record {
         phrase = phrase;
-        tokens = system_read (system_of s).rules (printed s.rules.symbols s.config) _ phrase.rules (spells s.rules.symbols s.config phrase.config).tokens;
+        tokens = tokens-braces (system_of s).rules (printed s.rules.symbols s.config) _ phrase.rules (spells s.rules.symbols s.config phrase.config).tokens;
       }
 
   module _ (one : (text : List ℕ) (s t : SystemPhrase) → SpellsSystem text s → SpellsSystem text t → s ≡ t)
       (third : (ns : List ℕ) → (third_occurrence ns ≡ None) ↔ ((n : ℕ) → occurrences n ns ≤ 2))
       (same : (r : Rule) → r.left ≡ r.right → (is_lopsided (numbered r) ≡ false) ↔ IsOwnMirror r) (two : (r : Rule) → (r.left ≡ r.right → ⊥) → is_lopsided (numbered r) ≡ false) where
-    system_reads : (s : SystemParts) → IsWhole s → length (system_text s) ≤ MAX_TEXT → ReadsSystem (system_text s) (Ok (system_parts (system_of s)))
-    system_reads s is short =
+    tokens-bracess : (s : SystemParts) → IsWhole s → length (system_text s) ≤ MAX_TEXT → ReadsSystem (system_text s) (Ok (system_parts (system_of s)))
+    tokens-bracess s is short =
         let spelled = system_spelled s is in
         let sense = has_sense s is third same two in
         record {
@@ -68,7 +68,7 @@ module _ (spells : (table : List Symbol) (c : Configuration) → IsPhrase (phras
             budget = is.budget;
             written = refl;
             short = short;
-            reads = system_reads s (told_whole j is) fits;
+            reads = tokens-bracess s (told_whole j is) fits;
           })
 
       module _ (keeps : (ns : List ℕ) (n : ℕ) → occurrences n ns ≡ 1 → n ≤ MAX_NAME → told_name ns n ≡ n) where

@@ -1,90 +1,25 @@
 -- The symbols that a text is read with are among those that it was written with, each with its text and arity.
-use Rattle.std.proofs.Common.{◌≡◌, ℕ, zero, suc, ◌+◌, ◌<◌, ◌≤◌, Bool, true, false, not, ◌||◌, cond, leb, List, [], ◌∷◌, ◌++◌, Option, None, Some, is_some, length, get_or, slice_get, refl, sym, ap, subst, ◌∙◌, arith}
-use Rattle.std.specs.Prelude.{option_and_then, unwrap_or}
-use Rattle.std.specs.List.{list_any, list_all, position, prefix_len, AllByRecursion, IsDistinct}
+use Rattle.std.proofs.Common.{◌≡◌, ℕ, ◌<◌, ◌≤◌, Bool, true, false, ◌||◌, cond, List, [], ◌∷◌, ◌++◌, Option, None, Some, is_some, length, get_or, slice_get, refl, sym, ap, subst, ◌∙◌, arith}
+use Rattle.std.specs.Prelude.{option_and_then}
+use Rattle.std.specs.List.{list_all, AllByRecursion, IsDistinct}
 use Rattle.std.specs.Option.{option_map}
 use Rattle.std.specs.Str.{bytes_eq}
 use Rattle.std.specs.Cmp.{unsigned_Decides}
 use Rattle.std.specs.Cmp.Lexicographic.{bytes_decides}
 use Rattle.std.proofs.lemmas.Cmp.{nat_list_eq_equiv}
 use Rattle.std.proofs.lemmas.Bool.{and_from, or_left, or_right, false≢true}
-use Rattle.std.proofs.lemmas.Bool.Decides.{nat_tests}
 use Rattle.std.proofs.lemmas.List.{map-append, length-map}
 use Rattle.std.proofs.lemmas.List.Quantifiers.{position-Some}
 use Rattle.std.proofs.lemmas.Map.Keys.{IsDistinct-push, any_passes_from_place}
 use Rattle.std.proofs.lemmas.Map.Made.{length-le_from_is_member}
 use Rattle.std.proofs.lemmas.Option.{slice_get-map, slice_get-get_or}
-use Rattle.std.proofs.Math.Bool.{or-false, or_assoc}
 use Rattle.ic_term.specs.Symbol.{Symbol, AreSymbols, texts, has_arity, number_of_text, with_symbol}
 use Rattle.ic_text.specs.Sense.{symbols_after, has_its_arity}
 use Rattle.ic_text.specs.Text.{text_or_none}
 use Rattle.ic_dump.proofs.Lists.{All-join, All-at}
-use Rattle.ic_dump.proofs.Known.{Known, one_symbol, text-get_or}
-
--- ---- where a text is found
-
-lt-suc : (m n : ℕ) → leb (suc (1 + m)) (suc n) ≡ leb (suc m) n
-lt-suc m n = grind (arith, nat_tests)
-
-zero-lt : (n : ℕ) → leb (suc zero) (suc n) ≡ true
-zero-lt n = grind (arith, nat_tests)
-
-module _ {X : Type 0} (p : X → Bool) where
-  position-cons : (x : X) (xs : List X) → position p (x ∷ xs) ≡ cond (p x) (Some 0) (option_map (λ k. 1 + k) (position p xs))
-  position-cons x xs = by_test (p x)
-    where
-      by_place : (k : ℕ) (b : Bool) → cond b (Some (1 + k)) None ≡ option_map (λ k. 1 + k) (cond b (Some k) None)
-      by_place k true = refl
-      by_place k false = refl
-
-      by_test : (b : Bool) → cond (leb (suc (cond (not b) (1 + prefix_len (λ y. not (p y)) xs) 0)) (suc (length xs))) (Some (cond (not b) (1 + prefix_len (λ y. not (p y)) xs) 0)) None ≡ cond b (Some 0) (option_map (λ k. 1 + k) (position p xs))
-      by_test true = rw (zero-lt (length xs)) refl
-      by_test false = rw (lt-suc (prefix_len (λ y. not (p y)) xs) (length xs)) (by_place (prefix_len (λ y. not (p y)) xs) (leb (suc (prefix_len (λ y. not (p y)) xs)) (length xs)))
-
--- whether one of the symbols has this text
-abbrev pub has_text : List ℕ → List Symbol → Bool
-has_text text ss = list_any (bytes_eq text) (texts ss)
-
-some-map : (o : Option ℕ) → is_some (option_map (λ k. 1 + k) o) ≡ is_some o
-some-map None = refl
-some-map (Some k) = refl
-
-found : (ss : List Symbol) (text : List ℕ) → is_some (number_of_text ss text) ≡ has_text text ss
-found [] text = refl
-found (s ∷ ss) text = ap is_some (position-cons (bytes_eq text) s.text (texts ss)) ∙ by_test (bytes_eq text s.text) (found ss text)
-  where
-    by_test : (b : Bool) → is_some (number_of_text ss text) ≡ has_text text ss
-        → is_some (cond b (Some 0) (option_map (λ k. 1 + k) (position (bytes_eq text) (texts ss)))) ≡ (b || has_text text ss)
-    by_test true e = refl
-    by_test false e = some-map (position (bytes_eq text) (texts ss)) ∙ e
-
-any-append : (text : List ℕ) (ss ts : List Symbol) → has_text text (ss ++ ts) ≡ (has_text text ss || has_text text ts)
-any-append text [] ts = refl
-any-append text (s ∷ ss) ts = ap (λ b. bytes_eq text s.text || b) (any-append text ss ts) ∙ sym (or_assoc (bytes_eq text s.text) (has_text text ss) (has_text text ts))
-
-known_again : (text : List ℕ) (seen : List Symbol) (s : Symbol) → has_text s.text seen ≡ true → has_text text seen ≡ (has_text text seen || bytes_eq text s.text)
-known_again text seen s known = by_test (bytes_eq text s.text) refl
-  where
-    by_test : (b : Bool) → bytes_eq text s.text ≡ b → has_text text seen ≡ (has_text text seen || b)
-    by_test true e =
-        let same : text ≡ s.text = (bytes_decides text s.text).0 e in
-        let there : has_text text seen ≡ true = ap (λ t. has_text t seen) same ∙ known in
-        there ∙ sym (ap (λ b. b || true) there)
-    by_test false e = sym (or-false (has_text text seen))
-
-texts_with : (text : List ℕ) (seen : List Symbol) (s : Symbol) → has_text text (with_symbol seen s.text s.arity) ≡ (has_text text seen || bytes_eq text s.text)
-texts_with text seen s = by_known (is_some (number_of_text seen s.text)) refl
-  where
-    by_known : (b : Bool) → is_some (number_of_text seen s.text) ≡ b → has_text text (cond b seen (seen ++ s ∷ [])) ≡ (has_text text seen || bytes_eq text s.text)
-    by_known true e = known_again text seen s (sym (found seen s.text) ∙ e)
-    by_known false e = any-append text seen (s ∷ []) ∙ ap (λ b. has_text text seen || b) (or-false (bytes_eq text s.text))
-
-texts_after : (text : List ℕ) (ss seen : List Symbol) → has_text text (symbols_after seen ss) ≡ (has_text text seen || has_text text ss)
-texts_after text [] seen = sym (or-false (has_text text seen))
-texts_after text (s ∷ ss) seen =
-    texts_after text ss (with_symbol seen s.text s.arity)
-    ∙ ap (λ b. b || has_text text ss) (texts_with text seen s)
-    ∙ or_assoc (has_text text seen) (bytes_eq text s.text) (has_text text ss)
+use Rattle.ic_text.specs.lemmas.SymbolOrder.{has_text, found, texts_after}
+use Rattle.ic_text.specs.lemmas.WrittenBack.{text-get_or}
+use Rattle.ic_dump.proofs.Known.{Known, one_symbol}
 
 -- ---- no two symbols have one text
 
@@ -120,10 +55,6 @@ agrees table s placed =
 pub all_agree : (table : List Symbol) (ss : List Symbol) → AllByRecursion (Placed table) ss → list_all (has_its_arity table) ss ≡ true
 all_agree table [] placed = refl
 all_agree table (s ∷ ss) placed = and_from _ _ (agrees table s placed.0) (all_agree table ss placed.1)
-
--- the text at the number of a text
-pub text_at_number : (table : List Symbol) (s : Symbol) → Placed table s → text_or_none (slice_get table (unwrap_or (number_of_text table s.text) 0)) ≡ s.text
-text_at_number table s placed = ap (λ o. text_or_none (slice_get table (unwrap_or o 0))) placed.is ∙ ap text_or_none placed.there
 
 module _ (table : List Symbol) (are : AreSymbols table) where
   known_with : (seen : List Symbol) (s : Symbol) (b : Bool) → AllByRecursion (Known table) seen → Known table s → AllByRecursion (Known table) (cond b seen (seen ++ s ∷ []))

@@ -1,23 +1,24 @@
 -- Terms and rules that are written over one table of symbols and read over another.
-use Rattle.std.proofs.Common.{◌≡◌, ℕ, ◌+◌, List, [], ◌∷◌, ◌++◌, map, length, slice_get, refl, sym, ap, ◌∙◌}
+use Rattle.std.proofs.Common.{◌≡◌, ℕ, true, ◌+◌, List, [], ◌∷◌, ◌++◌, map, length, slice_get, refl, sym, ap, ◌∙◌}
 use Rattle.std.specs.Prelude.{sum_by}
-use Rattle.std.specs.List.{flat_map, range_with_len, AllByRecursion}
-use Rattle.std.proofs.lemmas.List.Folds.{flat_map-map}
+use Rattle.std.specs.List.{flat_map, range_with_len, list_all}
+use Rattle.std.proofs.lemmas.List.Folds.{flat_map-map, list_all-append}
 use Rattle.std.proofs.lemmas.List.Sums.{sum_by-cons}
+use Rattle.std.proofs.lemmas.Bool.{and_parts}
 use Rattle.std.proofs.lemmas.Simd.{map-map}
+use Rattle.std.proofs.lemmas.List.FromFn.{length-range_with_len}
 use Rattle.ic_term.specs.Symbol.{Symbol}
 use Rattle.ic_term.specs.Tree.{Tree, name, agent, Trees, no_trees, more_trees, Pair, list_of, trees_of, names, names_of, nodes, nodes_of, pair_names, pair_nodes}
 use Rattle.ic_rules.specs.Renaming.{renamed, renamed_trees, first_occurrences}
 use Rattle.ic_rules.specs.Rule.{Rule, rule_names, rule_nodes, IsNumbered}
-use Rattle.ic_rules.specs.lemmas.NumberingLaws.{length-range}
-use Rattle.ic_text.specs.Source.{Source, leaf, node, Sources, no_sources, more_sources, Sides, source_names, names_of_sources, source_nodes, nodes_of_sources, source_symbols, symbols_of_sources, count_of}
+use Rattle.ic_text.specs.Source.{Sides, source_names, names_of_sources, source_nodes, nodes_of_sources, source_symbols, count_of}
 use Rattle.ic_text.specs.SystemSource.{RulePhrase, AgentPhrase, agent_source, rule_symbols, rule_names as written_names, rule_nodes as written_nodes}
-use Rattle.ic_text.specs.Sense.{number_in_table, numbered_tree, numbered_trees, numbered_pair}
+use Rattle.ic_text.specs.Sense.{has_its_arity, number_in_table, numbered_tree, numbered_trees}
 use Rattle.ic_text.specs.SystemSense.{rule_over}
 use Rattle.ic_text.specs.Text.{text_or_none, source_of, sources_of, sides_of}
 use Rattle.ic_dump.specs.Writing.{agent_of, rule_of}
-use Rattle.ic_dump.proofs.Lists.{All-split}
-use Rattle.ic_dump.proofs.Table.{Placed, text_at_number}
+use Rattle.ic_text.specs.lemmas.WrittenBack.{text_found, sources_back}
+use Rattle.ic_flat.specs.lemmas.WordLaws.{trees_of-list_of}
 
 -- ---- the names and nodes of what is written
 module _ (table : List Symbol) where
@@ -72,49 +73,19 @@ module _ (table : List Symbol) where
       ∙ (λ i. (nodes_written e.left i + nodes_written e.right i) + equation_nodes_written es i)
       ∙ sym (sum_by-cons pair_nodes e es)
 
-pub trees_of-list_of : (ts : Trees) → trees_of (list_of ts) ≡ ts
-trees_of-list_of no_trees = refl
-trees_of-list_of (more_trees t ts) = ap (more_trees t) (trees_of-list_of ts)
-
 -- ---- what is read is written as it was
 module _ (read : List Symbol) where
-  mutual
-    source_back : (t : Source) → AllByRecursion (Placed read) (source_symbols t) → source_of read (numbered_tree read t) ≡ t
-    source_back (leaf n) placed = refl
-    source_back (node text ts) placed =
-        λ i. node (text_at_number read (record { text = text; arity = count_of ts }) placed.0 i) (sources_back ts placed.1 i)
-
-    sources_back : (ts : Sources) → AllByRecursion (Placed read) (symbols_of_sources ts) → sources_of read (numbered_trees read ts) ≡ ts
-    sources_back no_sources placed = refl
-    sources_back (more_sources t ts) placed =
-        let parts = All-split (Placed read) (source_symbols t) (symbols_of_sources ts) placed in
-        λ i. more_sources (source_back t parts.0 i) (sources_back ts parts.1 i)
-
-  pub interface_back : (ts : List Source) → AllByRecursion (Placed read) (flat_map source_symbols ts) → map (source_of read) (map (numbered_tree read) ts) ≡ ts
-  interface_back [] placed = refl
-  interface_back (t ∷ ts) placed =
-      let parts = All-split (Placed read) (source_symbols t) (flat_map source_symbols ts) placed in
-      λ i. source_back t parts.0 i ∷ interface_back ts parts.1 i
-
-  pub equations_back : (es : List Sides) → AllByRecursion (Placed read) (flat_map (λ (e : Sides). source_symbols e.left ++ source_symbols e.right) es)
-      → map (sides_of read) (map (numbered_pair read) es) ≡ es
-  equations_back [] placed = refl
-  equations_back (e ∷ es) placed =
-      let parts = All-split (Placed read) (source_symbols e.left ++ source_symbols e.right) (flat_map (λ (x : Sides). source_symbols x.left ++ source_symbols x.right) es) placed in
-      let sides = All-split (Placed read) (source_symbols e.left) (source_symbols e.right) parts.0 in
-      λ i. record { left = source_back e.left sides.0 i; right = source_back e.right sides.1 i } ∷ equations_back es parts.1 i
-
-  agent_back : (a : AgentPhrase) → AllByRecursion (Placed read) (source_symbols (agent_source a))
+  agent_back : (a : AgentPhrase) → list_all (has_its_arity read) (source_symbols (agent_source a)) ≡ true
       → agent_of read (number_in_table read a.text) (list_of (numbered_trees read a.arguments)) ≡ a
-  agent_back a placed =
+  agent_back a agree =
+      let parts = and_parts (has_its_arity read (record { text = a.text; arity = count_of a.arguments })) _ agree in
       let arguments : sources_of read (trees_of (list_of (numbered_trees read a.arguments))) ≡ a.arguments =
-      ap (sources_of read) (trees_of-list_of (numbered_trees read a.arguments)) ∙ sources_back a.arguments placed.1 in
-      let text : text_or_none (slice_get read (number_in_table read a.text)) ≡ a.text = text_at_number read (record { text = a.text; arity = count_of a.arguments }) placed.0 in
-      λ i. record { text = text i; arguments = arguments i }
+      ap (sources_of read) (trees_of-list_of (numbered_trees read a.arguments)) ∙ sources_back read a.arguments parts.1 in
+      λ i. record { text = text_found read a.text (count_of a.arguments) parts.0 i; arguments = arguments i }
 
-  pub rule_back : (r : RulePhrase) → AllByRecursion (Placed read) (rule_symbols r) → rule_of read (rule_over read r) ≡ r
-  rule_back r placed =
-      let sides = All-split (Placed read) (source_symbols (agent_source r.left)) (source_symbols (agent_source r.right)) placed in
+  pub rule_back : (r : RulePhrase) → list_all (has_its_arity read) (rule_symbols r) ≡ true → rule_of read (rule_over read r) ≡ r
+  rule_back r agree =
+      let sides = and_parts _ _ (sym (list_all-append (has_its_arity read) (source_symbols (agent_source r.left)) (source_symbols (agent_source r.right))) ∙ agree) in
       λ i. record { left = agent_back r.left sides.0 i; right = agent_back r.right sides.1 i }
 
 -- ---- terms over the other table
@@ -151,7 +122,7 @@ module _ (table read : List Symbol) where
   pub numbered_turned : (r : Rule) → IsNumbered r → IsNumbered (turned_rule r)
   numbered_turned r in_order =
       let count : r.names ≡ length (first_occurrences (written_names (rule_of table r))) =
-      sym (length-range 0 r.names) ∙ ap length (sym in_order) ∙ ap (λ ns. length (first_occurrences ns)) (sym (rule_names_written table r)) in
+      sym (length-range_with_len 0 r.names) ∙ ap length (sym in_order) ∙ ap (λ ns. length (first_occurrences ns)) (sym (rule_names_written table r)) in
       ap first_occurrences (rule_names_turned r) ∙ in_order ∙ ap (range_with_len 0) count
 
   -- renaming goes before or after

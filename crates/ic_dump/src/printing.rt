@@ -1,17 +1,16 @@
 //! Rules as text.
 
-ghost use Rattle.std.specs.Prelude.{◌≡◌, ◌++◌, map, IfOk, OnOk, IsTrue};
+ghost use Rattle.std.specs.Prelude.{◌≡◌, ◌++◌, map, IfOk, OnOk};
 ghost use Rattle.std.specs.List.{AllByRecursion};
-ghost use Rattle.ic_term.specs.Symbol.{is_tree_over};
 ghost use Rattle.ic_term.specs.Term.{tree, cell_tree};
 ghost use Rattle.ic_term.specs.Tree.{agent, trees_of};
 ghost use Rattle.ic_rules.specs.RuleSet.{IsRuleOver};
 ghost use Rattle.ic_dump.specs.Writing.{rules_text};
-ghost use Rattle.ic_dump.specs.inner.Printing.{term_text, rule_text, rules_list_text};
+ghost use Rattle.ic_dump.specs.inner.Printing.{rule_text, rules_list_text};
 
 use ic_rules::{Rule, RuleSet};
 use ic_term::{Cell, Symbols, Term, copy_terms};
-use ic_text::put_name;
+use ic_text::put_cell;
 use std::alloc::{AllocError, Global};
 
 /// Appends the rules, in braces and with `;` between them.
@@ -68,36 +67,4 @@ fn cell_of(alloc: Global, sym: u32, args: &[Term]) -> Result<Cell, AllocError>
         sym,
         args: copy_terms(alloc, args)?,
     })
-}
-
-/// Appends a term.
-#[cycle(put)]
-fn put_term(symbols: &Symbols, term: &Term, out: &mut Vec<u8>) -> Result<(), AllocError>
-    requires { IsTrue (is_tree_over symbols.now (tree term.now)) }
-    ensures { OnOk result (out.new.items ≡ out.old.items ++ term_text symbols.now (tree term.now)) }
-{
-    match term {
-        Term::Name(name) => put_name(*name, out),
-        Term::Agent(cell) => put_cell(symbols, cell, out),
-    }
-}
-
-/// Appends an agent.
-#[cycle(put)]
-fn put_cell(symbols: &Symbols, cell: &Cell, out: &mut Vec<u8>) -> Result<(), AllocError>
-    requires { IsTrue (is_tree_over symbols.now (cell_tree cell.now)) }
-    ensures { OnOk result
-        (out.new.items ≡ out.old.items ++ term_text symbols.now (cell_tree cell.now)) }
-{
-    out.extend_from_slice(symbols.text(cell.sym))?;
-    let mut sign = b'(';
-    for term in &cell.args {
-        out.push(sign)?;
-        put_term(symbols, term, out)?;
-        sign = b',';
-    }
-    if !cell.args.is_empty() {
-        out.push(b')')?;
-    }
-    Ok(())
 }
