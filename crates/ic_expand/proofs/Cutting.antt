@@ -1,5 +1,5 @@
 -- How a text is cut into its pieces, and joined of them.
-use Rattle.std.proofs.Common.{◌≡◌, ◌≢◌, ℕ, zero, suc, ◌+◌, ◌<◌, ◌&&◌, Bool, true, false, cond, List, [], ◌∷◌, ◌++◌, length, take, drop, refl, sym, ap, ◌∙◌, arith}
+use Rattle.std.proofs.Common.{◌≡◌, ◌≢◌, ℕ, zero, suc, ◌+◌, ◌&&◌, Bool, true, false, cond, List, [], ◌∷◌, ◌++◌, take, drop, refl, sym, ap, ◌∙◌, arith}
 use Rattle.std.specs.List.{concat, prefix_len}
 use Rattle.ic_expand.specs.Pieces.{is_word, joins, pieces, with_byte}
 
@@ -74,12 +74,3 @@ cut_run (b ∷ bs) n is = by_byte (joins b) refl is (λ m some. cut_run bs m som
 pub cut_some : (bs : List ℕ) (n : ℕ) → n ≡ prefix_len joins bs → n ≢ 0 → pieces bs ≡ take n bs ∷ pieces (drop n bs)
 cut_some bs zero is other = absurd (other refl)
 cut_some bs (suc n) is other = cut_run bs n (sym is)
-
--- where a text begins with no word, its first byte is its first piece
-pub cut_one : (bs : List ℕ) → 0 < length bs → prefix_len joins bs ≡ 0 → pieces bs ≡ take 1 bs ∷ pieces (drop 1 bs)
-cut_one [] some none = absurd (omega (arith, some))
-cut_one (b ∷ bs) some none = by_byte (joins b) refl none
-  where
-    by_byte : (t : Bool) → joins b ≡ t → cond t (1 + prefix_len joins bs) 0 ≡ 0 → with_byte b (pieces bs) ≡ (b ∷ []) ∷ pieces bs
-    by_byte true it e = absurd (omega (arith, e))
-    by_byte false it e = lone b (pieces bs) it

@@ -1,7 +1,6 @@
 pub mod Cutting
 pub mod Lists
 pub mod Steps
-pub mod Places
 pub mod Spares
 pub mod Renamings
 pub mod Plain

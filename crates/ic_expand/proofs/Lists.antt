@@ -1,5 +1,5 @@
 -- Lists that are seen as lists of other things.
-use Rattle.std.proofs.Common.{◌≡◌, ℕ, ◌+◌, ◌||◌, Bool, true, false, cond, List, [], ◌∷◌, ◌++◌, drop, map, nat_lt, not, None, Some, Result, Ok, Err, refl, sym, ap, ap₂, ◌∙◌}
+use Rattle.std.proofs.Common.{◌≡◌, ℕ, ◌+◌, ◌||◌, Bool, true, false, cond, List, [], ◌∷◌, ◌++◌, map, nat_lt, not, None, Some, Result, Ok, Err, refl, sym, ap, ap₂, ◌∙◌}
 use Rattle.std.specs.Prelude.{OnOk, is_ok}
 use Rattle.std.specs.List.{list_any, position, position_or_len}
 use Rattle.std.specs.Str.{bytes_eq}
@@ -29,18 +29,6 @@ module _ {X : Type 0} (items : X → List ℕ) (keys : List X) where
   -- a word that is there stays alone
   pub word_known : (word : List ℕ) → list_any (λ k. bytes_eq word (items k)) keys ≡ true → map items keys ≡ with_word (map items keys) word
   word_known word there = sym (ap (λ (b : Bool). cond b (map items keys) (map items keys ++ word ∷ [])) (any-map items (bytes_eq word) keys ∙ there))
-
--- ---- a walk that looks for one
-
-module _ {X Y : Type 0} (f : X → Y) (p : Y → Bool) (xs : List X) (i : ℕ) (x : X) (there : drop i xs ≡ x ∷ drop (i + 1) xs) where
-  from_here : list_any p (map f (drop i xs)) ≡ (p (f x) || list_any p (map f (drop (i + 1) xs)))
-  from_here = ap (λ (ys : List X). list_any p (map f ys)) there
-
-  pub found_here : p (f x) ≡ true → list_any p (map f (drop i xs)) ≡ true
-  found_here is = from_here ∙ ap (λ (b : Bool). b || list_any p (map f (drop (i + 1) xs))) is
-
-  pub passed_here : p (f x) ≡ false → list_any p (map f (drop i xs)) ≡ list_any p (map f (drop (i + 1) xs))
-  passed_here is = from_here ∙ ap (λ (b : Bool). b || list_any p (map f (drop (i + 1) xs))) is
 
 -- ---- a list that grows
 

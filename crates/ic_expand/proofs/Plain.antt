@@ -106,8 +106,7 @@ free_by false false spot next free later = later
 free_other : (spot : Spot) (p : List ℕ) → is_spelt Long p ≡ false → IsFree spot → IsFree (after_other spot p)
 free_other Elsewhere p plain free = tt
 free_other Opening p plain free = subst IsFree (sym (no_keyword p plain)) tt
-free_other (Asked kind) p plain free = absurd free
-free_other Given p plain free = absurd free
+free_other _ p plain free = absurd free
 
 free_after : (spot : Spot) (p : List ℕ) → is_spelt Long p ≡ false → IsFree spot → IsFree (after spot p)
 free_after spot p plain free = free_by (is_blank (first_byte p)) (opens_rule (first_byte p)) spot (after_other spot p) free (free_other spot p plain free)
@@ -117,16 +116,14 @@ either_none true o is = refl
 either_none false o is = is
 
 free_refusal : (sheet : Sheet) (earlier : List (List ℕ)) (spot : Spot) (p : List ℕ) → IsFree spot → refusal sheet earlier spot p ≡ None
-free_refusal sheet earlier Elsewhere p free = either_none (is_blank (first_byte p)) None refl
-free_refusal sheet earlier Opening p free = either_none (is_blank (first_byte p)) None refl
 free_refusal sheet earlier (Asked kind) p free = absurd free
 free_refusal sheet earlier Given p free = absurd free
+free_refusal sheet earlier _ p free = either_none (is_blank (first_byte p)) None refl
 
 free_text : (sheet : Sheet) (earlier : List (List ℕ)) (spot : Spot) (p : List ℕ) → sheet.longs ≡ [] → is_spelt Long p ≡ false → IsFree spot → piece_text sheet earlier spot p ≡ p
 free_text sheet earlier Elsewhere p none plain free = ap (λ (longs : List (List ℕ)). told_word longs sheet.spare p) none
 free_text sheet earlier Opening p none plain free = ap (λ (s : Spot). kept_word s p) (no_keyword p plain)
-free_text sheet earlier (Asked kind) p none plain free = absurd free
-free_text sheet earlier Given p none plain free = absurd free
+free_text sheet earlier _ p none plain free = absurd free
 
 written_plain : (sheet : Sheet) (earlier : List (List ℕ)) (spot : Spot) (at : ℕ) (ps : List (List ℕ)) → sheet.longs ≡ [] → IsFree spot → list_any (is_spelt Long) ps ≡ false
     → written sheet earlier spot at ps ≡ Ok (concat ps)
@@ -146,9 +143,7 @@ no_names spot (p ∷ ps) plain =
   where
     unnamed : (s : Spot) → is_spelt Long p ≡ false → is_named Long s p ≡ false
     unnamed Opening isnt = refl
-    unnamed Elsewhere isnt = isnt
-    unnamed (Asked kind) isnt = isnt
-    unnamed Given isnt = isnt
+    unnamed _ isnt = isnt
 
 begun-expanded : (body : List ℕ) → is_begun body ≡ true → body_expanded body ≡ written_pieces (pieces body)
 begun-expanded body begun = ap (λ (b : Bool). cond b (written_pieces (pieces body)) (Err (Refused NoText (blanks_before body)))) begun

@@ -12,7 +12,7 @@ use Rattle.ic_text.specs.lemmas.NameLemmas.{is_name-name_text, name_number-name_
 use Rattle.ic_expand.specs.declared.names.Spelling.{Spelling}
 use Rattle.ic_expand.specs.declared.names.Spelling.TheVariants.{Short, Long}
 use Rattle.ic_expand.specs.declared.spot.Spot.{Spot}
-use Rattle.ic_expand.specs.declared.spot.Spot.TheVariants.{Elsewhere, Opening, Asked, Given}
+use Rattle.ic_expand.specs.declared.spot.Spot.TheVariants.{Elsewhere, Opening}
 use Rattle.ic_expand.specs.Spots.{after}
 use Rattle.ic_expand.specs.Names.{AreApart, IsRenaming, is_among, is_named, is_rich_name, is_spelt, names, names_of, spare_of, told_at, told_word, with_word}
 use Rattle.ic_expand.proofs.Spares.{spare_free, spare_placed, spares_suffice}
@@ -150,9 +150,7 @@ all_spelt spelling spot (p ∷ ps) = by_test (is_named spelling spot p) refl (al
   where
     spelt : (s : Spot) → is_named spelling s p ≡ true → is_spelt spelling p ≡ true
     spelt Opening is = absurd (false≢true is)
-    spelt Elsewhere is = is
-    spelt (Asked kind) is = is
-    spelt Given is = is
+    spelt _ is = is
 
     by_test : (b : Bool) → is_named spelling spot p ≡ b → AllByRecursion (λ w. is_spelt spelling w ≡ true) (names spelling (after spot p) ps)
         → AllByRecursion (λ w. is_spelt spelling w ≡ true) (cond b (p ∷ names spelling (after spot p) ps) (names spelling (after spot p) ps))

@@ -1,16 +1,14 @@
 -- The spare numbers of names: as many as there are long names at least, each once, and no name of the text has one.
-use Rattle.std.proofs.Common.{◌≡◌, ℕ, zero, suc, ◌+◌, ◌<◌, ◌≤◌, ◌==◌, ◌||◌, Bool, true, false, not, cond, List, [], ◌∷◌, ◌++◌, length, filter, get_or, refl, sym, ap, ◌∙◌, append-nil, arith, add-one, one-add}
+use Rattle.std.proofs.Common.{◌≡◌, ℕ, zero, suc, ◌+◌, ◌<◌, ◌≤◌, ◌==◌, ◌||◌, Bool, true, false, not, cond, List, [], ◌∷◌, ◌++◌, length, filter, get_or, refl, sym, ap, ◌∙◌, arith, add-one}
 use Rattle.std.specs.List.{range_with_len, position_or_len}
 use Rattle.std.specs.Str.{bytes_eq}
-use Rattle.std.specs.Cmp.{unsigned_Decides}
-use Rattle.std.proofs.lemmas.Bool.{ne_eqb}
 use Rattle.std.proofs.lemmas.List.Filters.{length-filter_both}
-use Rattle.std.proofs.lemmas.List.Elements.{filter-append}
 use Rattle.std.proofs.lemmas.List.FromFn.{length-range_with_len}
 use Rattle.std.proofs.lemmas.Slice.Eq.{bytes_eq-Decides}
 use Rattle.ic_text.specs.Name.{name_number, name_text}
 use Rattle.ic_text.specs.lemmas.NameLemmas.{name_number-name_text}
 use Rattle.ic_expand.specs.Names.{is_among, spare_numbers, spare_of}
+use Rattle.ic_rules.specs.lemmas.Spared.{range_more, spared_placed}
 
 -- ---- how many of these numbers are taken
 
@@ -39,9 +37,8 @@ filter-or p q (m ∷ ms) = by_tests (p m) (q m) (filter p ms) (filter q ms) (fil
   where
     by_tests : (a b : Bool) (xs ys zs : List ℕ) → length zs ≤ length xs + length ys → length (cond (a || b) (m ∷ zs) zs) ≤ length (cond a (m ∷ xs) xs) + length (cond b (m ∷ ys) ys)
     by_tests true true xs ys zs less = omega (arith, less)
-    by_tests true false xs ys zs less = omega (arith, less)
-    by_tests false true xs ys zs less = omega (arith, less)
     by_tests false false xs ys zs less = less
+    by_tests _ _ xs ys zs less = omega (arith, less)
 
 none_of : (ms : List ℕ) → filter (λ k. is_among (name_text k) []) ms ≡ []
 none_of [] = refl
@@ -72,86 +69,16 @@ spares_suffice shorts longs =
 
 -- ---- they are made one after another
 
-range_more : (a n j : ℕ) → a + n ≡ j → range_with_len a (suc n) ≡ range_with_len a n ++ j ∷ []
-range_more a zero j is = ap (λ (k : ℕ). k ∷ []) (omega (arith, is))
-range_more a (suc n) j is = ap (λ (ms : List ℕ). a ∷ ms) (range_more (a + 1) n j (omega (arith, is)))
-
--- the numbers with one more
--- the same from 0 on
 pub range_more_0 : (n : ℕ) → range_with_len 0 (n + 1) ≡ range_with_len 0 n ++ n ∷ []
 range_more_0 n = ap (λ (k : ℕ). range_with_len 0 k) (add-one n) ∙ range_more 0 n n (omega arith)
 
 pub range_next : (a n : ℕ) → range_with_len a (n + 1) ≡ range_with_len a n ++ (a + n) ∷ []
 range_next a n = ap (λ (k : ℕ). range_with_len a k) (add-one n) ∙ range_more a n (a + n) refl
 
-filter_more : (p : ℕ → Bool) (n : ℕ) → filter p (range_with_len 0 (n + 1)) ≡ filter p (range_with_len 0 n) ++ cond (p n) (n ∷ []) []
-filter_more p n =
-    ap (λ (k : ℕ). filter p (range_with_len 0 k)) (add-one n)
-    ∙ ap (filter p) (range_more 0 n n (omega arith))
-    ∙ filter-append p (range_with_len 0 n) (n ∷ [])
-
--- a number that is taken is passed over
-pub one_taken : (shorts : List (List ℕ)) (k : ℕ) (so_far : List ℕ) → so_far ≡ spare_numbers shorts k → is_among (name_text k) shorts ≡ true
-    → so_far ≡ spare_numbers shorts (k + 1)
-one_taken shorts k so_far is taken =
-    let before = spare_numbers shorts k in
-    let more : spare_numbers shorts (k + 1) ≡ before =
-    filter_more (λ n. not (is_among (name_text n) shorts)) k ∙ ap (λ (b : Bool). before ++ cond (not b) (k ∷ []) []) taken ∙ append-nil before in
-    is ∙ sym more
-
--- any other one is spare
-pub one_spare : (shorts : List (List ℕ)) (k : ℕ) (so_far : List ℕ) → so_far ≡ spare_numbers shorts k → is_among (name_text k) shorts ≡ false
-    → so_far ++ k ∷ [] ≡ spare_numbers shorts (k + 1)
-one_spare shorts k so_far is free =
-    let before = spare_numbers shorts k in
-    let more : spare_numbers shorts (k + 1) ≡ before ++ k ∷ [] =
-    filter_more (λ n. not (is_among (name_text n) shorts)) k ∙ ap (λ (b : Bool). before ++ cond (not b) (k ∷ []) []) free in
-    ap (λ (ns : List ℕ). ns ++ k ∷ []) is ∙ sym more
-
--- ---- each stands once
-
-abbrev Rising : ℕ → List ℕ → Type 0
-Rising low [] = Unit {0}
-Rising low (x ∷ xs) = (low ≤ x) × Rising (suc x) xs
-
-rising_weaker : (low high : ℕ) (xs : List ℕ) → low ≤ high → Rising high xs → Rising low xs
-rising_weaker low high [] less r = tt
-rising_weaker low high (x ∷ xs) less r = (omega (arith, less, r.0), r.1)
-
-rising_range : (a k : ℕ) → Rising a (range_with_len a k)
-rising_range a zero = tt
-rising_range a (suc k) = (omega arith, rising_weaker (suc a) (a + 1) (range_with_len (a + 1) k) (omega arith) (rising_range (a + 1) k))
-
-rising_filter : (p : ℕ → Bool) (low : ℕ) (xs : List ℕ) → Rising low xs → Rising low (filter p xs)
-rising_filter p low [] r = tt
-rising_filter p low (x ∷ xs) r = by_test (p x) (rising_filter p (suc x) xs r.1)
-  where
-    by_test : (b : Bool) → Rising (suc x) (filter p xs) → Rising low (cond b (x ∷ filter p xs) (filter p xs))
-    by_test true rest = (r.0, rest)
-    by_test false rest = rising_weaker low (suc x) (filter p xs) (omega (arith, r.0)) rest
-
-rising_at : (low : ℕ) (xs : List ℕ) (k : ℕ) → Rising low xs → k < length xs → low ≤ get_or xs k 0
-rising_at low [] k r less = absurd (omega (arith, less))
-rising_at low (x ∷ xs) zero r less = r.0
-rising_at low (x ∷ xs) (suc k) r less = omega (arith, r.0, rising_at (suc x) xs k r.1 (omega (arith, less)))
-
-self_eq : (n : ℕ) → (n == n) ≡ true
-self_eq n = (unsigned_Decides n n).1 refl
-
-rising_placed : (low : ℕ) (xs : List ℕ) (k : ℕ) → Rising low xs → k < length xs → position_or_len (λ m. get_or xs k 0 == m) xs ≡ k
-rising_placed low [] k r less = absurd (omega (arith, less))
-rising_placed low (x ∷ xs) zero r less = rw (self_eq x) refl
-rising_placed low (x ∷ xs) (suc k) r less =
-    let later : k < length xs = omega (arith, less) in
-    let apart : (get_or xs k 0 == x) ≡ false = ne_eqb (get_or xs k 0) x (λ same. omega (arith, same, rising_at (suc x) xs k r.1 later)) in
-    let rest : position_or_len (λ m. get_or xs k 0 == m) xs ≡ k = rising_placed (suc x) xs k r.1 later in
-    rw (apart, one-add) (ap suc rest)
-
 -- each spare number is found at its place
 pub spare_placed : (shorts : List (List ℕ)) (n k : ℕ) → k < length (spare_numbers shorts n)
     → position_or_len (λ m. get_or (spare_numbers shorts n) k 0 == m) (spare_numbers shorts n) ≡ k
-spare_placed shorts n k less =
-    rising_placed 0 (spare_numbers shorts n) k (rising_filter (λ m. not (is_among (name_text m) shorts)) 0 (range_with_len 0 n) (rising_range 0 n)) less
+spare_placed shorts n k less = spared_placed (λ m. is_among (name_text m) shorts) n k less
 
 -- ---- no name of the text has one
 

@@ -1,11 +1,10 @@
 -- What one piece more makes of what is found in a text.
-use Rattle.std.proofs.Common.{◌≡◌, ℕ, ◌+◌, Bool, true, false, cond, List, [], ◌∷◌, ◌++◌, length, refl, sym, ap, ◌∙◌, append_assoc, append-nil, Option, None, Some, Result, Ok, Err}
+use Rattle.std.proofs.Common.{◌≡◌, ℕ, ◌+◌, Bool, true, false, cond, List, ◌∷◌, ◌++◌, length, refl, sym, ap, ◌∙◌, append_assoc, Option, None, Result, Ok, Err}
 use Rattle.std.specs.List.{concat, fold}
 use Rattle.std.proofs.lemmas.Bool.{false≢true}
 use Rattle.ic_term.specs.Symbol.{Symbol}
 use Rattle.ic_expand.specs.declared.fault.Reason.{Reason}
 use Rattle.ic_expand.specs.declared.fault.ExpandFault.{ExpandFault}
-use Rattle.ic_expand.specs.declared.fault.ExpandFault.TheVariants.{Refused}
 use Rattle.ic_expand.specs.declared.names.Spelling.{Spelling}
 use Rattle.ic_expand.specs.declared.spot.Spot.{Spot}
 use Rattle.ic_expand.specs.Pieces.{pieces}
@@ -21,10 +20,6 @@ if_yes : {X Y : Type 0} (f : List X → Y) (b : Bool) (x : X) (xs : List X) → 
 if_yes f true x xs is = refl
 if_yes f false x xs is = absurd (false≢true is)
 
-if_no : {X Y : Type 0} (f : List X → Y) (b : Bool) (x : X) (xs : List X) → b ≡ false → f (cond b (x ∷ xs) xs) ≡ f xs
-if_no f true x xs is = absurd (false≢true (sym is))
-if_no f false x xs is = refl
-
 -- ---- symbols
 
 module _ (ss : List Symbol) (spot : Spot) (p more rest : List ℕ) (cut : pieces rest ≡ p ∷ pieces more) where
@@ -34,12 +29,6 @@ module _ (ss : List Symbol) (spot : Spot) (p more rest : List ℕ) (cut : pieces
       ap (λ ps. fold noted ss (uses spot ps)) cut
       ∙ if_yes (fold noted ss) (is_use spot p) (record { text = p; arity = arguments (concat (pieces more)) }) (uses (after spot p) (pieces more)) is
       ∙ ap (λ (text : List ℕ). fold noted (noted ss (record { text = p; arity = arguments text })) (uses (after spot p) (pieces more))) (concat-pieces more)
-
-  pub unused : is_use spot p ≡ false
-      → fold noted ss (uses spot (pieces rest)) ≡ fold noted ss (uses (after spot p) (pieces more))
-  unused is =
-      ap (λ ps. fold noted ss (uses spot ps)) cut
-      ∙ if_no (fold noted ss) (is_use spot p) (record { text = p; arity = arguments (concat (pieces more)) }) (uses (after spot p) (pieces more)) is
 
 -- ---- pairs
 
@@ -51,12 +40,6 @@ module _ (pairs : List (List ℕ × List ℕ)) (spot : Spot) (p more rest : List
       ∙ if_yes (fold with_pair pairs) (is_head spot p) (p, partner (concat (pieces more))) (heads (after spot p) (pieces more)) is
       ∙ ap (λ (text : List ℕ). fold with_pair (with_pair pairs (p, partner text)) (heads (after spot p) (pieces more))) (concat-pieces more)
 
-  pub unpaired : is_head spot p ≡ false
-      → fold with_pair pairs (heads spot (pieces rest)) ≡ fold with_pair pairs (heads (after spot p) (pieces more))
-  unpaired is =
-      ap (λ ps. fold with_pair pairs (heads spot ps)) cut
-      ∙ if_no (fold with_pair pairs) (is_head spot p) (p, partner (concat (pieces more))) (heads (after spot p) (pieces more)) is
-
 -- ---- names
 
 module _ (ws : List (List ℕ)) (spelling : Spelling) (spot : Spot) (p more rest : List ℕ) (cut : pieces rest ≡ p ∷ pieces more) where
@@ -65,12 +48,6 @@ module _ (ws : List (List ℕ)) (spelling : Spelling) (spot : Spot) (p more rest
   called is =
       ap (λ ps. fold with_word ws (names spelling spot ps)) cut
       ∙ if_yes (fold with_word ws) (is_named spelling spot p) p (names spelling (after spot p) (pieces more)) is
-
-  pub uncalled : is_named spelling spot p ≡ false
-      → fold with_word ws (names spelling spot (pieces rest)) ≡ fold with_word ws (names spelling (after spot p) (pieces more))
-  uncalled is =
-      ap (λ ps. fold with_word ws (names spelling spot ps)) cut
-      ∙ if_no (fold with_word ws) (is_named spelling spot p) p (names spelling (after spot p) (pieces more)) is
 
 -- ---- what is written
 
@@ -89,15 +66,3 @@ module _ (sheet : Sheet) (earlier : List (List ℕ)) (spot : Spot) (at : ℕ) (o
       ap (λ ps. before_text out (written sheet earlier spot at ps)) cut
       ∙ ap (λ (r : Option Reason). before_text out (unless_refused r at (piece_text sheet earlier spot p) later)) none
       ∙ before-before out (piece_text sheet earlier spot p) later
-
-  pub put_no_more : (reason : Reason) → refusal sheet earlier spot p ≡ Some reason
-      → before_text out (written sheet earlier spot at (pieces rest)) ≡ Err (Refused reason at)
-  put_no_more reason some =
-      ap (λ ps. before_text out (written sheet earlier spot at ps)) cut
-      ∙ ap (λ (r : Option Reason). before_text out (unless_refused r at (piece_text sheet earlier spot p) later)) some
-
--- nothing is left
-pub put_all : (sheet : Sheet) (earlier : List (List ℕ)) (spot : Spot) (at : ℕ) (out rest : List ℕ) → rest ≡ []
-    → before_text out (written sheet earlier spot at (pieces rest)) ≡ Ok out
-put_all sheet earlier spot at out rest none =
-    ap (λ (l : List ℕ). before_text out (written sheet earlier spot at (pieces l))) none ∙ ap (λ (t : List ℕ). Ok t) (append-nil out)

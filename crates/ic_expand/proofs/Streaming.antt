@@ -9,7 +9,7 @@ use Rattle.std.specs.Io.KnownBytes.{Appends, Consumes}
 use Rattle.ic_output.specs.Output.{AppendsFront}
 use Rattle.ic_streams.specs.Streams.{FaultOf, IsAnswered, OfText}
 use Rattle.ic_streams.specs.declared.fault.StreamFault.{StreamFault}
-use Rattle.ic_streams.specs.declared.fault.StreamFault.TheVariants.{Read, Text, Round, Memory, Write}
+use Rattle.ic_streams.specs.declared.fault.StreamFault.TheVariants.{Text, Write}
 use Rattle.ic_streams.specs.lemmas.Reading.{answered_as, answered_cut, answered_refused, answered_written}
 use Rattle.ic_expand.specs.declared.fault.Reason.TheVariants.{TextBytes}
 use Rattle.ic_expand.specs.declared.fault.ExpandFault.TheVariants.{Refused}
@@ -42,10 +42,7 @@ front_expanded front rest end = elim (cases_lt MAX_RICH_TEXT (length front)) [
 expands_as : (front text : List ℕ) → expanded text ≡ expanded front → (answer : Result (List ℕ) StreamFault) → Expands front answer → Expands text answer
 expands_as front text same (Ok output) s = same ∙ s
 expands_as front text same (Err (Text fault)) s = (s.0, s.1, (same ∙ s.2.0, s.2.1))
-expands_as front text same (Err (Round fault)) s = absurd s
-expands_as front text same (Err Read) s = absurd s
-expands_as front text same (Err Memory) s = absurd s
-expands_as front text same (Err Write) s = absurd s
+expands_as front text same _ s = absurd s
 
 of_front : (Holds : List ℕ → Type 0) → ((front rest : List ℕ) → (length front ≤ MAX_RICH_TEXT → rest ≡ []) → Holds front → Holds (front ++ rest))
     → (old new : Option (List ℕ)) (front : List ℕ) → TakesWhole front old new → Holds front → OfText old Holds
@@ -81,10 +78,7 @@ module _ {T : Type 0} where
 told_taken : (old new : Option (List ℕ)) (front seen : List ℕ) (fault : StreamFault) (before after : List ℕ) → TakesWhole front old new → seen ≡ front
     → ToldAt seen fault before after → Told old new fault before after
 told_taken old new front seen (Text fault) before after takes same told = (front, takes, subst (λ (text : List ℕ). ToldAt text (Text fault) before after) same told)
-told_taken old new front seen (Round fault) before after takes same told = told
-told_taken old new front seen Read before after takes same told = told
-told_taken old new front seen Memory before after takes same told = told
-told_taken old new front seen Write before after takes same told = told
+told_taken old new front seen _ before after takes same told = told
 
 pub told_of_taken : {T : Type 0} (r : Result T StreamFault) (old new : Option (List ℕ)) (front seen : List ℕ) (fault : StreamFault) (before after : List ℕ)
     → TakesWhole front old new → seen ≡ front → ToldAt seen fault before after → IsErrAnd r (λ e. e ≡ fault) → IfErr r (λ f. Told old new f before after)

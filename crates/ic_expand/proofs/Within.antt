@@ -12,7 +12,7 @@ use Rattle.ic_expand.specs.declared.limits.TheConstants.{MAX_RICH_TEXT}
 use Rattle.ic_expand.specs.declared.spot.Kind.{Kind}
 use Rattle.ic_expand.specs.declared.spot.Kind.TheVariants.{Copier, Eraser}
 use Rattle.ic_expand.specs.declared.spot.Spot.{Spot}
-use Rattle.ic_expand.specs.declared.spot.Spot.TheVariants.{Elsewhere, Opening, Asked, Given}
+use Rattle.ic_expand.specs.declared.spot.Spot.TheVariants.{Elsewhere, Asked, Given}
 use Rattle.ic_expand.specs.Begins.{blanks_before, is_begun}
 use Rattle.ic_expand.specs.Comments.{uncommented}
 use Rattle.ic_expand.specs.Pieces.{first_byte, pieces}
@@ -45,11 +45,10 @@ inner_by text true o p one other = one
 inner_by text false o p one other = other
 
 inner_at : (text : List ℕ) (sheet : Sheet) (earlier : List (List ℕ)) (spot : Spot) (p : List ℕ) → Inner text (refused_at sheet earlier spot p)
-inner_at text sheet earlier Elsewhere p = tt
-inner_at text sheet earlier Opening p = tt
 inner_at text sheet earlier (Asked kind) p =
     inner_by text (has_symbol sheet.symbols kind p) (unless_some (wanted sheet earlier p)) (Some (lack_of kind p (arity_in sheet.symbols p))) (inner_some text (wanted sheet earlier p)) (inner_lack text kind p (arity_in sheet.symbols p))
 inner_at text sheet earlier Given p = inner_by text (is_end (first_byte p)) None (Some NoEnd) tt refl
+inner_at text sheet earlier _ p = tt
 
 inner_refusal : (text : List ℕ) (sheet : Sheet) (earlier : List (List ℕ)) (spot : Spot) (p : List ℕ) → Inner text (refusal sheet earlier spot p)
 inner_refusal text sheet earlier spot p = inner_by text (is_blank (first_byte p)) None (refused_at sheet earlier spot p) tt (inner_at text sheet earlier spot p)
