@@ -13,7 +13,7 @@ use Rattle.ic_rules.specs.Rule.{Rule}
 use Rattle.ic_rules.specs.RuleSet.{IsRuleOver}
 use Rattle.ic_rules.specs.lemmas.FitLaws.{first_unfit-None}
 use Rattle.ic_jobs.specs.declared.state.State.{State}
-use Rattle.ic_jobs.specs.declared.state.State.TheVariants.{Running, Paused, Done, Halted, Spent}
+use Rattle.ic_jobs.specs.declared.state.State.TheVariants.{Running}
 use Rattle.ic_codec.specs.Form.{form_digit, form_head, state_byte, budget_bytes, budget_number, heading_bytes, heading_of}
 use Rattle.ic_codec.specs.declared.form.Form.{Form}
 use Rattle.ic_codec.specs.declared.form.Form.TheVariants.{Ict1, Ict2}
@@ -144,10 +144,7 @@ rule_are_bytes ss few r over =
 
 state_small : (s : State) → state_byte s < 256
 state_small Running = omega arith
-state_small Paused = omega arith
-state_small Done = omega arith
-state_small Halted = omega arith
-state_small Spent = omega arith
+state_small _ = omega arith
 
 budget_are_bytes : (form : Form) (budget : Option ℕ) → AreBytes (budget_bytes form budget)
 budget_are_bytes Ict1 budget = tt

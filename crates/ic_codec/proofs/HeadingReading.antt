@@ -1,9 +1,8 @@
 -- Which headings bytes begin with, and when they begin with none.
-use Rattle.std.proofs.Common.{◌≡◌, ◌≢◌, ℕ, ◌^◌, ◌<◌, ◌≤◌, true, Option, None, Some, List, ◌∷◌, ◌++◌, length, sym, ap, subst, ◌∙◌, arith}
+use Rattle.std.proofs.Common.{◌≡◌, ◌≢◌, ℕ, ◌^◌, ◌<◌, true, Option, None, Some, List, ◌∷◌, ◌++◌, length, sym, ap, subst, ◌∙◌, arith}
 use Rattle.std.proofs.lemmas.List.{length-append}
 use Rattle.ic_rules.specs.JobName.{is_job_name}
 use Rattle.ic_jobs.specs.declared.state.State.{State}
-use Rattle.ic_jobs.specs.declared.state.State.TheVariants.{Running, Paused, Done, Halted, Spent}
 use Rattle.ic_codec.specs.Form.{state_byte, budget_number, budget_bytes, heading_bytes}
 use Rattle.ic_codec.specs.declared.form.Form.{Form}
 use Rattle.ic_codec.specs.declared.form.Form.TheVariants.{Ict2}
@@ -15,27 +14,6 @@ use Rattle.ic_codec.specs.inner.Forms.{HasBudgetBytes, HasHeadingBytes}
 use Rattle.ic_codec.specs.inner.Fronts.{BeginsWith, BeginsWithNone}
 use Rattle.ic_codec.proofs.NumberLemmas.{fronts, length-eight_bytes}
 use Rattle.ic_codec.proofs.Unique.{text_front, eight_front, budget_tells, heading_spread}
-
--- a text's bytes are no front where the bytes end before it does
-pub no_text : (bytes rest : List ℕ) (count : ℕ) → bytes ≡ count ∷ rest → length rest < count → (text after : List ℕ) → bytes ≢ text_bytes text ++ after
-no_text bytes rest count read short text after e =
-    let same : count ∷ rest ≡ length text ∷ (text ++ after) = sym read ∙ e in
-    let counts : count ≡ length text = cc in
-    let tails : rest ≡ text ++ after = cc in
-    omega (arith, ap length tails, length-append text after)
-
-pub state_few : (s : State) → state_byte s ≤ 4
-state_few Running = omega arith
-state_few Paused = omega arith
-state_few Done = omega arith
-state_few Halted = omega arith
-state_few Spent = omega arith
-
-pub no_state : (bytes rest : List ℕ) (byte : ℕ) → bytes ≡ byte ∷ rest → 4 < byte → (s : State) (after : List ℕ) → bytes ≢ state_byte s ∷ after
-no_state bytes rest byte read big s after e =
-    let same : byte ∷ rest ≡ state_byte s ∷ after = sym read ∙ e in
-    let bytes_same : byte ≡ state_byte s = cc in
-    omega (arith, state_few s)
 
 -- ---- budgets
 
@@ -68,9 +46,6 @@ abbrev pub NoHeading : Form → List ℕ → Type 0
 NoHeading form bytes = BeginsWithNone (HasHeadingBytes form) (heading_bytes form) bytes
 
 module _ (form : Form) where
-  pub none_name : (bytes : List ℕ) → ((text rest : List ℕ) → bytes ≢ text_bytes text ++ rest) → NoHeading form bytes
-  none_name bytes none h rest has e = none h.name (state_byte h.state ∷ after_state form h rest) (e ∙ heading_spread form h rest)
-
   pub none_such_name : (bytes text b : List ℕ) → bytes ≡ text_bytes text ++ b → (is_job_name text ≡ true → ⊥) → NoHeading form bytes
   none_such_name bytes text b read not h rest has e =
       let same = (text_front text h.name b (state_byte h.state ∷ after_state form h rest) (sym read ∙ e ∙ heading_spread form h rest)).0 in
@@ -111,10 +86,3 @@ module _ (form : Form) where
       let same = sym begins.parts ∙ rounds_next bytes name b s c rounds d h rest read after further e in
       let last = (budget_tells form budget h.budget f (after_budget h rest) begins.valid has.budget same).1 in
       omega (arith, ap length last, length-append (eight_bytes h.next) rest, length-eight_bytes h.next)
-
-  pub heading_parts : (h : Heading) (bytes b c d f rest : List ℕ) → bytes ≡ text_bytes h.name ++ b → b ≡ state_byte h.state ∷ c → c ≡ eight_bytes h.rounds ++ d
-      → d ≡ budget_bytes form h.budget ++ f → f ≡ eight_bytes h.next ++ rest → bytes ≡ heading_bytes form h ++ rest
-  heading_parts h bytes b c d f rest e g k l m =
-      e ∙ ap (λ (bs : List ℕ). text_bytes h.name ++ bs) (g ∙ ap (λ (bs : List ℕ). state_byte h.state ∷ bs) (k ∙ ap (λ (bs : List ℕ). eight_bytes h.rounds ++ bs)
-      (l ∙ ap (λ (bs : List ℕ). budget_bytes form h.budget ++ bs) m)))
-      ∙ sym (heading_spread form h rest)

@@ -13,14 +13,13 @@ module _ {X : Type 0} where
   pub items_front : (V : X → Type 0) (spell : X → List ℕ) → Tells V spell → (xs ys : List X) (a b : List ℕ)
       → AllByRecursion V xs → AllByRecursion V ys → length xs ≡ length ys → flat_map spell xs ++ a ≡ flat_map spell ys ++ b → (xs ≡ ys) × (a ≡ b)
   items_front V spell tells [] [] a b vs ws count e = (refl, e)
-  items_front V spell tells [] (y ∷ ys) a b vs ws count e = absurd (omega arith)
-  items_front V spell tells (x ∷ xs) [] a b vs ws count e = absurd (omega arith)
   items_front V spell tells (x ∷ xs) (y ∷ ys) a b vs ws count e =
       let joined : spell x ++ (flat_map spell xs ++ a) ≡ spell y ++ (flat_map spell ys ++ b) =
       sym (append_assoc (spell x) (flat_map spell xs) a) ∙ e ∙ append_assoc (spell y) (flat_map spell ys) b in
       let first = tells x y (flat_map spell xs ++ a) (flat_map spell ys ++ b) vs.0 ws.0 joined in
       let rest = items_front V spell tells xs ys a b vs.1 ws.1 (omega arith) first.1 in
       ((λ i. first.0 i ∷ rest.0 i), rest.1)
+  items_front V spell tells _ _ a b vs ws count e = absurd (omega arith)
 
   -- after fewer values stand a further one and those after it
   pub items_split : (V : X → Type 0) (spell : X → List ℕ) → Tells V spell → (xs ys : List X) (a b : List ℕ)
@@ -83,7 +82,3 @@ module _ {X : Type 0} where
   none_many {V = V} {spell = spell} {size = size} {left = left} {rest = rest} {xs = xs} count tells fewer begins none ys rest' all many within e =
       none_after V spell size tells xs ys left rest rest' begins.each all (omega (arith, begins.many)) (omega (arith, begins.counted)) none
       (sym begins.parts ∙ e)
-
-  -- none of these values so far, and nothing read
-  pub none_yet : (V : X → Type 0) (spell : X → List ℕ) (size : X → ℕ) (budget : ℕ) (bytes : List ℕ) → BeginsWithMany V spell size 0 budget bytes [] budget bytes
-  none_yet V spell size budget bytes = record { parts = refl; each = tt; many = refl; counted = omega arith }

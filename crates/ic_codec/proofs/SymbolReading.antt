@@ -1,15 +1,12 @@
 -- Which symbols bytes begin with, and when they begin with none.
-use Rattle.std.proofs.Common.{◌≡◌, ◌≢◌, ℕ, ◌<◌, Bool, true, false, List, [], ◌∷◌, ◌++◌, length, cond, Option, Some, None, Ok, Err, is_some, refl, sym, ap, subst, ◌∙◌, append_assoc, arith}
-use Rattle.std.specs.Prelude.{slice_get}
+use Rattle.std.proofs.Common.{◌≡◌, ◌≢◌, ℕ, ◌<◌, List, [], ◌∷◌, ◌++◌, length, refl, sym, ap, subst, ◌∙◌, append_assoc, arith}
 use Rattle.std.specs.List.{flat_map}
-use Rattle.ic_term.specs.Symbol.{Symbol, AreSymbols, numbered, number_found, number_of_text, with_symbol, fits_limits, has_arity}
-use Rattle.ic_term.specs.declared.symbols.SymbolFault.TheVariants.{Limit, Arity}
+use Rattle.ic_term.specs.Symbol.{Symbol, AreSymbols}
 use Rattle.ic_codec.specs.Texts.{text_bytes}
 use Rattle.ic_codec.specs.Symbols.{symbol_bytes, symbols_bytes}
 use Rattle.ic_codec.specs.inner.Forms.{HaveSymbolBytes}
 use Rattle.ic_codec.specs.inner.Fronts.{BeginsWithNone}
-use Rattle.ic_codec.proofs.TermLemmas.{known_below}
-use Rattle.ic_codec.proofs.Items.{items_split, flat_map-push}
+use Rattle.ic_codec.proofs.Items.{items_split}
 use Rattle.ic_codec.proofs.Unique.{AnySymbol, any_symbols, symbol_tells, text_front}
 
 -- so many symbols
@@ -38,12 +35,6 @@ none_further earlier ss count bytes rest read fewer none ts after has e =
     none split.0 (flat_map symbol_bytes split.1.0 ++ after)
     (first_are earlier (ss ++ split.0 ∷ []) split.1.0 (subst (λ (l : List Symbol). AreSymbols l) parts has.symbols)) split.1.1.1
 
-pub one_further : (ss : List Symbol) (s : Symbol) (bytes rest after : List ℕ) → bytes ≡ flat_map symbol_bytes ss ++ rest → rest ≡ symbol_bytes s ++ after
-    → bytes ≡ flat_map symbol_bytes (ss ++ s ∷ []) ++ after
-one_further ss s bytes rest after read e =
-    read ∙ ap (λ (bs : List ℕ). flat_map symbol_bytes ss ++ bs) e ∙ sym (append_assoc (flat_map symbol_bytes ss) (symbol_bytes s) after)
-    ∙ ap (λ (bs : List ℕ). bs ++ after) (sym (flat_map-push symbol_bytes ss s))
-
 pub symbols_none : (count : ℕ) (bytes rest : List ℕ) → bytes ≡ count ∷ rest → BeginsWithNone (AreSoManySymbols count) (flat_map symbol_bytes) rest
     → BeginsWithNone HaveSymbolBytes symbols_bytes bytes
 symbols_none count bytes rest read none ss after have e =
@@ -61,23 +52,8 @@ too_many_symbols count bytes rest read many ss after have e =
 
 -- ---- one symbol
 
-pub symbol_parts : (s : Symbol) (bytes rest after : List ℕ) → bytes ≡ text_bytes s.text ++ rest → rest ≡ s.arity ∷ after → bytes ≡ symbol_bytes s ++ after
-symbol_parts s bytes rest after e f =
-    e ∙ ap (λ (bs : List ℕ). text_bytes s.text ++ bs) f ∙ sym (append_assoc (text_bytes s.text) (s.arity ∷ []) after)
-
 symbol_text_first : (s : Symbol) (bytes after : List ℕ) → bytes ≡ symbol_bytes s ++ after → bytes ≡ text_bytes s.text ++ (s.arity ∷ after)
 symbol_text_first s bytes after e = e ∙ append_assoc (text_bytes s.text) (s.arity ∷ []) after
-
-pub none_text : (ss : List Symbol) (bytes : List ℕ) → ((text rest : List ℕ) → bytes ≢ text_bytes text ++ rest)
-    → (s : Symbol) (after : List ℕ) → AreSymbols (ss ++ s ∷ []) → bytes ≢ symbol_bytes s ++ after
-none_text ss bytes none s after are e = none s.text (s.arity ∷ after) (symbol_text_first s bytes after e)
-
-pub none_arity : (ss : List Symbol) (bytes text rest : List ℕ) → bytes ≡ text_bytes text ++ rest → rest ≡ []
-    → (s : Symbol) (after : List ℕ) → AreSymbols (ss ++ s ∷ []) → bytes ≢ symbol_bytes s ++ after
-none_arity ss bytes text rest read ended s after are e =
-    let tails = (text_front text s.text rest (s.arity ∷ after) (sym read ∙ symbol_text_first s bytes after e)).1 in
-    let clash : [] ≡ s.arity ∷ after = sym ended ∙ tails in
-    absurd (cc (clash))
 
 pub none_next_symbol : (ss : List Symbol) (bytes text rest : List ℕ) (arity : ℕ) (left : List ℕ) → bytes ≡ text_bytes text ++ rest → rest ≡ arity ∷ left
     → (AreSymbols (ss ++ record { text = text; arity = arity } ∷ []) → ⊥)
@@ -88,17 +64,3 @@ none_next_symbol ss bytes text rest arity left read further not s after are e =
     let arities : s.arity ≡ arity = cc (same) in
     let texts = sym first.0 in
     not (subst (λ (t : Symbol). AreSymbols (ss ++ t ∷ [])) (λ i. record { text = texts i; arity = arities i }) are)
-
--- a number that is the next one is a new symbol's
-pub number_is_new : (ss : List Symbol) (text : List ℕ) (arity : ℕ) → numbered ss text arity ≡ Ok (length ss) → with_symbol ss text arity ≡ ss ++ record { text = text; arity = arity } ∷ []
-number_is_new ss text arity e = by (fits_limits text arity) (number_of_text ss text) e
-  where
-    old : (n : ℕ) (b : Bool) → has_arity arity (slice_get ss n) ≡ b → cond b (Ok n) (Err (Arity n)) ≡ Ok (length ss) → ⊥
-    old n true known f = let same : n ≡ length ss = cc (f) in omega (arith, known_below ss n arity (slice_get ss n) refl known)
-    old n false known f = absurd (cc (f))
-
-    by : (fits : Bool) (o : Option ℕ) → cond fits (number_found ss arity o) (Err Limit) ≡ Ok (length ss)
-        → cond (is_some o) ss (ss ++ record { text = text; arity = arity } ∷ []) ≡ ss ++ record { text = text; arity = arity } ∷ []
-    by true None f = refl
-    by true (Some n) f = absurd (old n (has_arity arity (slice_get ss n)) refl f)
-    by false o f = absurd (cc (f))

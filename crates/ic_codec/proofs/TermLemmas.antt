@@ -26,11 +26,11 @@ pub one_arity : (m n : ℕ) (o : Option Symbol) → has_arity m o ≡ true → h
 one_arity m n None h k = absurd cc
 one_arity m n (Some x) h k = sym ((unsigned_Decides x.arity m).0 h) ∙ (unsigned_Decides x.arity n).0 k
 
-all_left : (P : ℕ → Type 0) (ms ns : List ℕ) → AllByRecursion P (ms ++ ns) → AllByRecursion P ms
+pub all_left : (P : ℕ → Type 0) (ms ns : List ℕ) → AllByRecursion P (ms ++ ns) → AllByRecursion P ms
 all_left P [] ns all = tt
 all_left P (m ∷ ms) ns all = (all.0, all_left P ms ns all.1)
 
-all_right : (P : ℕ → Type 0) (ms ns : List ℕ) → AllByRecursion P (ms ++ ns) → AllByRecursion P ns
+pub all_right : (P : ℕ → Type 0) (ms ns : List ℕ) → AllByRecursion P (ms ++ ns) → AllByRecursion P ns
 all_right P [] ns all = all
 all_right P (m ∷ ms) ns all = all_right P ms ns all.1
 
@@ -68,8 +68,6 @@ mutual
       → AllByRecursion (λ n. n < 2 ^ 64) (names_of ts) → AllByRecursion (λ n. n < 2 ^ 64) (names_of us)
       → trees_bytes ts ++ a ≡ trees_bytes us ++ b → (ts ≡ us) × (a ≡ b)
   trees_front ss few no_trees no_trees a b count over_t over_u small little e = (refl, e)
-  trees_front ss few no_trees (more_trees u us) a b count over_t over_u small little e = absurd (omega arith)
-  trees_front ss few (more_trees t ts) no_trees a b count over_t over_u small little e = absurd (omega arith)
   trees_front ss few (more_trees t ts) (more_trees u us) a b count over_t over_u small little e =
       let over = and_parts (is_tree_over ss t) (are_trees_over ss ts) over_t in
       let over_too = and_parts (is_tree_over ss u) (are_trees_over ss us) over_u in
@@ -77,6 +75,7 @@ mutual
       let first = tree_front ss few t u (trees_bytes ts ++ a) (trees_bytes us ++ b) over.0 over_too.0 (all_left (λ n. n < 2 ^ 64) (names t) (names_of ts) small) (all_left (λ n. n < 2 ^ 64) (names u) (names_of us) little) joined in
       let rest = trees_front ss few ts us a b (omega arith) over.1 over_too.1 (all_right (λ n. n < 2 ^ 64) (names t) (names_of ts) small) (all_right (λ n. n < 2 ^ 64) (names u) (names_of us) little) first.1 in
       (ap (λ (x : Tree). more_trees x ts) first.0 ∙ ap (more_trees u) rest.0, rest.1)
+  trees_front ss few _ _ a b count over_t over_u small little e = absurd (omega arith)
 
 arguments_nodes : (ts : List Term) → nodes_of (trees_of (map tree ts)) ≡ sum_by (λ t. nodes (tree t)) ts
 arguments_nodes [] = refl

@@ -9,12 +9,13 @@ use Rattle.std.proofs.lemmas.List.{length-append, append-nil}
 use Rattle.std.proofs.lemmas.List.Sums.{sum_by-cons, sum_by_push}
 use Rattle.ic_term.specs.Tree.{Tree, name, agent, Trees, no_trees, more_trees, names, names_of, nodes, nodes_of, list_of, trees_of}
 use Rattle.ic_term.specs.Symbol.{Symbol, has_arity, symbol_arity, is_tree_over, are_trees_over}
+use Rattle.ic_term.specs.lemmas.TreeLaws.{nodes_of-trees_of}
 use Rattle.ic_codec.specs.Numbers.{eight_bytes}
 use Rattle.ic_codec.specs.Terms.{tree_bytes, trees_bytes}
 use Rattle.ic_codec.specs.inner.Forms.{HasBytes}
 use Rattle.ic_codec.specs.inner.Fronts.{BeginsWithTree, BeginsWithNoTree, BeginsWithTrees, BeginsWithNoTrees}
 use Rattle.ic_codec.proofs.NumberLemmas.{length-eight_bytes}
-use Rattle.ic_codec.proofs.TermLemmas.{tree_front, known_below, one_arity}
+use Rattle.ic_codec.proofs.TermLemmas.{tree_front, known_below, one_arity, all_left as part_left, all_right as part_right}
 
 -- ---- lists of terms and their bytes
 
@@ -30,10 +31,6 @@ nodes_of-list : (ts : Trees) → nodes_of ts ≡ sum_by nodes (list_of ts)
 nodes_of-list no_trees = refl
 nodes_of-list (more_trees t ts) = ap (λ k. nodes t + k) (nodes_of-list ts) ∙ sym (sum_by-cons nodes t (list_of ts))
 
-nodes_of-trees_of : (ts : List Tree) → nodes_of (trees_of ts) ≡ sum_by nodes ts
-nodes_of-trees_of [] = refl
-nodes_of-trees_of (t ∷ ts) = ap (λ k. nodes t + k) (nodes_of-trees_of ts) ∙ sym (sum_by-cons nodes t ts)
-
 length-trees_of : (ts : List Tree) → length (list_of (trees_of ts)) ≡ length ts
 length-trees_of [] = refl
 length-trees_of (t ∷ ts) = ap suc (length-trees_of ts)
@@ -45,14 +42,6 @@ nodes_positive (agent s ts) = omega arith
 join_all : (P : ℕ → Type 0) (ms ns : List ℕ) → AllByRecursion P ms → AllByRecursion P ns → AllByRecursion P (ms ++ ns)
 join_all P [] ns left right = right
 join_all P (m ∷ ms) ns left right = (left.0, join_all P ms ns left.1 right)
-
-part_left : (P : ℕ → Type 0) (ms ns : List ℕ) → AllByRecursion P (ms ++ ns) → AllByRecursion P ms
-part_left P [] ns all = tt
-part_left P (m ∷ ms) ns all = (all.0, part_left P ms ns all.1)
-
-part_right : (P : ℕ → Type 0) (ms ns : List ℕ) → AllByRecursion P (ms ++ ns) → AllByRecursion P ns
-part_right P [] ns all = all
-part_right P (m ∷ ms) ns all = part_right P ms ns all.1
 
 -- arguments that have bytes make an agent's arguments that do
 over_trees_of : (ss : List Symbol) (ts : List Tree) → AllByRecursion (HasBytes ss) ts → are_trees_over ss (trees_of ts) ≡ true
@@ -77,14 +66,6 @@ arity_known a None e = absurd cc
 arity_known a (Some s) e = let same : s.arity ≡ a = cc in (unsigned_Decides s.arity a).1 same
 
 -- ---- one term
-
-pub name_begins : (ss : List Symbol) (budget n : ℕ) (bytes after rest : List ℕ) → 1 ≤ budget → n < 2 ^ 64
-    → bytes ≡ 255 ∷ after → after ≡ eight_bytes n ++ rest → BeginsWithTree ss budget bytes (name n) (budget - 1) rest
-name_begins ss budget n bytes after rest some small first e = record {
-  parts = first ∙ ap (λ (bs : List ℕ). 255 ∷ bs) e;
-  has_bytes = record { over = refl; names = (small, tt) };
-  counted = omega arith;
-}
 
 pub agent_begins : (ss : List Symbol) (budget s a left : ℕ) (ts : List Tree) (bytes after rest : List ℕ) → 1 ≤ budget
     → bytes ≡ s ∷ after → symbol_arity ss s ≡ Some a → BeginsWithTrees ss a (budget - 1) after ts left rest

@@ -6,6 +6,7 @@ use Rattle.std.specs.Cmp.{unsigned_Decides}
 use Rattle.std.proofs.lemmas.Bool.{and_parts}
 use Rattle.std.proofs.lemmas.List.{length-append}
 use Rattle.std.proofs.lemmas.List.Sums.{sum_by-cons}
+use Rattle.std.proofs.lemmas.List.FromFn.{length-range_with_len}
 use Rattle.ic_term.specs.Tree.{Tree, name, agent, Trees, no_trees, more_trees, names, names_of, nodes, nodes_of, Pair, pair_names}
 use Rattle.ic_term.specs.Symbol.{Symbol, has_arity, is_tree_over, is_pair_over}
 use Rattle.ic_term.specs.Configuration.{Configuration, IsConfiguration}
@@ -13,9 +14,9 @@ use Rattle.ic_rules.specs.Renaming.{first_after, first_occurrences}
 use Rattle.ic_rules.specs.Rule.{Rule, rule_names, rule_nodes, IsNumbered, IsRule}
 use Rattle.ic_rules.specs.RuleSet.{Rules, AreServed, IsRuleSet, IsRuleOver}
 use Rattle.ic_rules.specs.lemmas.FitLaws.{first_unfit-None}
-use Rattle.ic_rules.specs.lemmas.NumberingLaws.{Among, each_among, length-range}
+use Rattle.ic_rules.specs.lemmas.NumberingLaws.{Among, each_among}
 use Rattle.ic_jobs.specs.declared.state.State.{State}
-use Rattle.ic_jobs.specs.declared.state.State.TheVariants.{Running, Paused, Done, Halted, Spent}
+use Rattle.ic_jobs.specs.declared.state.State.TheVariants.{Running}
 use Rattle.ic_jobs.specs.State.{state_numbered}
 use Rattle.ic_jobs.specs.Budget.{IsBudget}
 use Rattle.ic_codec.specs.Form.{state_byte, budget_number, budget_bytes, heading_bytes}
@@ -55,10 +56,7 @@ text_front x y a b e =
 
 byte_numbered : (s : State) → state_numbered (state_byte s) ≡ s
 byte_numbered Running = refl
-byte_numbered Paused = refl
-byte_numbered Done = refl
-byte_numbered Halted = refl
-byte_numbered Spent = refl
+byte_numbered _ = refl
 
 pub state_same : (s r : State) → state_byte s ≡ state_byte r → s ≡ r
 state_same s r e = sym (byte_numbered s) ∙ ap state_numbered e ∙ byte_numbered r
@@ -217,7 +215,7 @@ all_within k firsts (n ∷ ns) e few among =
 -- the names of a numbered rule with few nodes are small
 names_small : (r : Rule) → IsNumbered r → rule_nodes r ≤ 2048 → AreSmall (rule_names r)
 names_small r in_order few =
-    let count : length (first_occurrences (rule_names r)) ≡ r.names = ap length in_order ∙ length-range 0 r.names in
+    let count : length (first_occurrences (rule_names r)) ≡ r.names = ap length in_order ∙ length-range_with_len 0 r.names in
     let total = length-append (flat_map names r.left_args) (flat_map names r.right_args) in
     all_within r.names (first_occurrences (rule_names r)) (rule_names r) in_order
     (omega (arith, count, firsts_few [] (rule_names r), total, flat_names_few r.left_args, flat_names_few r.right_args)) (each_among [] (rule_names r))
@@ -241,7 +239,7 @@ right_have ss r has = terms_have ss r.right_args has.over.right_args (all_right 
 
 -- the number of a numbered rule's names is known from its arguments
 pub names_counted : (r : Rule) → IsNumbered r → length (first_occurrences (rule_names r)) ≡ r.names
-names_counted r in_order = ap length in_order ∙ length-range 0 r.names
+names_counted r in_order = ap length in_order ∙ length-range_with_len 0 r.names
 
 pub rule_tells : (ss : List Symbol) → length ss ≤ 64 → Tells (HasRuleBytes ss) rule_bytes
 rule_tells ss few r q a b v w e =

@@ -1,5 +1,5 @@
 -- Words of terms, and how many terms are due after them.
-use Rattle.std.proofs.Common.{◌≡◌, ℕ, zero, suc, ◌+◌, ◌-◌, ◌<◌, ◌≤◌, ◌⊎◌, inl, inr, ⊎_elim, List, [], ◌∷◌, ◌++◌, length, refl, sym, ap, subst, ◌∙◌, append_assoc, append-nil, arith}
+use Rattle.std.proofs.Common.{◌≡◌, ℕ, zero, suc, ◌+◌, ◌-◌, ◌<◌, ◌≤◌, List, [], ◌∷◌, ◌++◌, length, refl, sym, ap, subst, ◌∙◌, append_assoc, append-nil, arith}
 use Rattle.std.proofs.lemmas.List.{length-append, drop_at}
 use Rattle.ic_flat.specs.declared.word.Word.{Word}
 use Rattle.ic_flat.specs.declared.word.Word.TheVariants.{Name, Agent}
@@ -10,9 +10,6 @@ use Rattle.ic_flat.specs.lemmas.WordLaws.{length-forest, forest-append, whole-dr
 pub record IsDue (count due : ℕ) (ws : List Word) : Type 0 where
   pub enough : (zs : List Word) → IsWhole zs → due ≤ length (forest zs) → IsWhole (ws ++ zs) × (length (forest (ws ++ zs)) + due ≡ length (forest zs) + count)
   pub needed : (zs : List Word) → IsWhole (ws ++ zs) → count ≤ length (forest (ws ++ zs)) → due ≤ length (forest zs)
-
-pub IsDue-start : (count : ℕ) → IsDue count count []
-IsDue-start count = record { enough = λ zs whole there. (whole, refl); needed = λ zs whole there. there }
 
 pub IsDue-next : {count due : ℕ} {ws : List Word} (w : Word) → IsDue count due ws → 0 < due → IsDue count (due - 1 + arguments w) (ws ++ w ∷ [])
 IsDue-next {count} {due} {ws} w is some = record {
@@ -75,9 +72,3 @@ pub no_more : (us zs : List Word) → IsWhole us → length (forest (us ++ zs)) 
 no_more us [] whole same = refl
 no_more us (z ∷ zs) whole same =
     absurd (omega (arith, same, ap length (forest-append us (z ∷ zs) whole), length-append (forest us) (forest (z ∷ zs)), some-terms z zs))
-
--- of two numbers one is less, or not
-pub less_or_not : (m n : ℕ) → (m < n) ⊎ (n ≤ m)
-less_or_not m zero = inr (omega arith)
-less_or_not zero (suc n) = inl (omega arith)
-less_or_not (suc m) (suc n) = ⊎_elim (λ less. inl (omega (arith, less))) (λ not. inr (omega (arith, not))) (less_or_not m n)

@@ -1,8 +1,9 @@
 -- Which words bytes begin with, and when they begin with none.
-use Rattle.std.proofs.Common.{◌≡◌, ◌≢◌, ℕ, ◌+◌, ◌-◌, ◌^◌, ◌<◌, ◌≤◌, ⊎_elim, List, [], ◌∷◌, ◌++◌, length, Some, refl, sym, ap, subst, ◌∙◌, append_assoc, append-nil, arith}
+use Rattle.std.proofs.Common.{◌≡◌, ◌≢◌, ℕ, ◌+◌, ◌-◌, ◌<◌, ◌≤◌, ⊎_elim, List, [], ◌∷◌, ◌++◌, length, Some, refl, sym, ap, subst, ◌∙◌, append_assoc, append-nil, arith}
 use Rattle.std.specs.Prelude.{slice_get}
 use Rattle.std.specs.List.{flat_map, AllByRecursion}
 use Rattle.std.proofs.lemmas.List.{length-append}
+use Rattle.std.proofs.lemmas.Bool.{cases_lt}
 use Rattle.ic_term.specs.Symbol.{Symbol, has_arity, symbol_arity}
 use Rattle.ic_flat.specs.declared.word.Word.{Word}
 use Rattle.ic_flat.specs.declared.word.Word.TheVariants.{Name, Agent}
@@ -16,7 +17,7 @@ use Rattle.ic_codec.proofs.TermLemmas.{known_below, one_arity}
 use Rattle.ic_codec.proofs.TermReading.{arity_known}
 use Rattle.ic_codec.proofs.Items.{Tells, items_split, flat_map-push, all_push}
 use Rattle.ic_codec.proofs.Unique.{eight_front, all_right}
-use Rattle.ic_codec.proofs.WordLists.{IsDue, IsDue-start, IsDue-next, IsDue-end, goes_on, no_more, less_or_not}
+use Rattle.ic_codec.proofs.WordLists.{IsDue, IsDue-next, IsDue-end, goes_on, no_more}
 
 -- ---- one word
 
@@ -66,13 +67,6 @@ none_without_symbol ss s bytes after first other unknown (Agent r c) rest has e 
     let below = known_below ss r c (slice_get ss r) refl has.over in
     omega arith
 
-pub name_begins : (ss : List Symbol) (n : ℕ) (bytes after rest : List ℕ) → n < 2 ^ 64 → bytes ≡ 255 ∷ after → after ≡ eight_bytes n ++ rest
-    → BeginsWith (HasWordBytes ss) word_bytes bytes (Name n) rest
-name_begins ss n bytes after rest small first e = record {
-  parts = first ∙ ap (λ (bs : List ℕ). 255 ∷ bs) e;
-  valid = record { over = refl; names = (small, tt) };
-}
-
 pub agent_begins : (ss : List Symbol) (s c : ℕ) (bytes rest : List ℕ) → bytes ≡ s ∷ rest → symbol_arity ss s ≡ Some c
     → BeginsWith (HasWordBytes ss) word_bytes bytes (Agent s c) rest
 agent_begins ss s c bytes rest first arity = record {
@@ -105,7 +99,7 @@ pub whole_front : (ss : List Symbol) → length ss ≤ 64 → (vs ws : List Word
     → IsWhole vs → IsWhole ws → length (forest vs) ≡ length (forest ws) → flat_map word_bytes vs ++ a ≡ flat_map word_bytes ws ++ b → vs ≡ ws
 whole_front ss few vs ws a b all also whole_vs whole_ws many e =
     ⊎_elim (λ less. sym (longer_front ss few ws vs b a also all whole_vs (sym many) (omega (arith, less)) (sym e)))
-    (λ not. longer_front ss few vs ws a b all also whole_ws many not e) (less_or_not (length vs) (length ws))
+    (λ not. longer_front ss few vs ws a b all also whole_ws many not e) (cases_lt (length vs) (length ws))
 
 -- Words have been read, after which so many terms are due; so many further words may come.
 pub record IsReading (ss : List Symbol) (count : ℕ) (bytes : List ℕ) (ws : List Word) (due spare : ℕ) (rest : List ℕ) : Type 0 where
@@ -113,9 +107,6 @@ pub record IsReading (ss : List Symbol) (count : ℕ) (bytes : List ℕ) (ws : L
   pub has_bytes : AllByRecursion (HasWordBytes ss) ws
   pub open_terms : IsDue count due ws
   pub few : length ws + due + spare ≡ 8192
-
-pub IsReading-start : (ss : List Symbol) (count : ℕ) (bytes : List ℕ) → count ≤ 8192 → IsReading ss count bytes [] count (8192 - count) bytes
-IsReading-start ss count bytes few = record { parts = refl; has_bytes = tt; open_terms = IsDue-start count; few = omega arith }
 
 pub IsReading-next : {ss : List Symbol} {count : ℕ} {bytes : List ℕ} {ws : List Word} {due spare : ℕ} {rest rest' : List ℕ} (w : Word)
     → IsReading ss count bytes ws due spare rest → 0 < due → BeginsWith (HasWordBytes ss) word_bytes rest w rest' → arguments w ≤ spare
@@ -143,7 +134,7 @@ further {ss} {count} {bytes} {ws} {due} {spare} {rest} us rest' few is some all 
     let joined = sym is.parts ∙ e in
     ⊎_elim (λ less. items_split (HasWordBytes ss) word_bytes (word_tells ss few) ws us rest rest' is.has_bytes all less joined)
     (λ not. let front = prefix ss few ws us rest rest' is.has_bytes all not joined in absurd (goes_on us front.0 is.open_terms some whole many front.1))
-    (less_or_not (length ws) (length us))
+    (cases_lt (length ws) (length us))
 
 pub none_without_word : {ss : List Symbol} {count : ℕ} {bytes : List ℕ} {ws : List Word} {due spare : ℕ} {rest : List ℕ} → length ss ≤ 64
     → IsReading ss count bytes ws due spare rest → 0 < due → BeginsWithNone (HasWordBytes ss) word_bytes rest → BeginsWithNoWords ss count 8192 bytes
