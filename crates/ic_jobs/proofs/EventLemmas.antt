@@ -49,18 +49,14 @@ IsTable-cancelled name t i j s is =
     subst (λ (l : List JobParts). IsTable l) (sym (without_alone name t i j s)) (IsTable-without name t i j s is)
 
 pub running_open : (s : State) → is_running s ≡ true → is_finished s ≡ false
-running_open state.Running e = refl
-running_open state.Paused e = refl
 running_open state.Done e = cc
-running_open state.Halted e = refl
 running_open state.Spent e = cc
+running_open _ e = refl
 
 pub paused_open : (s : State) → is_paused s ≡ true → is_finished s ≡ false
-paused_open state.Running e = refl
-paused_open state.Paused e = refl
 paused_open state.Done e = cc
-paused_open state.Halted e = refl
 paused_open state.Spent e = cc
+paused_open _ e = refl
 
 room_left : (n : ℕ) → nat_lt n MAX_JOBS ≡ true → n < MAX_JOBS
 room_left n e = ltb-true n MAX_JOBS e

@@ -1,6 +1,6 @@
 -- Jobs that stay jobs.
-use Rattle.std.proofs.Common.{List, inl, inr, ◌≡◌, ℕ, ◌+◌, ◌≤◌, ◌↔◌, ◌&&◌, not, Bool, true, false, cond, Option, None, Some, IsTrue, IfSome, nat_lt, refl, sym, ap, subst, ◌∙◌, arith}
-use Rattle.std.proofs.lemmas.Bool.{ltb-true, cases_lt}
+use Rattle.std.proofs.Common.{List, inl, inr, ◌≡◌, ℕ, ◌+◌, ◌≤◌, ◌↔◌, not, Bool, true, false, cond, Option, None, Some, IsTrue, IfSome, nat_lt, refl, sym, ap, subst, ◌∙◌, arith}
+use Rattle.std.proofs.lemmas.Bool.{ltb-true, cases_lt, and_parts}
 use Rattle.std.specs.Cmp.{unsigned_Decides}
 use Rattle.ic_term.specs.Symbol.{AreSymbols, is_over}
 use Rattle.ic_term.specs.Configuration.{Configuration, IsConfiguration}
@@ -13,30 +13,20 @@ use Rattle.ic_round.specs.lemmas.QuietLemmas.{no_step, is_quiet_where}
 use Rattle.ic_round.specs.lemmas.RoundLemmas.{round_is_configuration, round_is_over}
 use Rattle.ic_flights.specs.declared.limits.TheConstants.{MAX_ROUNDS}
 use Rattle.ic_jobs.specs.declared.state.State.{State}
-use Rattle.ic_jobs.specs.declared.state.State.TheVariants.{Running, Paused, Done, Halted, Spent}
+use Rattle.ic_jobs.specs.declared.state.State.TheVariants.{Running, Done, Spent}
 use Rattle.ic_jobs.specs.inner.States.{is_done, is_spent, is_finished, may_be}
 use Rattle.ic_jobs.specs.Budget.{IsBudget, is_used_up}
 use Rattle.ic_jobs.specs.Job.{JobParts, IsJob, open_state, state_after, begun, system_of, can_move, moved, in_state}
 
-and_parts : (a b : Bool) → (a && b) ≡ true → (a ≡ true) × (b ≡ true)
-and_parts true b e = (refl, e)
-and_parts false b e = cc
-
 -- ---- states and budgets
 
 is_Done : (s : State) → is_done s ≡ true → s ≡ Done
-is_Done Running e = cc
-is_Done Paused e = cc
 is_Done Done e = refl
-is_Done Halted e = cc
-is_Done Spent e = cc
+is_Done _ e = cc
 
 is_Spent : (s : State) → is_spent s ≡ true → s ≡ Spent
-is_Spent Running e = cc
-is_Spent Paused e = cc
-is_Spent Done e = cc
-is_Spent Halted e = cc
 is_Spent Spent e = refl
+is_Spent _ e = cc
 
 done_is : (s : State) → s ≡ Done → is_done s ≡ true
 done_is s e = ap is_done e
@@ -109,11 +99,9 @@ found_by s rules c rounds budget false false is by h =
     (λ spent. let both : false ≡ true = sym by ∙ used_up_where budget rounds (h.spent.0 spent).1 in cc)
   where
     unended : (r : State) → ¬ (r ≡ Done) → ¬ (r ≡ Spent) → not (is_finished r) ≡ true
-    unended Running d u = refl
-    unended Paused d u = refl
     unended Done d u = absurd (d refl)
-    unended Halted d u = refl
     unended Spent d u = absurd (u refl)
+    unended _ d u = refl
 
 pub state_found : (s : State) (rules : Rules) (c : Configuration) (rounds : ℕ) (budget : Option ℕ) → IsInState s rules c rounds budget
     → may_be s (is_quiet rules.rules c) (is_used_up budget rounds) ≡ true

@@ -1,38 +1,38 @@
 -- The life of a name, entry by entry.
-use Rattle.std.proofs.Common.{add-zero, append-nil, ◌≡◌, ℕ, ◌+◌, List, [], ◌∷◌, ◌++◌, Bool, true, false, cond, Option, None, Some, is_some, nat_lt, length, refl, sym, ap, subst, ◌∙◌, append_assoc, add-one, ◌||◌, arith}
+use Rattle.std.proofs.Common.{add-zero, append-nil, ◌≡◌, ℕ, ◌+◌, List, [], ◌∷◌, ◌++◌, Bool, true, false, cond, Option, None, Some, is_some, nat_lt, length, refl, sym, ap, subst, ◌∙◌, append_assoc, add-one, ◌||◌}
 use Rattle.std.specs.Prelude.{count_by}
 use Rattle.std.specs.List.{list_any}
 use Rattle.std.proofs.lemmas.List.Folds.{list_any-append}
 use Rattle.std.proofs.lemmas.List.Sums.{sum_by-append}
 use Rattle.std.specs.Option.{option_map_or}
-use Rattle.ic_jobs.specs.Shown.{shown, listed}
+use Rattle.ic_jobs.specs.Shown.{shown}
 use Rattle.std.specs.Option.{option_map, option_or, option_and_then}
 use Rattle.std.specs.Str.{bytes_eq}
 use Rattle.std.specs.Cmp.Lexicographic.{bytes_decides}
 use Rattle.ic_rules.specs.System.{SystemParts}
-use Rattle.ic_round.specs.Rounds.{round, iterate}
+use Rattle.ic_round.specs.Rounds.{round}
 use Rattle.ic_jobs.specs.declared.limits.TheConstants.{MAX_JOBS}
 use Rattle.ic_jobs.specs.declared.state.State.{State}
 use Rattle.ic_jobs.specs.declared.state.State.TheVariants as state
 use Rattle.ic_jobs.specs.declared.command.Command.{Command}
 use Rattle.ic_jobs.specs.declared.command.Command.TheVariants.{Submit, CopyJob, Pause, Resume, Cancel, Fetch, List as list_jobs}
 use Rattle.ic_jobs.specs.declared.reply.Reply.{Reply}
-use Rattle.ic_jobs.specs.declared.reply.Reply.TheVariants.{Accepted, Okay, Shown, Listed, Refused, Moved, Halted}
-use Rattle.ic_jobs.specs.declared.reply.Refusal.TheVariants.{Taken, Full, NoJob, NotRunning, NotPaused}
+use Rattle.ic_jobs.specs.declared.reply.Reply.TheVariants.{Accepted, Okay, Shown, Refused, Moved, Halted}
+use Rattle.ic_jobs.specs.declared.reply.Refusal.TheVariants.{Taken, Full, NotRunning, NotPaused}
 use Rattle.ic_jobs.specs.declared.event.Event.{Event}
 use Rattle.ic_jobs.specs.declared.event.Event.TheVariants.{Command as by_command, Round}
 use Rattle.ic_jobs.specs.declared.event.Entry.{Entry}
 use Rattle.ic_jobs.specs.State.{is_running, is_paused}
 use Rattle.ic_jobs.specs.Job.{JobParts, begun, system_of, can_move, moved, in_state}
-use Rattle.ic_jobs.specs.Table.{is_named, job_named, with_changed, without}
-use Rattle.ic_jobs.specs.Events.{submitted, copied, unless_missing, paused, resumed, after_command, after_round, where_running, apply, outcome}
+use Rattle.ic_jobs.specs.Table.{job_named, with_changed, without}
+use Rattle.ic_jobs.specs.Events.{copied, unless_missing, paused, resumed, after_command, after_round, where_running, outcome}
 use Rattle.ic_jobs.specs.History.{table_after, reply_to, replay, IsLegal}
 use Rattle.ic_jobs.specs.Replies.{is_accepted, is_okay, is_moved}
 use Rattle.ic_jobs.specs.Names.{mentions}
-use Rattle.ic_jobs.specs.Life.{Life, Beginning, event_begins, event_ends, event_moves, begins, ends, moves, last_beginning, life_since, life, HasLived, IsAsLived}
+use Rattle.ic_jobs.specs.Life.{Life, Beginning, event_begins, event_ends, event_moves, begins, ends, moves, last_beginning, life_since, life, IsAsLived}
 use Rattle.ic_jobs.proofs.EventLemmas.{second_apart}
 use Rattle.ic_jobs.proofs.HistoryLemmas.{replay-append}
-use Rattle.ic_jobs.proofs.TableLookups.{KeepsName, job_named-changed, job_named-changed_other, job_named-without, job_named-without_other, job_named-append}
+use Rattle.ic_jobs.proofs.TableLookups.{job_named-changed, job_named-changed_other, job_named-without, job_named-without_other, job_named-append}
 
 -- a life that begins with a system
 abbrev fresh : SystemParts → Life
@@ -345,22 +345,11 @@ unbegun_by : (name : List ℕ) (t : List JobParts) (e : Event) → mentions name
 unbegun_by name t (by_command (Submit n s most)) apart = ap (λ (b : Bool). cond b (Some s) None) apart
 unbegun_by name t (by_command (CopyJob old n)) apart =
     ap (λ (b : Bool). cond b (option_map system_of (job_named old t)) None) (second_apart (bytes_eq name old) (bytes_eq name n) apart)
-unbegun_by name t (by_command (Pause n)) apart = refl
-unbegun_by name t (by_command (Resume n)) apart = refl
-unbegun_by name t (by_command (Cancel n)) apart = refl
-unbegun_by name t (by_command (Fetch n)) apart = refl
-unbegun_by name t (by_command list_jobs) apart = refl
-unbegun_by name t (Round n) apart = refl
+unbegun_by name t _ apart = refl
 
 unended_by : (name : List ℕ) (e : Event) → mentions name e ≡ false → event_ends name e ≡ false
-unended_by name (by_command (Submit n s most)) apart = refl
-unended_by name (by_command (CopyJob old n)) apart = refl
-unended_by name (by_command (Pause n)) apart = refl
-unended_by name (by_command (Resume n)) apart = refl
 unended_by name (by_command (Cancel n)) apart = apart
-unended_by name (by_command (Fetch n)) apart = refl
-unended_by name (by_command list_jobs) apart = refl
-unended_by name (Round n) apart = refl
+unended_by name _ apart = refl
 
 unmoved_by : (name : List ℕ) (e : Event) → mentions name e ≡ false → event_moves name e ≡ false
 unmoved_by name (by_command c) apart = refl

@@ -7,7 +7,7 @@ use Rattle.ic_jobs.specs.declared.state.State.TheVariants as state
 use Rattle.ic_jobs.specs.declared.command.Command.{Command}
 use Rattle.ic_jobs.specs.declared.command.Command.TheVariants.{Submit, CopyJob, Pause, Resume, Cancel, Fetch, List as list_jobs}
 use Rattle.ic_jobs.specs.declared.reply.Reply.{Reply}
-use Rattle.ic_jobs.specs.declared.reply.Reply.TheVariants.{Accepted, Okay, Shown, Listed, Refused, Moved, Halted}
+use Rattle.ic_jobs.specs.declared.reply.Reply.TheVariants.{Accepted, Okay, Shown, Listed}
 use Rattle.ic_jobs.specs.declared.reply.Refusal.{Refusal}
 use Rattle.ic_jobs.specs.declared.reply.Refusal.TheVariants.{Taken, Full, NotRunning, NotPaused}
 use Rattle.ic_jobs.specs.State.{is_running, is_paused}
@@ -31,13 +31,10 @@ spares_unless t what None each = (refl, refl)
 spares_unless t what (Some j) each = each j
 
 spared : (t : List JobParts) (c : Command) → takes_memory c ≡ false → Spares (after_command t c).reply
-spared t (Submit n s most) e = cc
-spared t (CopyJob old n) e = cc
 spared t (Pause n) e = spares_unless t (paused t n) (job_named n t) (λ j. spares_changed t (with_changed n (in_state state.Paused) t) NotRunning (is_running j.state))
 spared t (Resume n) e = spares_unless t (resumed t n) (job_named n t) (λ j. spares_changed t (with_changed n (in_state state.Running) t) NotPaused (is_paused j.state))
 spared t (Cancel n) e = spares_unless t (λ j. outcome (without n t) Okay) (job_named n t) (λ j. (refl, refl))
-spared t (Fetch n) e = cc
-spared t list_jobs e = cc
+spared t _ e = cc
 
 submitting_by : (t : List JobParts) (c : Command) (b : Bool) → takes_memory c ≡ b → is_accepted (after_command t c).reply ≡ true → b ≡ true
 submitting_by t c true is e = refl
@@ -96,13 +93,9 @@ abbrev IsOfJobs : Reply → Type 0
 IsOfJobs r = ((s : ShownParts) × (r ≡ Shown s)) ⊎ ((l : List (List ℕ × State × ℕ)) × (r ≡ Listed l))
 
 told_of : (r : Reply) → IsTrue (tells_jobs r) → IsOfJobs r
-told_of Accepted is = cc
-told_of Okay is = cc
 told_of (Shown s) is = inl (s, refl)
 told_of (Listed l) is = inr (l, refl)
-told_of (Refused q) is = cc
-told_of Moved is = cc
-told_of Halted is = cc
+told_of _ is = cc
 
 of_told : (r : Reply) → IsOfJobs r → IsTrue (tells_jobs r)
 of_told r h = elim h [

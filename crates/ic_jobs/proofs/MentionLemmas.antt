@@ -1,9 +1,10 @@
 -- The names that an event mentions are its own.
-use Rattle.std.proofs.Common.{◌≡◌, ℕ, zero, suc, ◌<◌, List, [], ◌∷◌, Bool, true, false, IsTrue, ◌↔◌, ◌||◌, length, get_or, refl, sym, ap, ◌∙◌, arith}
+use Rattle.std.proofs.Common.{◌≡◌, ℕ, zero, suc, ◌<◌, List, [], ◌∷◌, Bool, true, false, IsTrue, ◌↔◌, ◌||◌, refl, sym, ap, arith}
 use Rattle.std.specs.Prelude.{slice_index_or}
 use Rattle.std.specs.List.{Contains}
 use Rattle.std.specs.Str.{bytes_eq}
 use Rattle.std.specs.Cmp.Lexicographic.{bytes_decides}
+use Rattle.std.proofs.lemmas.Bool.{or_right}
 use Rattle.ic_jobs.specs.declared.command.Command.{Command}
 use Rattle.ic_jobs.specs.declared.command.Command.TheVariants.{Submit, CopyJob, Pause, Resume, Cancel, Fetch, List as list_jobs}
 use Rattle.ic_jobs.specs.declared.event.Event.{Event}
@@ -25,13 +26,9 @@ first_or_second x m n true q first second is = (0, omega arith, sym ((bytes_deci
 first_or_second x m n false true first second is = (1, omega arith, sym ((bytes_decides x n).0 second))
 first_or_second x m n false false first second is = cc
 
-or_second : (p q : Bool) → q ≡ true → (p || q) ≡ true
-or_second true q is = refl
-or_second false q is = is
-
 among_two : (x m n : List ℕ) (k : ℕ) → k < 2 → slice_index_or (m ∷ n ∷ []) k x ≡ x → (bytes_eq x m || bytes_eq x n) ≡ true
 among_two x m n zero h e = ap (λ (p : Bool). p || bytes_eq x n) ((bytes_decides x m).1 (sym e))
-among_two x m n (suc zero) h e = or_second (bytes_eq x m) (bytes_eq x n) ((bytes_decides x n).1 (sym e))
+among_two x m n (suc zero) h e = or_right (bytes_eq x m) (bytes_eq x n) ((bytes_decides x n).1 (sym e))
 among_two x m n (suc (suc k)) h e = absurd (omega arith)
 
 two_names : (x m n : List ℕ) → IsTrue (bytes_eq x m || bytes_eq x n) ↔ Contains (m ∷ n ∷ []) x

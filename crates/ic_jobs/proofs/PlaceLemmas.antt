@@ -1,9 +1,7 @@
 -- The job at the place of a name: how it is found, changed and taken out.
-use Rattle.std.proofs.Common.{◌≡◌, ℕ, suc, zero, ◌+◌, ◌<◌, List, [], ◌∷◌, ◌++◌, Bool, true, false, cond, Option, None, Some, is_some, length, take, drop, refl, sym, ap, subst, ◌∙◌, arith, set, get_or, slice_get, add-one, nat_lt, ◌==◌, ◌&&◌, ◌||◌, not, IsTrue, ◌↔◌, ◌≤◌}
-use Rattle.std.proofs.lemmas.Bool.{lt-ltb, le-ltb, ltb-true, eqb-true}
-use Rattle.std.specs.List.{position_from, remove, AllByRecursion, IsDistinct}
-use Rattle.std.specs.Str.{bytes_eq}
-use Rattle.std.specs.Bool.{Decides}
+use Rattle.std.proofs.Common.{◌≡◌, ℕ, suc, zero, ◌+◌, ◌<◌, List, [], ◌∷◌, ◌++◌, Bool, true, false, cond, Option, None, Some, is_some, length, refl, sym, ap, subst, ◌∙◌, arith, set, get_or, slice_get, nat_lt, ◌==◌, ◌&&◌, ◌||◌, not, ◌≤◌}
+use Rattle.std.proofs.lemmas.Bool.{lt-ltb, le-ltb, ltb-true, eqb-true, and_parts, and_from}
+use Rattle.std.specs.List.{position_from, remove, IsDistinct}
 use Rattle.std.specs.Cmp.{unsigned_Decides}
 use Rattle.std.specs.Option.{option_map, option_and_then}
 use Rattle.ic_term.specs.Configuration.{Configuration, configuration_eq}
@@ -18,8 +16,8 @@ use Rattle.ic_flights.specs.declared.limits.TheConstants.{MAX_ROUNDS}
 use Rattle.ic_jobs.specs.declared.limits.TheConstants.{MAX_JOBS}
 use Rattle.ic_jobs.specs.declared.state.State.{State}
 use Rattle.ic_jobs.specs.declared.state.State.TheVariants as state
-use Rattle.ic_jobs.specs.declared.command.Command.TheVariants.{Submit, CopyJob, Pause, Resume, Cancel, Fetch}
-use Rattle.ic_jobs.specs.declared.reply.Reply.TheVariants.{Accepted, Okay, Shown, Refused, Moved, Halted}
+use Rattle.ic_jobs.specs.declared.command.Command.TheVariants.{CopyJob, Pause, Resume, Cancel, Fetch}
+use Rattle.ic_jobs.specs.declared.reply.Reply.TheVariants.{Accepted, Okay, Shown, Moved, Halted}
 use Rattle.ic_jobs.specs.declared.reply.Refusal.{Refusal}
 use Rattle.ic_jobs.specs.declared.reply.Refusal.TheVariants.{Taken, Full, NoJob, NotRunning, NotPaused}
 use Rattle.ic_jobs.specs.declared.event.Event.TheVariants.{Round}
@@ -31,7 +29,7 @@ use Rattle.ic_jobs.specs.State.{is_running, is_paused}
 use Rattle.ic_jobs.specs.inner.Beginnings.{refusal_to_begin}
 use Rattle.ic_jobs.specs.inner.States.{is_finished}
 use Rattle.ic_jobs.specs.Job.{JobParts, IsJob, begun, system_of, can_move, moved, in_state}
-use Rattle.ic_jobs.specs.Table.{IsTable, job_names, is_named, job_named, with_changed, without}
+use Rattle.ic_jobs.specs.Table.{IsTable, is_named, job_named, with_changed, without}
 use Rattle.ic_jobs.proofs.TableLemmas.{StandsAlone, place_stands, found_alone, changed_alone, without_alone}
 use Rattle.ic_jobs.proofs.EventLemmas.{IsTable-in_state, IsTable-moved, IsTable-cancelled}
 
@@ -280,17 +278,10 @@ due_here t after i d f place within is made =
     ap (λ (g : FlightParts). Some g) made
     ∙ sym (ap (option_and_then (flight_at t)) place ∙ ap (option_map (flight_of i)) (get_within t i d within ∙ ap (λ (j : JobParts). Some j) (sym is)))
 
-and_split : (a b : Bool) → (a && b) ≡ true → (a ≡ true) × (b ≡ true)
-and_split true b e = (refl, e)
-and_split false b e = cc
-
-and_made : (a b : Bool) → a ≡ true → b ≡ true → (a && b) ≡ true
-and_made a b ea eb = rw (ea, eb) refl
-
 pub agrees-true : (j : JobParts) (rules : Rules) (config : Configuration) (rounds : ℕ) → agrees j rules config rounds ≡ true → Agrees j rules config rounds
 agrees-true j rules config rounds e =
-    let last = and_split _ (rules_eq j.rules rules) e in
-    let first = and_split (j.rounds == rounds) (configuration_eq j.config config) last.0 in
+    let last = and_parts _ (rules_eq j.rules rules) e in
+    let first = and_parts (j.rounds == rounds) (configuration_eq j.config config) last.0 in
     record {
       same_rules = (rules_eq-Decides j.rules rules).0 last.1;
       same_config = (configuration_eq-Decides j.config config).0 first.1;
@@ -299,15 +290,12 @@ agrees-true j rules config rounds e =
 
 pub agrees-made : (j : JobParts) (rules : Rules) (config : Configuration) (rounds : ℕ) → Agrees j rules config rounds → agrees j rules config rounds ≡ true
 agrees-made j rules config rounds h =
-    and_made _ _ (and_made _ _ ((unsigned_Decides j.rounds rounds).1 h.same_rounds) ((configuration_eq-Decides j.config config).1 h.same_config))
+    and_from _ _ (and_from _ _ ((unsigned_Decides j.rounds rounds).1 h.same_rounds) ((configuration_eq-Decides j.config config).1 h.same_config))
     ((rules_eq-Decides j.rules rules).1 h.same_rules)
 
 running_is : (s : State) → is_running s ≡ true → s ≡ state.Running
 running_is state.Running e = refl
-running_is state.Paused e = cc
-running_is state.Done e = cc
-running_is state.Halted e = cc
-running_is state.Spent e = cc
+running_is _ e = cc
 
 -- a job that was found and looked at is awaited exactly where it runs and agrees
 pub awaited_here : (name : List ℕ) (t : List JobParts) (i : ℕ) (d : JobParts) (f : FoundAt name t i d) (rules : Rules) (config : Configuration) (rounds : ℕ) → d ≡ f.job
@@ -339,7 +327,7 @@ can_land p j is same =
     let rules = same.same_rules in let config = same.same_config in let rounds = same.same_rounds in
     let agreed : can_move j ≡ (fits p.rules.rules p.before && nat_lt p.rounds MAX_ROUNDS) =
     λ i. fits (rules i).rules (config i) && nat_lt (rounds i) MAX_ROUNDS in
-    agreed ∙ and_made _ _ is.fitting (fewer_rounds p.rounds is.counted)
+    agreed ∙ and_from _ _ is.fitting (fewer_rounds p.rounds is.counted)
 
 never : (b : Bool) (n : ℕ) → (not b || n == MAX_ROUNDS) ≡ true → (b && nat_lt n MAX_ROUNDS) ≡ false
 never false n e = refl

@@ -24,7 +24,7 @@ use Rattle.ic_jobs.specs.Budget.{is_used_up}
 use Rattle.ic_jobs.specs.Job.{JobParts, begun, system_of, open_state, state_after, can_move, moved, in_state}
 use Rattle.ic_jobs.specs.Table.{job_named, with_changed, without}
 use Rattle.ic_jobs.specs.Shown.{shown}
-use Rattle.ic_jobs.specs.Events.{Outcome, outcome, refused, submitted, copied, unless_missing, paused, resumed, after_command, after_round, where_running, apply}
+use Rattle.ic_jobs.specs.Events.{Outcome, outcome, refused, copied, unless_missing, paused, resumed, after_command, after_round, where_running, apply}
 use Rattle.ic_jobs.specs.Names.{command_names}
 use Rattle.ic_jobs.specs.Transitions.{state_of, Leads, Row, row, submit_row, copy_row, pause_row, resume_row, cancel_row, fetch_reply, round_row_in, round_row, LeadsBy, LeadsWhere, leaves_one, leaves_two, CommandLeadsBy, CommandLeads, EventLeads}
 use Rattle.ic_jobs.proofs.JobLemmas.{is_budget, used_up_where}
@@ -270,10 +270,7 @@ running_rows t n j false there running able = halt_leads t n j there running abl
 
 round_rows_in : (t : List JobParts) (n : List ℕ) (j : JobParts) (s : State) → job_named n t ≡ Some j → j.state ≡ s → LeadsWhere t (Round n) n (round_row_in s j)
 round_rows_in t n j state.Running there is = running_rows t n j (can_move j) there is refl
-round_rows_in t n j state.Paused there is = idle t n j state.Paused there is refl
-round_rows_in t n j state.Done there is = idle t n j state.Done there is refl
-round_rows_in t n j state.Halted there is = idle t n j state.Halted there is refl
-round_rows_in t n j state.Spent there is = idle t n j state.Spent there is refl
+round_rows_in t n j s there is = idle t n j s there is refl
 
 round_rows : (t : List JobParts) (n : List ℕ) (o : Option JobParts) → job_named n t ≡ o → LeadsWhere t (Round n) n (round_row o)
 round_rows t n None e = ap (where_running (after_round t n)) e

@@ -1,29 +1,28 @@
 -- The next running job of a table.
-use Rattle.std.proofs.Common.{◌≡◌, ◌≤◌, ◌<◌, ◌⊎◌, ℕ, zero, suc, ◌+◌, ◌-◌, List, [], ◌∷◌, Bool, true, false, cond, Option, None, Some, slice_get, drop, inl, inr, refl, sym, ap, subst, ◌∙◌, arith, add-one}
+use Rattle.std.proofs.Common.{◌≡◌, ◌≤◌, ◌<◌, ◌⊎◌, ℕ, zero, suc, ◌+◌, ◌-◌, List, [], ◌∷◌, Bool, true, false, cond, Option, None, Some, slice_get, drop, inl, inr, refl, sym, ap, subst, ◌∙◌, arith}
 use Rattle.std.specs.List.{position_from, AllByRecursion, IsDistinct}
 use Rattle.std.specs.Str.{bytes_eq}
 use Rattle.std.specs.Cmp.Lexicographic.{bytes_decides}
 use Rattle.std.specs.Option.{option_map, option_or, option_and_then}
+use Rattle.std.proofs.lemmas.Bool.{cases_lt}
 use Rattle.ic_term.specs.Configuration.{Configuration}
 use Rattle.ic_rules.specs.RuleSet.{Rules}
 use Rattle.ic_flights.specs.Flight.{FlightParts}
 use Rattle.ic_jobs.specs.declared.state.State.{State}
-use Rattle.ic_jobs.specs.declared.state.State.TheVariants.{Running, Paused, Done, Halted, Spent}
+use Rattle.ic_jobs.specs.declared.state.State.TheVariants.{Running}
 use Rattle.ic_jobs.specs.State.{is_running}
 use Rattle.ic_jobs.specs.Job.{JobParts}
 use Rattle.ic_jobs.specs.Landing.{flight_of, running_from, due_place, flight_at, due, Awaits}
 use Rattle.ic_jobs.specs.Table.{IsTable, job_names, is_named, job_named}
 use Rattle.ic_jobs.specs.Turns.{RunsAt, HasFlight}
+use Rattle.ic_jobs.proofs.PlaceLemmas.{same_job}
 
 abbrev runs : JobParts → Bool
 runs j = is_running j.state
 
 is_state : (s : State) → is_running s ≡ true → s ≡ Running
 is_state Running e = refl
-is_state Paused e = cc
-is_state Done e = cc
-is_state Halted e = cc
-is_state Spent e = cc
+is_state _ e = cc
 
 -- ---- a list of jobs from its front
 
@@ -128,17 +127,8 @@ next_there t after i e =
       of_all = λ k r past. let low = f.reached in absurd (omega arith);
     }
 
-below_or_not : (m n : ℕ) → (m < n) ⊎ (n ≤ m)
-below_or_not zero zero = inr (omega arith)
-below_or_not zero (suc n) = inl (omega arith)
-below_or_not (suc m) zero = inr (omega arith)
-below_or_not (suc m) (suc n) = elim (below_or_not m n) [
-  | inl h ↦ inl (omega (arith, h))
-  | inr h ↦ inr (omega (arith, h))
-]
-
 before_it : (t : List JobParts) (after k : ℕ) → running_from after t ≡ None → RunsAt t k → k < after
-before_it t after k e r = elim (below_or_not k after) [
+before_it t after k e r = elim (cases_lt k after) [
   | inl h ↦ h
   | inr h ↦ absurd (from_none t after e k r h)
 ]
@@ -224,9 +214,6 @@ pub due_awaited : (t : List JobParts) (after : ℕ) (f : FlightParts) → IsTabl
 due_awaited t after f is e =
     let d = flight_due t after f e in
     subst (λ (x : FlightParts). Awaits t x.name x.rules x.config x.rounds) d.copied (awaited_flight t d.place is d.next.runs_there)
-
-same_job : (a b : JobParts) (o : Option JobParts) → o ≡ Some a → o ≡ Some b → a ≡ b
-same_job a b o e f = let h : Some a ≡ Some b = sym e ∙ f in cc
 
 -- of one name at most one round is awaited
 pub awaited_once : (t : List JobParts) (name : List ℕ) (r q : Rules) (a b : Configuration) (m n : ℕ)

@@ -1,10 +1,11 @@
 -- The tests of equality of jobs and of tables are equality.
-use Rattle.std.specs.Prelude.{◌≡◌, ℕ, ◌==◌, List, Bool, true, false, ◌&&◌, Option, None, Some, refl}
+use Rattle.std.specs.Prelude.{◌≡◌, ℕ, ◌==◌, List, true, Option, None, Some, refl}
 use Rattle.std.specs.Bool.{Decides}
 use Rattle.std.specs.Cmp.{IsEquivalence, decided, unsigned_Decides}
-use Rattle.std.specs.Cmp.Lexicographic.{bytes_decides, pointwise, pointwise_decides}
+use Rattle.std.specs.Cmp.Lexicographic.{bytes_decides, pointwise_decides}
 use Rattle.std.specs.Str.{bytes_eq}
 use Rattle.std.proofs.Common.{sym, ◌∙◌, ap}
+use Rattle.std.proofs.lemmas.Bool.{and_parts, and_from}
 use Rattle.ic_term.specs.lemmas.ConfigurationEq.{configuration_eq-Decides}
 use Rattle.ic_term.specs.Configuration.{configuration_eq}
 use Rattle.ic_rules.specs.RuleSet.{rules_eq}
@@ -15,22 +16,14 @@ use Rattle.ic_jobs.specs.Budget.{budget_eq}
 use Rattle.ic_jobs.specs.lemmas.StateLaws.{state_numbered-number}
 use Rattle.ic_jobs.specs.Job.{JobParts, job_eq, table_eq}
 
-and_parts : (a b : Bool) → (a && b) ≡ true → (a ≡ true) × (b ≡ true)
-and_parts true b e = (refl, e)
-and_parts false b e = cc
-
-both : (a b : Bool) → a ≡ true → b ≡ true → (a && b) ≡ true
-both a b ea eb = rw (ea, eb) refl
-
 state_eq-true : (s r : State) → state_eq s r ≡ true → s ≡ r
 state_eq-true s r e =
     sym (state_numbered-number s) ∙ ap state_numbered ((unsigned_Decides (state_number s) (state_number r)).0 e) ∙ state_numbered-number r
 
 budget_eq-true : (b c : Option ℕ) → budget_eq b c ≡ true → b ≡ c
 budget_eq-true None None e = refl
-budget_eq-true None (Some n) e = cc
-budget_eq-true (Some m) None e = cc
 budget_eq-true (Some m) (Some n) e = ap (λ (k : ℕ). Some k) ((unsigned_Decides m n).0 e)
+budget_eq-true _ _ e = cc
 
 budget_eq-refl : (b : Option ℕ) → budget_eq b b ≡ true
 budget_eq-refl None = refl
@@ -53,7 +46,7 @@ job_eq-true j k e =
 
 job_eq-refl : (j : JobParts) → job_eq j j ≡ true
 job_eq-refl j =
-    both _ _ (both _ _ (both _ _ (both _ _ (both _ _ ((bytes_decides j.name j.name).1 refl) ((unsigned_Decides j.rounds j.rounds).1 refl))
+    and_from _ _ (and_from _ _ (and_from _ _ (and_from _ _ (and_from _ _ ((bytes_decides j.name j.name).1 refl) ((unsigned_Decides j.rounds j.rounds).1 refl))
     ((unsigned_Decides (state_number j.state) (state_number j.state)).1 refl))
     (budget_eq-refl j.budget))
     ((configuration_eq-Decides j.config j.config).1 refl))
