@@ -73,8 +73,7 @@ step_load arities s t (opened ts a vs ws ps qs is taken) =
     let b = sum_by-cons weight (agent_of a vs) qs in
     let words = length-append vs ws in
     omega arith
-step_load arities s t (plain ts k w ws ps tag known) = omega arith
-step_load arities s t (named ts w ws ps is) = omega arith
+step_load arities s t _ = omega arith
 
 -- ---- pieces are taken, and none comes
 
@@ -95,8 +94,7 @@ after ps qs p q taken there = Contains-permutation (p ∷ qs) ps q (IsPermutatio
 pub step_pieces : (arities : List ℕ) (p : Piece) (s t : State) → Step arities s t → Contains t.pieces p → Contains s.pieces p
 step_pieces arities p s t (follow ts x u ws ps qs tag taken) there = after ps qs (waits x u) p taken there
 step_pieces arities p s t (opened ts a vs ws ps qs is taken) there = after ps qs (agent_of a vs) p taken there
-step_pieces arities p s t (plain ts k w ws ps tag known) there = there
-step_pieces arities p s t (named ts w ws ps is) there = there
+step_pieces arities p s t _ there = there
 
 pub steps_pieces : (arities : List ℕ) (p : Piece) (s t : State) → Steps arities s t → Contains t.pieces p → Contains s.pieces p
 steps_pieces arities p s t (no_step a) there = there
@@ -113,8 +111,7 @@ gone f ps qs p taken =
 pub step_fewer : (arities : List ℕ) (f : Piece → ℕ) (s t : State) → Step arities s t → sum_by f t.pieces ≤ sum_by f s.pieces
 step_fewer arities f s t (follow ts x u ws ps qs tag taken) = let all = gone f ps qs (waits x u) taken in omega arith
 step_fewer arities f s t (opened ts a vs ws ps qs is taken) = let all = gone f ps qs (agent_of a vs) taken in omega arith
-step_fewer arities f s t (plain ts k w ws ps tag known) = omega arith
-step_fewer arities f s t (named ts w ws ps is) = omega arith
+step_fewer arities f s t _ = omega arith
 
 pub steps_fewer : (arities : List ℕ) (f : Piece → ℕ) (s t : State) → Steps arities s t → sum_by f t.pieces ≤ sum_by f s.pieces
 steps_fewer arities f s t (no_step a) = omega arith

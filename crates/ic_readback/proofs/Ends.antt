@@ -15,7 +15,7 @@ use Rattle.ic_reaching.specs.OneNet.{OneNet}
 use Rattle.ic_arena.specs.declared.word.Word.{Word}
 use Rattle.ic_arena.specs.declared.word.TheConstants.{GIVEN}
 use Rattle.ic_arena.specs.Word.{word_eq, count}
-use Rattle.ic_arena.specs.Piece.{Piece, equated, idle, waits, agent_of, uses}
+use Rattle.ic_arena.specs.Piece.{Piece, idle, waits, agent_of, uses}
 use Rattle.ic_machine.specs.declared.equation.Equation.{Equation}
 use Rattle.ic_machine.specs.Net.{equated_of}
 use Rattle.ic_flat.specs.declared.word.Word.{Word as FlatWord}
@@ -236,9 +236,7 @@ first_net n is es fs ps =
 idle_equations : (n : Numbers) (ps : List Piece) → AllByRecursion IsIdle ps → flat_map (equations_of n) ps ≡ []
 idle_equations n [] all = refl
 idle_equations n (idle x ∷ ps) all = idle_equations n ps all.1
-idle_equations n (equated l r ∷ ps) all = absurd all.0
-idle_equations n (waits x u ∷ ps) all = absurd all.0
-idle_equations n (agent_of a ws ∷ ps) all = absurd all.0
+idle_equations n _ all = absurd all.0
 
 pub sides_given : (given : List ℕ) (is : List Word) (es fs : List Equation) (ps : List Piece) → AreGiven given is (map equated_of es ++ (map equated_of fs ++ ps))
     → AreGiven given (is ++ (sides_of es ++ sides_of fs)) ps

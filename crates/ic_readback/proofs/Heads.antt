@@ -1,7 +1,6 @@
 -- Lemmas: what the terms that are read begin with.
 use Rattle.std.proofs.Common.{◌≡◌, ℕ, ◌+◌, ◌-◌, ◌≤◌, ◌==◌, List, [], ◌∷◌, ◌++◌, Bool, true, false, cond, Some, length, drop, map, slice_index_or, sum_by, refl, sym, ap, ◌∙◌, arith, append_assoc, append-nil, subst as transport}
 use Rattle.std.specs.Prelude.{Contains}
-use Rattle.std.specs.List.{AllByRecursion}
 use Rattle.std.specs.Cmp.{unsigned_Decides}
 use Rattle.std.proofs.lemmas.Bool.{ne_eqb, and_parts}
 use Rattle.std.proofs.lemmas.List.{map-append}
@@ -31,6 +30,7 @@ use Rattle.ic_readback.proofs.Ends.{first_state, sides_given}
 use Rattle.ic_readback.proofs.Puttings.{equations_in}
 use Rattle.ic_readback.proofs.Results.{ReadsNet, with_arities}
 use Rattle.ic_readback.proofs.StepNets.{some_first as first_some}
+use Rattle.ic_meaning.specs.lemmas.Orders.{all_back}
 
 -- ---- lists
 
@@ -189,15 +189,11 @@ sides_used w (e ∷ es) =
     let rest = sides_used w es in
     omega arith
 
-all_after : {X : Type 0} (P : X → Type 0) (xs ys : List X) → AllByRecursion P (xs ++ ys) → AllByRecursion P ys
-all_after P [] ys all = all
-all_after P (x ∷ xs) ys all = all_after P xs ys all.1
-
 pub first_kept : (n : Numbers) (is : List Word) (es fs : List Equation) (ps : List Piece) → AreNetPieces n.arities is (map equated_of es ++ (map equated_of fs ++ ps))
     → AreGiven n.given is (map equated_of es ++ (map equated_of fs ++ ps)) → Kept n (first_state is es fs ps)
 first_kept n is es fs ps are given = record {
   separate = record { each = apart };
-  are = all_after (IsPiece n.arities) (map equated_of fs) ps (all_after (IsPiece n.arities) (map equated_of es) (map equated_of fs ++ ps) are.each);
+  are = all_back (IsPiece n.arities) (map equated_of fs) ps (all_back (IsPiece n.arities) (map equated_of es) (map equated_of fs ++ ps) are.each);
   given = sides_given n.given is es fs ps given;
 }
   where

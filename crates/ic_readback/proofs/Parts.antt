@@ -26,8 +26,9 @@ use Rattle.ic_readback.proofs.Gathering.{gathered_pieces, gathered_fewer}
 use Rattle.ic_readback.specs.lemmas.Rows.{WholeOver, over-nil, whole-nil, over-agent}
 use Rattle.ic_readback.proofs.Words.{row, whole_steps, given_step}
 use Rattle.ic_readback.proofs.Ends.{given_steps, given_piece, agent_not_given}
-use Rattle.ic_readback.proofs.Puttings.{EachName, Not, each_both, AreInOrder, order_more, all_more, equations_in, tokens_more, word_itself}
+use Rattle.ic_readback.proofs.Puttings.{EachName, Not, each_both, AreInOrder, order_more, all_more, equations_in, tokens_more}
 use Rattle.ic_readback.proofs.Shapes.{IsTerm, one_tree}
+use Rattle.ic_meaning.specs.lemmas.Terms.{word_itself}
 
 -- ---- they are equations of what is left
 

@@ -1,7 +1,5 @@
 -- Lemmas: terms that stood by themselves are put together.
-use Rattle.std.proofs.Common.{◌≡◌, ℕ, ◌+◌, ◌<◌, ◌==◌, List, [], ◌∷◌, ◌++◌, Bool, true, false, cond, length, sum_by, refl, sym, ap, ◌∙◌, arith, inl, inr, append_assoc, append-nil, eq-eqb, subst as transport, true≢false as true_false}
-use Rattle.std.specs.Cmp.{unsigned_Decides}
-use Rattle.std.proofs.lemmas.Bool.{and_parts}
+use Rattle.std.proofs.Common.{◌≡◌, ℕ, ◌+◌, ◌<◌, List, [], ◌∷◌, ◌++◌, Bool, true, false, cond, length, sum_by, refl, sym, ap, ◌∙◌, arith, inl, inr, append_assoc, append-nil, subst as transport, true≢false as true_false}
 use Rattle.std.specs.List.{flat_map, AllByRecursion}
 use Rattle.std.proofs.lemmas.List.{length-append}
 use Rattle.std.proofs.lemmas.List.Concat.{flat_map-append}
@@ -12,6 +10,8 @@ use Rattle.ic_readback.specs.declared.token.Token.{Token}
 use Rattle.ic_readback.specs.declared.token.Token.TheVariants.{Name, Agent}
 use Rattle.ic_readback.specs.inner.Writing.{Part, part, IsOpen, Writing, writing, Put, put, write, Puts, no_put, one_put, Mended, begun, passed, further, equation_tokens}
 use Rattle.ic_machine.specs.lemmas.FiringKeeps.{all_of as all_so}
+use Rattle.ic_meaning.specs.lemmas.Terms.{same_word, word_itself}
+use Rattle.ic_meaning.specs.lemmas.Orders.{all_front}
 
 -- ---- how much is left
 
@@ -65,21 +65,6 @@ named_append w xs ys = ap (count w) (flat_map-append token_names xs ys) ∙ sum_
 
 abbrev pub Not : Word → Word → Type 0
 Not w v = v ≡ w → ⊥
-
-pub same_word : (v w : Word) → word_eq v w ≡ true → v ≡ w
-same_word v w e = λ i. record { tag = tags i; index = places i }
-  where
-    both : ((v.tag == w.tag) ≡ true) × ((v.index == w.index) ≡ true)
-    both = and_parts (v.tag == w.tag) (v.index == w.index) e
-
-    tags : v.tag ≡ w.tag
-    tags = (unsigned_Decides v.tag w.tag).0 both.0
-
-    places : v.index ≡ w.index
-    places = (unsigned_Decides v.index w.index).0 both.1
-
-pub word_itself : (w : Word) → word_eq w w ≡ true
-word_itself w = rw (eq-eqb w.tag w.tag refl, eq-eqb w.index w.index refl) refl
 
 not_same : (w v : Word) → Not w v → word_eq w v ≡ false
 not_same w v other = at (word_eq w v) refl
@@ -224,10 +209,6 @@ puts_order s t (one_put a b c first rest) order = puts_order b c rest (at a b fi
 all_last : {X : Type 0} (P : X → Type 0) (xs : List X) (x : X) → AllByRecursion P (xs ++ x ∷ []) → P x
 all_last P [] x all = all.0
 all_last P (y ∷ xs) x all = all_last P xs x all.1
-
-all_front : {X : Type 0} (P : X → Type 0) (xs ys : List X) → AllByRecursion P (xs ++ ys) → AllByRecursion P xs
-all_front P [] ys all = tt
-all_front P (x ∷ xs) ys all = (all.0, all_front P xs ys all.1)
 
 pub all_more : {X : Type 0} (P : X → Type 0) (xs : List X) (x : X) → AllByRecursion P xs → P x → AllByRecursion P (xs ++ x ∷ [])
 all_more P [] x all last = (last, tt)

@@ -72,8 +72,6 @@ all_ended : (rs : Rules) (numbers : List ℕ) (p : Plans) (n : Numbers) (total :
     → ((j x : ℕ) → slice_get n.given j ≡ Some x → total x ≡ 1) → AllByRecursion (IsStuck p) es → BeginAs n (sides_of es) ts → length ts ≡ 2 * (length es + k)
     → AllByRecursion (IsEnded rs.rules total) (drop (length es) (pairs_of ts)) → AllByRecursion (IsEnded rs.rules total) (pairs_of ts)
 all_ended rs numbers p n total [] ts k set plans once stuck begin even rest = rest
-all_ended rs numbers p n total (e ∷ es) [] k set plans once stuck begin even rest = absurd (omega arith)
-all_ended rs numbers p n total (e ∷ es) (t ∷ []) k set plans once stuck begin even rest = absurd (omega arith)
 all_ended rs numbers p n total (e ∷ es) (t ∷ u ∷ ts) k set plans once stuck begin even rest =
     let left : HeadIs n e.left t = begin.0 stuck.0.left in
     let right : HeadIs n e.right u = begin.1.0 stuck.0.right in (
@@ -90,6 +88,7 @@ all_ended rs numbers p n total (e ∷ es) (t ∷ u ∷ ts) k set plans once stuc
         once_side : (t ≡ name y) ⊎ (u ≡ name y) → total y ≡ 1
         once_side (inl is) = side_once n total e.left t y once left is
         once_side (inr is) = side_once n total e.right u y once right is
+all_ended rs numbers p n total (e ∷ es) _ k set plans once stuck begin even rest = absurd (omega arith)
 
 -- ---- circles
 

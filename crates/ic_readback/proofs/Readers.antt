@@ -1,5 +1,5 @@
 -- Lemmas: what a reader has read.
-use Rattle.std.proofs.Common.{◌≡◌, ℕ, ◌+◌, ◌-◌, ◌≤◌, ◌<◌, List, [], ◌∷◌, ◌++◌, true, cond, length, map, take, reverse, sum_by, slice_index_or, refl, sym, ap, ◌∙◌, eq-eqb, arith, inl, inr, append_assoc, append-nil, subst as transport}
+use Rattle.std.proofs.Common.{◌≡◌, ℕ, ◌+◌, ◌-◌, ◌≤◌, ◌<◌, List, [], ◌∷◌, ◌++◌, cond, length, map, take, reverse, sum_by, slice_index_or, refl, sym, ap, ◌∙◌, arith, inl, inr, append_assoc, append-nil, subst as transport}
 use Rattle.std.specs.Prelude.{Contains, IsPermutation}
 use Rattle.std.specs.List.{AllByRecursion}
 use Rattle.std.proofs.lemmas.Bool.{cases_lt}
@@ -22,6 +22,7 @@ use Rattle.ic_readback.specs.inner.Reading.{at_words, HasRead, Gathers, Keeps, H
 use Rattle.ic_readback.proofs.Chains.{steps_on, steps_more, steps_tokens, steps_fewer, steps_pieces, contained_sum, gone, all_contained}
 use Rattle.ic_readback.proofs.Gathering.{gathered_on, gathered_pieces, gathered_fewer}
 use Rattle.ic_readback.proofs.Moves.{all_there}
+use Rattle.ic_meaning.specs.lemmas.Terms.{word_itself}
 
 pub no_read : (r : Reader) → r.stack.items ≡ [] → HasRead [] r r
 no_read r empty = record { steps = no_step (at_words [] r); empty = empty; arities = refl }
@@ -117,9 +118,6 @@ gather_name old mid read new ls ms index word taken same tokens equations more h
       arities = ap (λ (h : Held). h.arities) kept.places ∙ (has.arities ∙ same);
       equations = kept.equations ∙ (more ∙ equations);
     }
-
-word_itself : (w : Word) → word_eq w w ≡ true
-word_itself w = rw (eq-eqb w.tag w.tag refl, eq-eqb w.index w.index refl) refl
 
 -- no word waits for a name that has no room
 pub room_none : (x u : Word) (ps : List Piece) → sum_by (room x) ps ≡ 0 → Contains ps (waits x u) → ⊥

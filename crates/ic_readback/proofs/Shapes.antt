@@ -76,9 +76,8 @@ puts_kept n O s t (one_put a b c first rest) each row =
     (later.0, later.1 ∙ here.1)
 
 pub one_tree : (ts : List Tree) → length ts ≡ 1 → (t : Tree) × (ts ≡ t ∷ [])
-one_tree [] e = absurd (omega arith)
 one_tree (t ∷ []) e = (t, refl)
-one_tree (t ∷ u ∷ ts) e = absurd (omega arith)
+one_tree _ e = absurd (omega arith)
 
 -- what is written for a term is a term
 pub puts_term : (n : Numbers) (ts us : List Token) (before after : List Part) → Puts (writing [] ts before) (writing us [] after) → EachOpen (λ p. IsTerm n p.tokens) before → IsTerm n ts → IsTerm n us

@@ -7,7 +7,7 @@ use Rattle.std.specs.List.{flat_map}
 use Rattle.std.proofs.Math.ListN.{set}
 use Rattle.std.proofs.lemmas.List.{length-append, map-append, reverse-append}
 use Rattle.std.proofs.lemmas.List.Concat.{flat_map-append}
-use Rattle.std.proofs.lemmas.Option.{get_or_from_slice_get}
+use Rattle.std.proofs.lemmas.Option.{get_or_from_slice_get, same_Some}
 use Rattle.ic_arena.specs.declared.word.Word.{Word}
 use Rattle.ic_readback.specs.declared.loose.Loose.{Loose}
 use Rattle.ic_readback.specs.declared.token.Token.{Token}
@@ -17,7 +17,6 @@ use Rattle.ic_readback.specs.inner.Writing.{Part, part, part_of, IsOpen, IsOpenA
 use Rattle.ic_readback.specs.inner.Mending.{parts_left, places_left, SamePlaces, WroteOne, Wrote, Mends, HasWritten}
 use Rattle.ic_readback.proofs.Puttings.{put_last, load, put_load}
 use Rattle.ic_readback.proofs.Moves.{pushed}
-use Rattle.ic_settle.specs.lemmas.Spots.{some_same as some_is}
 
 pub none_some : {X : Type 0} {x : X} → None ≡ Some x → ⊥
 none_some e = cc
@@ -58,7 +57,7 @@ set_at [] i l m there = absurd (none_some there)
 set_at (k ∷ ls) zero l m there = record {
   before = [];
   after = map part_of ls;
-  old = ap (λ (k : Loose). part_of k ∷ map part_of ls) (some_is k l there);
+  old = ap (λ (k : Loose). part_of k ∷ map part_of ls) (same_Some k l there);
   new = refl;
 }
 set_at (k ∷ ls) (suc i) l m there =
@@ -73,7 +72,7 @@ set_at (k ∷ ls) (suc i) l m there =
 pub set_places : (ls : List Loose) (i : ℕ) (l m : Loose) → slice_get ls i ≡ Some l → m.place ≡ l.place → map (λ l. l.place) (set ls i m) ≡ map (λ l. l.place) ls
 set_places [] i l m there same = absurd (none_some there)
 set_places (k ∷ ls) zero l m there same =
-    ap (λ (w : Word). w ∷ map (λ l. l.place) ls) (same ∙ ap (λ (k : Loose). k.place) (sym (some_is k l there)))
+    ap (λ (w : Word). w ∷ map (λ l. l.place) ls) (same ∙ ap (λ (k : Loose). k.place) (sym (same_Some k l there)))
 set_places (k ∷ ls) (suc i) l m there same = ap (λ ws. k.place ∷ ws) (set_places ls i l m there same)
 
 -- the places of the first terms are indexed as all are
@@ -283,6 +282,6 @@ indexed_more ls i n l old new at key none updated so_far j w low there = elim (c
     last : i ≡ j → found new (key_of w) ≡ Some j
     last same =
         let place : slice_get (map (λ l. l.place) ls) j ≡ Some l.place = transport (λ (k : ℕ). slice_get (map (λ l. l.place) ls) k ≡ Some l.place) same (get_place ls i l at) in
-        let w_is : w ≡ l.place = some_is w l.place (sym there ∙ place) in
+        let w_is : w ≡ l.place = same_Some w l.place (sym there ∙ place) in
         let here : n ≡ key_of w = key ∙ ap key_of (sym w_is) in
         updated (key_of w) ∙ (ap (λ b. cond b (Some i) (found old (key_of w))) ((unsigned_Decides n (key_of w)).1 here) ∙ ap Some same)

@@ -17,7 +17,8 @@ use Rattle.ic_flat.specs.declared.word.Word.{Word}
 use Rattle.ic_flat.specs.Words.{word_names}
 use Rattle.ic_flat.specs.Flat.{pairs_of}
 use Rattle.ic_readback.specs.lemmas.Given.{NetLaws}
-use Rattle.ic_readback.specs.lemmas.Rows.{over, over-names, subst-over, terms-absent, pairs-absent, pairs-subst, pairs-names, pairs-more}
+use Rattle.ic_readback.specs.lemmas.Rows.{over, over-names, subst-over, pairs-subst, pairs-names, pairs-more}
+use Rattle.ic_confluence.specs.lemmas.Puts.{terms_absent, pairs_absent}
 
 -- terms in a row, so many in the interface and the others two by two as equations, with other equations beside
 abbrev pub net_of_row : ℕ → List Tree → List Pair → ℕ → Configuration
@@ -83,12 +84,12 @@ put_row laws terms k x next t ws ts es fs even named moved =
     let there : 1 ≤ occurrences x (names_in (take terms row) others) = omega arith in
     let net = laws.anywhere c x t others named order there in
     let itself_put : subst x t (name x) ≡ t = rw (eq-eqb x x refl) refl in
-    let rest_same = terms-absent x t ts none_ts in
+    let rest_same = terms_absent x t ts none_ts in
     let row_is : map (subst x t) row ≡ put = subst-over x t ws (name x ∷ ts) none_ws ∙ (λ i. over ws (itself_put i ∷ rest_same i)) in
     let interface_is : map (subst x t) (take terms row) ≡ take terms put = sym (take-map (subst x t) terms row) ∙ ap (take terms) row_is in
     let pairs_is : map (subst_pair x t) ps ≡ pairs_of (drop terms put) =
     pairs-subst x t (drop terms row) ∙ ap pairs_of (sym (drop-map (subst x t) terms row) ∙ ap (drop terms) row_is) in
-    let fs_is = pairs-absent x t fs none_fs in
+    let fs_is = pairs_absent x t fs none_fs in
     let equations_is : map (subst_pair x t) others ≡ pairs_of (drop terms put) ++ fs = map-append (subst_pair x t) ps fs ∙ (λ i. pairs_is i ++ fs_is i) in
     let is : subst_in x t (record c { equations = others }) ≡ net_of_row terms put fs next =
     (λ i. record { interface = interface_is i; equations = equations_is i; next = next }) in

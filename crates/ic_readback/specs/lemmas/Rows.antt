@@ -3,7 +3,7 @@ use Rattle.std.proofs.Common.{◌≡◌, ℕ, zero, suc, ◌*◌, ◌≤◌, Lis
 use Rattle.std.proofs.lemmas.List.{length-drop, take-append-drop, take_at, drop_at, take-map, drop-map, take-append-le, drop-append-le}
 use Rattle.std.proofs.lemmas.List.Concat.{flat_map-append}
 use Rattle.std.specs.List.{flat_map}
-use Rattle.ic_term.specs.Tree.{Tree, name, agent, more_trees, trees_of, names, names_of, Pair, pair_names}
+use Rattle.ic_term.specs.Tree.{Tree, name, agent, more_trees, trees_of, names, names_of, pair_names}
 use Rattle.ic_term.specs.Configuration.{occurrences}
 use Rattle.ic_settle.specs.Settling.{subst, subst_all, subst_pair}
 use Rattle.ic_settle.specs.lemmas.SubstitutionLaws.{occurrences-append, subst-absent}
@@ -113,31 +113,11 @@ subst-over x u (Agent s k ∷ ws) ts none =
     sym (drop-map (subst x u) k (over ws ts)) ∙ ap (drop k) later in
     λ i. agent s (first i) ∷ rest i
 
--- where a name doesn't occur
-pub terms-absent : (x : ℕ) (u : Tree) (ts : List Tree) → occurrences x (flat_map names ts) ≡ 0 → map (subst x u) ts ≡ ts
-terms-absent x u [] none = refl
-terms-absent x u (t ∷ ts) none =
-    let both = occurrences-append x (names t) (flat_map names ts) in
-    let here : occurrences x (names t) ≡ 0 = omega (arith, both, none) in
-    let rest : occurrences x (flat_map names ts) ≡ 0 = omega (arith, both, none) in
-    λ i. subst-absent x u t here i ∷ terms-absent x u ts rest i
-
-pub pairs-absent : (x : ℕ) (u : Tree) (es : List Pair) → occurrences x (flat_map pair_names es) ≡ 0 → map (subst_pair x u) es ≡ es
-pairs-absent x u [] none = refl
-pairs-absent x u (p ∷ es) none =
-    let both = occurrences-append x (pair_names p) (flat_map pair_names es) in
-    let sides = occurrences-append x (names p.left) (names p.right) in
-    let left : occurrences x (names p.left) ≡ 0 = omega (arith, sides, both, none) in
-    let right : occurrences x (names p.right) ≡ 0 = omega (arith, sides, both, none) in
-    let rest : occurrences x (flat_map pair_names es) ≡ 0 = omega (arith, both, none) in
-    λ i. record { left = subst-absent x u p.left left i; right = subst-absent x u p.right right i } ∷ pairs-absent x u es rest i
-
 -- ---- terms two by two
 
 pub pairs-subst : (x : ℕ) (u : Tree) (ts : List Tree) → map (subst_pair x u) (pairs_of ts) ≡ pairs_of (map (subst x u) ts)
-pairs-subst x u [] = refl
-pairs-subst x u (t ∷ []) = refl
 pairs-subst x u (t ∷ s ∷ ts) = ap (λ l. record { left = subst x u t; right = subst x u s } ∷ l) (pairs-subst x u ts)
+pairs-subst x u _ = refl
 
 pub pairs-names : (ts : List Tree) (k : ℕ) → length ts ≡ 2 * k → flat_map pair_names (pairs_of ts) ≡ flat_map names ts
 pairs-names [] k even = refl

@@ -1,12 +1,11 @@
 use Rattle.std.proofs.Common.{◌≡◌, ◌∙◌, ℕ, ◌<◌, Some, None, length, ap, sym, arith}
-use Rattle.std.proofs.lemmas.Option.{slice_get_within, slice_get-get_or}
+use Rattle.std.proofs.lemmas.Option.{slice_get_within, slice_get-get_or, same_Some}
 use Rattle.ic_arena.specs.declared.word.Word.{Word}
 use Rattle.ic_readback.specs.declared.loose.Loose.{Loose}
 use Rattle.ic_readback.specs.inner.Writing.{found, key_of}
 use Rattle.ic_readback.proofs.Writers.{none_some, open_found, same_at}
 use Rattle.ic_readback.proofs.writer.Writer.find.Goals as goal
 use Rattle.ic_readback.proofs.writer.Writer.find.Goals.{then-term-via-then-term, then-term-via-else-term+then-term-name, then-term-via-else-term+else-term-name+then-term-name-2}
-use Rattle.ic_settle.specs.lemmas.Spots.{some_same as some_is}
 
 pub returns-in_err-index-clause-none : goal.returns-in_err-index-clause-none
 returns-in_err-index-clause-none c = λ none there.
@@ -19,7 +18,7 @@ returns-then-len-index-clause-none c = λ none there.
     let i : ℕ = c.in_ok-index.field-0.now in
     let at : found c.args.self.now.indices (key_of c.args.name) ≡ Some i = ap (found c.args.self.now.indices) (sym c.key.ensures) ∙ sym c.in_ok-index.ensures.value in
     let is = open_found c.args.self.now.indices c.args.name c.args.self.now.loose.items c.requires there in
-    let same : is.0 ≡ i = some_is is.0 i (sym is.1 ∙ at) in
+    let same : is.0 ≡ i = same_Some is.0 i (sym is.1 ∙ at) in
     let low = slice_get_within c.args.self.now.loose.items is.0 is.2.loose is.2.there in
     absurd (omega (arith, same, low, c.if-len-index.true, c.len.ensures, c.args.self.now.loose.ok))
 
@@ -29,7 +28,7 @@ returns-then-term-clause-none c = λ none there.
     let term : Loose = c.index-term.result.now in
     let at : found c.args.self.now.indices (key_of c.args.name) ≡ Some i = ap (found c.args.self.now.indices) (sym c.key.ensures) ∙ sym c.in_ok-index.ensures.value in
     let is = open_found c.args.self.now.indices c.args.name c.args.self.now.loose.items c.requires there in
-    let same : is.2.loose ≡ term = same_at c.args.self.now.loose.items is.0 i is.2.loose term is.2.there (some_is is.0 i (sym is.1 ∙ at)) c.index-term.ensures in
+    let same : is.2.loose ≡ term = same_at c.args.self.now.loose.items is.0 i is.2.loose term is.2.there (same_Some is.0 i (sym is.1 ∙ at)) c.index-term.ensures in
     let written = ap (λ (l : Loose). l.written) same in
     let tag = ap (λ (l : Loose). l.place.tag) same in
     let index = ap (λ (l : Loose). l.place.index) same in
