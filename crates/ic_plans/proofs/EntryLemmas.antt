@@ -1,12 +1,13 @@
 -- The plans of pairs of symbols: one more, and what they are once those of all rules are there.
-use Rattle.std.proofs.Common.{◌≡◌, ℕ, zero, suc, ◌+◌, ◌<◌, ◌==◌, ◌&&◌, ◌||◌, List, [], ◌∷◌, ◌++◌, Bool, true, false, cond, Option, None, Some, Result, Ok, Err, is_some, length, map, take, slice_get, refl, sym, ap, subst, ◌∙◌, arith}
-use Rattle.std.specs.Prelude.{IfSome, IsSome, OnOk}
+use Rattle.std.proofs.Common.{◌≡◌, ℕ, zero, suc, ◌+◌, ◌<◌, ◌==◌, ◌&&◌, ◌||◌, List, [], ◌∷◌, ◌++◌, Bool, true, false, cond, Option, None, Some, is_some, length, map, take, slice_get, refl, sym, ap, subst, ◌∙◌, arith}
+use Rattle.std.specs.Prelude.{IfSome, IsSome}
 use Rattle.std.specs.Option.{option_map}
-use Rattle.std.specs.List.{list_any, AllByRecursion}
+use Rattle.std.specs.List.{AllByRecursion}
 use Rattle.std.specs.Cmp.{unsigned_Decides}
 use Rattle.std.proofs.lemmas.Bool.{and_from, and_parts, false≢true}
 use Rattle.std.proofs.lemmas.Option.{none-some, same_Some, slice_get_within}
 use Rattle.std.proofs.lemmas.List.{length-append}
+use Rattle.std.proofs.lemmas.Map.Keys.{any_passes_from_place}
 use Rattle.ic_term.specs.Symbol.{Symbol, has_arity, symbol_arity}
 use Rattle.ic_rules.specs.Rule.{Rule, stands_for}
 use Rattle.ic_rules.specs.RuleSet.{Rules, IsRuleSet, rule_for, has_pair, stands_turned}
@@ -20,6 +21,7 @@ use Rattle.ic_plans.specs.inner.Registers.{IsPlanFor}
 use Rattle.ic_plans.proofs.RegisterLemmas.{all_there, there_front, there_last}
 use Rattle.ic_plans.proofs.MetLemmas.{met_arguments}
 use Rattle.ic_plans.proofs.PlanLemmas.{arity_there}
+use Rattle.ic_confluence.specs.lemmas.Actives.{at_place}
 
 -- ---- lists
 
@@ -28,20 +30,6 @@ if_there P o x is holds = subst (λ p. IfSome p P) is holds
 
 pub if_some : {X : Type 0} (P : X → Type 0) (o : Option X) (x : X) → o ≡ Some x → P x → IfSome o P
 if_some P o x is holds = subst (λ p. IfSome p P) (sym is) holds
-
-read_at : {X : Type 0} (xs : List X) (i : ℕ) → i < length xs → (x : X) × (slice_get xs i ≡ Some x)
-read_at [] i within = absurd (omega arith)
-read_at (x ∷ xs) zero within = (x, refl)
-read_at (x ∷ xs) (suc i) within = read_at xs i (omega arith)
-
-any_there : {X : Type 0} (f : X → Bool) (xs : List X) (i : ℕ) (x : X) → slice_get xs i ≡ Some x → f x ≡ true → list_any f xs ≡ true
-any_there f [] i x there so = absurd (none-some x there)
-any_there f (y ∷ ys) zero x there so = ap (λ b. b || list_any f ys) (ap f (same_Some y x there) ∙ so)
-any_there f (y ∷ ys) (suc i) x there so = by (f y) (any_there f ys i x there so)
-  where
-    by : (b : Bool) → list_any f ys ≡ true → (b || list_any f ys) ≡ true
-    by true rest = refl
-    by false rest = rest
 
 -- the arity of one symbol more
 pub arities_more : (ss : List Symbol) (i n : ℕ) → symbol_arity ss i ≡ Some n → map (λ (s : Symbol). s.arity) (take (i + 1) ss) ≡ map (λ (s : Symbol). s.arity) (take i ss) ++ n ∷ []
@@ -59,7 +47,7 @@ rule_some rs i a b r there so = by (rule_for rs a b) refl
   where
     by : (o : Option (ℕ × Bool)) → rule_for rs a b ≡ o → IsSome o
     by (Some found) is = refl
-    by None is = absurd (false≢true (sym (rule_for-none rs a b is) ∙ any_there (has_pair a b) rs i r there so))
+    by None is = absurd (false≢true (sym (rule_for-none rs a b is) ∙ any_passes_from_place (has_pair a b) rs i r there so))
 
 pub own_pair : (r : Rule) → (has_pair r.left r.right r ≡ true) × (has_pair r.right r.left r ≡ true)
 own_pair r = (ap (λ t. t || stands_for r.right r.left r) stands, by (stands_for r.right r.left r))
@@ -88,7 +76,7 @@ module _ (rs : Rules) (numbers : List ℕ) (p : Plans) (a b number : ℕ) (turne
   more = record { arities = p.arities; pairs = p.pairs ++ (a, b) ∷ []; plans = p.plans ++ plan ∷ [] }
 
   rule : (r : Rule) × (slice_get rs.rules number ≡ Some r)
-  rule = read_at rs.rules number (rule_for-found rs.rules a b number turned found).there
+  rule = at_place rs.rules number (rule_for-found rs.rules a b number turned found).there
 
   made : IsPlanFor (arities_of rs) (met_as turned rule.0) plan
   made = if_there (λ r. IsPlanFor (arities_of rs) (met_as turned r) plan) (slice_get rs.rules number) rule.0 rule.1 planned
@@ -162,10 +150,6 @@ module _ (rs : Rules) (numbers : List ℕ) (p : Plans) (a b number : ℕ) (turne
 
 -- ---- what a function has of these
 
-pub on_ok : {T E : Type 0} {P Q : Type 0} (r : Result T E) → (P → Q) → OnOk r P → OnOk r Q
-on_ok (Ok v) f p = f p
-on_ok (Err e) f p = tt
-
 pub none_mapped : {X Y : Type 0} (f : X → Y) (o : Option X) → is_some o ≡ false → option_map f o ≡ None
 none_mapped f None none = refl
 none_mapped f (Some x) none = absurd (false≢true (sym none))
@@ -195,7 +179,7 @@ are_plans_of rs numbers p so_far all = record { arities = so_far.arities; each =
     at_none a b none None is = tt
     at_none a b none (Some (n, turned)) is =
         let of = rule_for-found rs.rules a b n turned is in
-        let rule = read_at rs.rules n of.there in
+        let rule = at_place rs.rules n of.there in
         let stands = if_there (stands_turned a b turned) (slice_get rs.rules n) rule.0 rule.1 of.of_pair in
         let plans = all_there (HasPlans p) rs.rules n rule.0 all rule.1 in
         false≢true (subst (λ o. IsSome o) none (stood a b turned rule.0 stands plans))

@@ -1,7 +1,7 @@
 -- Terms as agents that are made one after another: what a word more does.
 use Rattle.std.proofs.Common.{◌≡◌, ℕ, zero, suc, ◌+◌, ◌≤◌, ◌<◌, ◌==◌, List, [], ◌∷◌, ◌++◌, Bool, true, false, cond, Some, length, map, take, drop, slice_get, nat_lt, count_by, true≢false, refl, sym, ap, subst, ◌∙◌, arith, append_assoc, append-nil}
 use Rattle.std.proofs.lemmas.Bool.{ne_eqb, ltb-true, ltb-false, lt-ltb, le-ltb}
-use Rattle.std.proofs.lemmas.List.{length-append, length-take-le, take-append-drop}
+use Rattle.std.proofs.lemmas.List.{length-take-le, take-append-drop, length_push}
 use Rattle.std.proofs.lemmas.List.Concat.{flat_map-append}
 use Rattle.std.proofs.lemmas.List.Sums.{sum_by-cons, sum_by-append}
 use Rattle.std.proofs.lemmas.Option.{none-some}
@@ -28,9 +28,9 @@ drop_map f zero xs = refl
 drop_map f (suc n) [] = refl
 drop_map f (suc n) (x ∷ xs) = drop_map f n xs
 
-All-imp : (P Q : ℕ → Type 0) (ns : List ℕ) → ((n : ℕ) → P n → Q n) → AllByRecursion P ns → AllByRecursion Q ns
-All-imp P Q [] f all = tt
-All-imp P Q (n ∷ ns) f all = (f n all.0, All-imp P Q ns f all.1)
+pub all_imply : (P Q : ℕ → Type 0) (ns : List ℕ) → ((n : ℕ) → P n → Q n) → AllByRecursion P ns → AllByRecursion Q ns
+all_imply P Q [] f all = tt
+all_imply P Q (n ∷ ns) f all = (f n all.0, all_imply P Q ns f all.1)
 
 -- an element more in the middle
 All-between : (P : ℕ → Type 0) (ms ns : List ℕ) (n : ℕ) → P n → AllByRecursion P (ms ++ ns) → AllByRecursion P (ms ++ n ∷ ns)
@@ -88,11 +88,11 @@ made-more : (arities : List ℕ) (k : ℕ) (ms : List Made) (m : Made) → AreMa
     → slice_get arities m.symbol ≡ Some (length m.operands) → 1 ≤ length m.operands
     → AllByRecursion (λ o. o < k + length ms) m.operands → AreMade arities k (ms ++ m ∷ [])
 made-more arities k [] m made arity some within =
-    ((arity, some, All-imp (λ o. o < k + 0) (λ o. o < k) m.operands (λ o low. omega arith) within), tt)
+    ((arity, some, all_imply (λ o. o < k + 0) (λ o. o < k) m.operands (λ o low. omega arith) within), tt)
 made-more arities k (n ∷ ms) m made arity some within = (
   made.0,
   made-more arities (k + 1) ms m made.1 arity some
-      (All-imp (λ o. o < k + length (n ∷ ms)) (λ o. o < (k + 1) + length ms) m.operands (λ o low. omega arith) within),
+      (all_imply (λ o. o < k + length (n ∷ ms)) (λ o. o < (k + 1) + length ms) m.operands (λ o low. omega arith) within),
 )
 
 pub times-below : (first count k : ℕ) → k < first → times_made first count k ≡ 0
@@ -138,25 +138,9 @@ times-more first count k = at (nat_lt k first) (nat_lt k (first + count)) (first
 operands-more : (ms : List Made) (m : Made) → made_operands (ms ++ m ∷ []) ≡ made_operands ms ++ m.operands
 operands-more ms m = flat_map-append (λ (m : Made). m.operands) ms (m ∷ []) ∙ ap (λ l. made_operands ms ++ l) (append-nil m.operands)
 
-length-more : {X : Type 0} (xs : List X) (x : X) → length (xs ++ x ∷ []) ≡ length xs + 1
-length-more xs x = length-append xs (x ∷ [])
-
--- ---- no words, and a word more
+-- ---- a word more
 
 module _ (arities : List ℕ) (registers : ℕ → ℕ) (first : ℕ) (after : length arities ≤ first) where
-  pub flat-none : AreFlat arities registers first [] [] []
-  flat-none = record {
-    agents = tt;
-    within = tt;
-    constant = tt;
-    used = λ k high. at k (nat_lt k first) refl;
-    terms = λ held holds. refl;
-  }
-    where
-      at : (k : ℕ) (b : Bool) → nat_lt k first ≡ b → 0 ≡ 0 + times_made first 0 k
-      at k true e = omega (arith, times-below first 0 k (ltb-true k first e))
-      at k false e = let high = ltb-false k first e in let none = times-above first 0 k (omega arith) in omega arith
-
   module _ (ws : List Word) (made : List Made) (operands : List ℕ) (flat : AreFlat arities registers first ws made operands) where
     -- one more register that holds a term already
     module _ (r : ℕ) (t : Tree) (low : r < first) (constant : r < length arities → slice_get arities r ≡ Some 0) where
@@ -194,8 +178,8 @@ module _ (arities : List ℕ) (registers : ℕ → ℕ) (first : ℕ) (after : l
     flat-agent s n arity some there = record {
       agents = made-more arities first made m flat.agents (arity ∙ ap Some (sym counted)) (omega (arith, counted)) taken_within;
       within = (
-        omega (arith, length-more made m),
-        All-imp (λ k. k < first + length made) (λ k. k < first + length (made ++ m ∷ [])) (drop n operands) (λ k low. omega (arith, low, length-more made m)) left_within,
+        omega (arith, length_push made m),
+        all_imply (λ k. k < first + length made) (λ k. k < first + length (made ++ m ∷ [])) (drop n operands) (λ k low. omega (arith, low, length_push made m)) left_within,
       );
       constant = subst (λ l. AllByRecursion (λ k. k < length arities → slice_get arities k ≡ Some 0) (l ++ (first + length made) ∷ drop n operands)) (sym (operands-more made m))
           (All-between (λ k. k < length arities → slice_get arities k ≡ Some 0) (made_operands made ++ take n operands) (drop n operands) (first + length made)
@@ -206,7 +190,7 @@ module _ (arities : List ℕ) (registers : ℕ → ℕ) (first : ℕ) (after : l
         count-between k (first + length made) (made_operands made ++ take n operands) (drop n operands),
         ap (count_by (λ o. o == k)) whole,
         flat.used k high,
-        ap (λ c. times_made first c k) (length-more made m),
+        ap (λ c. times_made first c k) (length_push made m),
         times-more first (length made) k,
       );
       terms = λ held holds. terms held (flat.terms held holds);
@@ -242,7 +226,7 @@ module _ (arities : List ℕ) (registers : ℕ → ℕ) (first : ℕ) (after : l
             let own : held_with (first + length made) t old (first + length made) ≡ t = held_with_same (first + length made) t old in
             let rest : new ≡ map old (drop n operands) =
             map_same (held_with (first + length made) t old) old (drop n operands)
-            (All-imp (λ k. k < first + length made) (λ k. held_with (first + length made) t old k ≡ old k) (drop n operands) (λ k low. held_with_other (first + length made) t old k low) left_within) in
+            (all_imply (λ k. k < first + length made) (λ k. held_with (first + length made) t old k ≡ old k) (drop n operands) (λ k low. held_with_other (first + length made) t old k low) left_within) in
             let args : trees_of (map old (take n operands)) ≡ filled_all (λ x. held (registers x)) (trees_of (take n (forest ws))) =
             ap trees_of (take_map old n operands ∙ ap (take n) before ∙ sym (take_map f n (forest ws))) ∙ sym (filled_trees (λ x. held (registers x)) (take n (forest ws))) in
             ap (λ h. map h ((first + length made) ∷ drop n operands)) (held_more first made m held)

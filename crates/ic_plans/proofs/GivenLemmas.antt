@@ -1,18 +1,18 @@
 -- The registers of the names of a configuration: a word more.
 use Rattle.std.proofs.Common.{◌≡◌, ◌⊎◌, ℕ, zero, suc, ◌+◌, ◌≤◌, ◌==◌, List, [], ◌∷◌, ◌++◌, Bool, true, false, cond, Option, None, Some, length, slice_get, refl, sym, ap, ◌∙◌, arith, inl, inr}
-use Rattle.std.proofs.lemmas.Option.{none-some}
+use Rattle.std.proofs.lemmas.Option.{none-some, same_Some}
 use Rattle.std.specs.Cmp.{unsigned_Decides}
 use Rattle.ic_term.specs.Configuration.{occurrences}
 use Rattle.ic_plans.specs.inner.Given.{AreFresh, Numbers, number_in}
 use Rattle.ic_plans.proofs.FlatLemmas.{count-append, count-cons, count-other, count-same}
-use Rattle.ic_plans.proofs.RegisterLemmas.{some_same, there_front, there_last}
+use Rattle.ic_plans.proofs.RegisterLemmas.{there_front, there_last}
 use Rattle.ic_plans.proofs.RuleLemmas.{not_same}
 
 -- ---- lists
 
 -- what stands in a list with an element more stands there before, or is that element
 pub there_more : (xs : List ℕ) (n j x : ℕ) → slice_get (xs ++ n ∷ []) j ≡ Some x → (slice_get xs j ≡ Some x) ⊎ ((n ≡ x) × (j ≡ length xs))
-there_more [] n zero x there = inr (some_same n x there, refl)
+there_more [] n zero x there = inr (same_Some n x there, refl)
 there_more [] n (suc j) x there = absurd (none-some x there)
 there_more (y ∷ xs) n zero x there = inl there
 there_more (y ∷ xs) n (suc j) x there = at (there_more xs n j x there)
@@ -35,7 +35,7 @@ module _ (n r : ℕ) (old new : Numbers) (updated : (q : ℕ) → number_in new 
   found-which x s there = at (n == x) refl
     where
       at : (b : Bool) → (n == x) ≡ b → ((n ≡ x) × (r ≡ s)) ⊎ (number_in old x ≡ Some s)
-      at true e = inl ((unsigned_Decides n x).0 e, some_same r s (sym (updated x ∙ ap (λ b. cond b (Some r) (number_in old x)) e) ∙ there))
+      at true e = inl ((unsigned_Decides n x).0 e, same_Some r s (sym (updated x ∙ ap (λ b. cond b (Some r) (number_in old x)) e) ∙ there))
       at false e = inr (sym (updated x ∙ ap (λ b. cond b (Some r) (number_in old x)) e) ∙ there)
 
   pub found-new : (x : ℕ) → n ≡ x → number_in new x ≡ Some r

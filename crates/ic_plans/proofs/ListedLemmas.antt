@@ -4,7 +4,7 @@ use Rattle.std.specs.Prelude.{unwrap_or}
 use Rattle.std.proofs.lemmas.Bool.{ne_eqb}
 use Rattle.std.proofs.lemmas.List.{length-append, get_or_append_left}
 use Rattle.std.proofs.lemmas.List.Sums.{sum_by-cons}
-use Rattle.std.proofs.lemmas.Option.{none-some, slice_get_within, slice_get-get_or, get_or_from_slice_get}
+use Rattle.std.proofs.lemmas.Option.{none-some, slice_get_within, slice_get-get_or, get_or_from_slice_get, same_Some}
 use Rattle.std.proofs.Math.Seq.{get_or-append_seam}
 use Rattle.std.specs.Cmp.{unsigned_Decides}
 use Rattle.ic_term.specs.Configuration.{occurrences}
@@ -12,29 +12,26 @@ use Rattle.ic_plans.specs.inner.Given.{AreGiven, AreFresh, AreListed, HaveRegist
 use Rattle.ic_plans.proofs.FlatLemmas.{count-append, count-cons, count-other, count-same}
 use Rattle.ic_plans.proofs.GivenLemmas.{there_more, occurrences-more, fresh-kept, fresh-more}
 use Rattle.ic_plans.proofs.NetLemmas.{at-one-place, occurs-there, there-back, there-either, there-occurs}
-use Rattle.ic_plans.proofs.RegisterLemmas.{some_same, there_front, there_last}
+use Rattle.ic_plans.proofs.RegisterLemmas.{there_front, there_last}
 use Rattle.ic_plans.proofs.RuleLemmas.{not_same}
 
 -- ---- at which places names stand
 
 stand-front : (firsts : List ℕ) (n : ℕ) (ks ns : List ℕ) → StandAt firsts ks ns → StandAt (firsts ++ n ∷ []) ks ns
 stand-front firsts n [] [] all = tt
-stand-front firsts n [] (m ∷ ns) all = absurd all
-stand-front firsts n (k ∷ ks) [] all = absurd all
 stand-front firsts n (k ∷ ks) (m ∷ ns) all = (there_front firsts (n ∷ []) k m all.0, stand-front firsts n ks ns all.1)
+stand-front firsts n _ _ all = absurd all
 
 stand-more : (firsts : List ℕ) (k n : ℕ) (ks ns : List ℕ) → slice_get firsts k ≡ Some n → StandAt firsts ks ns → StandAt firsts (ks ++ k ∷ []) (ns ++ n ∷ [])
 stand-more firsts k n [] [] here all = (here, tt)
-stand-more firsts k n [] (m ∷ ns) here all = absurd all
-stand-more firsts k n (j ∷ ks) [] here all = absurd all
 stand-more firsts k n (j ∷ ks) (m ∷ ns) here all = (all.0, stand-more firsts k n ks ns here all.1)
+stand-more firsts k n _ _ here all = absurd all
 
 -- what each place has, where it is what the name there has
 stand-map : (firsts : List ℕ) (f g : ℕ → ℕ) (ks ns : List ℕ) → ((k n : ℕ) → slice_get firsts k ≡ Some n → f k ≡ g n) → StandAt firsts ks ns → map f ks ≡ map g ns
 stand-map firsts f g [] [] same all = refl
-stand-map firsts f g [] (m ∷ ns) same all = absurd all
-stand-map firsts f g (k ∷ ks) [] same all = absurd all
 stand-map firsts f g (k ∷ ks) (m ∷ ns) same all = λ i. same k m all.0 i ∷ stand-map firsts f g ks ns same all.1 i
+stand-map firsts f g _ _ same all = absurd all
 
 -- ---- names one after another
 
@@ -58,7 +55,7 @@ module _ (before firsts : List ℕ) (single : List Bool) (stands : List ℕ) (no
   there-place x j there = (so_far.numbered.registers_are x j).1 (inr (j, there, omega arith))
 
   apart-places : (x i j : ℕ) → slice_get firsts i ≡ Some x → slice_get firsts j ≡ Some x → i ≡ j
-  apart-places x i j a b = some_same i j (sym (there-place x i a) ∙ there-place x j b)
+  apart-places x i j a b = same_Some i j (sym (there-place x i a) ∙ there-place x j b)
 
   there-before : (x j : ℕ) → slice_get firsts j ≡ Some x → 1 ≤ occurrences x before
   there-before x j there = ((so_far.numbered.others x).1 (j, there)).1
@@ -81,14 +78,14 @@ module _ (before firsts : List ℕ) (single : List Bool) (stands : List ℕ) (no
       at : (j x : ℕ) → slice_get firsts j ≡ Some x → (b : Bool) → (r == j) ≡ b → get_or after j false ≡ (occurrences x (before ++ n ∷ []) == 1)
       at j x there true e =
           let place : r ≡ j = (unsigned_Decides r j).0 e in
-          let is : n ≡ x = some_same n x (sym (place-there n r here) ∙ ap (slice_get firsts) place ∙ there) in
+          let is : n ≡ x = same_Some n x (sym (place-there n r here) ∙ ap (slice_get firsts) place ∙ there) in
           let some = there-before x j there in
           let one = occurrences-more x before n in
           let more = count-same n x is in
           let other : (occurrences x (before ++ n ∷ []) == 1) ≡ false = ne_eqb (occurrences x (before ++ n ∷ [])) 1 (λ s. omega arith) in
           each j ∙ ap (λ b. cond b false (get_or single j false)) e ∙ sym other
       at j x there false e =
-          let other = λ (s : n ≡ x). not_same r j e (some_same r j (sym here ∙ ap (number_in places) s ∙ there-place x j there)) in
+          let other = λ (s : n ≡ x). not_same r j e (same_Some r j (sym here ∙ ap (number_in places) s ∙ there-place x j there)) in
           let one = occurrences-more x before n in
           let none_more = count-other n x other in
           let same : occurrences x before ≡ occurrences x (before ++ n ∷ []) = omega arith in
@@ -180,7 +177,7 @@ single-there : (ns : List ℕ) (cs : List Bool) (i j k x : ℕ) → slice_get ns
 single-there [] cs i j k x there is = absurd (none-some x there)
 single-there (n ∷ ns) [] i j k x there is = absurd (none-some true is)
 single-there (n ∷ ns) (true ∷ cs) i j zero x there is = (0, there, ap Some (omega arith))
-single-there (n ∷ ns) (false ∷ cs) i j zero x there is = absurd (true≢false (sym (some_same false true is)))
+single-there (n ∷ ns) (false ∷ cs) i j zero x there is = absurd (true≢false (sym (same_Some false true is)))
 single-there (n ∷ ns) (true ∷ cs) i j (suc k) x there is =
     let w = single-there ns cs (i + 1) j k x there is in
     (suc w.0, w.1, w.2 ∙ ap Some (omega arith))
@@ -194,7 +191,7 @@ repeated-there : (ns : List ℕ) (cs : List Bool) (i j k x : ℕ) → slice_get 
 repeated-there [] cs i j k x there is = absurd (none-some x there)
 repeated-there (n ∷ ns) [] i j k x there is = absurd (none-some false is)
 repeated-there (n ∷ ns) (false ∷ cs) i j zero x there is = (0, there, ap Some (omega arith))
-repeated-there (n ∷ ns) (true ∷ cs) i j zero x there is = absurd (true≢false (some_same true false is))
+repeated-there (n ∷ ns) (true ∷ cs) i j zero x there is = absurd (true≢false (same_Some true false is))
 repeated-there (n ∷ ns) (false ∷ cs) i j (suc k) x there is =
     let w = repeated-there ns cs i (j + 1) k x there is in
     (suc w.0, w.1, w.2 ∙ ap Some (omega arith))
@@ -226,10 +223,9 @@ parts-length (n ∷ ns) (false ∷ cs) same = let rest = parts-length ns cs (ome
 
 pub unset-length : (ns : List ℕ) (cs : List Bool) → length cs ≡ length ns → count_by (λ mark. not mark) cs ≡ length (repeated ns cs)
 unset-length [] [] same = refl
-unset-length [] (c ∷ cs) same = absurd (omega (arith, same))
-unset-length (n ∷ ns) [] same = absurd (omega (arith, same))
 unset-length (n ∷ ns) (true ∷ cs) same = let rest = unset-length ns cs (omega (arith, same)) in let one = unset-step true cs in omega arith
 unset-length (n ∷ ns) (false ∷ cs) same = let rest = unset-length ns cs (omega (arith, same)) in let one = unset-step false cs in omega arith
+unset-length _ _ same = absurd (omega (arith, same))
 
 -- no name stands more often in both
 parts-few : (x : ℕ) (ns : List ℕ) (cs : List Bool) → occurrences x (singles ns cs) + occurrences x (repeated ns cs) ≤ occurrences x ns
@@ -251,7 +247,7 @@ numbered-place start (n ∷ ns) x r e = at (n == x) refl (numbered-place (start 
     at : (b : Bool) → (n == x) ≡ b → (numbered (start + 1) ns x ≡ Some r → (j : ℕ) × (slice_get ns j ≡ Some x) × (r ≡ (start + 1) + j))
         → (j : ℕ) × (slice_get (n ∷ ns) j ≡ Some x) × (r ≡ start + j)
     at true is later =
-        let here = some_same start r (sym (ap (λ b. cond b (Some start) (numbered (start + 1) ns x)) is) ∙ e) in
+        let here = same_Some start r (sym (ap (λ b. cond b (Some start) (numbered (start + 1) ns x)) is) ∙ e) in
         (0, ap Some ((unsigned_Decides n x).0 is), omega (arith, here))
     at false is later =
         let w = later (sym (ap (λ b. cond b (Some start) (numbered (start + 1) ns x)) is) ∙ e) in
@@ -260,7 +256,7 @@ numbered-place start (n ∷ ns) x r e = at (n == x) refl (numbered-place (start 
 place-numbered : (start : ℕ) (ns : List ℕ) (x j : ℕ) → occurrences x ns ≤ 1 → slice_get ns j ≡ Some x → numbered start ns x ≡ Some (start + j)
 place-numbered start [] x j apart there = absurd (none-some x there)
 place-numbered start (n ∷ ns) x zero apart there =
-    ap (λ b. cond b (Some start) (numbered (start + 1) ns x)) ((unsigned_Decides n x).1 (some_same n x there)) ∙ ap Some (omega arith)
+    ap (λ b. cond b (Some start) (numbered (start + 1) ns x)) ((unsigned_Decides n x).1 (same_Some n x there)) ∙ ap Some (omega arith)
 place-numbered start (n ∷ ns) x (suc j) apart there =
     let one = count-cons x n ns in
     let some = there-occurs x ns j there in
@@ -285,7 +281,7 @@ module _ (ns firsts : List ℕ) (single : List Bool) (stands : List ℕ) (listed
 
   -- the mark at a place of a name
   mark-there : (x k : ℕ) (b : Bool) → slice_get firsts k ≡ Some x → slice_get single k ≡ Some b → (occurrences x ns == 1) ≡ b
-  mark-there x k b there is = some_same (occurrences x ns == 1) b (sym (listed.once k x there) ∙ is)
+  mark-there x k b there is = same_Some (occurrences x ns == 1) b (sym (listed.once k x there) ∙ is)
 
   given-once : (x : ℕ) → occurrences x ns ≡ 1 → (j : ℕ) × (slice_get given j ≡ Some x)
   given-once x once =

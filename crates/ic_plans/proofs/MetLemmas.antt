@@ -7,6 +7,7 @@ use Rattle.std.proofs.lemmas.List.Folds.{list_all-append}
 use Rattle.std.proofs.lemmas.List.Sums.{sum_by-cons, sum_by-append}
 use Rattle.std.specs.Cmp.{unsigned_Decides}
 use Rattle.std.specs.List.{flat_map, list_all, list_any, AllByRecursion}
+use Rattle.std.proofs.lemmas.List.FromFn.{length-range_with_len}
 use Rattle.ic_term.specs.Tree.{Tree, name, agent, Trees, no_trees, more_trees, nodes, nodes_of, names, names_of}
 use Rattle.ic_term.specs.Configuration.{occurrences}
 use Rattle.ic_term.specs.Symbol.{Symbol, has_arity, is_tree_over}
@@ -14,7 +15,6 @@ use Rattle.ic_rules.specs.Rule.{Rule, IsRule, rule_names, rule_nodes, swapped, s
 use Rattle.ic_rules.specs.Renaming.{first_after, first_occurrences, are_paired}
 use Rattle.ic_rules.specs.RuleSet.{Rules, IsRuleSet, IsRuleOver, are_few, stands_turned}
 use Rattle.ic_rules.specs.lemmas.FitLaws.{rule_over_at}
-use Rattle.ic_rules.specs.lemmas.NumberingLaws.{length-range}
 use Rattle.ic_round.specs.lemmas.FreshNames.{rule_below}
 use Rattle.ic_settle.specs.lemmas.SubstitutionLaws.{All-append, All-front, All-back}
 use Rattle.ic_meaning.specs.Plans.{met_as, rule_arguments}
@@ -49,7 +49,7 @@ terms_few (t ∷ ts) = rw (sum_by-cons nodes t ts) (omega (arith, length-append 
 -- a rule has no more names than nodes
 rule_few : (r : Rule) → IsRule r → r.names ≤ rule_nodes r
 rule_few r is =
-    let counted : length (first_occurrences (rule_names r)) ≡ r.names = ap length is.in_order ∙ length-range 0 r.names in
+    let counted : length (first_occurrences (rule_names r)) ≡ r.names = ap length is.in_order ∙ length-range_with_len 0 r.names in
     omega (
       arith,
       counted,

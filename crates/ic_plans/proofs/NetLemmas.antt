@@ -1,7 +1,7 @@
 -- The plan of a configuration: a machine can begin with it, and it stands for the configuration.
 use Rattle.std.proofs.Common.{◌≡◌, ◌↔◌, ◌⊎◌, ℕ, zero, suc, ◌+◌, ◌-◌, ◌*◌, ◌^◌, ◌≤◌, ◌<◌, ◌==◌, List, [], ◌∷◌, ◌++◌, Bool, true, false, cond, Option, None, Some, length, map, take, drop, get_or, slice_get, nat_lt, count_by, refl, sym, ap, subst, ◌∙◌, arith, inl, inr}
 use Rattle.std.specs.Prelude.{unwrap_or, IsPermutation}
-use Rattle.std.proofs.lemmas.Option.{none-some, slice_get_within, slice_get-get_or, get_or_from_slice_get}
+use Rattle.std.proofs.lemmas.Option.{none-some, slice_get_within, slice_get-get_or, get_or_from_slice_get, same_Some}
 use Rattle.std.proofs.lemmas.Bool.{ltb-true, ltb-false, lt-ltb, le-ltb}
 use Rattle.std.proofs.lemmas.List.{length-append, length-map, length-drop, take-append-drop, take-map, drop-map, take_at, drop_at}
 use Rattle.std.proofs.lemmas.List.Sorted.{IsPermutation-refl}
@@ -24,9 +24,10 @@ use Rattle.ic_meaning.specs.Plans.{filled, filled_all, held_made, HoldConstants,
 use Rattle.ic_plans.specs.inner.Given.{AreGiven, AreFresh, operand_links, Numbers, number_in, register_in}
 use Rattle.ic_plans.specs.inner.Flattening.{times_read, times_made, made_operands, AreFlat, WouldBeFlat}
 use Rattle.ic_plans.proofs.FlatLemmas.{count-append, count-cons, count-other, count-same, times-below, times-within, times-above}
-use Rattle.ic_plans.proofs.RegisterLemmas.{some_same, all_there, there_front}
+use Rattle.ic_plans.proofs.RegisterLemmas.{all_there, there_front}
 use Rattle.ic_plans.proofs.RuleLemmas.{not_same}
 use Rattle.ic_plans.proofs.PlanLemmas.{read_words}
+use Rattle.ic_confluence.specs.lemmas.Counts.{All_from}
 
 -- ---- links
 
@@ -38,15 +39,13 @@ links-operands (k ∷ m ∷ os) zero even = absurd (omega arith)
 links-operands (k ∷ m ∷ os) (suc n) even = let fewer : length os ≡ 2 * n = omega arith in ap (λ l. k ∷ m ∷ l) (links-operands os n fewer)
 
 linked-pairs : (after : ℕ → Tree) (os : List ℕ) → map (linked_terms after) (operand_links os) ≡ pairs_of (map after os)
-linked-pairs after [] = refl
-linked-pairs after (k ∷ []) = refl
 linked-pairs after (k ∷ m ∷ os) = ap (λ l. record { left = after k; right = after m } ∷ l) (linked-pairs after os)
+linked-pairs after _ = refl
 
 -- one register is left, or none
 pub links-left : (os : List ℕ) → length os ≤ 1 → operand_links os ≡ []
-links-left [] few = refl
-links-left (k ∷ []) few = refl
 links-left (k ∷ m ∷ os) few = absurd (omega arith)
+links-left _ few = refl
 
 -- ---- names put for themselves
 
@@ -79,7 +78,7 @@ pub there-occurs : (x : ℕ) (xs : List ℕ) (j : ℕ) → slice_get xs j ≡ So
 there-occurs x [] j there = absurd (none-some x there)
 there-occurs x (y ∷ xs) zero there =
     let one = count-cons x y xs in
-    let same = count-same y x (some_same y x there) in
+    let same = count-same y x (same_Some y x there) in
     omega arith
 there-occurs x (y ∷ xs) (suc j) there =
     let one = count-cons x y xs in
@@ -97,9 +96,6 @@ occurs-there x (y ∷ xs) some = at (y == x) refl (occurs-there x xs)
         let other = count-other y x (not_same y x e) in
         let w = later (omega arith) in
         (suc w.0, w.1)
-
-all-occurs : (P : ℕ → Type 0) (xs : List ℕ) → ((x : ℕ) → 1 ≤ occurrences x xs → P x) → AllByRecursion P xs
-all-occurs P xs each = all-places P xs (λ j x there. each x (there-occurs x xs j there))
 
 -- what stands at one place at most stands once at most
 pub at-one-place : (x : ℕ) (xs : List ℕ) → ((i j : ℕ) → slice_get xs i ≡ Some x → slice_get xs j ≡ Some x → i ≡ j) → occurrences x xs ≤ 1
@@ -160,7 +156,7 @@ module _ (ns : List ℕ) (count : ℕ) (given others : List ℕ) (mid all : Numb
 
   apart : (x i j : ℕ) → slice_get listed i ≡ Some x → slice_get listed j ≡ Some x → i ≡ j
   apart x i j a b =
-      let same = some_same (count + i) (count + j) (sym (listed-found i x a) ∙ listed-found j x b) in
+      let same = same_Some (count + i) (count + j) (sym (listed-found i x a) ∙ listed-found j x b) in
       omega arith
 
   pub listed-once : (x : ℕ) → occurrences x listed ≤ 1
@@ -185,7 +181,7 @@ module _ (ns : List ℕ) (count : ℕ) (given others : List ℕ) (mid all : Numb
   IsListed x = (j : ℕ) × (slice_get listed j ≡ Some x)
 
   all_listed : AllByRecursion IsListed ns
-  all_listed = all-occurs IsListed ns occurs-listed
+  all_listed = All_from IsListed ns occurs-listed
 
   -- a register is read as often as its name stands there
   reads : (j x : ℕ) → slice_get listed j ≡ Some x → (ms : List ℕ) → AllByRecursion IsListed ms
@@ -213,7 +209,7 @@ module _ (ns : List ℕ) (count : ℕ) (given others : List ℕ) (mid all : Numb
           same s =
               let place = sym (register-is each.0.0 y each.0.1) ∙ s in
               let equal : each.0.0 ≡ j = omega arith in
-              some_same y x (sym each.0.1 ∙ ap (slice_get listed) equal ∙ there)
+              same_Some y x (sym each.0.1 ∙ ap (slice_get listed) equal ∙ there)
 
   reads-none : (k : ℕ) → count + length listed ≤ k → (ms : List ℕ) → AllByRecursion IsListed ms → count_by (λ y. register_in all y == k) ms ≡ 0
   reads-none k high [] each = refl
@@ -315,7 +311,7 @@ module _ (ss : List Symbol) (c : Configuration) (given others : List ℕ) (mid a
   flat : AreFlat (map (λ s. s.arity) ss) (register_in all) (length (map (λ s. s.arity) ss) + length given + length others) (configuration_words c) made operands
   flat =
       let same = length-map ss (λ (s : Symbol). s.arity) in
-      let places = all-occurs (λ x. (length ss ≤ register_in all x) × (register_in all x < first)) ns
+      let places = All_from (λ x. (length ss ≤ register_in all x) × (register_in all x < first)) ns
       (λ x some. let b = listed-bounds ns count given others mid all are_given are_fresh x some in (omega (arith, b.0, same), b.1)) in
       would (omega arith) (read_words ss (register_in all) first ws places (over-words ss c ∙ over))
 
@@ -408,7 +404,7 @@ module _ (ss : List Symbol) (c : Configuration) (given others : List ℕ) (mid a
   same_terms : map (held_made first made held) operands ≡ all_terms c
   same_terms =
       let f : ℕ → Tree = λ x. held (register_in all x) in
-      let each = all-occurs (λ x. f x ≡ name x) ns (named ns count given others mid all are_given are_fresh) in
+      let each = All_from (λ x. f x ≡ name x) ns (named ns count given others mid all are_given are_fresh) in
       let here = subst (AllByRecursion (λ x. f x ≡ name x)) (sym (names-forest ws)) each in
       flat.terms held constants ∙ map-itself f (forest ws) here ∙ forest-configuration_words c
 

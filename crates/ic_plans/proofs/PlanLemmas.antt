@@ -1,7 +1,7 @@
 -- A plan of a rule: it is one for the arguments, and stands for the rule.
 use Rattle.std.proofs.Common.{◌≡◌, ◌⊎◌, ℕ, zero, suc, ◌+◌, ◌*◌, ◌≤◌, ◌<◌, ◌==◌, List, [], ◌∷◌, Bool, true, false, cond, Option, None, Some, length, map, slice_get, nat_lt, sum_by, count_by, true≢false, refl, sym, ap, subst, ◌∙◌, arith, inl, inr}
 use Rattle.std.specs.Prelude.{Contains, unwrap_or, IsSome, IsPermutation}
-use Rattle.std.proofs.lemmas.Option.{none-some}
+use Rattle.std.proofs.lemmas.Option.{none-some, same_Some}
 use Rattle.std.proofs.lemmas.Bool.{false≢true, and_parts, ltb-true, ltb-false, lt-ltb, le-ltb}
 use Rattle.std.proofs.lemmas.List.Sorted.{IsPermutation-refl}
 use Rattle.std.specs.Cmp.{unsigned_Decides}
@@ -25,8 +25,8 @@ use Rattle.ic_machine.specs.Plan.{Made, Planned, IsPlan, allowance, link_operand
 use Rattle.ic_meaning.specs.Plans.{Argument, arguments_from, arguments_of, rule_arguments, filled, held_made, HasRegister, HoldConstants, linked_terms, is_read, StandsFor}
 use Rattle.ic_plans.specs.inner.Registers.{Registers, found, register_of, AreFreshNames, AreRegisters, links_of, IsPlanFor}
 use Rattle.ic_plans.specs.inner.Flattening.{IsRead, times_read, times_made, made_operands, AreFlat, WouldBeFlat}
-use Rattle.ic_plans.proofs.FlatLemmas.{count-append, times-below, times-within, times-above, held_below}
-use Rattle.ic_plans.proofs.RegisterLemmas.{argument_there, arguments-at, some_same}
+use Rattle.ic_plans.proofs.FlatLemmas.{count-append, times-below, times-within, times-above, held_below, all_imply}
+use Rattle.ic_plans.proofs.RegisterLemmas.{argument_there, arguments-at}
 use Rattle.ic_plans.proofs.RuleLemmas.{head_or, tail_of, AreOwn, is_agent, held_agent, links_matched, links-count, own-none, own-there, read-cases, times_own}
 
 -- the register of a name that has one
@@ -81,8 +81,6 @@ own_operands : (count first : ℕ) (made : List Made) (registers : ℕ → ℕ) 
     → map (held_made first made (named_all count)) os ≡ map (filled (λ x. named_all count (registers x))) ts
     → AreOwn registers (arguments_from k ts) os
 own_operands count first made registers k [] [] high within terms = tt
-own_operands count first made registers k [] (o ∷ os) high within terms = let lengths = ap length terms in absurd (omega arith)
-own_operands count first made registers k (t ∷ ts) [] high within terms = let lengths = ap length terms in absurd (omega arith)
 own_operands count first made registers k (t ∷ ts) (o ∷ os) high within terms =
     (own t (ap (head_or t) terms), own_operands count first made registers (k + 1) ts os (omega arith) within.1 (ap tail_of terms))
   where
@@ -92,6 +90,7 @@ own_operands count first made registers k (t ∷ ts) (o ∷ os) high within term
         let same : registers x ≡ k = (unsigned_Decides (registers x) k).0 read in
         named-is count first made o k high within.0 (is ∙ ap (named_all count) same ∙ named-other count k high)
     own (agent s us) is read = absurd (true≢false (sym read))
+own_operands count first made registers k _ _ high within terms = let lengths = ap length terms in absurd (omega arith)
 
 -- each term has a node at least
 nodes-some : (t : Tree) → 1 ≤ nodes t
@@ -106,10 +105,6 @@ length-nodes (t ∷ ts) = omega (arith, nodes-some t, length-nodes ts, sum_by-co
 pub each_passes : (p : ℕ → Bool) (ns : List ℕ) → list_all p ns ≡ true → AllByRecursion (λ n. p n ≡ true) ns
 each_passes p [] all = tt
 each_passes p (n ∷ ns) all = let parts = and_parts (p n) (list_all p ns) all in (parts.0, each_passes p ns parts.1)
-
-pub all_imply : (P Q : ℕ → Type 0) (ns : List ℕ) → ((n : ℕ) → P n → Q n) → AllByRecursion P ns → AllByRecursion Q ns
-all_imply P Q [] f all = tt
-all_imply P Q (n ∷ ns) f all = (f n all.0, all_imply P Q ns f all.1)
 
 -- no name has a register at first
 pub none_yet : (start : ℕ) (registers : Registers) → ((x : ℕ) → found registers x ≡ None) → AreRegisters [] start 0 registers
@@ -288,7 +283,7 @@ module _ (arities : List ℕ) (r : Rule) (map_of : Registers) (fresh : ℕ) (ws 
     not_alone : (k x : ℕ) → k < fresh → found map_of x ≡ Some (start + k) → ¬ Contains (rule_arguments r) (name x)
     not_alone k x low is there =
         let it = regs.own there.0 (count + there.0) x (argument_there count (rule_arguments r) there.0 (name x) there.1 there.2) in
-        let same : it.0 ≡ start + k = some_same it.0 (start + k) (sym it.1 ∙ is) in
+        let same : it.0 ≡ start + k = same_Some it.0 (start + k) (sym it.1 ∙ is) in
         it.2 ((let h : start ≤ it.0 = omega arith in h), (let h : it.0 < start + fresh = omega arith in h))
 
     links_within : AllByRecursion (λ k. k < first + length made) (flat_map link_operands links)

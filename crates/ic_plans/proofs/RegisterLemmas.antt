@@ -1,7 +1,7 @@
 -- The registers of names: a name more, and what each name is read from.
 use Rattle.std.proofs.Common.{◌≡◌, ◌⊎◌, ℕ, zero, suc, ◌+◌, ◌≤◌, ◌<◌, ◌==◌, List, [], ◌∷◌, ◌++◌, Bool, true, false, cond, Option, None, Some, length, slice_get, slice_index_or, true≢false, refl, sym, ap, subst, ◌∙◌, arith, inl, inr}
-use Rattle.std.specs.Prelude.{unwrap_or, is_some}
-use Rattle.std.proofs.lemmas.Option.{none-some}
+use Rattle.std.specs.Prelude.{is_some}
+use Rattle.std.proofs.lemmas.Option.{none-some, same_Some}
 use Rattle.std.specs.Cmp.{unsigned_Decides}
 use Rattle.std.specs.List.{AllByRecursion}
 use Rattle.ic_term.specs.Tree.{Tree, name, agent}
@@ -10,12 +10,9 @@ use Rattle.ic_plans.specs.inner.Registers.{Registers, found, AreRegisters}
 
 -- ---- lists
 
-pub some_same : {X : Type 0} (x y : X) → Some x ≡ Some y → x ≡ y
-some_same x y e = ap (λ o. unwrap_or o x) e
-
 pub all_there : {X : Type 0} (P : X → Type 0) (xs : List X) (i : ℕ) (x : X) → AllByRecursion P xs → slice_get xs i ≡ Some x → P x
 all_there P [] i x all there = absurd (none-some x there)
-all_there P (y ∷ ys) zero x all there = subst P (some_same y x there) all.0
+all_there P (y ∷ ys) zero x all there = subst P (same_Some y x there) all.0
 all_there P (y ∷ ys) (suc i) x all there = all_there P ys i x all.1 there
 
 pub there_front : {X : Type 0} (xs ys : List X) (i : ℕ) (x : X) → slice_get xs i ≡ Some x → slice_get (xs ++ ys) i ≡ Some x
@@ -28,7 +25,7 @@ there_last [] x = refl
 there_last (y ∷ xs) x = there_last xs x
 
 pub there_either : {X : Type 0} (xs : List X) (a b : X) (i : ℕ) → slice_get (xs ++ a ∷ []) i ≡ Some b → (slice_get xs i ≡ Some b) ⊎ (a ≡ b)
-there_either [] a b zero there = inr (some_same a b there)
+there_either [] a b zero there = inr (same_Some a b there)
 there_either [] a b (suc i) there = absurd (none-some b there)
 there_either (x ∷ xs) a b zero there = inl there
 there_either (x ∷ xs) a b (suc i) there = there_either xs a b i there
@@ -70,7 +67,7 @@ arguments-below k (t ∷ ts) bound high = (omega arith, arguments-below (k + 1) 
 pub arguments-at : (k : ℕ) (ts : List Tree) (i : ℕ) (a : Argument) → slice_get (arguments_from k ts) i ≡ Some a → (a.register ≡ k + i) × (i < length ts)
 arguments-at k [] i a there = absurd (none-some a there)
 arguments-at k (t ∷ ts) zero a there =
-    let same = ap (λ b. b.register) (some_same (record { register = k; term = t }) a there) in
+    let same = ap (λ b. b.register) (same_Some (record { register = k; term = t }) a there) in
     (omega arith, omega arith)
 arguments-at k (t ∷ ts) (suc i) a there = let rest = arguments-at (k + 1) ts i a there in (omega arith, omega arith)
 
@@ -84,7 +81,7 @@ module _ (arguments : List Argument) (start fresh : ℕ) (old new : Registers) (
   which y s there = at (x == y) refl
     where
       at : (b : Bool) → (x == y) ≡ b → ((x ≡ y) × (r ≡ s)) ⊎ (found old y ≡ Some s)
-      at true e = inl ((unsigned_Decides x y).0 e, some_same r s (sym (updated y ∙ ap (λ b. cond b (Some r) (found old y)) e) ∙ there))
+      at true e = inl ((unsigned_Decides x y).0 e, same_Some r s (sym (updated y ∙ ap (λ b. cond b (Some r) (found old y)) e) ∙ there))
       at false e = inr (sym (updated y ∙ ap (λ b. cond b (Some r) (found old y)) e) ∙ there)
 
   new_apart : (y z s : ℕ) → found new y ≡ Some s → found new z ≡ Some s → y ≡ z

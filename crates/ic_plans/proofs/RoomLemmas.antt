@@ -5,13 +5,13 @@ use Rattle.std.proofs.Math.Seq.{get_or-append_seam}
 use Rattle.std.proofs.lemmas.List.Concat.{flat_map-append}
 use Rattle.std.specs.Cmp.{unsigned_Decides}
 use Rattle.std.specs.List.{flat_map, AllByRecursion}
+use Rattle.std.proofs.lemmas.Option.{same_Some}
 use Rattle.ic_term.specs.Configuration.{occurrences}
 use Rattle.ic_flat.specs.declared.word.Word.{Word}
 use Rattle.ic_flat.specs.declared.word.Word.TheVariants.{Name, Agent}
 use Rattle.ic_flat.specs.Words.{word_names}
 use Rattle.ic_plans.specs.inner.Given.{AreGiven, AreFresh, Numbers, number_in}
 use Rattle.ic_plans.proofs.FlatLemmas.{count-cons, count-other, count-same}
-use Rattle.ic_plans.proofs.RegisterLemmas.{some_same}
 use Rattle.ic_plans.proofs.RuleLemmas.{not_same}
 use Rattle.ic_plans.proofs.NetLemmas.{at-one-place, there-either, occurs-there}
 
@@ -135,7 +135,7 @@ module _ (ns ms : List ℕ) (count : ℕ) (given others : List ℕ) (mid all : N
 
   apart : (x i j : ℕ) → slice_get listed i ≡ Some x → slice_get listed j ≡ Some x → i ≡ j
   apart x i j a b =
-      let same = some_same (count + i) (count + j) (sym (listed-found i x a) ∙ listed-found j x b) in
+      let same = same_Some (count + i) (count + j) (sym (listed-found i x a) ∙ listed-found j x b) in
       omega arith
 
   occurs : (x : ℕ) → 1 ≤ occurrences x listed → 1 ≤ occurrences x ns

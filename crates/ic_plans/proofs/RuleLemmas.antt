@@ -1,6 +1,6 @@
 -- The plan of a rule stands for it.
 use Rattle.std.proofs.Common.{◌≡◌, ◌⊎◌, ℕ, zero, suc, ◌+◌, ◌*◌, ◌≤◌, ◌<◌, ◌==◌, List, [], ◌∷◌, Bool, true, false, ◌&&◌, cond, Some, length, map, slice_get, nat_lt, count_by, true≢false, refl, sym, ap, ◌∙◌, arith, inl, inr}
-use Rattle.std.proofs.lemmas.Option.{none-some}
+use Rattle.std.proofs.lemmas.Option.{none-some, same_Some}
 use Rattle.std.proofs.lemmas.Bool.{ne_eqb, ltb-true, ltb-false}
 use Rattle.std.proofs.lemmas.List.Sums.{sum_by-cons}
 use Rattle.std.specs.Cmp.{unsigned_Decides}
@@ -13,7 +13,6 @@ use Rattle.ic_meaning.specs.Plans.{Argument, arguments_from, filled, held_with, 
 use Rattle.ic_plans.specs.inner.Registers.{found, links_of}
 use Rattle.ic_plans.specs.inner.Flattening.{times_made}
 use Rattle.ic_plans.proofs.FlatLemmas.{count-cons, count-other, count-same, times-below, times-within, times-above, held_below, held_with_same}
-use Rattle.ic_plans.proofs.RegisterLemmas.{some_same}
 
 -- ---- an agent that is made is no name
 
@@ -139,8 +138,6 @@ pub links-count : (registers : ℕ → ℕ) (k : ℕ) (ts : List Tree) (os : Lis
     → count_by (λ m. m == j) (flat_map link_operands (links_of registers (arguments_from k ts) os)) + 2 * times_own registers j (arguments_from k ts)
     ≡ times_made k (length ts) j + count_by (λ m. m == j) os
 links-count registers k [] [] j own = let none = times-none k j in omega arith
-links-count registers k [] (o ∷ os) j own = absurd own
-links-count registers k (t ∷ ts) [] j own = absurd own
 links-count registers k (t ∷ ts) (o ∷ os) j own =
     at (is_read registers (record { register = k; term = t })) refl (links-count registers (k + 1) ts os j own.1)
   where
@@ -173,6 +170,7 @@ links-count registers k (t ∷ ts) (o ∷ os) j own =
         let two = times-cons k (length ts) j in
         let three = count-cons j o os in
         omega arith
+links-count registers k _ _ j own = absurd own
 
 -- arguments that are read from a register are those in it
 pub own-none : (registers : ℕ → ℕ) (k : ℕ) (ts : List Tree) (j : ℕ) → k + length ts ≤ j → times_own registers j (arguments_from k ts) ≡ 0
@@ -194,7 +192,7 @@ pub own-there : (registers : ℕ → ℕ) (j : ℕ) (ds : List Argument) (i : �
 own-there registers j [] i a there is same = absurd (none-some a there)
 own-there registers j (b ∷ ds) zero a there is same =
     let one = own-cons registers j b ds in
-    let e = some_same b a there in
+    let e = same_Some b a there in
     let eq : (b.register == j) ≡ true = (unsigned_Decides b.register j).1 (ap (λ x. x.register) e ∙ same) in
     let read : is_read registers b ≡ true = ap (is_read registers) e ∙ is in
     let here : ◌≡◌ {A = ℕ} (cond (is_read registers b && b.register == j) 1 0) 1 = (λ i. cond (read i && eq i) 1 0) in

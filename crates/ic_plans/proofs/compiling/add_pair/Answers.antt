@@ -1,9 +1,10 @@
 use Rattle.std.proofs.Common.{◌≡◌, ◌++◌, ◌∷◌, [], None, sym, subst, ◌∙◌, arith}
 use Rattle.std.specs.Prelude.{IsSome}
+use Rattle.std.proofs.lemmas.Result.{on_ok_weaker}
 use Rattle.ic_rules.specs.lemmas.FindLaws.{rule_for-found}
 use Rattle.ic_machine.specs.Plan.{number_of, plan_of, planned}
 use Rattle.ic_plans.specs.inner.Entries.{ArePlanned}
-use Rattle.ic_plans.proofs.EntryLemmas.{fits, none_mapped, number_new, on_ok, planned_more}
+use Rattle.ic_plans.proofs.EntryLemmas.{fits, none_mapped, number_new, planned_more}
 use Rattle.ic_plans.proofs.MetLemmas.{rules_within}
 use Rattle.ic_plans.proofs.compiling.add_pair.Goals as goal
 
@@ -29,7 +30,7 @@ returns-clause-planned c =
     let made =
     planned_more rs c.args.numbers.now.items c.args.program.now c.args.a c.args.b c.in-Some.number c.in-Some.turned (planned c.in_ok-plan.plan)
     c.find.ensures.sound c.requires.planned c.requires.a c.requires.b none (sym c.find.ensures.rule ∙ c.in-Some.is) c.in_ok-plan.ensures in
-    on_ok c.add.result
+    on_ok_weaker c.add.result
     (λ added. subst (λ l. ArePlanned rs l c.add.new.self) (sym c.in_ok-push.ensures.items) (subst (λ p. ArePlanned rs (c.args.numbers.now.items ++ c.in-Some.number ∷ []) p) (sym added) made))
     c.add.ensures.added
 
@@ -39,4 +40,4 @@ returns-clause-pair c =
     let made =
     number_new c.args.rules.now c.args.numbers.now.items c.args.program.now c.args.a c.args.b c.in-Some.number c.in-Some.turned (planned c.in_ok-plan.plan)
     c.find.ensures.sound c.requires.planned c.requires.a c.requires.b none (sym c.find.ensures.rule ∙ c.in-Some.is) c.in_ok-plan.ensures in
-    on_ok c.add.result (λ added _. subst (λ p. IsSome (number_of p c.args.a c.args.b)) (sym added) made) c.add.ensures.added
+    on_ok_weaker c.add.result (λ added _. subst (λ p. IsSome (number_of p c.args.a c.args.b)) (sym added) made) c.add.ensures.added
