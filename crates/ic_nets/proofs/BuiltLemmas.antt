@@ -5,6 +5,7 @@ use Rattle.ic_term.specs.Tree.{Tree, name, agent, Trees, no_trees, more_trees, l
 use Rattle.ic_term.specs.Configuration.{Configuration, occurrences}
 use Rattle.ic_term.specs.lemmas.TreeLaws.{list_of-trees_of}
 use Rattle.ic_settle.specs.Settling.{occurs, subst, subst_all}
+use Rattle.ic_settle.specs.lemmas.PutEach.{names_of-trees_of}
 use Rattle.ic_rules.specs.Rule.{Rule}
 use Rattle.ic_confluence.specs.Sameness.{Rearranged, kept, itself, one_by_one}
 use Rattle.ic_nets.specs.Links.{agents_among, agents_in, agents_of, end_of, equation_link, hanging, hung, inside, joined, links_of, pair_agents, pair_links, pairs_agents}
@@ -15,10 +16,9 @@ use Rattle.ic_nets.specs.declared.links.End.TheVariants.{At, Named}
 use Rattle.ic_nets.specs.declared.links.Link.{Link}
 use Rattle.ic_nets.specs.declared.port.Port.{Port}
 use Rattle.ic_nets.specs.declared.port.Port.TheVariants.{Interface, Principal, Auxiliary}
-use Rattle.ic_nets.proofs.NameLemmas.{names_of-trees_of}
 use Rattle.ic_nets.proofs.LeadLemmas.{Laws, Leads, after_these, before, exchange, leads-itself, leads-rearranged, leads-through, moved_after, parts, put_alone, put_among, put_place, put_right, stands_among, turn}
 
-pub trees_of-list_of : (ts : Trees) → trees_of (list_of ts) ≡ ts
+trees_of-list_of : (ts : Trees) → trees_of (list_of ts) ≡ ts
 trees_of-list_of no_trees = refl
 trees_of-list_of (more_trees t ts) = ap (more_trees t) (trees_of-list_of ts)
 

@@ -282,10 +282,8 @@ module _ (f : ℕ → ℕ) (g : Side → Side) (one_f : (x y : ℕ) → f x ≡ 
     before_carry p q = P (carry f g p) (carry f g q)
 
     worth_carried : (n : ℕ) (ps : List Port) → sum one ps ≤ 2 → name_worth before_carry n ps ≡ name_worth P n (map (carry f g) ps)
-    worth_carried n [] low = refl
-    worth_carried n (p ∷ []) low = refl
-    worth_carried n (p ∷ q ∷ []) low = refl
     worth_carried n (p ∷ q ∷ r ∷ ps) low = absurd (omega (arith, low))
+    worth_carried n _ low = refl
 
     joined_carried : (x : Item) → joined_by before_carry x ≡ joined_by P (carry_item f g x)
     joined_carried (wired p q) = refl

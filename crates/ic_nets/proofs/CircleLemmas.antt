@@ -17,9 +17,8 @@ other (suc zero) = 0
 other (suc (suc k)) = suc (suc k)
 
 other_twice : (k : ℕ) → other (other k) ≡ k
-other_twice zero = refl
 other_twice (suc zero) = refl
-other_twice (suc (suc k)) = refl
+other_twice _ = refl
 
 abbrev over : Port → Port
 over (Principal k) = Principal (other k)

@@ -23,20 +23,17 @@ mutual
   tree-found : (k : ℕ) (t u : Tree) (as_t as_u : List Agent) (ls ms : List Link) → end_of k t ≡ end_of k u → agents_in t ++ as_t ≡ agents_in u ++ as_u → inside k t ++ ls ≡ inside k u ++ ms
       → (t ≡ u) × (as_t ≡ as_u) × (ls ≡ ms)
   tree-found k (name m) (name n) as_t as_u ls ms end agents links = let same : m ≡ n = cc in (ap name same, agents, links)
-  tree-found k (name m) (agent r us) as_t as_u ls ms end agents links = cc
-  tree-found k (agent s ts) (name n) as_t as_u ls ms end agents links = cc
   tree-found k (agent s ts) (agent r us) as_t as_u ls ms end agents links =
       let first = head_is _ _ _ _ agents in
       let symbol : s ≡ r = ap (λ (a : Agent). a.sym) first in
       let arity : length (list_of ts) ≡ length (list_of us) = ap (λ (a : Agent). a.arity) first in
       let below = trees-found (Auxiliary k) 1 (k + 1) ts us as_t as_u ls ms arity (tail_is _ _ _ _ agents) links in
       (λ i. agent (symbol i) (below.0 i), below.1, below.2)
+  tree-found k _ _ as_t as_u ls ms end agents links = cc
 
   trees-found : (port : ℕ → Port) (p k : ℕ) (ts us : Trees) (as_t as_u : List Agent) (ls ms : List Link) → length (list_of ts) ≡ length (list_of us)
       → agents_among ts ++ as_t ≡ agents_among us ++ as_u → hanging port p k ts ++ ls ≡ hanging port p k us ++ ms → (ts ≡ us) × (as_t ≡ as_u) × (ls ≡ ms)
   trees-found port p k no_trees no_trees as_t as_u ls ms count agents links = (refl, agents, links)
-  trees-found port p k no_trees (more_trees u us) as_t as_u ls ms count agents links = absurd (omega arith)
-  trees-found port p k (more_trees t ts) no_trees as_t as_u ls ms count agents links = absurd (omega arith)
   trees-found port p k (more_trees t ts) (more_trees u us) as_t as_u ls ms count agents links =
       let end : end_of k t ≡ end_of k u = ap (λ (l : Link). l.to) (head_is _ _ _ _ links) in
       let fewer : length (list_of ts) ≡ length (list_of us) = omega arith in
@@ -48,19 +45,18 @@ mutual
       let next = first.2 ∙ ap (λ x. hanging port (p + 1) (k + length (agents_in x)) us ++ ms) (sym first.0) in
       let rest = trees-found port (p + 1) (k + length (agents_in t)) ts us as_t as_u ls ms fewer first.1 next in
       (λ i. more_trees (first.0 i) (rest.0 i), rest.1, rest.2)
+  trees-found port p k _ _ as_t as_u ls ms count agents links = absurd (omega arith)
 
 -- ---- equations
 
 -- where the sides of an equation are joined after what is inside the left one, the left ends agree
 ends_found : (k : ℕ) (t u : Tree) (x y : Link) (xs ys : List Link) → x.from ≡ end_of k t → y.from ≡ end_of k u → inside k t ++ x ∷ xs ≡ inside k u ++ y ∷ ys → end_of k t ≡ end_of k u
-ends_found k (name m) (name n) x y xs ys at_x at_y e = sym at_x ∙ ap (λ (l : Link). l.from) (head_is _ _ _ _ e) ∙ at_y
 ends_found k (agent s ts) (agent r us) x y xs ys at_x at_y e = refl
-ends_found k (name m) (agent r no_trees) x y xs ys at_x at_y e = sym at_x ∙ ap (λ (l : Link). l.from) (head_is _ _ _ _ e) ∙ at_y
-ends_found k (agent s no_trees) (name n) x y xs ys at_x at_y e = sym at_x ∙ ap (λ (l : Link). l.from) (head_is _ _ _ _ e) ∙ at_y
 ends_found k (name m) (agent r (more_trees u us)) x y xs ys at_x at_y e =
     let apart : Named m ≡ At (Auxiliary k 1) = sym at_x ∙ ap (λ (l : Link). l.from) (head_is _ _ _ _ e) in cc
 ends_found k (agent s (more_trees t ts)) (name n) x y xs ys at_x at_y e =
     let apart : At (Auxiliary k 1) ≡ Named n = ap (λ (l : Link). l.from) (head_is _ _ _ _ e) ∙ at_y in cc
+ends_found k _ _ x y xs ys at_x at_y e = sym at_x ∙ ap (λ (l : Link). l.from) (head_is _ _ _ _ e) ∙ at_y
 
 sides_found : (rs : List Rule) (k : ℕ) (e f : Pair) (as_e as_f : List Agent) (ls ms : List Link) → pair_agents e ++ as_e ≡ pair_agents f ++ as_f → pair_links rs k e ++ ls ≡ pair_links rs k f ++ ms
     → (e ≡ f) × (as_e ≡ as_f) × (ls ≡ ms)

@@ -3,15 +3,18 @@ use Rattle.std.proofs.Common.{◌≡◌, ℕ, ◌+◌, ◌≤◌, List, [], ◌�
 use Rattle.std.specs.List.{flat_map}
 use Rattle.ic_term.specs.Tree.{Tree, name, names, Pair, pair_names}
 use Rattle.ic_term.specs.Configuration.{Configuration, names_in, occurrences}
-use Rattle.ic_settle.specs.Settling.{occurs, subst, subst_in, subst_pair, settled}
+use Rattle.ic_settle.specs.Settling.{occurs, subst, subst_in, settled}
 use Rattle.ic_settle.specs.NameSteps.{NameStep, NameSteps, no_step, one_more}
 use Rattle.ic_settle.specs.lemmas.SubstitutionLaws.{occurrences-append, occurrences_some, subst-absent}
+use Rattle.ic_settle.specs.lemmas.StepLaws.{itself_once as alone}
 use Rattle.ic_round.specs.Naming.{HasNames}
 use Rattle.ic_round.specs.lemmas.NamesLemmas.{name_step-names}
 use Rattle.ic_round.specs.lemmas.NameStepLemmas.{in_either, in_first}
 use Rattle.ic_confluence.specs.Sameness.{itself, exchanged, Rearranged, nothing, kept, swapped, one_by_one, Same, rearranging, through}
+use Rattle.ic_confluence.specs.lemmas.Settled.{settled_ends}
+use Rattle.ic_confluence.specs.lemmas.Puts.{terms_absent as terms-absent, pairs_absent as pairs-absent}
 use Rattle.ic_nets.specs.ReadBack.{equated}
-use Rattle.ic_nets.proofs.SettledLemmas.{settled_ends, settles_on}
+use Rattle.ic_nets.proofs.SettledLemmas.{settles_on}
 
 -- what is proved of configurations of one net
 pub record Laws : Type 0 where
@@ -53,24 +56,6 @@ pub turn : (t u : Tree) (es : List Pair) → Rearranged (equated t u ∷ es) (eq
 turn t u es = kept (equated t u) (equated u t) es es (exchanged (equated t u)) (as_they_are es)
 
 -- ---- terms without the name
-
-terms-absent : (x : ℕ) (u : Tree) (ts : List Tree) → occurrences x (flat_map names ts) ≡ 0 → map (subst x u) ts ≡ ts
-terms-absent x u [] none = refl
-terms-absent x u (t ∷ ts) none =
-    let all = occurrences-append x (names t) (flat_map names ts) in
-    (λ i. subst-absent x u t (omega (arith, all, none)) i ∷ terms-absent x u ts (omega (arith, all, none)) i)
-
-pairs-absent : (x : ℕ) (u : Tree) (es : List Pair) → occurrences x (flat_map pair_names es) ≡ 0 → map (subst_pair x u) es ≡ es
-pairs-absent x u [] none = refl
-pairs-absent x u (p ∷ es) none =
-    let all = occurrences-append x (pair_names p) (flat_map pair_names es) in
-    let both = occurrences-append x (names p.left) (names p.right) in
-    let left = subst-absent x u p.left (omega (arith, all, both, none)) in
-    let right = subst-absent x u p.right (omega (arith, all, both, none)) in
-    (λ i. record { left = left i; right = right i } ∷ pairs-absent x u es (omega (arith, all, none)) i)
-
-alone : (x : ℕ) → occurrences x (x ∷ []) ≡ 1
-alone x = rw (eq-eqb x x refl) refl
 
 pub put_alone : (x : ℕ) (u : Tree) → subst x u (name x) ≡ u
 put_alone x u = rw (eq-eqb x x refl) refl

@@ -270,14 +270,3 @@ at x v y = 0
 
 abbrev pub one : Port → ℕ
 one p = 1
-
-module _ (x : ℕ) where
-  mutual
-    pub stood_in : (p : Port) (t : Marked) → at x one (hung_item p t) + sum (at x one) (items_in t) ≡ held x (bare t)
-    stood_in p (letter n) = omega arith
-    stood_in p (node k s ts) = omega (arith, stood_among (Auxiliary k) 1 ts)
-
-    stood_among : (port : ℕ → Port) (i : ℕ) (ts : Markeds) → sum (at x one) (items_among port i ts) ≡ helds x (bares ts)
-    stood_among port i no_more = refl
-    stood_among port i (more t ts) =
-        omega (arith, sum-append (at x one) (items_in t) (items_among port (i + 1) ts), stood_in (port i) t, stood_among port (i + 1) ts)

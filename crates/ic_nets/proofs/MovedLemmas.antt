@@ -193,9 +193,8 @@ module _ (N : ℕ) where
 
   sides_turned : (w : Item → ℕ) → Symmetric w → (l r : Side) (t u : Marked) → sum w (sides_items l r t u) ≡ sum w (sides_items r l u t)
   sides_turned w even l r (letter m) (letter n) = omega (arith, even.1 l r)
-  sides_turned w even l r (letter m) (node k s ts) = refl
-  sides_turned w even l r (node k s ts) (letter n) = refl
   sides_turned w even l r (node k s ts) (node j q us) = ap (λ m. m + 0) (even.0 (Principal k) (Principal j))
+  sides_turned w even l r _ _ = refl
 
   abbrev turned_round : Equation → Equation
   turned_round d = record { left_side = d.right_side; right_side = d.left_side; left = d.right; right = d.left }

@@ -1,7 +1,7 @@
 -- Names that stand at ports: which they are, and the ends of their wires.
 use Rattle.std.proofs.Common.{◌≡◌, ℕ, ◌+◌, ◌≤◌, ◌==◌, ◌⊎◌, inl, inr, List, [], ◌∷◌, ◌++◌, Bool, true, false, cond, Some, fold, length, map, refl, sym, ap, ◌∙◌, append_assoc, arith, eq-eqb}
 use Rattle.std.specs.List.{flat_map}
-use Rattle.std.proofs.lemmas.Bool.{eqb-false, eqb-true, ne_eqb, true≢false}
+use Rattle.std.proofs.lemmas.Bool.{eqb-true, true≢false}
 use Rattle.std.proofs.lemmas.List.Concat.{flat_map-append}
 use Rattle.ic_term.specs.Tree.{Tree, name, agent, Trees, no_trees, more_trees, trees_of, names, names_of, Pair, pair_names}
 use Rattle.ic_term.specs.Configuration.{Configuration, configuration_names, occurrences}
@@ -18,6 +18,8 @@ use Rattle.ic_nets.specs.declared.port.Port.{Port}
 use Rattle.ic_nets.specs.declared.port.Port.TheVariants.{Interface, Auxiliary, Free}
 use Rattle.ic_nets.proofs.SumLemmas.{bit, itself_equal, sum, sum-count, sum-map}
 use Rattle.ic_nets.proofs.PortLemmas.{AreBound, standing_ports, times-append}
+use Rattle.ic_settle.specs.lemmas.PutEach.{names_of-trees_of}
+use Rattle.ic_confluence.specs.lemmas.Counts.{apart_sym}
 
 -- ---- the names that are joined are those of the text, in its order
 
@@ -65,10 +67,6 @@ equations-names rs k [] = refl
 equations-names rs k (e ∷ es) =
     names-append (pair_links rs k e) (joined rs (k + length (pair_agents e)) es)
     ∙ (λ i. pair-names rs k e i ++ equations-names rs (k + length (pair_agents e)) es i)
-
-pub names_of-trees_of : (ts : List Tree) → names_of (trees_of ts) ≡ flat_map names ts
-names_of-trees_of [] = refl
-names_of-trees_of (t ∷ ts) = ap (λ l. names t ++ l) (names_of-trees_of ts)
 
 pub links-names : (rs : List Rule) (c : Configuration) → joined_names (links_of rs c) ≡ configuration_names c
 links-names rs c =
@@ -119,9 +117,6 @@ AreOwn (e ∷ es) = (is_bound e.1.from ≡ true) × ((is_bound e.1.to ≡ true) 
 turned : (m n : ℕ) → (m == n) ≡ true → (n == m) ≡ true
 turned m n e = eq-eqb n m (sym (eqb-true m n e))
 
-apart : (m n : ℕ) → (m == n) ≡ false → (n == m) ≡ false
-apart m n is = ne_eqb n m (λ e. eqb-false m n is (sym e))
-
 -- where a name stands at most once, its wire ends free
 pub at_first : (x : ℕ) (e : ℕ × Wire) (es : List (ℕ × Wire)) → (x == e.0) ≡ true → stands x (e ∷ es) ≤ 1 → is_bound e.1.to ≡ false
 at_first x e es is le = few (is_bound e.1.to) (rw (turned x e.0 is) at le)
@@ -131,7 +126,7 @@ at_first x e es is le = few (is_bound e.1.to) (rw (turned x e.0 is) at le)
     few false le = refl
 
 pub at_rest : (x : ℕ) (e : ℕ × Wire) (es : List (ℕ × Wire)) → (x == e.0) ≡ false → stands x (e ∷ es) ≤ 1 → stands x es ≤ 1
-at_rest x e es is le = rw (apart x e.0 is) at le
+at_rest x e es is le = rw (apart_sym x e.0 is) at le
 
 module _ (s : Standing) (bound : is_bound s.port ≡ true) where
   added : (p : Port) (es : List (ℕ × Wire)) → stands s.name es ≤ 1 → times p (closed (with_standing es s)) ≡ times p (closed es) + cond (port_eq p s.port) 1 0
@@ -242,4 +237,4 @@ free_ends n (e ∷ es) own = by own.1 (e.0 == n) refl (free_ends n es own.3)
     by (inl to) true is rest = let none = alone is rest in rw (off e.1.from own.0, off e.1.to to, to) (omega arith)
     by (inl to) false is rest = rw (off e.1.from own.0, off e.1.to to) (omega arith)
     by (inr to) true is rest = let none = alone is rest in rw (off e.1.from own.0, to, turned e.0 n is) (omega arith)
-    by (inr to) false is rest = rw (off e.1.from own.0, to, apart e.0 n is) (omega arith)
+    by (inr to) false is rest = rw (off e.1.from own.0, to, apart_sym e.0 n is) (omega arith)

@@ -16,10 +16,9 @@ module _ (n : ℕ) where
   named-more (e ∷ es) s = by (s.name == e.0) refl (named-more es s)
     where
       at_own : (b c : Bool) → b ≡ c → cond b (Some (wire_of (Some e.1) s)) (wire_named n es) ≡ cond c (Some (wire_of (cond b (Some e.1) (wire_named n es)) s)) (cond b (Some e.1) (wire_named n es))
-      at_own true true e1 = refl
-      at_own false false e1 = refl
       at_own true false e1 = absurd (true≢false e1)
       at_own false true e1 = absurd (true≢false (sym e1))
+      at_own _ _ e1 = refl
 
       at_other : (b c : Bool) (x : Option Wire) → (b ≡ true → c ≡ false) → x ≡ cond c (Some (wire_of (wire_named n es) s)) (wire_named n es)
           → cond b (Some e.1) x ≡ cond c (Some (wire_of (cond b (Some e.1) (wire_named n es)) s)) (cond b (Some e.1) (wire_named n es))

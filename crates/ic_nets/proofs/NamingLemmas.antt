@@ -1,6 +1,6 @@
 -- By names for its ports, a net is a configuration that settles to the net of the configuration that it is of.
 use Rattle.std.proofs.Common.{◌≡◌, ℕ, zero, suc, ◌+◌, ◌≤◌, ◌<◌, ◌==◌, ◌⊎◌, inl, inr, List, [], ◌∷◌, ◌++◌, true, length, map, refl, sym, ap, ◌∙◌, arith, append-nil}
-use Rattle.std.specs.List.{AllByRecursion, flat_map}
+use Rattle.std.specs.List.{flat_map}
 use Rattle.std.proofs.lemmas.Bool.{cases_eq, cases_lt}
 use Rattle.std.proofs.lemmas.List.{map-append}
 use Rattle.std.proofs.lemmas.List.Concat.{flat_map-append}
@@ -8,10 +8,12 @@ use Rattle.ic_term.specs.Tree.{Tree, name, names, Pair, pair_names}
 use Rattle.ic_term.specs.Configuration.{Configuration, IsConfiguration, configuration_names, occurrences}
 use Rattle.ic_settle.specs.Settling.{settled}
 use Rattle.ic_settle.specs.lemmas.SubstitutionLaws.{occurrences-append, occurrences-cons}
+use Rattle.ic_settle.specs.lemmas.PutEach.{names_of-trees_of}
 use Rattle.ic_rules.specs.Rule.{Rule}
 use Rattle.ic_round.specs.Naming.{HasNames}
 use Rattle.ic_round.specs.lemmas.FreshNames.{absent_above}
 use Rattle.ic_confluence.specs.Sameness.{Rearranged, one_by_one, Same, through}
+use Rattle.ic_confluence.specs.lemmas.Counts.{All_from as all_from}
 use Rattle.ic_nets.specs.Links.{agents_of, links_of}
 use Rattle.ic_nets.specs.Nets.{IsNet}
 use Rattle.ic_nets.specs.Ports.{agent_ports, counted_ports, ends, is_bound, joint_ports, port_eq, ports_of, times}
@@ -26,19 +28,12 @@ use Rattle.ic_nets.specs.declared.port.Port.{Port}
 use Rattle.ic_nets.specs.declared.port.Port.TheVariants.{Interface, Principal, Auxiliary, Left, Right, Free}
 use Rattle.ic_nets.proofs.SumLemmas.{bit, itself_equal, not_equal}
 use Rattle.ic_nets.proofs.PortLemmas.{AreBound, all_bound, joints, joints-are, links-ports, parted-ports, port_itself, standing_ports, times-append}
-use Rattle.ic_nets.proofs.NameLemmas.{links-names, names_of-trees_of, standing_names, standings-names}
+use Rattle.ic_nets.proofs.NameLemmas.{links-names, standing_names, standings-names}
 use Rattle.ic_nets.proofs.EndLemmas.{all_ports as ports_there, are_bound, are_few}
 use Rattle.ic_nets.proofs.OnceLemmas.{free-none, listed_once, ports-parted}
 use Rattle.ic_nets.proofs.LeadLemmas.{Laws, Leads, after_these, exchange, leads-itself, leads-rearranged, leads-through, parts}
 use Rattle.ic_nets.proofs.BuiltLemmas.{configuration-built, link_equations}
 use Rattle.ic_nets.proofs.ReadLemmas.{all_stood, links-joined, standing_equations}
-
-all_from : (P : ℕ → Type 0) (ns : List ℕ) → ((n : ℕ) → 1 ≤ occurrences n ns → P n) → AllByRecursion P ns
-all_from P [] each = tt
-all_from P (m ∷ ms) each = (
-  each m (omega (arith, occurrences-cons m m ms, itself_equal m)),
-  all_from P ms (λ n some. each n (omega (arith, occurrences-cons n m ms, some))),
-)
 
 module _ (f : Port → ℕ) where
   -- ---- the names of what is read back are those of ports

@@ -23,9 +23,8 @@ paired (suc m) n = paired m n + paired m n
 
 pub paired-apart : (a b m n : ℕ) → paired a b ≡ paired m n → (a ≡ m) × (b ≡ n)
 paired-apart zero b zero n e = (refl, omega (arith, e))
-paired-apart zero b (suc m) n e = absurd (omega (arith, e))
-paired-apart (suc a) b zero n e = absurd (omega (arith, e))
 paired-apart (suc a) b (suc m) n e = let rest = paired-apart a b m n (omega (arith, e)) in (ap suc rest.0, rest.1)
+paired-apart _ b _ n e = absurd (omega (arith, e))
 
 abbrev kind_of : Port → ℕ
 kind_of (Interface i) = 0

@@ -8,7 +8,7 @@ use Rattle.ic_term.specs.Configuration.{Configuration, configuration_names, occu
 use Rattle.ic_rules.specs.Renaming.{renamed}
 use Rattle.ic_rules.specs.lemmas.NumberingLaws.{Fixes, terms-fixed}
 use Rattle.ic_rules.specs.lemmas.RenamingLaws.{Through, terms-through}
-use Rattle.ic_confluence.specs.Sameness.{Rearranged, nothing, kept, swapped, one_by_one, renamed_in, renamed_pair, Renames, Same, renaming, rearranging, through}
+use Rattle.ic_confluence.specs.Sameness.{Rearranged, nothing, one_by_one, renamed_in, renamed_pair, Renames, Same, renaming, rearranging, through}
 use Rattle.ic_nets.specs.Church.{alone, church_false, church_true}
 
 -- ---- renaming by nothing, and twice
@@ -64,9 +64,8 @@ Renames-refl c = record {
 
 none_too : (es fs : List Pair) → Rearranged es fs → es ≡ [] → fs ≡ []
 none_too es fs nothing e = refl
-none_too es fs (kept p q ps qs alike rest) e = cc
-none_too es fs (swapped p q ps) e = cc
 none_too es fs (one_by_one ps qs rs first second) e = none_too qs rs second (none_too ps qs first e)
+none_too es fs _ e = cc
 
 no_equations : (c d : Configuration) → Same c d → c.equations ≡ [] → d.equations ≡ []
 no_equations c d (renaming x y r) e = ap (λ (z : Configuration). z.equations) r.result ∙ ap (map (renamed_pair r.to)) e

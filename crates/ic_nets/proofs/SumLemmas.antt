@@ -190,8 +190,6 @@ module _ {A : Type 0} (number : A → ℕ) (one : (x y : A) → number x ≡ num
 
   pub turned_into : (ys xs : List A) → AreApart ys → AreApart xs → length ys ≡ length xs → (f : A → A) × IsOne f × (map f ys ≡ xs)
   turned_into [] [] ay ax count = (λ x. x, λ x y same. same, refl)
-  turned_into [] (x ∷ xs) ay ax count = absurd (omega arith)
-  turned_into (y ∷ ys) [] ay ax count = absurd (omega arith)
   turned_into (y ∷ ys) (x ∷ xs) ay ax count =
       let later = turned_into ys xs ay.1 ax.1 (omega (arith, count)) in
       let f = later.0 in
@@ -204,3 +202,4 @@ module _ {A : Type 0} (number : A → ℕ) (one : (x y : A) → number x ≡ num
         λ a b same. later.1 a b (changed_one x z (f a) (f b) same),
         λ i. here i ∷ (sym (map-map (changed x z) f ys) ∙ ap (map (changed x z)) later.2 ∙ changed_none x z xs ax.0 none_z) i,
       )
+  turned_into _ _ ay ax count = absurd (omega arith)

@@ -66,18 +66,13 @@ no_ports n xs none = by (ports_in n xs) (ports-sum n one xs ∙ none)
 module _ (P : Weight) (both : BothWays P) (n : ℕ) where
   pub worth_same : (ps qs : List Port) → ((v : Port → ℕ) → sum v ps ≡ sum v qs) → sum one ps ≤ 2 → name_worth P n ps ≡ name_worth P n qs
   worth_same [] [] same low = refl
-  worth_same [] (q ∷ qs) same low = absurd (omega (arith, same one))
-  worth_same (p ∷ []) [] same low = absurd (omega (arith, same one))
   worth_same (p ∷ []) (q ∷ []) same low = omega (arith, same (λ a. P a (Free n)))
-  worth_same (p ∷ []) (q ∷ r ∷ qs) same low = absurd (omega (arith, same one))
-  worth_same (p ∷ q ∷ []) [] same low = absurd (omega (arith, same one))
-  worth_same (p ∷ q ∷ []) (r ∷ []) same low = absurd (omega (arith, same one))
   worth_same (p ∷ q ∷ []) (r ∷ s ∷ []) same low =
       let ps = p ∷ q ∷ [] in
       let qs = r ∷ s ∷ [] in
       omega (arith, same (λ a. sum (P a) ps) ∙ sum-same (λ a. sum (P a) ps) (λ a. sum (P a) qs) (λ a. same (P a)) qs, same (λ a. P a a), both q p, both s r)
-  worth_same (p ∷ q ∷ []) (r ∷ s ∷ t ∷ qs) same low = absurd (omega (arith, same one))
   worth_same (p ∷ q ∷ t ∷ ps) qs same low = absurd (omega (arith, low))
+  worth_same _ _ same low = absurd (omega (arith, same one))
 
 abbrev pub SameCounts : List Item → List Item → Type 0
 SameCounts xs ys = (w : Item → ℕ) → Symmetric w → sum w xs ≡ sum w ys

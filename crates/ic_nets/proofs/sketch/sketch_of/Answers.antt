@@ -6,17 +6,8 @@ use Rattle.ic_nets.specs.declared.port.Port.TheVariants.{Interface}
 use Rattle.ic_nets.proofs.HangingLemmas.{interface-agents, interface-links}
 use Rattle.ic_nets.proofs.sketch.sketch_of.Goals as goal
 
-pub returns-clause-agents : goal.returns-clause-agents
-returns-clause-agents c =
-    let ts = c.args.config.now.interface in
-    let stack : coming c.put_interface.new.stack.items ≡ hung_at Interface 1 ts ++ [] =
-    c.in_ok-put_interface.ensures ∙ (λ i. hung_at Interface 1 (c.interface.ensures.terms i) ++ coming (c.new-stack.ensures.items i)) in
-    let first : c.add_hung.new.agents.items ≡ agents_among (trees_of ts) =
-    c.in_ok-add_hung.ensures.agents ∙ (λ i. c.new-agents.ensures.items i ++ interface-agents ts (coming c.put_interface.new.stack.items) stack i) in
-    c.in_ok-add_equations.ensures.agents ∙ (λ i. first i ++ pairs_agents (c.equations.ensures.equations i))
-
-pub returns-clause-links : goal.returns-clause-links
-returns-clause-links c =
+pub returns : goal.returns
+returns c =
     let ts = c.args.config.now.interface in
     let stack : coming c.put_interface.new.stack.items ≡ hung_at Interface 1 ts ++ [] =
     c.in_ok-put_interface.ensures ∙ (λ i. hung_at Interface 1 (c.interface.ensures.terms i) ++ coming (c.new-stack.ensures.items i)) in
@@ -26,4 +17,7 @@ returns-clause-links c =
     c.in_ok-add_hung.ensures.links
     ∙ (λ i. c.new-links.ensures.items i ++ links_hung (length (c.new-agents.ensures.items i)) (coming c.put_interface.new.stack.items))
     ∙ interface-links ts (coming c.put_interface.new.stack.items) stack in
-    c.in_ok-add_equations.ensures.links ∙ (λ i. links i ++ joined c.args.rules.now.rules (length (first i)) (c.equations.ensures.equations i))
+    record {
+      agents = c.in_ok-add_equations.ensures.agents ∙ (λ i. first i ++ pairs_agents (c.equations.ensures.equations i));
+      links = c.in_ok-add_equations.ensures.links ∙ (λ i. links i ++ joined c.args.rules.now.rules (length (first i)) (c.equations.ensures.equations i));
+    }
