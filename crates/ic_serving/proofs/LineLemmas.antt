@@ -10,15 +10,12 @@ use Rattle.ic_jobs.specs.Events.{Outcome, apply, outcome}
 use Rattle.ic_jobs.specs.History.{table_after, replay}
 use Rattle.ic_book.specs.Kept.{table_kept}
 use Rattle.ic_book.specs.declared.fault.BookFault.{BookFault}
-use Rattle.ic_book.specs.declared.fault.BookFault.TheVariants.{Broken, LogFull, Worn, Memory, Device}
+use Rattle.ic_book.specs.declared.fault.BookFault.TheVariants.{Device}
 use Rattle.ic_serving.specs.Parts.{IsPart, IsKeptWithin}
 
 pub device_or_not : (e : BookFault) → (e ≡ Device) ⊎ (e ≢ Device)
-device_or_not Broken = inr (λ same. cc)
-device_or_not LogFull = inr (λ same. cc)
-device_or_not Worn = inr (λ same. cc)
-device_or_not Memory = inr (λ same. cc)
 device_or_not Device = inl refl
+device_or_not _ = inr (λ same. cc)
 
 -- nothing of some events has come
 pub begun_none : (t kept : List JobParts) (es : List Event) (u w : List JobParts) → u ≡ t → (w ≡ kept) ⊎ (w ≡ t)

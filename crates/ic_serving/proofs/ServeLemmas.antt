@@ -201,31 +201,22 @@ cut_after ls n t u v old mid seen new line bytes r answered counted short less r
 -- nothing of the next line has come
 pub left_first : SomeWay → (fault : ServeFault) (u v : List JobParts) (ls : List (List ℕ)) → v ≡ u → IsLeftBy fault u ls v
 left_first law Read u v ls same = same
-left_first law Write u v ls same = rw same (in_first law u ls)
 left_first law TooManyLines u v ls same = same
-left_first law (Book b) u v ls same = rw same (in_first law u ls)
-left_first law (Pool p) u v ls same = rw same (in_first law u ls)
 left_first law LongLine u v ls same = same
-left_first law Memory u v ls same = rw same (in_first law u ls)
+left_first law _ u v ls same = rw same (in_first law u ls)
 
 -- some of its events have come
 pub left_within : (fault : ServeFault) (u v : List JobParts) (ls : List (List ℕ)) → ComesInLine fault → IsInFirst u ls v → IsLeftBy fault u ls v
-left_within Read u v ls of there = absurd of
-left_within Write u v ls of there = absurd of
-left_within TooManyLines u v ls of there = absurd of
 left_within (Book b) u v ls of there = there
 left_within (Pool p) u v ls of there = there
-left_within LongLine u v ls of there = absurd of
 left_within Memory u v ls of there = there
+left_within _ u v ls of there = absurd of
 
 pub says_book : (fault : ServeFault) (front more : List (List ℕ)) → ComesInLine fault → SaysOf fault front more
 says_book (Book b) front more of = tt
 says_book (Pool p) front more of = tt
 says_book Memory front more of = tt
-says_book Read front more of = absurd of
-says_book Write front more of = absurd of
-says_book TooManyLines front more of = absurd of
-says_book LongLine front more of = absurd of
+says_book _ front more of = absurd of
 
 -- no line was taken, and these are to come
 pub record NotTaken (f : ServeFault) (rest : Option (List ℕ)) (front : List (List ℕ)) : Type 0 where
@@ -234,13 +225,11 @@ pub record NotTaken (f : ServeFault) (rest : Option (List ℕ)) (front : List (L
   pub says : SaysOf f front more
 
 pub not_taken : (e : LineFault) (rest : Option (List ℕ)) (front : List (List ℕ)) → (e ≡ line_fault.LongLine → (length front < MAX_LINES) × HasLongLine rest) → NotTaken (fault_of_line e) rest front
-not_taken line_fault.Read rest front long = record { more = ahead rest; coming = is_ahead rest; says = tt }
-not_taken line_fault.Write rest front long = record { more = ahead rest; coming = is_ahead rest; says = tt }
 not_taken line_fault.LongLine rest front long =
     let is = long refl in
     let comes = comes_long rest is.1 in
     record { more = comes.line ∷ comes.more; coming = comes.coming; says = (is.0, comes.long) }
-not_taken line_fault.Memory rest front long = record { more = ahead rest; coming = is_ahead rest; says = tt }
+not_taken _ rest front long = record { more = ahead rest; coming = is_ahead rest; says = tt }
 
 -- nor after the last line that may be served
 pub none_after : (e : LineFault) (f : ServeFault) (rest : Option (List ℕ)) (front : List (List ℕ)) → (e ≡ line_fault.LongLine → f ≡ TooManyLines) → (e ≢ line_fault.LongLine → f ≡ fault_of_line e)
@@ -248,68 +237,37 @@ pub none_after : (e : LineFault) (f : ServeFault) (rest : Option (List ℕ)) (fr
 none_after line_fault.LongLine f rest front many others full long =
     let comes = comes_long rest (long refl) in
     record { more = comes.line ∷ comes.more; coming = comes.coming; says = (let is = many refl in rw is full) }
-none_after line_fault.Read f rest front many others full long = let is = others (λ e. cc) in record { more = ahead rest; coming = is_ahead rest; says = rw is tt }
-none_after line_fault.Write f rest front many others full long = let is = others (λ e. cc) in record { more = ahead rest; coming = is_ahead rest; says = rw is tt }
-none_after line_fault.Memory f rest front many others full long = let is = others (λ e. cc) in record { more = ahead rest; coming = is_ahead rest; says = rw is tt }
+none_after _ f rest front many others full long = let is = others (λ e. cc) in record { more = ahead rest; coming = is_ahead rest; says = rw is tt }
 
 -- where all was kept, the table that was kept last is before the events or after a front of them
 pub kept_part : (u kept : List JobParts) (es : List Event) (w : List JobParts) → kept ≡ u → IsKeptWithin u kept es w → IsPart u es w
 kept_part u kept es w all (inl same) = record { front = []; rest = es; parted = refl; leaves = same ∙ all }
 kept_part u kept es w all (inr part) = part
 
--- no failure of the disk is counted where no line is taken
-pub counts_line : (e : LineFault) (old new : ℕ) → new ≡ old → CountsServe {T = Unit {0}} (Err (fault_of_line e)) old new
-counts_line line_fault.Read old new same = same
-counts_line line_fault.Write old new same = same
-counts_line line_fault.LongLine old new same = same
-counts_line line_fault.Memory old new same = same
-
 pub counts_after : (e : LineFault) (f : ServeFault) (old new : ℕ) → (e ≡ line_fault.LongLine → f ≡ TooManyLines) → (e ≢ line_fault.LongLine → f ≡ fault_of_line e)
     → new ≡ old → CountsServe {T = Unit {0}} (Err f) old new
 counts_after line_fault.LongLine f old new many others same = let is = many refl in rw is same
-counts_after line_fault.Read f old new many others same = let is = others (λ e. cc) in rw is same
-counts_after line_fault.Write f old new many others same = let is = others (λ e. cc) in rw is same
-counts_after line_fault.Memory f old new many others same = let is = others (λ e. cc) in rw is same
+counts_after _ f old new many others same = let is = others (λ e. cc) in rw is same
 
 -- nor is the book broken
 pub ready_after : (e : LineFault) (f : ServeFault) (broken : Bool) (number : ℕ) → (e ≡ line_fault.LongLine → f ≡ TooManyLines) → (e ≢ line_fault.LongLine → f ≡ fault_of_line e)
     → broken ≡ false → StaysReady f broken number
 ready_after line_fault.LongLine f broken number many others same = let is = many refl in rw is same
-ready_after line_fault.Read f broken number many others same = let is = others (λ e. cc) in rw is same
-ready_after line_fault.Write f broken number many others same = let is = others (λ e. cc) in rw is same
-ready_after line_fault.Memory f broken number many others same = let is = others (λ e. cc) in rw is same
-
--- which faults a serving has where no line is taken, and after one
-pub comes_by_line : (e : LineFault) → MayCome (fault_of_line e)
-comes_by_line line_fault.Read = tt
-comes_by_line line_fault.Write = tt
-comes_by_line line_fault.LongLine = tt
-comes_by_line line_fault.Memory = tt
+ready_after _ f broken number many others same = let is = others (λ e. cc) in rw is same
 
 pub may_come : (fault : ServeFault) → ComesInLine fault → MayCome fault
-may_come Read of = absurd of
-may_come Write of = absurd of
-may_come TooManyLines of = absurd of
 may_come (Book b) of = of
 may_come (Pool p) of = of
-may_come LongLine of = absurd of
 may_come Memory of = tt
+may_come _ of = absurd of
 
 pub not_write : (fault : ServeFault) → ComesInLine fault → fault ≢ Write
-not_write Read of = λ same. absurd of
-not_write Write of = λ same. absurd of
-not_write TooManyLines of = λ same. absurd of
 not_write (Book b) of = λ same. cc
 not_write (Pool p) of = λ same. cc
-not_write LongLine of = λ same. absurd of
 not_write Memory of = λ same. cc
+not_write _ of = λ same. absurd of
 
 -- what is counted is said of the fault alone
 pub counts_as : (T U : Type 0) (fault : ServeFault) (old new : ℕ) → CountsServe {T = T} (Err fault) old new → CountsServe {T = U} (Err fault) old new
 counts_as T U Read old new is = is
-counts_as T U Write old new is = is
-counts_as T U TooManyLines old new is = is
-counts_as T U (Book b) old new is = is
-counts_as T U (Pool p) old new is = is
-counts_as T U LongLine old new is = is
-counts_as T U Memory old new is = is
+counts_as T U _ old new is = is

@@ -26,9 +26,6 @@ pub record IsSent (answer rest : List ℕ) (old now : Option (List ℕ)) : Type 
   pub parted : answer ≡ sent ++ rest
   pub written : Appends old now sent
 
-pub sent_none : (answer : List ℕ) (c : Option (List ℕ)) → IsSent answer answer c c
-sent_none answer c = record { sent = []; parted = refl; written = appends_none c }
-
 pub sent_more : (answer rest : List ℕ) (n : ℕ) (old mid new : Option (List ℕ)) → IsSent answer rest old mid → Appends mid new (take n rest)
     → IsSent answer (take (length rest - n) (drop n rest)) old new
 sent_more answer rest n old mid new s more = record {
@@ -40,12 +37,6 @@ sent_more answer rest n old mid new s more = record {
 
 pub sent_kept : (answer rest : List ℕ) (old mid new : Option (List ℕ)) → IsSent answer rest old mid → Keeps mid new → IsSent answer rest old new
 sent_kept answer rest old mid new s kept = record { sent = s.sent; parted = s.parted; written = appends_kept old mid new s.sent s.written kept }
-
-pub sent_all : (answer : List ℕ) (old now : Option (List ℕ)) → IsSent answer [] old now → Appends old now answer
-sent_all answer old now s = subst (Appends old now) (sym (s.parted ∙ append-nil s.sent)) s.written
-
-pub sent_front : (answer rest : List ℕ) (old now : Option (List ℕ)) → IsSent answer rest old now → AppendsFront old now [] answer
-sent_front answer rest old now s = record { sent = s.sent; unsent = rest; parted = s.parted; written = s.written }
 
 -- these bytes, and none after them
 pub front_none : (old now : Option (List ℕ)) (bytes : List ℕ) → Appends old now bytes → AppendsFront old now bytes []

@@ -1,11 +1,11 @@
 -- Tables that lines reach, and what is kept after a line.
-use Rattle.std.proofs.Common.{◌≡◌, ◌⊎◌, inl, inr, ℕ, List, [], ◌∷◌, ◌++◌, Ok, Err, length, refl, sym, ap, subst, ◌∙◌, arith, append_assoc}
+use Rattle.std.proofs.Common.{◌≡◌, ◌⊎◌, inl, inr, ℕ, List, [], ◌∷◌, ◌++◌, Ok, length, refl, sym, ap, subst, ◌∙◌, arith, append_assoc}
 use Rattle.std.proofs.lemmas.List.{take_all}
 use Rattle.ic_disk.specs.declared.disk.Disk.{Ghosts}
 use Rattle.ic_jobs.specs.declared.event.Entry.{Entry}
 use Rattle.ic_jobs.specs.Job.{JobParts}
 use Rattle.ic_jobs.specs.History.{replay}
-use Rattle.ic_commands.specs.declared.line.Line.TheVariants.{Blank, Run, Command as Asks}
+use Rattle.ic_commands.specs.declared.line.Line.TheVariants.{Run, Command as Asks}
 use Rattle.ic_commands.specs.LineText.{ReadsLine}
 use Rattle.ic_lines.specs.Answers.{Reading, events}
 use Rattle.ic_lines.specs.Serving.{IsServed}
@@ -78,7 +78,6 @@ kept_all s t h k is all = ap (replay s) (take_all k h (omega (arith, all))) ∙ 
 module _ {D : Type 0} {ghosts : Ghosts D} where
   -- all is kept, or nothing has changed
   pub kept_or_same : (r : Reading) (old new : Book D ghosts) → IsKeptFor r old new → IsAllKept new ⊎ IsUnchanged old new
-  kept_or_same (Ok Blank) old new is = inr is
   kept_or_same (Ok (Asks command)) old new is = inl is
   kept_or_same (Ok (Run count)) old new is = inl is
-  kept_or_same (Err fault) old new is = inr is
+  kept_or_same _ old new is = inr is
