@@ -1,9 +1,8 @@
 -- What two files hold, and that it is one state.
 use Rattle.std.proofs.Common.{◌≡◌, ◌⊎◌, inl, inr, ℕ, ◌+◌, ◌<◌, ◌≤◌, Bool, true, false, List, length, sym, ◌∙◌, ap, subst, arith}
 use Rattle.ic_disk.specs.Content.{bytes_at}
-use Rattle.ic_disk.specs.Images.{Only, Within}
 use Rattle.ic_frames.specs.declared.faults.OpenCause.{OpenCause}
-use Rattle.ic_frames.specs.declared.faults.OpenCause.TheVariants.{Device, NoSlot, TwoAlike, Damaged, Memory}
+use Rattle.ic_frames.specs.declared.faults.OpenCause.TheVariants.{NoSlot, TwoAlike, Damaged}
 use Rattle.ic_kept.specs.declared.head.Head.{Head}
 use Rattle.ic_kept.specs.declared.finding.Chosen.{Chosen}
 use Rattle.ic_kept.specs.declared.finding.Found.{Found}
@@ -93,23 +92,6 @@ pub spoiled_damaged : (chosen : Chosen) (first second : List ℕ) → IsChosen c
     → AreDamaged first second
 spoiled_damaged chosen first second is cut = damaged_as chosen.in_second chosen.head chosen.closed first second is cut
 
--- the state that was read is the one that is held
-pub leads_finds : (chosen : Chosen) (n : ℕ) (closed : Bool) (state newest other : List ℕ) → Leads chosen newest other → n ≡ chosen.head.number → closed ≡ chosen.closed
-    → length state ≡ chosen.head.size → 17 + chosen.head.size ≤ length newest → state ≡ bytes_at 17 chosen.head.size newest
-    → IsNewest n state newest × IsBeside closed n other
-leads_finds chosen n closed state newest other leads same shut long within read = (
-  record {
-    opened = leads.head.opened;
-    after = record {
-      number_is = leads.head.number_is ∙ sym same;
-      size_is = leads.head.size_is ∙ sym long;
-      within = omega (arith, long, within);
-      state_is = ap (λ (k : ℕ). bytes_at 17 k newest) long ∙ sym read;
-    };
-  },
-  subst (λ (b : Bool). IsBeside b n other) (sym shut) (subst (λ (k : ℕ). IsBeside chosen.closed k other) (sym same) leads.beside),
-)
-
 -- what was found is held
 finds_as : (in_second : Bool) (found : Found) (first second : List ℕ) → Finds found (pick in_second first second) (pick in_second second first) → Hold found.state.items first second
 finds_as false found first second is = (found.number, inl (record { newest = is.newest; older = beside_older found.closed found.number second is.beside }))
@@ -129,29 +111,13 @@ newest_below n state a newest = record { made = omega (arith, newest.after.withi
 
 -- a refusal of one file, as one of both
 pub spoils_answers : (cause : OpenCause) (lacks : Type 0) (a b : List ℕ) → Spoils cause lacks → (lacks → AreDamaged a b) → Answers cause a b
-spoils_answers Device lacks a b spoils damaged = tt
-spoils_answers Memory lacks a b spoils damaged = tt
 spoils_answers Damaged lacks a b spoils damaged = damaged spoils
 spoils_answers NoSlot lacks a b spoils damaged = absurd spoils
 spoils_answers TwoAlike lacks a b spoils damaged = absurd spoils
-
-pub found_from : (s : Bool) (chosen : Chosen) (found : Found) (a b : List ℕ) → chosen.in_second ≡ s → IsChosen chosen a b → found.in_second ≡ chosen.in_second
-    → found.number ≡ chosen.head.number → found.closed ≡ chosen.closed → length found.state.items ≡ chosen.head.size → 17 + chosen.head.size ≤ length (pick s a b)
-    → found.state.items ≡ bytes_at 17 chosen.head.size (pick s a b) → IsFound found a b
-found_from s chosen found a b which is same number_is closed_is long within read =
-    let leads = subst (λ (t : Bool). Leads chosen (pick t a b) (pick t b a)) which is in
-    let both = leads_finds chosen found.number found.closed found.state.items (pick s a b) (pick s b a) leads number_is closed_is long within read in
-    subst (λ (t : Bool). Finds found (pick t a b) (pick t b a)) (sym (same ∙ which)) (record { newest = both.0; beside = both.1 })
+spoils_answers _ lacks a b spoils damaged = tt
 
 pub spoiled_from : (s : Bool) (chosen : Chosen) (a b : List ℕ) → chosen.in_second ≡ s → IsChosen chosen a b → length (pick s a b) < 17 + chosen.head.size → AreDamaged a b
 spoiled_from s chosen a b which is cut = spoiled_damaged chosen a b is (subst (λ (t : Bool). length (pick t a b) < 17 + chosen.head.size) (sym which) cut)
-
-pub only_within : (file : List ℕ) (images others : List ℕ → Type 0) → Only file images → Within others images → Only file others
-only_within file images others only within = record { no_other = λ other is. only.no_other other (within other is) }
-
--- a found file's images, once it is settled
-pub finds_newest : (s : Bool) (found : Found) (a b : List ℕ) → found.in_second ≡ s → IsFound found a b → Finds found (pick s a b) (pick s b a)
-finds_newest s found a b which is = subst (λ (t : Bool). Finds found (pick t a b) (pick t b a)) which is
 
 pub either_is : (n : ℕ) (state next newest other : List ℕ) → HoldEither n state next newest other → Hold state newest other ⊎ Hold next newest other
 either_is n state next newest other (inl old) = inl (n, inl old)

@@ -1,11 +1,8 @@
-use Rattle.std.proofs.Common.{◌≡◌, ◌≢◌, Bool, true, false, Result, Ok, Err, refl}
+use Rattle.std.proofs.Common.{◌≢◌, Result, Ok, Err, refl}
+use Rattle.std.proofs.lemmas.Bool.{false_from_ne_true}
 use Rattle.ic_frames.specs.declared.faults.KeepFault.{KeepFault}
 use Rattle.ic_frames.specs.declared.faults.KeepFault.TheVariants.{Broken, Worn, Device}
 use Rattle.ic_kept.proofs.laws.keeps_are_refused_so.Goals as goal
-
-not_true : (b : Bool) → (b ≡ true → ⊥) → b ≡ false
-not_true true other = absurd (other refl)
-not_true false other = refl
 
 device_is_not_broken : ◌≢◌ {A = Result (Unit {0}) KeepFault} (Err Device) (Err Broken)
 device_is_not_broken = λ same. cc
@@ -28,7 +25,7 @@ returns-clause-worn g c new fault =
     (is.0, is.1, fault.refused refl worn_is_not_device)
 
 pub returns-clause-device : goal.returns-clause-device
-returns-clause-device g c new fault = (not_true c.args.keeper.now.broken (λ broken. device_is_not_broken (fault.broken.1 broken)), fault.breaks refl)
+returns-clause-device g c new fault = (false_from_ne_true c.args.keeper.now.broken (λ broken. device_is_not_broken (fault.broken.1 broken)), fault.breaks refl)
 
 pub returns-clause-kept : goal.returns-clause-kept
-returns-clause-kept g c new fault = (not_true c.args.keeper.now.broken (λ broken. ok_is_not_broken (fault.broken.1 broken)), fault.ready)
+returns-clause-kept g c new fault = (false_from_ne_true c.args.keeper.now.broken (λ broken. ok_is_not_broken (fault.broken.1 broken)), fault.ready)
