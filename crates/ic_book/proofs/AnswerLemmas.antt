@@ -7,7 +7,7 @@ use Rattle.ic_jobs.specs.declared.command.Command.{Command}
 use Rattle.ic_jobs.specs.declared.command.Command.TheVariants.{Submit, CopyJob, Pause, Resume, Cancel, Fetch, List as list_jobs}
 use Rattle.ic_jobs.specs.declared.event.Event.TheVariants.{Command as by_command}
 use Rattle.ic_jobs.specs.declared.reply.Reply.{Reply}
-use Rattle.ic_jobs.specs.declared.reply.Reply.TheVariants.{Accepted, Okay, Shown, Listed, Refused, Moved, Halted}
+use Rattle.ic_jobs.specs.declared.reply.Reply.TheVariants.{Accepted, Okay, Shown, Listed, Refused}
 use Rattle.ic_jobs.specs.declared.reply.Refusal.{Refusal}
 use Rattle.ic_jobs.specs.declared.reply.Refusal.TheVariants.{Taken, Full, NoJob, NotRunning, NotPaused}
 use Rattle.ic_jobs.specs.Job.{JobParts, begun, system_of, in_state}
@@ -63,13 +63,10 @@ pub told_stays : (t new : List JobParts) (c : Command) (r : Reply) → apply t (
 told_stays t new c r event = let same : after_command t c ≡ outcome new r = cc in subst (Told t) same (told_command t c)
 
 jobs_told : (r : Reply) → tells_jobs r ≡ true → leaves_table r ≡ true
-jobs_told Accepted told = told
-jobs_told Okay told = told
 jobs_told (Shown job) told = refl
 jobs_told (Listed jobs) told = refl
 jobs_told (Refused refusal) told = refl
-jobs_told Moved told = told
-jobs_told Halted told = told
+jobs_told _ told = told
 
 -- also where the copy of a reply takes memory
 pub shown_stays : (t new : List JobParts) (c : Command) (r : Reply) → apply t (by_command c) ≡ Some (outcome new r) → tells_jobs r ≡ true → new ≡ t

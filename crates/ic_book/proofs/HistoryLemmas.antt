@@ -1,12 +1,12 @@
 -- What a book keeps in memory, as its calls change it.
-use Rattle.std.proofs.Common.{◌↔◌, zero, suc, ◌≡◌, ℕ, ◌+◌, ◌-◌, ◌<◌, List, [], ◌∷◌, ◌++◌, ◌⊎◌, inl, inr, ⊎_elim, Bool, true, false, Option, Some, Result, Ok, Err, IfOk, IsTrue, length, take, drop, refl, sym, ◌∙◌, ap, subst, arith}
+use Rattle.std.proofs.Common.{◌↔◌, zero, suc, ◌≡◌, ℕ, ◌+◌, ◌-◌, ◌<◌, List, [], ◌∷◌, ◌++◌, ◌⊎◌, inl, inr, ⊎_elim, Bool, true, false, Option, Some, Result, Ok, IfOk, IsTrue, length, take, drop, refl, sym, ◌∙◌, ap, subst, arith}
 use Rattle.std.specs.List.{AllByRecursion}
 use Rattle.std.specs.Option.{option_map, option_map_or}
 use Rattle.std.proofs.lemmas.List.{length_push, take_all, drop_all, take-append-le, drop-append-le}
 use Rattle.ic_jobs.specs.declared.command.Command.{Command}
 use Rattle.ic_jobs.specs.declared.event.Entry.{Entry}
 use Rattle.ic_jobs.specs.declared.landed.Landed.{Landed}
-use Rattle.ic_jobs.specs.declared.landed.Landed.TheVariants.{Moved, Stale}
+use Rattle.ic_jobs.specs.declared.landed.Landed.TheVariants.{Moved}
 use Rattle.ic_jobs.specs.declared.reply.Reply.{Reply}
 use Rattle.ic_jobs.specs.Job.{JobParts}
 use Rattle.ic_jobs.specs.Table.{IsTable}
@@ -169,8 +169,7 @@ Entered e log new_log table new = ((new_log ≡ log) × (new ≡ table)) ⊎ Add
 pub entered : {E : Type 0} (r : Result Landed E) (e : Entry) (log new_log : List Entry) (table new : List JobParts)
     → IfOk r (λ landed. landed ≡ Moved → Adds e log new_log table new) → (IsStale r → new_log ≡ log) → (IsStale r → new ≡ table) → Entered e log new_log table new
 entered (Ok Moved) e log new_log table new moved same_log same_table = inr (moved refl)
-entered (Ok Stale) e log new_log table new moved same_log same_table = inl (same_log tt, same_table tt)
-entered (Err fault) e log new_log table new moved same_log same_table = inl (same_log tt, same_table tt)
+entered _ e log new_log table new moved same_log same_table = inl (same_log tt, same_table tt)
 
 module _ (start : List JobParts) (log new_log : List Entry) (table new : List JobParts) (kept : ℕ) (broken : Bool) (e : Entry)
     (is : IsHistory start log table kept broken) (ready : broken ≡ false) (room : length log < MAX_ENTRIES) (nobody : IsSentByNobody e) (round : IsTrue (is_round e.event)) where
@@ -189,9 +188,6 @@ module _ (start : List JobParts) (log new_log : List Entry) (table new : List Jo
 module _ (start : List JobParts) (log : List Entry) (table : List JobParts) (kept : ℕ) (broken : Bool) (is : IsHistory start log table kept broken) where
   pub table_all : table_kept start log (length log) ≡ table
   table_all = ap (replay start) (take_all (length log) log (omega arith)) ∙ is.replayed
-
-  pub table_here : kept ≡ length log → table_kept start log kept ≡ table
-  table_here all = ap (table_kept start log) all ∙ table_all
 
   -- all is kept now
   pub all_kept : (now : Bool) → IsTable table → IsHistory start log table (length log) now
@@ -216,15 +212,3 @@ module _ (start : List JobParts) (log : List Entry) (table : List JobParts) (kep
     by_nobody = is.by_nobody;
     sound = is.sound;
   }
-
--- a page that begins
-pub page_begun : (table : List JobParts) (broken : Bool) → IsTable table → IsHistory table [] table 0 broken
-page_begun table broken sound = record {
-  legal = tt;
-  replayed = refl;
-  short = omega arith;
-  within = omega arith;
-  after = none_unkept broken;
-  by_nobody = tt;
-  sound = sound;
-}

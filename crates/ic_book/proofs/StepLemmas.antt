@@ -1,6 +1,7 @@
 -- Calls of a book as steps of a server.
-use Rattle.std.proofs.Common.{◌≡◌, ◌≢◌, ◌∙◌, inl, inr, Bool, true, false, IsErr, IsErrOf, ℕ, List, [], ◌∷◌, ◌++◌, Result, Ok, Err, length, refl, sym, ap, subst}
+use Rattle.std.proofs.Common.{◌≡◌, ◌≢◌, ◌∙◌, inl, inr, true, false, IsErr, IsErrOf, ℕ, List, [], ◌∷◌, ◌++◌, Result, Ok, Err, length, refl, sym, ap, subst}
 use Rattle.std.proofs.lemmas.List.{append-nil}
+use Rattle.std.proofs.lemmas.Bool.{both_ways}
 use Rattle.ic_disk.specs.declared.disk.Disk.{Ghosts}
 use Rattle.ic_disk.specs.Time.{LeftSince}
 use Rattle.ic_jobs.specs.declared.command.Command.{Command}
@@ -10,7 +11,7 @@ use Rattle.ic_jobs.specs.declared.landed.Landed.TheVariants.{Moved, Stale}
 use Rattle.ic_jobs.specs.declared.reply.Reply.{Reply}
 use Rattle.ic_book.specs.declared.book.Book.{Book}
 use Rattle.ic_book.specs.declared.fault.BookFault.{BookFault}
-use Rattle.ic_book.specs.declared.fault.BookFault.TheVariants.{Broken, LogFull, Worn, Memory, Device}
+use Rattle.ic_book.specs.declared.fault.BookFault.TheVariants.{Broken, LogFull, Device}
 use Rattle.ic_book.specs.Book.{start_of, log_of, table_of, kept_of, is_broken}
 use Rattle.ic_book.specs.Calls.{LeavesKeptOrAll}
 use Rattle.ic_book.specs.Entries.{AddsCommand, command_entry, round_entry}
@@ -24,9 +25,6 @@ err-not-ok reply err = let never : false ≡ true = err in cc
 
 device-not-ok : (reply : Reply) → ¬ IsErrOf {T = Reply} {E = BookFault} (Ok reply) Device
 device-not-ok reply device = cc
-
-not-both : (b : Bool) → b ≡ false → b ≡ true → ⊥
-not-both b whole broke = let never : false ≡ true = sym whole ∙ broke in cc
 
 module _ {D : Type 0} {ghosts : Ghosts D} where
   -- a crash leaves what is said of the log with what comes
@@ -47,7 +45,7 @@ module _ {D : Type 0} {ghosts : Ghosts D} where
       → kept_of new ≡ length (log_of new) → LeavesKeptOrAll (log_of old) old new → is_broken old ≡ false → is_broken new ≡ false → Does keeps old new
   keeps_page old new start log table all crash was whole = record {
     page = (inl (record { start = start; log = log; table = table }), all, whole);
-    broken = λ broke. absurd (not-both (is_broken old) was broke);
+    broken = λ broke. absurd (both_ways (is_broken old) was broke);
     crash = crash_with old new (log_of old) [] (sym (append-nil (log_of old))) crash;
   }
 
@@ -56,7 +54,7 @@ module _ {D : Type 0} {ghosts : Ghosts D} where
       → kept_of new ≡ 0 → LeavesKeptOrAll (log_of old) old new → is_broken old ≡ false → is_broken new ≡ false → Does keeps old new
   turns_page old new start log table kept crash was whole = record {
     page = (inr (record { start = start; log = log; table = table }), kept ∙ sym (ap length log), whole);
-    broken = λ broke. absurd (not-both (is_broken old) was broke);
+    broken = λ broke. absurd (both_ways (is_broken old) was broke);
     crash = crash_with old new (log_of old) [] (sym (append-nil (log_of old))) crash;
   }
 
@@ -132,7 +130,7 @@ module _ {D : Type 0} {ghosts : Ghosts D} where
       command_answered kept was whole = record {
         answered = record {
           page = (record { start = start; adds = adds }, kept, whole);
-          broken = λ broke. absurd (not-both (is_broken old) was broke);
+          broken = λ broke. absurd (both_ways (is_broken old) was broke);
           crash = with_entry;
         };
         failed = λ device. absurd (device-not-ok reply device);
@@ -141,8 +139,5 @@ module _ {D : Type 0} {ghosts : Ghosts D} where
 
 -- the book is broken, or its log is full
 pub full_or_broken : (fault : BookFault) → (fault ≢ Broken → fault ≡ LogFull) → ¬ (fault ≡ Device)
-full_or_broken Broken told device = let never : Broken ≡ Device = device in cc
-full_or_broken LogFull told device = let never : LogFull ≡ Device = device in cc
-full_or_broken Worn told device = let never : Worn ≡ Device = device in cc
-full_or_broken Memory told device = let never : Memory ≡ Device = device in cc
 full_or_broken Device told device = let never : Device ≡ LogFull = told (λ same. cc) in cc
+full_or_broken fault told device = let never : fault ≡ Device = device in cc

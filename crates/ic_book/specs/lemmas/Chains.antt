@@ -8,7 +8,7 @@ use Rattle.ic_jobs.specs.declared.reply.Reply.{Reply}
 use Rattle.ic_book.specs.declared.book.Book.{Book}
 use Rattle.ic_book.specs.declared.fault.BookFault.{BookFault}
 use Rattle.ic_book.specs.Book.{disk_of}
-use Rattle.ic_book.specs.Moves.{Move, opens, refuses, answers, fails, rounds, keeps, stays, closes, stops, round_move, keep_move}
+use Rattle.ic_book.specs.Moves.{Move, answers, fails, keeps, stays, stops, round_move, keep_move}
 use Rattle.ic_book.specs.Server.{up, Does, Step}
 use Rattle.ic_book.specs.ByCalls.{IsOnMadeDisk, Calls, IsByCalls, IsStoppedWithin}
 
@@ -92,16 +92,8 @@ module _ {D : Type 0} {ghosts : Ghosts D} where
   }
 
   does_of : (move : Move) (old new : Book D ghosts) → Step move (up old) (up new) → Does move old new
-  does_of opens old new is = is
-  does_of (refuses cause) old new is = is
-  does_of (answers who command reply) old new is = is
-  does_of (fails who command reply) old new is = is
-  does_of (rounds name reply) old new is = is
-  does_of keeps old new is = is
-  does_of stays old new is = is
-  does_of closes old new is = is
   does_of (stops (stops move)) old new is = absurd is
-  does_of (stops move) old new is = is
+  does_of _ old new is = is
 
   -- nothing is done
   pub by_nothing : (book : Book D ghosts) → Does stays book book → IsByCalls book book

@@ -1,7 +1,7 @@
-use Rattle.std.proofs.Common.{◌≡◌, ◌⊎◌, inl, inr, ⊎_elim, ◌+◌, ◌-◌, ◌^◌, ℕ, Result, Ok, Err, IsErrOf, refl}
+use Rattle.std.proofs.Common.{◌≡◌, ◌⊎◌, inl, inr, ⊎_elim, ◌+◌, ◌-◌, ◌^◌, ℕ, Result, Err, IsErrOf, refl}
 use Rattle.ic_disk.specs.Time.{OneMore}
 use Rattle.ic_book.specs.declared.fault.BookFault.{BookFault}
-use Rattle.ic_book.specs.declared.fault.BookFault.TheVariants.{Broken, LogFull, Worn, Memory, Device}
+use Rattle.ic_book.specs.declared.fault.BookFault.TheVariants.{Device}
 use Rattle.ic_book.specs.Refusals.{CountsBook}
 use Rattle.ic_book.proofs.laws.a_failure_is_counted.Goals as goal
 
@@ -9,12 +9,8 @@ one_more : (old new : ℕ) → OneMore old new → (new ≡ old + 1) ⊎ ((old �
 one_more old new counted = ⊎_elim (λ below. inl below.1) (λ end. inr end) counted
 
 of_book : (result : Result (Unit {0}) BookFault) (old new : ℕ) → CountsBook result old new → ¬ IsErrOf result Device → new ≡ old
-of_book (Ok value) old new counted other = counted
-of_book (Err Broken) old new counted other = counted
-of_book (Err LogFull) old new counted other = counted
-of_book (Err Worn) old new counted other = counted
-of_book (Err Memory) old new counted other = counted
 of_book (Err Device) old new counted other = absurd (other refl)
+of_book _ old new counted other = counted
 
 pub returns-clause-failed : goal.returns-clause-failed
 returns-clause-failed c = one_more
