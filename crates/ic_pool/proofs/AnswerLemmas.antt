@@ -1,5 +1,5 @@
 -- What may be answered in place of a round or of its first refusal.
-use Rattle.std.proofs.Common.{◌≡◌, ◌↔◌, ◌⊎◌, inl, inr, ℕ, ◌<◌, Bool, true, false, not, ◌&&◌, ◌||◌, cond, Result, Ok, Err, IsTrue, is_ok, nat_eq, refl, sym, ap, subst, ◌∙◌, arith}
+use Rattle.std.proofs.Common.{◌≡◌, ◌↔◌, ◌⊎◌, inl, inr, ℕ, ◌<◌, Bool, true, false, not, ◌&&◌, ◌||◌, Result, Ok, Err, IsTrue, is_ok, nat_eq, refl, sym, ap, subst, ◌∙◌, arith}
 use Rattle.ic_flights.specs.Flight.{FlightParts, is_blocked}
 use Rattle.ic_flights.specs.Played.{PlayedParts, round_of}
 use Rattle.ic_pool.specs.Played.{played}
@@ -29,15 +29,8 @@ asked f =
     (λ e. left.0 (tests.0 e), λ h. tests.1 (left.1 h))
 
 or_memory : (r a : Answer) → Answers r a → (r ≡ a) ⊎ ((r ≡ Err Memory) × IsTrue (asks_memory a))
-or_memory (Ok p) a h = inl h
-or_memory (Err NoWorkers) a h = inl h
-or_memory (Err Overgrown) a h = inl h
-or_memory (Err NamesOut) a h = inl h
-or_memory (Err NoThread) a h = inl h
 or_memory (Err Memory) a h = inr (refl, h)
-or_memory (Err Lost) a h = inl h
-or_memory (Err Stranger) a h = inl h
-or_memory (Err RoundsOut) a h = inl h
+or_memory _ a h = inl h
 
 answered_at : (out small named : Bool) (p : PlayedParts) → Answers (answer out small named p) (answer out small named p)
 answered_at true small named p = refl
@@ -95,22 +88,17 @@ of_ok h = elim h [ inl x ↦ x | inr m ↦ absurd m.1 ]
 
 widens : (r a : Answer) → Told a → Widens r a
 widens (Ok p) a apart = (λ h. inl h, of_ok)
-widens (Err NoWorkers) a apart = (λ h. inl h, of_us)
-widens (Err Overgrown) a apart = (λ h. inl h, of_us)
-widens (Err NamesOut) a apart = (λ h. inl h, of_us)
 widens (Err NoThread) a apart = (λ h. inr (h, refl), of_them a NoThread apart refl)
-widens (Err Memory) a apart = (λ h. inl h, of_us)
 widens (Err Lost) a apart = (λ h. inr (h, refl), of_them a Lost apart refl)
 widens (Err Stranger) a apart = (λ h. inr (h, refl), of_them a Stranger apart refl)
-widens (Err RoundsOut) a apart = (λ h. inl h, of_us)
+widens _ a apart = (λ h. inl h, of_us)
 
 ok_at : (out small named : Bool) (p : PlayedParts) → (is_ok (answer out small named p) ≡ true) ↔ ((not (small && named) || out) ≡ false)
-ok_at true true true p = (λ e. cc, λ e. cc)
 ok_at true true false p = (λ e. cc, λ e. cc)
 ok_at true false named p = (λ e. cc, λ e. cc)
 ok_at false true true p = (λ e. refl, λ e. refl)
 ok_at false true false p = (λ e. cc, λ e. cc)
-ok_at false false named p = (λ e. cc, λ e. cc)
+ok_at _ _ _ p = (λ e. cc, λ e. cc)
 
 ok_where : (f : FlightParts) → (is_ok (played f) ≡ true) ↔ (is_blocked f ≡ false)
 ok_where f = ok_at (nat_eq f.rounds MAX_ROUNDS) (is_small f.rules.rules f.config) (has_names f.rules.rules f.config) (round_of f)
@@ -129,15 +117,11 @@ some_workers workers f r some =
     let apart : nat_eq workers 0 ≡ false = (unequal_where workers 0).1 (λ e. absurd (omega (arith, e, some))) in rw apart (widened f r)
 
 refused_to : (r : Answer) → ByWorkers r (Err NoWorkers) → r ≡ Err NoWorkers
-refused_to (Ok p) h = h
-refused_to (Err NoWorkers) h = h
-refused_to (Err Overgrown) h = h
-refused_to (Err NamesOut) h = h
 refused_to (Err NoThread) h = let e : false ≡ true = h in cc
 refused_to (Err Memory) h = let e : false ≡ true = h in cc
 refused_to (Err Lost) h = let e : false ≡ true = h in cc
 refused_to (Err Stranger) h = let e : false ≡ true = h in cc
-refused_to (Err RoundsOut) h = h
+refused_to _ h = h
 
 pub no_workers : (f : FlightParts) (r : Answer) → ByWorkers r (played_by 0 f) ↔ (r ≡ Err NoWorkers)
 no_workers f r = (refused_to r, λ e. subst (λ (x : Answer). ByWorkers x (Err NoWorkers)) (sym e) refl)

@@ -1,19 +1,10 @@
 -- Works cut into batches from their end, and the batches turned round.
-use Rattle.std.proofs.Common.{◌≡◌, ◌≤◌, ◌<◌, ◌⊎◌, ℕ, zero, suc, ◌+◌, ◌*◌, ◌/◌, List, [], ◌∷◌, ◌++◌, map, reverse, inl, inr, sym, ap, subst, ◌∙◌, arith, suc-mul, div-one, div-le_self, div-mul-le_self, le-div_iff_mul-le, append_assoc, one-mul}
+use Rattle.std.proofs.Common.{◌≡◌, ◌≤◌, ◌<◌, ℕ, zero, suc, ◌+◌, ◌*◌, ◌/◌, List, [], ◌∷◌, ◌++◌, map, reverse, sym, ap, subst, ◌∙◌, arith, suc-mul, div-one, div-le_self, div-mul-le_self, le-div_iff_mul-le, append_assoc, one-mul}
 use Rattle.std.proofs.lemmas.List.{reverse-append, append-nil, map-append}
 use Rattle.std.proofs.lemmas.Grind.{flat_map-append}
 use Rattle.std.specs.List.{AllByRecursion, flat_map}
 
 -- ---- sizes
-
-pub below_or_not : (m n : ℕ) → (m < n) ⊎ (n ≤ m)
-below_or_not zero zero = inr (omega arith)
-below_or_not zero (suc n) = inl (omega arith)
-below_or_not (suc m) zero = inr (omega arith)
-below_or_not (suc m) (suc n) = elim (below_or_not m n) [
-  | inl h ↦ inl (omega (arith, h))
-  | inr h ↦ inr (omega (arith, h))
-]
 
 product : (a b : ℕ) → suc a + suc b ≤ suc a * suc b + 1
 product zero b = let e = one-mul (suc b) in omega (arith, e)

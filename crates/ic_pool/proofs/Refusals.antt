@@ -2,6 +2,7 @@
 use Rattle.std.proofs.Common.{◌≡◌, ◌≤◌, ◌<◌, ◌↔◌, ◌⊎◌, inl, inr, ℕ, Bool, true, false, not, ◌&&◌, ◌||◌, Result, Ok, Err, IsTrue, nat_le, nat_eq, cond, refl, sym, ◌∙◌, arith}
 use Rattle.std.proofs.lemmas.Grind.{common_steps}
 use Rattle.std.specs.Cmp.{unsigned_Decides}
+use Rattle.std.proofs.Math.Bool.{or-true}
 use Rattle.ic_round.specs.Rounds.{is_small, has_names}
 use Rattle.ic_flights.specs.Flight.{FlightParts, is_blocked}
 use Rattle.ic_flights.specs.Played.{PlayedParts, round_of}
@@ -67,12 +68,8 @@ large_where m n = large_at m n (nat_le m n) refl
 
 -- ---- a refusal of the flight itself
 
-or_true : (b : Bool) → (b || true) ≡ true
-or_true true = refl
-or_true false = refl
-
 refused_where : (out small named : Bool) (p : PlayedParts) (fault : PoolFault) → answer out small named p ≡ Err fault → (not (small && named) || out) ≡ true
-refused_where true small named p fault e = or_true (not (small && named))
+refused_where true small named p fault e = or-true (not (small && named))
 refused_where false true true p fault e = cc
 refused_where false true false p fault e = refl
 refused_where false false named p fault e = refl
@@ -82,14 +79,10 @@ refused f fault e =
     refused_where (nat_eq f.rounds MAX_ROUNDS) (is_small f.rules.rules f.config) (has_names f.rules.rules f.config) (round_of f) fault (sym e)
 
 pub refused_alone : (f : FlightParts) (fault : PoolFault) → Answers (Err fault) (played f) → IsTrue (is_of_flight fault) → IsTrue (is_blocked f)
-refused_alone f NoWorkers is of = let never : false ≡ true = of in cc
 refused_alone f Overgrown is of = refused f Overgrown is
 refused_alone f NamesOut is of = refused f NamesOut is
-refused_alone f NoThread is of = let never : false ≡ true = of in cc
-refused_alone f Memory is of = let never : false ≡ true = of in cc
-refused_alone f Lost is of = let never : false ≡ true = of in cc
-refused_alone f Stranger is of = let never : false ≡ true = of in cc
 refused_alone f RoundsOut is of = refused f RoundsOut is
+refused_alone f _ is of = let never : false ≡ true = of in cc
 
 -- with no workers another refusal comes
 unless_none : (none : Bool) (fault : PoolFault) (r : Result PlayedParts PoolFault) → is_of_flight fault ≡ true → Err fault ≡ cond none (Err NoWorkers) r → Err fault ≡ r
@@ -101,14 +94,10 @@ by_refused workers f fault of e = refused f fault (unless_none (nat_eq workers 0
 
 pub refused_by : (workers : ℕ) (f : FlightParts) (fault : PoolFault) → ByWorkers {T = PlayedParts} (Err fault) (played_by workers f) → IsTrue (is_of_flight fault)
     → IsTrue (is_blocked f)
-refused_by workers f NoWorkers is of = let never : false ≡ true = of in cc
 refused_by workers f Overgrown is of = by_refused workers f Overgrown of is
 refused_by workers f NamesOut is of = by_refused workers f NamesOut of is
-refused_by workers f NoThread is of = let never : false ≡ true = of in cc
-refused_by workers f Memory is of = let never : false ≡ true = of in cc
-refused_by workers f Lost is of = let never : false ≡ true = of in cc
-refused_by workers f Stranger is of = let never : false ≡ true = of in cc
 refused_by workers f RoundsOut is of = by_refused workers f RoundsOut of is
+refused_by workers f _ is of = let never : false ≡ true = of in cc
 
 -- ---- any other refusal of some workers
 
@@ -128,10 +117,8 @@ other_refusals workers f NoWorkers some is apart =
     let there : nat_eq workers 0 ≡ false = (unequal_where workers 0).1 (λ e. absurd (omega (arith, e, some))) in
     absurd (no_workers_of (nat_eq f.rounds MAX_ROUNDS) (is_small f.rules.rules f.config) (has_names f.rules.rules f.config) (round_of f)
     (some_workers (nat_eq workers 0) (played f) there is))
-other_refusals workers f Overgrown some is apart = let never : true ≡ false = apart in cc
-other_refusals workers f NamesOut some is apart = let never : true ≡ false = apart in cc
 other_refusals workers f NoThread some is apart = inr refl
 other_refusals workers f Memory some is apart = inl refl
 other_refusals workers f Lost some is apart = inr refl
 other_refusals workers f Stranger some is apart = inr refl
-other_refusals workers f RoundsOut some is apart = let never : true ≡ false = apart in cc
+other_refusals workers f _ some is apart = let never : true ≡ false = apart in cc

@@ -1,6 +1,7 @@
 use Rattle.std.proofs.Common.{◌≡◌, ◌<◌, ◌≤◌, ℕ, ◌+◌, ◌-◌, ◌/◌, [], ◌∷◌, ◌++◌, reverse, inl, inr, refl, sym, ap, subst, ◌∙◌, arith, vec_items, vec_len, take-append-drop}
 use Rattle.std.specs.List.{AllByRecursion, flat_map}
-use Rattle.ic_pool.proofs.CutWorks.{below_or_not, part_of, joined-snoc, All-append, All-reverse}
+use Rattle.std.proofs.lemmas.Bool.{cases_lt}
+use Rattle.ic_pool.proofs.CutWorks.{part_of, joined-snoc, All-append, All-reverse}
 use Rattle.ic_pool.proofs.batches.cut.Goals as goal
 
 -- what is left after one batch more, and the batch
@@ -16,7 +17,7 @@ cut_once before after batch count done below few kept all =
     let within = part.within in let enough = part.enough in let some = part.some in
     record {
       enough = omega (arith, within, enough, kept, few);
-      last = λ more. elim (below_or_not (done + 1) count) [
+      last = λ more. elim (cases_lt (done + 1) count) [
         | inl h ↦ h
         | inr h ↦ let whole : before / (count - done) ≡ before = part.last (omega arith) in absurd (omega (arith, whole, kept, more))
       ];
