@@ -1,5 +1,5 @@
 -- How many equations are active, told by the rules of their sides.
-use Rattle.std.proofs.Common.{◌≡◌, ◌∙◌, ℕ, Bool, true, false, Option, None, Some, is_some, count_by, refl, ap}
+use Rattle.std.proofs.Common.{◌≡◌, ◌∙◌, ℕ, Bool, true, Option, Some, is_some, count_by, refl, ap}
 use Rattle.ic_term.specs.Tree.{Tree, Pair}
 use Rattle.ic_term.specs.Configuration.{Configuration}
 use Rattle.ic_rules.specs.RuleSet.{Rules}
@@ -7,9 +7,8 @@ use Rattle.ic_round.specs.Firing.{oriented, rule_of_sides}
 use Rattle.ic_by_rounds.specs.Tracing.{active_count}
 
 oriented_some : (t u : Tree) (o : Option (ℕ × Bool)) → is_some o ≡ is_some (oriented t u o)
-oriented_some t u None = refl
 oriented_some t u (Some (i, true)) = refl
-oriented_some t u (Some (i, false)) = refl
+oriented_some t u _ = refl
 
 -- how many equations have a rule
 abbrev pub ruled : Rules → Configuration → ℕ

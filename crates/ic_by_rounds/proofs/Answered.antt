@@ -6,7 +6,7 @@ use Rattle.std.specs.Io.KnownBytes.{Appends}
 use Rattle.ic_streams.specs.Streams.{Answering, FaultOf, IsAnswered, OfText, TakesIt, WritesPart}
 use Rattle.ic_streams.specs.lemmas.Reading.{Carried, OfFronts, answered_as, answered_cut, answered_refused, answered_unread, answered_written, of_each, of_front, read_as}
 use Rattle.ic_streams.specs.declared.fault.StreamFault.{StreamFault}
-use Rattle.ic_streams.specs.declared.fault.StreamFault.TheVariants.{Read, Text, Round, Memory, Write}
+use Rattle.ic_streams.specs.declared.fault.StreamFault.TheVariants.{Read, Text, Memory, Write}
 use Rattle.ic_by_rounds.specs.Reductions.{EndsAs, Reduces, ReducesTo}
 use Rattle.ic_by_rounds.specs.Traces.{TracedAs, Traces, TracesTo}
 use Rattle.ic_by_rounds.specs.declared.ended.Ended.{Ended}
@@ -20,10 +20,7 @@ reduces_on most partial output reduction front rest end s =
 pub reduces_carried : (most : ℕ) (partial : Bool) → Carried (Reduces most partial)
 reduces_carried most partial front rest end (Ok output) s = (s.0, reduces_on most partial output s.0 front rest end s.1)
 reduces_carried most partial front rest end (Err (Text fault)) s = (read_as _ _ front rest end _ s.0, s.1)
-reduces_carried most partial front rest end (Err (Round fault)) s = absurd s
-reduces_carried most partial front rest end (Err Read) s = absurd s
-reduces_carried most partial front rest end (Err Memory) s = absurd s
-reduces_carried most partial front rest end (Err Write) s = absurd s
+reduces_carried most partial front rest end _ s = absurd s
 
 pub ends_carried : (most : ℕ) (partial : Bool) (reduction : Reduction) → OfFronts (λ text. EndsAs most partial text reduction)
 ends_carried most partial reduction front rest end s = (s.0, reduces_on most partial s.0 reduction front rest end s.1)
@@ -35,10 +32,7 @@ traces_on most format output ended front rest end s =
 pub traces_carried : (most : ℕ) (format : Format) → Carried (Traces most format)
 traces_carried most format front rest end (Ok output) s = (s.0, traces_on most format output s.0 front rest end s.1)
 traces_carried most format front rest end (Err (Text fault)) s = (read_as _ _ front rest end _ s.0, s.1)
-traces_carried most format front rest end (Err (Round fault)) s = absurd s
-traces_carried most format front rest end (Err Read) s = absurd s
-traces_carried most format front rest end (Err Memory) s = absurd s
-traces_carried most format front rest end (Err Write) s = absurd s
+traces_carried most format front rest end _ s = absurd s
 
 pub traced_carried : (most : ℕ) (format : Format) (ended : Ended) → OfFronts (λ text. TracedAs most format text ended)
 traced_carried most format ended front rest end s = (s.0, traces_on most format s.0 ended front rest end s.1)

@@ -1,10 +1,10 @@
 -- Lemmas: the greatest number of rows.
-use Rattle.std.proofs.Common.{◌≡◌, ◌≤◌, ◌<◌, ◌⊎◌, inl, inr, ℕ, ◌==◌, ◌||◌, List, [], ◌∷◌, Bool, true, false, max, refl, ap, ◌∙◌, arith}
+use Rattle.std.proofs.Common.{◌≡◌, ◌≤◌, ◌<◌, ◌⊎◌, inl, inr, ℕ, ◌==◌, List, [], ◌∷◌, true, false, max, ap, ◌∙◌, arith}
 use Rattle.std.specs.List.{AllByRecursion, list_any}
-use Rattle.std.proofs.lemmas.Bool.{cases_lt}
-use Rattle.std.proofs.lemmas.Grind.{common_steps}
+use Rattle.std.proofs.lemmas.Bool.{cases_lt, or_left, or_right}
 use Rattle.ic_by_rounds.specs.Pictures.{greatest, most_nodes}
 use Rattle.ic_by_rounds.specs.declared.row.Row.{Row}
+use Rattle.ic_rules.specs.lemmas.NumberingLaws.{self_eq as itself}
 
 all_below : (number : Row → ℕ) (low high : ℕ) (rows : List Row) → low ≤ high → AllByRecursion (λ row. number row ≤ low) rows → AllByRecursion (λ row. number row ≤ high) rows
 all_below number low high [] up all = tt
@@ -16,16 +16,6 @@ none_greater number (row ∷ rows) = (
   omega arith,
   all_below number (greatest number rows) (greatest number (row ∷ rows)) rows (omega arith) (none_greater number rows),
 )
-
-itself : (n : ℕ) → (n == n) ≡ true
-itself n = grind (arith, common_steps)
-
-or_right : (a b : Bool) → b ≡ true → (a || b) ≡ true
-or_right true b e = refl
-or_right false b e = e
-
-or_left : (a b : Bool) → a ≡ true → (a || b) ≡ true
-or_left a b e = ap (λ x. x || b) e
 
 pub reached : (number : Row → ℕ) (row : Row) (rows : List Row) → list_any (λ it. number it == greatest number (row ∷ rows)) (row ∷ rows) ≡ true
 reached number row [] =

@@ -10,7 +10,7 @@ use Rattle.ic_text.specs.declared.fault.TextFault.{TextFault}
 use Rattle.ic_round.specs.Rounds.{iterate}
 use Rattle.ic_streams.specs.Streams.{line_of}
 use Rattle.ic_streams.specs.declared.fault.StreamFault.{StreamFault}
-use Rattle.ic_streams.specs.declared.fault.StreamFault.TheVariants.{Read, Text, Round, Memory, Write}
+use Rattle.ic_streams.specs.declared.fault.StreamFault.TheVariants.{Text}
 use Rattle.ic_by_rounds.specs.Reducing.{IsRefusal, RoundsEnd}
 use Rattle.ic_by_rounds.specs.Reductions.{EndsAs, Reduces, Tells, is_printed}
 use Rattle.ic_by_rounds.specs.Tracing.{rows_of}
@@ -53,19 +53,16 @@ is_shown partial (ended.Refused refusal) = partial
 
 shown_by : (partial : Bool) (r : Reduction) → is_printed partial r ≡ is_shown partial (ended_of r)
 shown_by partial (Done count stuck) = refl
-shown_by partial NotDone = refl
-shown_by partial (Refused refusal) = refl
+shown_by partial _ = refl
 
 rounds_end : (rs : Rules) (c : Configuration) (most n : ℕ) (r : Reduction) → Tells rs c most n r → RoundsEnd rs.rules c most n (ended_of r)
-rounds_end rs c most n (Done count stuck) told = told.0
-rounds_end rs c most n NotDone told = told.0
 rounds_end rs c most n (Refused refusal) told = told
+rounds_end rs c most n _ told = told.0
 
 -- the reduction of which a refused round is told
 refused_as : (r : Reduction) (x : Refusal) → ended_of r ≡ ended.Refused x → r ≡ Refused x
 refused_as (Done count stuck) x e = cc
-refused_as NotDone x e = cc
-refused_as (Refused refusal) x e = cc
+refused_as _ x e = cc
 
 module _ (one : (text : List ℕ) (a b : Result SystemParts TextFault) → ReadsSystem text a → ReadsSystem text b → a ≡ b) where
   one_system : (text : List ℕ) (s t : SystemParts) → ReadsSystem text (Ok s) → ReadsSystem text (Ok t) → s ≡ t
@@ -95,25 +92,16 @@ module _ (one : (text : List ℕ) (a b : Result SystemParts TextFault) → Reads
   unread text s fault x y = let same = one text (Ok s) (Err fault) x y in cc
 
   pub not_refused : (most : ℕ) (partial : Bool) (text line : List ℕ) (fault : StreamFault) → Reduces most partial text (Ok line) → ¬ Reduces most partial text (Err fault)
-  not_refused most partial text line Read x y = y
   not_refused most partial text line (Text fault) x y = unread text x.1.system fault x.1.reads y.0
-  not_refused most partial text line (Round fault) x y = y
-  not_refused most partial text line Memory x y = y
-  not_refused most partial text line Write x y = y
+  not_refused most partial text line _ x y = y
 
   one_text_fault : (text : List ℕ) (e f : TextFault) → ReadsSystem text (Err e) → ReadsSystem text (Err f) → e ≡ f
   one_text_fault text e f x y = let same = one text (Err e) (Err f) x y in cc
 
   pub refused_once : (most : ℕ) (partial : Bool) (text : List ℕ) (e f : StreamFault) → Reduces most partial text (Err e) → Reduces most partial text (Err f) → e ≡ f
   refused_once most partial text (Text e) (Text f) x y = ap Text (one_text_fault text e f x.0 y.0)
-  refused_once most partial text (Text e) (Round f) x y = absurd y
-  refused_once most partial text (Text e) Read x y = absurd y
-  refused_once most partial text (Text e) Memory x y = absurd y
-  refused_once most partial text (Text e) Write x y = absurd y
-  refused_once most partial text (Round e) f x y = absurd x
-  refused_once most partial text Read f x y = absurd x
-  refused_once most partial text Memory f x y = absurd x
-  refused_once most partial text Write f x y = absurd x
+  refused_once most partial text (Text e) _ x y = absurd y
+  refused_once most partial text _ f x y = absurd x
 
   pub traced_once : (most : ℕ) (format : Format) (text a b : List ℕ) (e f : Ended) → TracesTo most format text a e → TracesTo most format text b f → (a ≡ b) × (e ≡ f)
   traced_once most format text a b e f x y =

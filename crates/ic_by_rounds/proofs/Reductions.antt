@@ -187,11 +187,6 @@ made_on rs c m n made more = record { going = λ k low. going k low (cases_lt k 
     fitting k low (inl early) = made.fitting k early
     fitting k low (inr late) = ap (fits rs) (sym (after k late)) ∙ more.fitting (k - m) (omega arith)
 
--- no round is made of a quiet configuration
-none_of_quiet : (rs : List Rule) (c : Configuration) (n : ℕ) → IsQuiet rs c → AreMade rs c n → n ≡ 0
-none_of_quiet rs c zero quiet made = refl
-none_of_quiet rs c (suc n) quiet made = absurd (made.going 0 (omega arith) quiet)
-
 pub reduced_on : (rs : List Rule) (c : Configuration) (most more m n : ℕ) → IsReducedBy rs c most m → IsReducedBy rs (iterate rs m c) more n → IsReducedBy rs c (most + more) (m + n)
 reduced_on rs c most more m n is then = record {
   within = let low = is.within in let also = then.within in omega arith;

@@ -59,9 +59,8 @@ answered_next rs c now after n is answer =
     answer_by (is_small rs now) (has_names rs now) after (round rs now) answer ∙ ap (round rs) is ∙ ap (λ k. iterate rs k c) (sym (add-one n))
 
 answered_fault : {T : Type 0} (fault : RoundFault) (answer : Result T RoundFault) → Answers (Err fault) answer → fault ≢ Memory → answer ≡ Err fault
-answered_fault Overgrown answer e apart = sym e
-answered_fault NamesOut answer e apart = sym e
 answered_fault Memory answer e apart = absurd (apart refl)
+answered_fault _ answer e apart = sym e
 
 -- so many rounds were made of a configuration, in which a step is possible, and the next one was refused:
 -- so it is told
