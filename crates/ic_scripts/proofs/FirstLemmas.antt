@@ -8,12 +8,6 @@ use Rattle.ic_attend.specs.declared.attended.RunnerEnd.{RunnerEnd}
 use Rattle.ic_scripts.specs.Outcome.{IsFirstOf, client_fault, faults_of, keep_faults, runner_fault}
 use Rattle.ic_scripts.specs.declared.fault.ScriptsFault.{ScriptsFault}
 
--- an element of a list is whatever the default
-pub any_default : {X : Type 0} (xs : List X) (i : ℕ) (d e : X) → i < length xs → get_or xs i d ≡ get_or xs i e
-any_default [] i d e small = absurd (omega (arith, small))
-any_default (x ∷ xs) zero d e small = refl
-any_default (x ∷ xs) (suc i) d e small = any_default xs i d e (omega (arith, small))
-
 module _ {X Y : Type 0} (f : X → Option Y) where
   -- where nothing is found, and then something, that is the first
   pub found_first : (xs : List X) (i : ℕ) (x : X) (y : Y) → filter_map f (take i xs) ≡ [] → i < length xs → x ≡ get_or xs i x → f x ≡ Some y
@@ -63,11 +57,6 @@ pub first_told : {T : Type 0} (faults rest : List ScriptsFault) (fault : Scripts
     → IsFirstOf faults told → told ≡ Err fault
 first_told faults rest fault (Ok done) is first = let bad : fault ∷ rest ≡ [] = sym is ∙ first in cc
 first_told faults rest fault (Err other) is first = let same : Some fault ≡ Some other = ap (λ (l : List ScriptsFault). slice_get l 0) (sym is) ∙ first in cc
-
--- the first of faults stands first among more
-pub first_of_more : (faults more : List ScriptsFault) (fault : ScriptsFault) → slice_get faults 0 ≡ Some fault → slice_get (faults ++ more) 0 ≡ Some fault
-first_of_more [] more fault first = cc
-first_of_more (x ∷ xs) more fault first = first
 
 -- where no client stopped and no runner ended by a fault, the keep's is alone
 pub keep_alone : {T : Type 0} (runs : List ClientRun) (ends : List RunnerEnd) (kept : Result T BookFault) → None ≡ slice_get (filter_map client_fault runs) 0

@@ -1,7 +1,8 @@
 -- Why scripts have no history, and what a keep says of a book.
-use Rattle.std.proofs.Common.{◌≡◌, ◌≢◌, ◌∙◌, ℕ, ◌<◌, ◌≤◌, List, Option, None, Some, true, false, Bool, length, take, refl, sym, ap, subst, arith, take_all}
+use Rattle.std.proofs.Common.{◌≡◌, ◌≢◌, ◌∙◌, ℕ, ◌<◌, ◌≤◌, List, Option, None, Some, true, false, length, take, refl, sym, ap, subst, arith, take_all}
 use Rattle.std.specs.Prelude.{Result, Ok, Err, IsErrOf, IfErr, IsTrue, OnOk}
 use Rattle.std.specs.Io.KnownBytes.{Keeps}
+use Rattle.std.proofs.lemmas.Bool.{false_from_ne_true}
 use Rattle.ic_disk.specs.declared.disk.Disk.{Ghosts}
 use Rattle.ic_disk.specs.Images.{Within}
 use Rattle.ic_jobs.specs.declared.command.Command.{Command}
@@ -39,21 +40,17 @@ says_why disk scripts runners turns workers left (attending.NoThread a) is unope
 says_why disk scripts runners turns workers left (attending.Memory book) is unopened unbegun stopped torn = (book, unbegun, is)
 says_why disk scripts runners turns workers left (attending.Torn a) is unopened unbegun stopped torn = (a, torn, is)
 
-not_true : (b : Bool) → (b ≡ true → ⊥) → b ≡ false
-not_true true never = absurd (never refl)
-not_true false never = refl
-
 -- what a keep says of the book before it
 pub keep_tells : {D : Type 0} {ghosts : Ghosts D} (r : Result (Unit {0}) BookFault) (old new : Book D ghosts) → BreaksOrStays r old new → TellsWorn r old
     → IfErr r (λ fault. fault ≢ Broken → fault ≢ Worn → fault ≡ Device) → KeepsAll r old new → kept_of old ≤ length (log_of old) → KeepTells old r
-keep_tells (Ok done) old new fault worn others all within = not_true (is_broken old) (λ broken. let bad : IsErrOf {T = Unit {0}} (Ok done) Broken = fault.broken.1 broken in cc)
+keep_tells (Ok done) old new fault worn others all within = false_from_ne_true (is_broken old) (λ broken. let bad : IsErrOf {T = Unit {0}} (Ok done) Broken = fault.broken.1 broken in cc)
 keep_tells (Err Broken) old new fault worn others all within = fault.broken.0 refl
 keep_tells (Err LogFull) old new fault worn others all within = let bad : LogFull ≡ Device = others (λ e. cc) (λ e. cc) in cc
 keep_tells (Err Worn) old new fault worn others all within =
     let is = worn.0 refl in (record { unbroken = is.0; unkept = is.1 }, is.2)
 keep_tells (Err Memory) old new fault worn others all within = let bad : Memory ≡ Device = others (λ e. cc) (λ e. cc) in cc
 keep_tells (Err Device) old new fault worn others all within =
-    let unbroken : is_broken old ≡ false = not_true (is_broken old) (λ broken. let bad : IsErrOf {T = Unit {0}} (Err Device) Broken = fault.broken.1 broken in cc) in
+    let unbroken : is_broken old ≡ false = false_from_ne_true (is_broken old) (λ broken. let bad : IsErrOf {T = Unit {0}} (Err Device) Broken = fault.broken.1 broken in cc) in
     let apart : kept_of old ≡ length (log_of old) → ⊥ = λ whole.
     let same : is_broken new ≡ is_broken old = ap keeper.is_broken (all.idle whole) in
     let bad : true ≡ false = sym (fault.breaks refl) ∙ same ∙ unbroken in cc in

@@ -1,7 +1,6 @@
 -- What a writer holds.
-use Rattle.std.proofs.Common.{◌≡◌, ℕ, ◌-◌, List, [], ◌++◌, Option, None, Some, length, take, drop, sym, ap, subst, ◌∙◌, append-nil, append_assoc, take-append-drop, refl}
+use Rattle.std.proofs.Common.{◌≡◌, ℕ, ◌-◌, List, [], ◌++◌, Option, None, Some, length, take, drop, sym, ap, subst, ◌∙◌, append-nil, append_assoc, take-append-drop}
 use Rattle.std.proofs.lemmas.List.{take_rest}
-use Rattle.std.specs.Prelude.{Result, Ok, Err, OnOk, OnErr}
 use Rattle.std.specs.Io.KnownBytes.{Appends, Keeps}
 use Rattle.ic_scripts.specs.Telling.{WritesFront}
 
@@ -27,9 +26,6 @@ pub record IsSent (bytes rest : List ℕ) (old now : Option (List ℕ)) : Type 0
   pub parted : bytes ≡ sent ++ rest
   pub written : Appends old now sent
 
-pub sent_none : (bytes : List ℕ) (c : Option (List ℕ)) → IsSent bytes bytes c c
-sent_none bytes c = record { sent = []; parted = refl; written = appends_none c }
-
 pub sent_more : (bytes rest : List ℕ) (n : ℕ) (old mid new : Option (List ℕ)) → IsSent bytes rest old mid → Appends mid new (take n rest)
     → IsSent bytes (take (length rest - n) (drop n rest)) old new
 sent_more bytes rest n old mid new s more = record {
@@ -41,9 +37,6 @@ sent_more bytes rest n old mid new s more = record {
 
 pub sent_kept : (bytes rest : List ℕ) (old mid new : Option (List ℕ)) → IsSent bytes rest old mid → Keeps mid new → IsSent bytes rest old new
 sent_kept bytes rest old mid new s kept = record { sent = s.sent; parted = s.parted; written = appends_kept old mid new s.sent s.written kept }
-
-pub sent_all : (bytes : List ℕ) (old now : Option (List ℕ)) → IsSent bytes [] old now → Appends old now bytes
-sent_all bytes old now s = subst (Appends old now) (sym (s.parted ∙ append-nil s.sent)) s.written
 
 pub sent_front : (bytes rest : List ℕ) (old now : Option (List ℕ)) → IsSent bytes rest old now → WritesFront bytes old now
 sent_front bytes rest old now s = record { sent = s.sent; unsent = rest; parted = s.parted; written = s.written }
@@ -68,13 +61,6 @@ sent_cut bytes part rest old mid new s cut = record {
   written = appends_more old mid new s.sent cut.sent s.written cut.written;
 }
 
--- all of it is a front of it
-pub front_all : (bytes : List ℕ) (old new : Option (List ℕ)) → Appends old new bytes → WritesFront bytes old new
-front_all bytes old new written = record { sent = bytes; unsent = []; parted = sym (append-nil bytes); written = written }
-
-pub front_none : (bytes : List ℕ) (c : Option (List ℕ)) → WritesFront bytes c c
-front_none bytes c = record { sent = []; unsent = bytes; parted = refl; written = appends_none c }
-
 -- three parts, of which none is written yet
 pub sent_begin : (a b s : List ℕ) (c : Option (List ℕ)) → IsSent (a ++ b ++ s) (a ++ (b ++ s)) c c
 sent_begin a b s c = record { sent = []; parted = append_assoc a b s; written = appends_none c }
@@ -82,9 +68,3 @@ sent_begin a b s c = record { sent = []; parted = append_assoc a b s; written = 
 -- the last part
 pub sent_last : (bytes part : List ℕ) (old now : Option (List ℕ)) → IsSent bytes part old now → IsSent bytes (part ++ []) old now
 sent_last bytes part old now s = subst (λ (l : List ℕ). IsSent bytes l old now) (sym (append-nil part)) s
-
--- what is written whole, or else a front of it
-pub front_either : {T E : Type 0} (r : Result T E) (bytes : List ℕ) (old new : Option (List ℕ)) → OnOk r (Appends old new bytes) → OnErr r (WritesFront bytes old new)
-    → WritesFront bytes old new
-front_either (Ok done) bytes old new written cut = front_all bytes old new written
-front_either (Err fault) bytes old new written cut = cut
