@@ -1,6 +1,6 @@
 -- Lemmas, which a reader of the contracts doesn't need: names of words, words over symbols, and that the test of
 -- equality is equality.
-use Rattle.std.specs.Prelude.{◌≡◌, ℕ, ◌==◌, List, [], ◌∷◌, ◌++◌, Bool, true, false, ◌&&◌, length, take, drop, slice_get, refl}
+use Rattle.std.specs.Prelude.{◌≡◌, ℕ, ◌==◌, List, [], ◌∷◌, ◌++◌, true, ◌&&◌, length, take, drop, slice_get, refl}
 use Rattle.std.specs.List.{flat_map, list_all}
 use Rattle.std.specs.Bool.{Decides}
 use Rattle.std.specs.Cmp.{IsEquivalence, decided, unsigned_Decides}
@@ -9,12 +9,14 @@ use Rattle.std.proofs.Common.{sym, ◌∙◌, ap}
 use Rattle.std.proofs.lemmas.List.{length-take-le, take-append-drop}
 use Rattle.std.proofs.lemmas.List.Concat.{flat_map-append}
 use Rattle.std.proofs.lemmas.List.Folds.{list_all-append}
+use Rattle.std.proofs.Math.Bool.{and_assoc}
 use Rattle.ic_term.specs.Tree.{Tree, trees_of, names, names_of}
 use Rattle.ic_term.specs.Symbol.{Symbol, has_arity, is_tree_over, are_trees_over}
 use Rattle.ic_term.specs.lemmas.TreeLaws.{list_of-trees_of}
 use Rattle.ic_flat.specs.declared.word.Word.{Word}
 use Rattle.ic_flat.specs.declared.word.Word.TheVariants.{Name, Agent}
 use Rattle.ic_flat.specs.Words.{forest, IsWhole, word_eq, word_names, is_word_over}
+use Rattle.ic_rules.specs.lemmas.FitLaws.{are_trees_over-trees_of}
 
 -- ---- names
 
@@ -36,14 +38,6 @@ names-forest (Agent s arity ∷ ws) =
 
 -- ---- symbols
 
-are_trees_over-trees_of : (ss : List Symbol) (ts : List Tree) → are_trees_over ss (trees_of ts) ≡ list_all (is_tree_over ss) ts
-are_trees_over-trees_of ss [] = refl
-are_trees_over-trees_of ss (t ∷ ts) = ap (λ b. is_tree_over ss t && b) (are_trees_over-trees_of ss ts)
-
-and_assoc : (a b c : Bool) → (a && b && c) ≡ (a && (b && c))
-and_assoc true b c = refl
-and_assoc false b c = refl
-
 -- terms are over symbols where their words are
 pub over-forest : (ss : List Symbol) (ws : List Word) → IsWhole ws → list_all (is_tree_over ss) (forest ws) ≡ list_all (is_word_over ss) ws
 over-forest ss [] whole = refl
@@ -61,13 +55,12 @@ over-forest ss (Agent s arity ∷ ws) whole =
 
 word_eq-true : (v w : Word) → word_eq v w ≡ true → v ≡ w
 word_eq-true (Name m) (Name n) e = ap Name ((unsigned_Decides m n).0 e)
-word_eq-true (Name m) (Agent r b) e = cc
-word_eq-true (Agent s a) (Name n) e = cc
 word_eq-true (Agent s a) (Agent r b) e =
     let parts = and_parts (s == r) (a == b) e in
     let symbols = (unsigned_Decides s r).0 parts.0 in
     let arities = (unsigned_Decides a b).0 parts.1 in
     cc
+word_eq-true _ _ e = cc
 
 word_eq-refl : (w : Word) → word_eq w w ≡ true
 word_eq-refl (Name n) = (unsigned_Decides n n).1 refl

@@ -1,8 +1,8 @@
 use Rattle.std.proofs.Common.{◌≡◌, ◌++◌, [], ◌∷◌, sym, ap, ◌∙◌, arith}
-use Rattle.std.proofs.lemmas.List.{map-append}
+use Rattle.std.proofs.lemmas.List.{map-append, nil_from_length}
 use Rattle.ic_term.specs.Term.{tree}
 use Rattle.ic_flat.specs.inner.Stacks.{upright}
-use Rattle.ic_flat.proofs.StackLemmas.{popped-some, popped-none, take-one_more, take-none_more, empty-length}
+use Rattle.ic_flat.proofs.StackLemmas.{popped-some, popped-none, take-one_more, take-none_more}
 use Rattle.ic_flat.proofs.reading.take_terms.Goals as goal
 use Rattle.ic_flat.proofs.reading.take_terms.Goals.{in-Some+in_ok-push, in_default}
 
@@ -18,7 +18,7 @@ loop-preserved c =
             left = sym step.1;
           })
       | in_default w ↦
-          let none : c.pop.new.self.items ≡ [] = empty-length c.pop.new.self.items (omega (arith, w.in_default.ensures.cases.1, c.pop.new.self.ok.0)) in
+          let none : c.pop.new.self.items ≡ [] = nil_from_length c.pop.new.self.items (omega (arith, w.in_default.ensures.cases.1, c.pop.new.self.ok.0)) in
           let old : c.loop.stack.items ≡ [] = sym (popped-none c.loop.stack.items c.pop.new.self.items c.pop.result c.pop.ensures.items w.in_default.is) ∙ none in
           let step = take-none_more all c.loop.counter (sym c.loop.invariant.left ∙ ap upright old) in
           rw w.terms-is (record { taken = c.loop.invariant.taken ∙ sym step.0; left = ap upright none ∙ sym step.1 })
