@@ -23,11 +23,10 @@ OneWay = (text : List ℕ) (a b : ScriptLine) → ReadsScriptLine text a → Rea
 
 read_once : OneWay → (ls : List (List ℕ)) (a b : List ScriptLine) → AreRead ls a → AreRead ls b → a ≡ b
 read_once law [] [] [] p q = refl
-read_once law [] [] (r ∷ rs) p q = absurd q
 read_once law [] (r ∷ rs) b p q = absurd p
 read_once law (l ∷ ls) [] b p q = absurd p
-read_once law (l ∷ ls) (r ∷ rs) [] p q = absurd q
 read_once law (l ∷ ls) (r ∷ rs) (s ∷ ss) p q = ap₂ (λ x xs. x ∷ xs) (law l r s p.0 q.0) (read_once law ls rs ss p.1 q.1)
+read_once law _ _ _ p q = absurd q
 
 -- what readings make of a script
 abbrev answer_of : List ScriptLine → Result (List Command) ScriptFault
@@ -132,15 +131,13 @@ commands-oks (Some c ∷ cs) = ap (λ x. c ∷ x) (commands-oks cs)
 
 oks_read : (ls : List (List ℕ)) (cs : List (Option Command)) → AreAsked ls cs → AreRead ls (oks cs)
 oks_read [] [] asked = tt
-oks_read [] (c ∷ cs) asked = absurd asked
-oks_read (l ∷ ls) [] asked = absurd asked
 oks_read (l ∷ ls) (c ∷ cs) asked = (asked.0, oks_read ls cs asked.1)
+oks_read _ _ asked = absurd asked
 
 oks_count : (ls : List (List ℕ)) (cs : List (Option Command)) → AreAsked ls cs → length ls ≡ length (oks cs)
 oks_count [] [] asked = refl
-oks_count [] (c ∷ cs) asked = absurd asked
-oks_count (l ∷ ls) [] asked = absurd asked
 oks_count (l ∷ ls) (c ∷ cs) asked = ap suc (oks_count ls cs asked.1)
+oks_count _ _ asked = absurd asked
 
 oks_unrefused : (seen : List ScriptLine) (cs : List (Option Command)) → length (commands seen) + length (filter_map (λ c. c) cs) ≤ MAX_SCRIPT → first_fault seen (oks cs) ≡ None
 oks_unrefused seen [] room = refl

@@ -50,9 +50,8 @@ AreRead ls rs = AllZip ReadsScriptLine ls rs
 
 pub AreRead-append : (ls more : List (List ℕ)) (a b : List ScriptLine) → AreRead ls a → AreRead more b → AreRead (ls ++ more) (a ++ b)
 AreRead-append [] more [] b read rest = rest
-AreRead-append [] more (r ∷ rs) b read rest = absurd read
-AreRead-append (l ∷ ls) more [] b read rest = absurd read
 AreRead-append (l ∷ ls) more (r ∷ rs) b read rest = (read.0, AreRead-append ls more rs b read.1 rest)
+AreRead-append _ more _ b read rest = absurd read
 
 -- each line is read somehow
 abbrev pub SomeWay : Type 0
@@ -212,9 +211,8 @@ refused_at law text line left n found f t number refuses =
 -- as many are read as there are
 as_many : (ls : List (List ℕ)) (rs : List ScriptLine) → AreRead ls rs → length ls ≡ length rs
 as_many [] [] read = refl
-as_many [] (r ∷ rs) read = absurd read
-as_many (l ∷ ls) [] read = absurd read
 as_many (l ∷ ls) (r ∷ rs) read = ap (λ (k : ℕ). suc k) (as_many ls rs read.1)
+as_many _ _ read = absurd read
 
 pub wanting_at : (text line : List ℕ) (left : List (List ℕ)) (n : ℕ) (found : List Command) (f : ScriptFault)
     → IsTaken text (line ∷ left) n found → f.line ≡ n → WantsMemory (length found) line → IsWanting text f.line

@@ -17,9 +17,8 @@ after-append t (r ∷ rs) b = after-append (after_line t r) rs b
 
 pub AreRead-append : (ls more : List (List ℕ)) (a b : List Reading) → AreRead ls a → AreRead more b → AreRead (ls ++ more) (a ++ b)
 AreRead-append [] more [] b read rest = rest
-AreRead-append [] more (r ∷ rs) b read rest = absurd read
-AreRead-append (l ∷ ls) more [] b read rest = absurd read
 AreRead-append (l ∷ ls) more (r ∷ rs) b read rest = (read.0, AreRead-append ls more rs b read.1 rest)
+AreRead-append _ more _ b read rest = absurd read
 
 pub served_joined : (t u v : List JobParts) (ls more : List (List ℕ)) (a b : List ℕ) → IsServed t ls a u → IsServed u more b v
     → IsServed t (ls ++ more) (a ++ b) v
@@ -41,12 +40,11 @@ SomeWay = (text : List ℕ) → (a : Reading) × ReadsLine text a
 
 read_once : OneWay → (ls : List (List ℕ)) (a b : List Reading) → AreRead ls a → AreRead ls b → a ≡ b
 read_once law [] [] [] p q = refl
-read_once law [] [] (r ∷ rs) p q = absurd q
 read_once law [] (r ∷ rs) b p q = absurd p
 read_once law (l ∷ ls) [] b p q = absurd p
-read_once law (l ∷ ls) (r ∷ rs) [] p q = absurd q
 read_once law (l ∷ ls) (r ∷ rs) (s ∷ ss) p q =
     ap₂ (λ x xs. x ∷ xs) (law l r s p.0 q.0) (read_once law ls rs ss p.1 q.1)
+read_once law _ _ _ p q = absurd q
 
 pub served_once : OneWay → (t u v : List JobParts) (ls : List (List ℕ)) (a b : List ℕ) → IsServed t ls a u → IsServed t ls b v → (a ≡ b) × (u ≡ v)
 served_once law t u v ls a b p q =

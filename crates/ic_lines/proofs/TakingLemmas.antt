@@ -11,7 +11,7 @@ use Rattle.ic_text.specs.declared.limits.TheConstants.{MAX_TEXT}
 use Rattle.ic_lines.specs.declared.buffer.LineFault.{LineFault}
 use Rattle.ic_lines.specs.declared.buffer.LineFault.TheVariants.{LongLine}
 use Rattle.ic_lines.specs.Lines.{has_feed, lines}
-use Rattle.ic_lines.specs.Taking.{BufferParts, to_come, TakesLine, HasNoLine, HasLongLine, IsTooLong}
+use Rattle.ic_lines.specs.Taking.{TakesLine, HasNoLine, HasLongLine, IsTooLong}
 use Rattle.ic_lines.specs.inner.Front.{IsFront, IsLongFront, MovesFront, Advances}
 use Rattle.ic_lines.proofs.LineLemmas.{lines_first, lines_last, lines_begin}
 
@@ -101,22 +101,6 @@ long_text text more h = long_of h.front (h.rest ++ more) (text ++ more) (ap (λ 
           first = ap lines is ∙ h.is;
           long = omega (arith, long, length-append (b ∷ bs) h.more);
         }
-
--- the bytes to come are these, and then those that the reader has left
-abbrev pub Begun : BufferParts → Option (List ℕ) → Option (List ℕ) → List ℕ → Type 0
-Begun b old new front = Consumes (to_come b old) new front
-
-pub begun_first : (b : BufferParts) (o : Option (List ℕ)) (front : List ℕ) → front ≡ b.ahead → Begun b o o front
-begun_first b None front is = tt
-begun_first b (Some xs) front is = ap (λ ys. ys ++ xs) (sym is)
-
-pub begun_more : (old now next : Option (List ℕ)) (front more : List ℕ) → Consumes old now front → Consumes now next more
-    → Consumes old next (front ++ more)
-begun_more None now next front more p q = tt
-begun_more (Some t) None next front more p q = absurd p
-begun_more (Some t) (Some xs) None front more p q = absurd q
-begun_more (Some t) (Some xs) (Some ys) front more p q =
-    p ∙ ap (λ zs. front ++ zs) q ∙ sym (append_assoc front more ys)
 
 pub has_long : (old now : Option (List ℕ)) (front : List ℕ) → Consumes old now front → IsLongFront front → HasLongLine old
 has_long None now front p h = tt
