@@ -1,12 +1,7 @@
 -- What a writer holds.
-use Rattle.std.proofs.Common.{◌≡◌, ℕ, ◌-◌, List, [], ◌++◌, Option, None, Some, length, take, drop, sym, ap, subst, ◌∙◌, append-nil, append_assoc, take-append-drop, refl}
+use Rattle.std.proofs.Common.{◌≡◌, ℕ, ◌-◌, List, ◌++◌, Option, None, Some, length, take, drop, sym, ap, ◌∙◌, append_assoc, take-append-drop}
 use Rattle.std.proofs.lemmas.List.{take_rest}
 use Rattle.std.specs.Io.KnownBytes.{Appends, Keeps}
-use Rattle.ic_output.specs.Output.{AppendsFront}
-
-appends_none : (c : Option (List ℕ)) → Appends c c []
-appends_none None = tt
-appends_none (Some xs) = sym (append-nil xs)
 
 appends_kept : (old mid new : Option (List ℕ)) (a : List ℕ) → Appends old mid a → Keeps mid new → Appends old new a
 appends_kept None mid new a p q = tt
@@ -26,9 +21,6 @@ pub record IsSent (bytes rest : List ℕ) (old now : Option (List ℕ)) : Type 0
   pub parted : bytes ≡ sent ++ rest
   pub written : Appends old now sent
 
-pub sent_none : (bytes : List ℕ) (c : Option (List ℕ)) → IsSent bytes bytes c c
-sent_none bytes c = record { sent = []; parted = refl; written = appends_none c }
-
 pub sent_more : (bytes rest : List ℕ) (n : ℕ) (old mid new : Option (List ℕ)) → IsSent bytes rest old mid → Appends mid new (take n rest)
     → IsSent bytes (take (length rest - n) (drop n rest)) old new
 sent_more bytes rest n old mid new s more = record {
@@ -40,13 +32,3 @@ sent_more bytes rest n old mid new s more = record {
 
 pub sent_kept : (bytes rest : List ℕ) (old mid new : Option (List ℕ)) → IsSent bytes rest old mid → Keeps mid new → IsSent bytes rest old new
 sent_kept bytes rest old mid new s kept = record { sent = s.sent; parted = s.parted; written = appends_kept old mid new s.sent s.written kept }
-
-pub sent_all : (bytes : List ℕ) (old now : Option (List ℕ)) → IsSent bytes [] old now → Appends old now bytes
-sent_all bytes old now s = subst (Appends old now) (sym (s.parted ∙ append-nil s.sent)) s.written
-
-pub sent_front : (bytes rest : List ℕ) (old now : Option (List ℕ)) → IsSent bytes rest old now → AppendsFront old now [] bytes
-sent_front bytes rest old now s = record { sent = s.sent; unsent = rest; parted = s.parted; written = s.written }
-
--- all of the bytes were written, and nothing more
-pub all_kept : (bytes : List ℕ) (old mid new : Option (List ℕ)) → Appends old mid bytes → Keeps mid new → AppendsFront old new [] bytes
-all_kept bytes old mid new written kept = record { sent = bytes; unsent = []; parted = sym (append-nil bytes); written = appends_kept old mid new bytes written kept }
