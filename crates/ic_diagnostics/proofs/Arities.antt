@@ -11,7 +11,7 @@ use Rattle.ic_text.specs.WordFaults.{IsSecondUse}
 use Rattle.ic_text.specs.Words.{Written, all_words}
 use Rattle.ic_text.specs.declared.fault.TextFault.TheVariants.{Arity}
 use Rattle.ic_text.specs.declared.misread.Detail.{Detail}
-use Rattle.ic_text.specs.declared.misread.Detail.TheVariants.{Nothing, Passed, Arities}
+use Rattle.ic_text.specs.declared.misread.Detail.TheVariants.{Arities}
 use Rattle.ic_diagnostics.specs.declared.telling.Kind.{Kind}
 use Rattle.ic_diagnostics.specs.Sights.{first_word}
 use Rattle.ic_diagnostics.specs.Telling.{IsOfArities, arity_sentence, sentence}
@@ -37,8 +37,6 @@ module _ (at_places : AtPlaces) {P : Type 0} (IsOne : P → Type 0) (words : P �
   Told kind text at detail = (symbol : List ℕ) × (before : ℕ) × (here : ℕ) × IsOfArities IsOne words written text at symbol before here × (sentence kind text Arity at detail ≡ arity_sentence symbol before here)
 
   pub arities_told : (kind : Kind) (text : List ℕ) (at : ℕ) (detail : Detail) → IsPlaced IsOne words written text Arity (Some at) detail → Told kind text at detail
-  arities_told kind text at Nothing placed = absurd placed.refused
-  arities_told kind text at (Passed limit) placed = absurd placed.refused
   arities_told kind text at (Arities before here) placed =
       let is : IsSecondUse before here (all_words (written placed.phrase)) placed.word = placed.refused in
       let ws = all_words (written placed.phrase) in
@@ -49,3 +47,4 @@ module _ (at_places : AtPlaces) {P : Type 0} (IsOne : P → Type 0) (words : P �
       let symbol : is.word.text ≡ first_word (drop at text) = same_text is.word.text there.0 (sym by_word ∙ by_token) ∙ sym front in
       let stands : slice_get ws placed.word ≡ Some (record { text = first_word (drop at text); arity = here }) = is.stands ∙ (λ i. Some (record { text = symbol i; arity = is.arity i })) in
       (first_word (drop at text), before, here, (placed.phrase, placed.spells, placed.word, placed.place, is, stands), refl)
+  arities_told kind text at _ placed = absurd placed.refused

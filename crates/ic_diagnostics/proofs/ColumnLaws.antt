@@ -1,10 +1,11 @@
 -- The column counts characters.
-use Rattle.std.proofs.Common.{◌≡◌, ◌⊎◌, ℕ, ◌+◌, ◌/◌, ◌%◌, ◌<◌, ◌≤◌, Bool, true, false, cond, ◌||◌, List, [], ◌∷◌, ◌++◌, length, IsUtf8, chars, encode_utf8, encode_utf8_all, refl, ap, subst, ◌∙◌, ltb, lt-ltb, le-ltb, le-leb, ltb-true, inl, inr, arith}
+use Rattle.std.proofs.Common.{◌≡◌, ◌⊎◌, ℕ, ◌+◌, ◌/◌, ◌%◌, ◌<◌, ◌≤◌, true, false, cond, List, [], ◌∷◌, ◌++◌, length, IsUtf8, chars, encode_utf8, encode_utf8_all, refl, ap, subst, ◌∙◌, ltb, lt-ltb, le-ltb, le-leb, ltb-true, inl, inr, arith}
 use Rattle.std.specs.List.{count_by, list_all}
 use Rattle.std.proofs.lemmas.Bool.{and_parts, cond_both, lt-leb}
 use Rattle.std.proofs.lemmas.List.Sums.{sum_by-append, sum_by-cons}
 use Rattle.std.proofs.Math.Utf8.{encode}
 use Rattle.std.proofs.lemmas.Str.{chars-encodes}
+use Rattle.std.proofs.Math.Bool.{or-true}
 use Rattle.ic_diagnostics.specs.Lines.{is_ascii, begins_character, column}
 
 abbrev counted : ℕ → ℕ
@@ -13,15 +14,11 @@ counted b = cond (begins_character b) 1 0
 count-cons : (b : ℕ) (bs : List ℕ) → count_by begins_character (b ∷ bs) ≡ counted b + count_by begins_character bs
 count-cons b bs = sum_by-cons counted b bs
 
-or_true : (b : Bool) → (b || true) ≡ true
-or_true true = refl
-or_true false = refl
-
 counts-low : (b : ℕ) → b < 128 → counted b ≡ 1
 counts-low b low = rw (lt-ltb b 128 low) refl
 
 begins-high : (b : ℕ) → 192 ≤ b → begins_character b ≡ true
-begins-high b high = rw (le-leb 192 b high) (or_true (is_ascii b))
+begins-high b high = rw (le-leb 192 b high) (or-true (is_ascii b))
 
 counts-high : (b : ℕ) → 192 ≤ b → counted b ≡ 1
 counts-high b high = ap (λ t. cond t 1 0) (begins-high b high)

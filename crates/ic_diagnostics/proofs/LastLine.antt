@@ -1,12 +1,9 @@
 -- Where the last line of a text begins.
-use Rattle.std.proofs.Common.{◌≡◌, ℕ, ◌+◌, ◌-◌, ◌<◌, ◌≤◌, Bool, true, false, ◌||◌, List, [], ◌∷◌, ◌++◌, length, get_or, take, drop, refl, sym, ap, ◌∙◌, arith, length-drop}
+use Rattle.std.proofs.Common.{◌≡◌, ℕ, ◌+◌, ◌-◌, ◌<◌, ◌≤◌, true, false, ◌||◌, List, [], ◌∷◌, ◌++◌, length, get_or, take, drop, refl, sym, ap, ◌∙◌, arith, length-drop}
 use Rattle.std.specs.List.{list_any}
 use Rattle.std.proofs.lemmas.List.{take_all, take-append-drop, drop_more}
+use Rattle.std.proofs.Math.Bool.{or-true}
 use Rattle.ic_diagnostics.specs.Lines.{is_feed, last_line}
-
-or_true : (b : Bool) → (b || true) ≡ true
-or_true true = refl
-or_true false = refl
 
 -- a line without a line feed is the last
 pub last_alone : (bs : List ℕ) → list_any is_feed bs ≡ false → last_line bs ≡ bs
@@ -15,7 +12,7 @@ last_alone (b ∷ bs) none = rw none refl
 
 any_there : (front bs : List ℕ) → list_any is_feed (front ++ 10 ∷ bs) ≡ true
 any_there [] bs = refl
-any_there (f ∷ front) bs = ap (λ x. is_feed f || x) (any_there front bs) ∙ or_true (is_feed f)
+any_there (f ∷ front) bs = ap (λ x. is_feed f || x) (any_there front bs) ∙ or-true (is_feed f)
 
 -- and so is one after a line feed
 pub last_after : (front bs : List ℕ) → list_any is_feed bs ≡ false → last_line (front ++ 10 ∷ bs) ≡ bs

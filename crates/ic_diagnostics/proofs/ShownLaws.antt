@@ -1,10 +1,11 @@
 -- What is shown of a line, and where the mark stands.
-use Rattle.std.proofs.Common.{◌≡◌, ◌⊎◌, ℕ, zero, suc, ◌-◌, ◌<◌, ◌≤◌, ◌==◌, Bool, true, false, cond, List, [], ◌∷◌, ◌++◌, Some, ◌&&◌, codes, length, map, min, take, drop, replicate, slice_get, inl, inr, refl, sym, ap, subst, ◌∙◌, nat_le, eq-or-lt_of_le, le-leb, leb-true, leb-false, lt-ltb, le-ltb, ne_eqb, length-append, length-drop, length-take, arith}
+use Rattle.std.proofs.Common.{◌≡◌, ◌⊎◌, ℕ, zero, suc, ◌-◌, ◌<◌, ◌≤◌, ◌==◌, true, false, cond, List, [], ◌∷◌, ◌++◌, Some, codes, length, map, min, take, drop, replicate, slice_get, inl, inr, refl, sym, ap, subst, ◌∙◌, nat_le, eq-or-lt_of_le, le-leb, leb-true, leb-false, lt-ltb, le-ltb, ne_eqb, length-append, length-drop, length-take, arith}
 use Rattle.std.specs.List.{list_any, list_all}
 use Rattle.std.proofs.Math.Seq.{drop-append_seam, take-append_seam}
 use Rattle.std.proofs.lemmas.Bool.{and_parts, cond_both, lt-leb}
 use Rattle.std.proofs.lemmas.List.{length-map, length-replicate}
 use Rattle.std.proofs.lemmas.List.Folds.{list_all-append}
+use Rattle.std.proofs.Math.Bool.{and-false}
 use Rattle.ic_text.specs.Token.{is_blank}
 use Rattle.ic_diagnostics.specs.Lines.{IsMarked, is_feed, is_printable, margin, picture_of, shown, shown_after, shown_before}
 
@@ -24,14 +25,10 @@ shown-printable b low high = printable-itself b (eq-or-lt_of_le low) high
 pub shown-blank : (b : ℕ) → is_blank b ≡ true → shown b ≡ 32
 shown-blank b blank = rw blank refl
 
-and_false : (b : Bool) → (b && false) ≡ false
-and_false true = refl
-and_false false = refl
-
 pub shown-other : (b : ℕ) → (b < 32) ⊎ (127 ≤ b) → is_blank b ≡ false → shown b ≡ 63
 shown-other b (inl low) blank = rw blank (rw (lt-leb 32 b low) refl)
 shown-other b (inr high) blank =
-    let unprinted : is_printable b ≡ false = rw (le-ltb b 127 high) (and_false (nat_le 32 b)) in
+    let unprinted : is_printable b ≡ false = rw (le-ltb b 127 high) (and-false (nat_le 32 b)) in
     rw blank (rw unprinted refl)
 
 printable : (b : ℕ) → is_printable (shown b) ≡ true

@@ -1,8 +1,9 @@
 -- A text as far as its last byte that is no blank.
-use Rattle.std.proofs.Common.{◌≡◌, ℕ, ◌+◌, ◌-◌, ◌<◌, ◌≤◌, ◌==◌, Bool, true, false, ◌&&◌, List, [], ◌∷◌, ◌++◌, length, get_or, take, drop, refl, sym, ap, ◌∙◌, eq-eqb, ne_eqb, length-append, take-append-drop, arith}
+use Rattle.std.proofs.Common.{◌≡◌, ℕ, ◌+◌, ◌-◌, ◌<◌, ◌≤◌, ◌==◌, true, false, ◌&&◌, List, [], ◌∷◌, ◌++◌, length, get_or, take, drop, refl, sym, ap, ◌∙◌, eq-eqb, ne_eqb, length-append, take-append-drop, arith}
 use Rattle.std.specs.List.{list_all}
 use Rattle.std.proofs.lemmas.Bool.{cond_both}
 use Rattle.std.proofs.lemmas.List.{drop_more, take_more}
+use Rattle.std.proofs.Math.Bool.{and-false}
 use Rattle.ic_text.specs.Token.{is_blank}
 use Rattle.ic_diagnostics.specs.Lines.{trimmed, told_at}
 
@@ -10,13 +11,9 @@ pub trimmed-blank : (blanks : List ℕ) → list_all is_blank blanks ≡ true �
 trimmed-blank [] all = refl
 trimmed-blank (b ∷ blanks) all = rw all refl
 
-and_false : (b : Bool) → (b && false) ≡ false
-and_false true = refl
-and_false false = refl
-
 not-all : (a blanks : List ℕ) (b : ℕ) → is_blank b ≡ false → list_all is_blank (a ++ b ∷ blanks) ≡ false
 not-all [] blanks b stands = rw stands refl
-not-all (x ∷ a) blanks b stands = ap (λ t. is_blank x && t) (not-all a blanks b stands) ∙ and_false (is_blank x)
+not-all (x ∷ a) blanks b stands = ap (λ t. is_blank x && t) (not-all a blanks b stands) ∙ and-false (is_blank x)
 
 pub trimmed-last : (a blanks : List ℕ) (b : ℕ) → is_blank b ≡ false → list_all is_blank blanks ≡ true → trimmed (a ++ b ∷ blanks) ≡ a ++ b ∷ []
 trimmed-last [] blanks b stands all = rw (not-all [] blanks b stands) (ap (λ l. b ∷ l) (trimmed-blank blanks all))
