@@ -56,14 +56,12 @@ module _ (own : (t u : List JobParts) (bytes : List ℕ) → IsTable t → IsTab
   only_one (the_table t) two_alike this that = absurd (body_not_two this.1.body (sym this.1.held ∙ that))
   only_one (the_table t) damaged this that = absurd (table_or_damaged t this that)
   only_one no_slot (the_table u) this that = absurd (body_not_none that.1.body (sym that.1.held ∙ this))
-  only_one no_slot no_slot this that = refl
   only_one no_slot two_alike this that = absurd (none_not_two (sym this ∙ that))
   only_one no_slot damaged this that = absurd (none_or_damaged this that)
   only_one two_alike (the_table u) this that = absurd (body_not_two that.1.body (sym that.1.held ∙ this))
   only_one two_alike no_slot this that = absurd (none_not_two (sym that ∙ this))
-  only_one two_alike two_alike this that = refl
   only_one two_alike damaged this that = absurd (two_or_damaged this that)
   only_one damaged (the_table u) this that = absurd (table_or_damaged u that this)
   only_one damaged no_slot this that = absurd (none_or_damaged that this)
   only_one damaged two_alike this that = absurd (two_or_damaged that this)
-  only_one damaged damaged this that = refl
+  only_one _ _ this that = refl

@@ -2,6 +2,7 @@
 use Rattle.std.proofs.Common.{◌≡◌, ◌∙◌, ◌↔◌, ℕ, suc, ◌+◌, ◌≤◌, ◌<◌, Bool, true, false, ◌==◌, List, [], ◌∷◌, length, ⊎_elim, ne_eqb, refl, sym, subst, ap, arith}
 use Rattle.std.proofs.lemmas.List.{get_or_past, take_all}
 use Rattle.std.specs.Prelude.{IsErrOf, IsTrue, OnOk, Result, Ok, Err, slice_index}
+use Rattle.std.proofs.lemmas.Bool.{false_from_ne_true, both_ways}
 use Rattle.ic_codec.specs.Tables.{old_table_bytes, table_bytes}
 use Rattle.ic_disk.specs.Content.{bytes_at}
 use Rattle.ic_disk.specs.DiskCalls.{ChangesNothing}
@@ -17,10 +18,6 @@ use Rattle.ic_jobs.specs.Job.{JobParts}
 use Rattle.ic_slots.specs.Held.{Held, IsHeld, the_table, no_slot, two_alike, damaged}
 use Rattle.ic_slots.specs.Unused.{IsBegun, IsPartOf, IsUnused, first_bytes}
 
-not_true : (b : Bool) → (b ≡ true → ⊥) → b ≡ false
-not_true true isnt = absurd (isnt refl)
-not_true false isnt = refl
-
 -- the gate of the second slot is none of the bytes
 second_gate : (bytes : List ℕ) → length bytes ≡ 18 → slice_index bytes 4194304 ≡ 0
 second_gate bytes all = get_or_past bytes 4194304 0 (omega (arith, all))
@@ -30,7 +27,7 @@ not_one byte is isnt = omega arith
 
 module _ (opened : (at : ℕ) (file : List ℕ) → (is_open at file ≡ true) ↔ ((at + 13 ≤ length file) × (slice_index file at ≡ 1))) (file : List ℕ) (begun : IsBegun file) where
   gate_shut : (bytes : List ℕ) → IsPartOf bytes file → (at : ℕ) → slice_index bytes at ≡ 0 → is_open at file ≡ false
-  gate_shut bytes part at none = not_true (is_open at file)
+  gate_shut bytes part at none = false_from_ne_true (is_open at file)
       (λ is.
       let here = (opened at file).0 is in
       let within : at < length file = omega (arith, here.0) in
@@ -48,12 +45,9 @@ module _ (opened : (at : ℕ) (file : List ℕ) → (is_open at file ≡ true) �
 pub whole_bytes : (n : ℕ) (file : List ℕ) → n ≡ length file → bytes_at 0 n file ≡ file
 whole_bytes n file is = take_all n file (omega (arith, is))
 
-pub not_both : (b : Bool) → b ≡ false → b ≡ true → ⊥
-not_both b isnt is = cc
-
 pub no_elements : (xs : List JobParts) (b : Bool) → b ≡ (length xs == 0) → b ≡ true → xs ≡ []
 no_elements [] b test is = refl
-no_elements (x ∷ xs) b test is = absurd (not_both b (test ∙ more (length xs)) is)
+no_elements (x ∷ xs) b test is = absurd (both_ways b (test ∙ more (length xs)) is)
   where
     no_suc : (n : ℕ) → suc n ≡ 0 → ⊥
     no_suc n is = omega arith
@@ -87,12 +81,6 @@ module _ (one : (file : List ℕ) (this that : Held) → IsHeld this file → Is
   unused_table t held unused = ⊎_elim
       (λ empty. same_table t [] (one file (the_table t) (the_table []) held empty))
       (λ begun. absurd (table_not_none t (one file (the_table t) no_slot held (shut file begun))))
-      unused
-
-  pub unused_shut : IsHeld no_slot file → IsUnused file → IsBegun file
-  unused_shut held unused = ⊎_elim
-      (λ empty. absurd (table_not_none [] (one file (the_table []) no_slot empty held)))
-      (λ begun. begun)
       unused
 
   pub used_twice : IsHeld two_alike file → IsUnused file → ⊥

@@ -6,7 +6,7 @@ use Rattle.ic_jobs.specs.Job.{JobParts}
 use Rattle.ic_jobs.specs.Table.{IsTable}
 use Rattle.ic_codec.specs.Tables.{IsFormOf}
 use Rattle.ic_codec.specs.lemmas.OneForm.{IsFormOf-prop, form_or_not}
-use Rattle.ic_frames.specs.Held.{Held, the_body, no_slot, two_alike, damaged, body_held}
+use Rattle.ic_frames.specs.Held.{Held, the_body, body_held}
 use Rattle.ic_slots.specs.Held.{HasTable, HoldsFormOf}
 
 numbers-set : IsSet (List ℕ)
@@ -35,9 +35,7 @@ table_told t file (the_body body) is sound = ⊎_elim
     (λ form. inl (sound, record { body = body; held = is; form = form }))
     (λ none. inr (λ has. none (subst (λ (b : List ℕ). IsFormOf t b) (same_body has.1.body body (sym has.1.held ∙ is)) has.1.form)))
     (form_or_not t body)
-table_told t file no_slot is sound = inr (λ has. let never : the_body has.1.body ≡ no_slot = sym has.1.held ∙ is in cc)
-table_told t file two_alike is sound = inr (λ has. let never : the_body has.1.body ≡ two_alike = sym has.1.held ∙ is in cc)
-table_told t file damaged is sound = inr (λ has. let never : the_body has.1.body ≡ damaged = sym has.1.held ∙ is in cc)
+table_told t file held is sound = inr (λ has. let never : the_body has.1.body ≡ held = sym has.1.held ∙ is in cc)
 
 pub table_or_not : (t : List JobParts) (file : List ℕ) → IsTable t → HasTable t file ⊎ ¬ HasTable t file
 table_or_not t file sound = table_told t file (body_held file) refl sound

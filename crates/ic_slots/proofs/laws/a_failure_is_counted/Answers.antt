@@ -1,7 +1,7 @@
-use Rattle.std.proofs.Common.{◌≡◌, ◌⊎◌, inl, inr, ⊎_elim, ◌+◌, ◌-◌, ◌^◌, ℕ, Result, Ok, Err, IsErrOf, refl}
+use Rattle.std.proofs.Common.{◌≡◌, ◌⊎◌, inl, inr, ⊎_elim, ◌+◌, ◌-◌, ◌^◌, ℕ, Result, Err, IsErrOf, refl}
 use Rattle.ic_disk.specs.Time.{OneMore}
 use Rattle.ic_slots.specs.declared.fault.CreateFault.{CreateFault}
-use Rattle.ic_slots.specs.declared.fault.CreateFault.TheVariants.{Device as CreateDevice, Memory}
+use Rattle.ic_slots.specs.declared.fault.CreateFault.TheVariants.{Device as CreateDevice}
 use Rattle.ic_slots.specs.Faults.{CountsCreate}
 use Rattle.ic_slots.proofs.laws.a_failure_is_counted.Goals as goal
 
@@ -9,9 +9,8 @@ one_more : (old new : ℕ) → OneMore old new → (new ≡ old + 1) ⊎ ((old �
 one_more old new counted = ⊎_elim (λ below. inl below.1) (λ end. inr end) counted
 
 of_create : (result : Result (Unit {0}) CreateFault) (old new : ℕ) → CountsCreate result old new → ¬ IsErrOf result CreateDevice → new ≡ old
-of_create (Ok value) old new counted other = counted
-of_create (Err Memory) old new counted other = counted
 of_create (Err CreateDevice) old new counted other = absurd (other refl)
+of_create _ old new counted other = counted
 
 pub returns-clause-create_failed : goal.returns-clause-create_failed
 returns-clause-create_failed c = one_more

@@ -1,8 +1,9 @@
 use Rattle.std.proofs.Common.{inl, List, false, refl, sym, subst}
+use Rattle.std.proofs.lemmas.Bool.{both_ways}
 use Rattle.ic_slots.specs.Unused.{looking_of}
 use Rattle.ic_jobs.specs.Job.{JobParts}
 use Rattle.ic_slots.specs.Held.{IsHeld, the_table}
-use Rattle.ic_slots.proofs.UnusedLemmas.{isnt_device, opened-and-looked, no_elements, some_element, not_both, unused_table, used_damaged, used_twice}
+use Rattle.ic_slots.proofs.UnusedLemmas.{isnt_device, opened-and-looked, no_elements, some_element, unused_table, used_damaged, used_twice}
 use Rattle.ic_slots.proofs.unused.is_unused.Goals as goal
 
 pub returns-in-Ok-clause-unused : goal.returns-in-Ok-clause-unused
@@ -20,7 +21,7 @@ returns-in-TwoAlike-clause-unused g c keeps =
     let file = g.D.Disk.content c.args.disk in
     let says = c.in-Err.ensures.refused keeps in
     let held = rw c.in-TwoAlike.is at says in (
-      λ wrong. absurd (not_both false refl wrong),
+      λ wrong. absurd (both_ways false refl wrong),
       λ unused. absurd (used_twice c.one_is_held.ensures c.what_is_begun_is_shut.ensures file held unused),
     )
 
@@ -29,7 +30,7 @@ returns-in-Damaged-clause-unused g c keeps =
     let file = g.D.Disk.content c.args.disk in
     let says = c.in-Err.ensures.refused keeps in
     let held = rw c.in-Damaged.is at says in (
-      λ wrong. absurd (not_both false refl wrong),
+      λ wrong. absurd (both_ways false refl wrong),
       λ unused. absurd (used_damaged c.one_is_held.ensures c.what_is_begun_is_shut.ensures file held unused),
     )
 
