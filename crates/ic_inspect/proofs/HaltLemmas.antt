@@ -8,7 +8,7 @@ use Rattle.ic_round.specs.Rounds.{has_names, is_small}
 use Rattle.ic_flights.specs.declared.limits.TheConstants.{MAX_ROUNDS}
 use Rattle.ic_jobs.specs.Job.{JobParts, can_move}
 use Rattle.ic_jobs.specs.declared.state.State.{State}
-use Rattle.ic_jobs.specs.declared.state.State.TheVariants.{Running, Paused, Done, Halted, Spent}
+use Rattle.ic_jobs.specs.declared.state.State.TheVariants.{Halted}
 use Rattle.ic_inspect.specs.declared.halts.Halt.{Halt}
 use Rattle.ic_inspect.specs.declared.halts.Halt.TheVariants as halt
 use Rattle.ic_inspect.specs.Halts.{blocked_by, halt_in, halt_of}
@@ -40,11 +40,8 @@ pub others_told : (j : JobParts) → j.state ≢ Halted → halt_of j ≡ None
 others_told j other = go j.state other
   where
     go : (s : State) → s ≢ Halted → halt_in s j ≡ None
-    go Running differs = refl
-    go Paused differs = refl
-    go Done differs = refl
     go Halted differs = absurd (differs refl)
-    go Spent differs = refl
+    go _ differs = refl
 
 below_by : (n m : ℕ) → nat_lt n m ≡ true → (n == m) ≡ false
 below_by n m is = ne_eqb n m (λ same. let less = ltb-true n m is in omega (arith, less, same))
@@ -62,8 +59,5 @@ movable_told j can = go j.state
     halted = λ i. by_tests (below_by j.rounds MAX_ROUNDS parts.1 i) (both.0 i) (both.1 i)
 
     go : (s : State) → halt_in s j ≡ None
-    go Running = refl
-    go Paused = refl
-    go Done = refl
     go Halted = halted
-    go Spent = refl
+    go _ = refl

@@ -109,9 +109,7 @@ HasFormOf s t file = (is_whole (place s) file ≡ true) × IsTable t × IsFormOf
 
 body_has : (s : Slot) (b : Body) (file : List ℕ) (t : List JobParts) → IsBodySeen (place s) b file → held_by_body b ≡ the_table t → HasFormOf s t file
 body_has s (Holds u) file t seen is = subst (λ (v : List JobParts). HasFormOf s v file) (ap table_in is) seen
-body_has s TooLong file t seen is = no_table damaged t is (λ no. no)
-body_has s CutShort file t seen is = no_table damaged t is (λ no. no)
-body_has s NoTable file t seen is = no_table damaged t is (λ no. no)
+body_has s _ file t seen is = no_table damaged t is (λ no. no)
 
 slot_has : (s : Slot) (seen : Option Seen) (file : List ℕ) (t : List JobParts) → IsSeen s seen file → held_by_slot seen ≡ the_table t → HasFormOf s t file
 slot_has s None file t short is = no_table damaged t is (λ no. no)

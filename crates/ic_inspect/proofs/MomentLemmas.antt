@@ -43,10 +43,9 @@ not_open b shut is = absurd (false≢true (sym shut ∙ is))
 
 -- the slots by which one is the newest
 newest_above : (v u : Slot) (n : ℕ) (file : List ℕ) → IsNewest v file → is_open (place u) file ≡ true → n < number (place u) file → n < number (place v) file
-newest_above First First n file newest opened greater = greater
-newest_above Second Second n file newest opened greater = greater
 newest_above First Second n file newest opened greater = let more = newest.newer opened in omega (arith, more, greater)
 newest_above Second First n file newest opened greater = let more = newest.newer opened in omega (arith, more, greater)
+newest_above _ _ n file newest opened greater = greater
 
 module _ (old file new : List ℕ) where
   -- the newest slot stays the newest above n, where it is above it

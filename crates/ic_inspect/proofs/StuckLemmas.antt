@@ -5,7 +5,7 @@ use Rattle.std.specs.List.{find}
 use Rattle.ic_term.specs.Tree.{Pair}
 use Rattle.ic_jobs.specs.Job.{JobParts}
 use Rattle.ic_jobs.specs.declared.state.State.{State}
-use Rattle.ic_jobs.specs.declared.state.State.TheVariants.{Running, Paused, Done, Halted, Spent}
+use Rattle.ic_jobs.specs.declared.state.State.TheVariants.{Done}
 use Rattle.ic_by_rounds.specs.Stuck.{is_of_agents, pair_text, stuck_text}
 use Rattle.ic_inspect.specs.Stuck.{stuck_in, stuck_of}
 
@@ -20,8 +20,5 @@ pub others_silent : (j : JobParts) → j.state ≢ Done → stuck_of j ≡ None
 others_silent j other = go j.state other
   where
     go : (s : State) → s ≢ Done → stuck_in s j ≡ None
-    go Running differs = refl
-    go Paused differs = refl
     go Done differs = absurd (differs refl)
-    go Halted differs = refl
-    go Spent differs = refl
+    go _ differs = refl
