@@ -1,6 +1,7 @@
 -- Why a run stops, and what a keep that was refused says.
 use Rattle.std.proofs.Common.{◌≡◌, ◌≢◌, ◌⊎◌, inl, inr, ℕ, Bool, true, false, List, Result, Ok, Err, None, refl, sym, ap, subst, ◌∙◌}
 use Rattle.std.specs.Prelude.{IsTrue}
+use Rattle.std.proofs.lemmas.Bool.{false_from_ne_true}
 use Rattle.ic_frames.specs.declared.faults.KeepFault.{KeepFault}
 use Rattle.ic_frames.specs.declared.faults.KeepFault.TheVariants.{Broken, Worn, Device}
 use Rattle.ic_frames.specs.declared.faults.OpenCause.TheVariants as opening
@@ -18,10 +19,6 @@ use Rattle.ic_keeping.specs.declared.fault.KeepingFault.TheVariants.{Keep, Limit
 use Rattle.ic_keeping.specs.declared.fault.KeepingFault.TheVariants as keeping
 use Rattle.ic_keeping.specs.Life.{KeepFails, StopsARun}
 
-not_true : (b : Bool) → (b ≡ true → ⊥) → b ≡ false
-not_true true other = absurd (other refl)
-not_true false other = refl
-
 device_is_not_broken : ◌≢◌ {A = Result (Unit {0}) KeepFault} (Err Device) (Err Broken)
 device_is_not_broken = λ same. cc
 
@@ -35,11 +32,11 @@ keep_fails {D} Worn old new leaves =
     let worn = leaves.worn.0 refl in
     let same : new ≡ old = leaves.refused refl (λ is. cc) in
     (worn.0, ap (λ (k : Keeper D). is_broken k) same ∙ worn.0, ap (λ (k : Keeper D). number_of k) same ∙ worn.1)
-keep_fails Device old new leaves = (not_true (is_broken old) (λ broken. device_is_not_broken (leaves.broken.1 broken)), leaves.breaks refl)
+keep_fails Device old new leaves = (false_from_ne_true (is_broken old) (λ broken. device_is_not_broken (leaves.broken.1 broken)), leaves.breaks refl)
 
 -- and one that was answered
 pub keep_ready : {D : Type 0} (old new : Keeper D) → FaultLeaves {T = Unit {0}} (Ok tt) old new → (is_broken old ≡ false) × (is_broken new ≡ false)
-keep_ready old new leaves = (not_true (is_broken old) (λ broken. ok_is_not_broken (leaves.broken.1 broken)), leaves.ready)
+keep_ready old new leaves = (false_from_ne_true (is_broken old) (λ broken. ok_is_not_broken (leaves.broken.1 broken)), leaves.ready)
 
 -- keeps that were answered, if there were any
 abbrev pub WereReady : {D : Type 0} (old new : Keeper D) → Type 0

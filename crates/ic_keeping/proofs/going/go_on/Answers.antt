@@ -13,13 +13,35 @@ use Rattle.ic_kept.specs.lemmas.CourseLaws.{kept_after}
 use Rattle.ic_text.specs.SystemText.{ReadsSystemWithin}
 use Rattle.ic_text.specs.declared.limits.Limits.TheVariants.{Wide}
 use Rattle.ic_rules.specs.RuleSet.{Rules}
-use Rattle.ic_state.specs.State.{kept_by, state_bytes}
+use Rattle.ic_rules.specs.System.{SystemParts}
+use Rattle.ic_state.specs.State.{IsKept, Kept, kept_by, state_bytes}
 use Rattle.ic_streams.specs.Streams.{line_of}
 use Rattle.ic_term.specs.Symbol.{Symbol}
-use Rattle.ic_keeping.specs.Way.{IsKeptAfter}
-use Rattle.ic_keeping.proofs.GoingLemmas.{begins, keeps_on, way_of, way_refused}
+use Rattle.ic_keeping.specs.Way.{IsKeptAfter, IsReachedFrom, IsStateOf}
+use Rattle.ic_keeping.proofs.GoingLemmas.{HasKept, begins, keeps_on, way_of, way_refused}
 use Rattle.ic_keeping.proofs.Refusing.{fails_on, of_two, ready_on, run_not_unsound, run_unopened}
 use Rattle.ic_keeping.proofs.going.go_on.Goals as goal
+use Rattle.ic_keeping.proofs.going.go_on.Goals.{In_ok-rules, In_ok-run, In_ok-now_ended}
+
+-- the text of the rules is that of the system
+reads_here : (g : _) (c : In_ok-rules g) (s : SystemParts) → IsStateOf s (kept_by c.args.state) → ReadsSystemWithin Wide c.deref.result.now (Ok s)
+reads_here g c s is = subst (λ (text : List ℕ). ReadsSystemWithin Wide text (Ok s)) (sym c.deref.ensures.value) is.reads
+
+-- a piece goes on from where the one before it came to
+onward_here : (g : _) (c : In_ok-run g) (s : SystemParts) (k : Kept) → ReadsSystemWithin Wide c.deref.result.now (Ok s) → IsReachedFrom s k (kept_by c.loop.state) → IsReachedFrom s k (kept_by c.run_piece.new.state)
+onward_here g c s k reads from = c.in_ok-run.ensures.further s k (c.in_ok-rules.ensures.sound s reads) (c.in_ok-rules.ensures.rules s reads) from
+
+-- and a state is kept that goes as far
+kept_here : (g : _) (c : In_ok-now_ended g) (s : SystemParts) → IsStateOf s (kept_by c.args.state) → IsKept (kept_by c.args.state)
+    → ((k : Kept) → IsReachedFrom s k (kept_by c.loop.state) → IsReachedFrom s k (kept_by c.run_piece.new.state))
+    → HasKept g.D.Disk.keeps g.D.Disk.image g.D.Disk.clock g.D.Disk.left s (kept_by c.args.state) c.args.keeper.now (kept_by c.run_piece.new.state) c.in_ok-now_ended.now_ended c.keep_further.new.keeper
+kept_here g c s is is_kept onward =
+    let disk = g.D.Disk in
+    let new = kept_by c.run_piece.new.state in
+    let has = c.loop.invariant.kept s is is_kept in
+    let further = onward has.kept has.onward in
+    keeps_on disk.keeps disk.image disk.clock disk.left s (kept_by c.args.state) c.args.keeper.now (kept_by c.loop.state) new c.loop.kept_ended c.in_ok-now_ended.now_ended c.loop.keeper c.keep_further.new.keeper
+    has further (c.states_are_reached.ensures s new further.is) c.in_ok-run.ensures.stays c.in_ok-now_ended.ensures.kept
 
 pub returns-in_err-rules-clause-way : goal.returns-in_err-rules-clause-way
 returns-in_err-rules-clause-way g c s is is_kept =
@@ -46,91 +68,50 @@ returns-in_err-run-clause-way g c s is is_kept =
 
 pub returns-in_err-run-clause-refused : goal.returns-in_err-run-clause-refused
 returns-in_err-run-clause-refused g c s is =
-    let reads = subst (λ (text : List ℕ). ReadsSystemWithin Wide text (Ok s)) (sym c.deref.ensures.value) is.reads in
-    let sound = c.in_ok-rules.ensures.sound s reads in
-    let rules = c.in_ok-rules.ensures.rules s reads in
+    let reads = reads_here g (goal.at.returns-in_err-run-clause-refused g c).In_ok-rules s is in
     let e = err_from_is_err_and c.from_residual-in_err-run.result c.from_residual-in_err-run.ensures.1 in
-    rw (e.1, e.2) (of_two c.in_err-run.field-0.0 (c.in_err-run.ensures.refused s sound rules (c.loop.invariant.from s is).is))
+    rw (e.1, e.2) (of_two c.in_err-run.field-0.0 (c.in_err-run.ensures.refused s (c.in_ok-rules.ensures.sound s reads) (c.in_ok-rules.ensures.rules s reads) (c.loop.invariant.from s is).is))
 
 pub returns-in_err-now_ended-clause-way : goal.returns-in_err-now_ended-clause-way
 returns-in_err-now_ended-clause-way g c s is is_kept =
+    let at = goal.at.returns-in_err-now_ended-clause-way g c in
     let disk = g.D.Disk in
-    let first = kept_by c.args.state in
-    let old = kept_by c.loop.state in
-    let new = kept_by c.run_piece.new.state in
-    let reads = subst (λ (text : List ℕ). ReadsSystemWithin Wide text (Ok s)) (sym c.deref.ensures.value) is.reads in
-    let sound = c.in_ok-rules.ensures.sound s reads in
-    let rules = c.in_ok-rules.ensures.rules s reads in
     let has = c.loop.invariant.kept s is is_kept in
-    let onward = c.in_ok-run.ensures.further s has.kept sound rules has.onward in
-    way_refused disk.keeps disk.image disk.clock disk.left s first c.args.keeper.now old new c.loop.kept_ended c.loop.keeper c.keep_further.new.keeper has onward c.in_err-now_ended.ensures.crash
+    way_refused disk.keeps disk.image disk.clock disk.left s (kept_by c.args.state) c.args.keeper.now (kept_by c.loop.state) (kept_by c.run_piece.new.state) c.loop.kept_ended c.loop.keeper c.keep_further.new.keeper has
+    (onward_here g at.In_ok-run s has.kept (reads_here g at.In_ok-rules s is) has.onward) c.in_err-now_ended.ensures.crash
 
 pub returns-in_err-told-clause-way : goal.returns-in_err-told-clause-way
 returns-in_err-told-clause-way g c s is is_kept =
+    let at = goal.at.returns-in_err-told-clause-way g c in
     let disk = g.D.Disk in
-    let first = kept_by c.args.state in
-    let old = kept_by c.loop.state in
-    let new = kept_by c.run_piece.new.state in
-    let reads = subst (λ (text : List ℕ). ReadsSystemWithin Wide text (Ok s)) (sym c.deref.ensures.value) is.reads in
-    let sound = c.in_ok-rules.ensures.sound s reads in
-    let rules = c.in_ok-rules.ensures.rules s reads in
-    let has = c.loop.invariant.kept s is is_kept in
-    let onward = c.in_ok-run.ensures.further s has.kept sound rules has.onward in
-    let now = keeps_on disk.keeps disk.image disk.clock disk.left s first c.args.keeper.now old new c.loop.kept_ended c.in_ok-now_ended.now_ended c.loop.keeper c.keep_further.new.keeper
-    has onward (c.states_are_reached.ensures s new onward.is) c.in_ok-run.ensures.stays c.in_ok-now_ended.ensures.kept in
-    way_of disk.keeps disk.image disk.clock disk.left s first c.args.keeper.now new c.in_ok-now_ended.now_ended c.keep_further.new.keeper now
+    let now = kept_here g at.In_ok-now_ended s is is_kept (λ k. onward_here g at.In_ok-run s k (reads_here g at.In_ok-rules s is)) in
+    way_of disk.keeps disk.image disk.clock disk.left s (kept_by c.args.state) c.args.keeper.now (kept_by c.run_piece.new.state) c.in_ok-now_ended.now_ended c.keep_further.new.keeper now
 
 pub returns-then-ends_run-clause-way : goal.returns-then-ends_run-clause-way
 returns-then-ends_run-clause-way g c s is is_kept =
+    let at = goal.at.returns-then-ends_run-clause-way g c in
     let disk = g.D.Disk in
-    let first = kept_by c.args.state in
-    let old = kept_by c.loop.state in
-    let new = kept_by c.run_piece.new.state in
-    let reads = subst (λ (text : List ℕ). ReadsSystemWithin Wide text (Ok s)) (sym c.deref.ensures.value) is.reads in
-    let sound = c.in_ok-rules.ensures.sound s reads in
-    let rules = c.in_ok-rules.ensures.rules s reads in
-    let has = c.loop.invariant.kept s is is_kept in
-    let onward = c.in_ok-run.ensures.further s has.kept sound rules has.onward in
-    let now = keeps_on disk.keeps disk.image disk.clock disk.left s first c.args.keeper.now old new c.loop.kept_ended c.in_ok-now_ended.now_ended c.loop.keeper c.keep_further.new.keeper
-    has onward (c.states_are_reached.ensures s new onward.is) c.in_ok-run.ensures.stays c.in_ok-now_ended.ensures.kept in
-    way_of disk.keeps disk.image disk.clock disk.left s first c.args.keeper.now new c.in_ok-now_ended.now_ended c.keep_further.new.keeper now
+    let now = kept_here g at.In_ok-now_ended s is is_kept (λ k. onward_here g at.In_ok-run s k (reads_here g at.In_ok-rules s is)) in
+    way_of disk.keeps disk.image disk.clock disk.left s (kept_by c.args.state) c.args.keeper.now (kept_by c.run_piece.new.state) c.in_ok-now_ended.now_ended c.keep_further.new.keeper now
 
 pub returns-then-ends_run-clause-kept : goal.returns-then-ends_run-clause-kept
 returns-then-ends_run-clause-kept g c s is is_kept model keeps =
+    let at = goal.at.returns-then-ends_run-clause-kept g c in
     let disk = g.D.Disk in
-    let first = kept_by c.args.state in
-    let old = kept_by c.loop.state in
-    let new = kept_by c.run_piece.new.state in
-    let reads = subst (λ (text : List ℕ). ReadsSystemWithin Wide text (Ok s)) (sym c.deref.ensures.value) is.reads in
-    let sound = c.in_ok-rules.ensures.sound s reads in
-    let rules = c.in_ok-rules.ensures.rules s reads in
-    let has = c.loop.invariant.kept s is is_kept in
-    let onward = c.in_ok-run.ensures.further s has.kept sound rules has.onward in
-    let now = keeps_on disk.keeps disk.image disk.clock disk.left s first c.args.keeper.now old new c.loop.kept_ended c.in_ok-now_ended.now_ended c.loop.keeper c.keep_further.new.keeper
-    has onward (c.states_are_reached.ensures s new onward.is) c.in_ok-run.ensures.stays c.in_ok-now_ended.ensures.kept in
-    let after = kept_after disk.keeps disk.image disk.clock disk.left (IsKeptAfter s) c.args.keeper.now c.keep_further.new.keeper (state_bytes first) (state_bytes now.kept) model keeps now.course in
+    let now = kept_here g at.In_ok-now_ended s is is_kept (λ k. onward_here g at.In_ok-run s k (reads_here g at.In_ok-rules s is)) in
+    let after = kept_after disk.keeps disk.image disk.clock disk.left (IsKeptAfter s) c.args.keeper.now c.keep_further.new.keeper (state_bytes (kept_by c.args.state)) (state_bytes now.kept) model keeps now.course in
     (now.kept, now.is_kept, now.onward, now.as_far, after.0, after.1)
 
 pub returns-then-ends_run-clause-answer : goal.returns-then-ends_run-clause-answer
 returns-then-ends_run-clause-answer g c s is =
-    let first = kept_by c.args.state in
-    let old = kept_by c.loop.state in
-    let new = kept_by c.run_piece.new.state in
-    let reads = subst (λ (text : List ℕ). ReadsSystemWithin Wide text (Ok s)) (sym c.deref.ensures.value) is.reads in
-    let sound = c.in_ok-rules.ensures.sound s reads in
-    let rules = c.in_ok-rules.ensures.rules s reads in
-    c.in_ok-run.ensures.answer s c.args.bounds sound rules (c.loop.invariant.from s is).is refl
+    let reads = reads_here g (goal.at.returns-then-ends_run-clause-answer g c).In_ok-rules s is in
+    c.in_ok-run.ensures.answer s c.args.bounds (c.in_ok-rules.ensures.sound s reads) (c.in_ok-rules.ensures.rules s reads) (c.loop.invariant.from s is).is refl
     (omega (arith, c.min.ensures, c.saturating_sub-left.ensures)) (c.ends_run.ensures c.if-ends_run.true)
 
 pub returns-then-ends_run-clause-from : goal.returns-then-ends_run-clause-from
 returns-then-ends_run-clause-from g c s is =
-    let first = kept_by c.args.state in
-    let old = kept_by c.loop.state in
-    let new = kept_by c.run_piece.new.state in
-    let reads = subst (λ (text : List ℕ). ReadsSystemWithin Wide text (Ok s)) (sym c.deref.ensures.value) is.reads in
-    let sound = c.in_ok-rules.ensures.sound s reads in
-    let rules = c.in_ok-rules.ensures.rules s reads in
-    c.in_ok-run.ensures.further s first sound rules (c.loop.invariant.from s is)
+    let at = goal.at.returns-then-ends_run-clause-from g c in
+    onward_here g at.In_ok-run s (kept_by c.args.state) (reads_here g at.In_ok-rules s is) (c.loop.invariant.from s is)
 
 pub returns-then-ends_run-clause-later : goal.returns-then-ends_run-clause-later
 returns-then-ends_run-clause-later g c =
@@ -146,8 +127,7 @@ returns-then-ends_run-clause-millis g c =
 
 pub returns-then-ends_run-clause-told : goal.returns-then-ends_run-clause-told
 returns-then-ends_run-clause-told g c s is =
-    let reads = subst (λ (text : List ℕ). ReadsSystemWithin Wide text (Ok s)) (sym c.deref.ensures.value) is.reads in
-    let rules = c.in_ok-rules.ensures.rules s reads in
+    let rules = c.in_ok-rules.ensures.rules s (reads_here g (goal.at.returns-then-ends_run-clause-told g c).In_ok-rules s is) in
     let symbols : c.symbols.result.now ≡ s.rules.symbols = c.symbols.ensures.symbols ∙ ap (λ (r : Rules). r.symbols) (c.deref-then-ends_run.ensures ∙ rules) in
     let reached = configuration_of c.run_piece.new.state.words.items c.run_piece.new.state.terms 0 in
     record {
@@ -165,27 +145,10 @@ loop-preserved g c = record {
   millis = omega (arith, c.loop.invariant.millis, c.in_ok-run.ensures.millis);
   sound = inr c.in_ok-run.ensures.written;
   ready = ready_on c.args.keeper.now c.loop.keeper c.keep_further.new.keeper c.loop.invariant.ready c.in_ok-now_ended.ensures.ready;
-  from = λ s is.
-      let first = kept_by c.args.state in
-      let old = kept_by c.loop.state in
-      let new = kept_by c.run_piece.new.state in
-      let reads = subst (λ (text : List ℕ). ReadsSystemWithin Wide text (Ok s)) (sym c.deref.ensures.value) is.reads in
-      let sound = c.in_ok-rules.ensures.sound s reads in
-      let rules = c.in_ok-rules.ensures.rules s reads in
-      c.in_ok-run.ensures.further s first sound rules (c.loop.invariant.from s is);
+  from = λ s is. onward_here g (goal.at.loop-preserved g c).In_ok-run s (kept_by c.args.state) (reads_here g (goal.at.loop-preserved g c).In_ok-rules s is) (c.loop.invariant.from s is);
   kept = λ s is is_kept.
-      let disk = g.D.Disk in
-      let first = kept_by c.args.state in
-      let old = kept_by c.loop.state in
-      let new = kept_by c.run_piece.new.state in
-      let reads = subst (λ (text : List ℕ). ReadsSystemWithin Wide text (Ok s)) (sym c.deref.ensures.value) is.reads in
-      let sound = c.in_ok-rules.ensures.sound s reads in
-      let rules = c.in_ok-rules.ensures.rules s reads in
-      let has = c.loop.invariant.kept s is is_kept in
-      let onward = c.in_ok-run.ensures.further s has.kept sound rules has.onward in
-      let now = keeps_on disk.keeps disk.image disk.clock disk.left s first c.args.keeper.now old new c.loop.kept_ended c.in_ok-now_ended.now_ended c.loop.keeper c.keep_further.new.keeper
-      has onward (c.states_are_reached.ensures s new onward.is) c.in_ok-run.ensures.stays c.in_ok-now_ended.ensures.kept in
-      now;
+      kept_here g (goal.at.loop-preserved g c).In_ok-now_ended s is is_kept
+      (λ k. onward_here g (goal.at.loop-preserved g c).In_ok-run s k (reads_here g (goal.at.loop-preserved g c).In_ok-rules s is));
 }
 
 pub returns-clause-way : goal.returns-clause-way
@@ -218,30 +181,26 @@ returns-in_err-rules-clause-none g c none =
     let e = err_from_is_err_and c.from_residual.result c.from_residual.ensures.1 in
     (ap is_err e.1, refl)
 
-pub returns-in_err-run-clause-none : goal.returns-in_err-run-clause-none
-returns-in_err-run-clause-none g c none =
+-- a text that is read is read as some system
+never_read : {A : Type 0} (g : _) (c : In_ok-rules g) → ((s : SystemParts) → ReadsSystemWithin Wide c.args.state.text.items (Ok s) → ⊥) → A
+never_read g c none =
     let read = c.in_ok-rules.ensures.read in
     absurd (none read.0 (subst (λ (text : List ℕ). ReadsSystemWithin Wide text (Ok read.0)) c.deref.ensures.value read.1))
+
+pub returns-in_err-run-clause-none : goal.returns-in_err-run-clause-none
+returns-in_err-run-clause-none g c none = never_read g (goal.at.returns-in_err-run-clause-none g c).In_ok-rules none
 
 pub returns-in_err-now_ended-clause-none : goal.returns-in_err-now_ended-clause-none
-returns-in_err-now_ended-clause-none g c none =
-    let read = c.in_ok-rules.ensures.read in
-    absurd (none read.0 (subst (λ (text : List ℕ). ReadsSystemWithin Wide text (Ok read.0)) c.deref.ensures.value read.1))
+returns-in_err-now_ended-clause-none g c none = never_read g (goal.at.returns-in_err-now_ended-clause-none g c).In_ok-rules none
 
 pub returns-in_err-told-clause-none : goal.returns-in_err-told-clause-none
-returns-in_err-told-clause-none g c none =
-    let read = c.in_ok-rules.ensures.read in
-    absurd (none read.0 (subst (λ (text : List ℕ). ReadsSystemWithin Wide text (Ok read.0)) c.deref.ensures.value read.1))
+returns-in_err-told-clause-none g c none = never_read g (goal.at.returns-in_err-told-clause-none g c).In_ok-rules none
 
 pub returns-then-ends_run-clause-none : goal.returns-then-ends_run-clause-none
-returns-then-ends_run-clause-none g c none =
-    let read = c.in_ok-rules.ensures.read in
-    absurd (none read.0 (subst (λ (text : List ℕ). ReadsSystemWithin Wide text (Ok read.0)) c.deref.ensures.value read.1))
+returns-then-ends_run-clause-none g c none = never_read g (goal.at.returns-then-ends_run-clause-none g c).In_ok-rules none
 
 pub returns-clause-none : goal.returns-clause-none
-returns-clause-none g c none =
-    let read = c.in_ok-rules.ensures.read in
-    absurd (none read.0 (subst (λ (text : List ℕ). ReadsSystemWithin Wide text (Ok read.0)) c.deref.ensures.value read.1))
+returns-clause-none g c none = never_read g (goal.at.returns-clause-none g c).In_ok-rules none
 
 pub tell-requires-clause-over : goal.tell-requires-clause-over
 tell-requires-clause-over g c =
