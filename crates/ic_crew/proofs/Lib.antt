@@ -1,4 +1,3 @@
 pub mod Weighs
-pub mod Crossings
 pub mod Puts
 pub mod Matches

@@ -1,5 +1,5 @@
 -- Answers taken work by work.
-use Rattle.std.proofs.Common.{◌≡◌, ℕ, zero, suc, ◌+◌, ◌<◌, ◌==◌, List, [], ◌∷◌, ◌++◌, Bool, true, false, cond, ◌&&◌, Result, Ok, Err, IfOk, IfErr, IsTrue, Vec, All, IsPermutation, length, map, take, get_or, refl, sym, ap, ◌∙◌, arith}
+use Rattle.std.proofs.Common.{◌≡◌, ℕ, zero, suc, ◌+◌, ◌<◌, ◌==◌, List, [], ◌∷◌, ◌++◌, Bool, true, false, cond, ◌&&◌, IsTrue, Vec, All, IsPermutation, length, map, take, get_or, refl, sym, ap, ◌∙◌, arith}
 use Rattle.std.proofs.lemmas.List.{map_more, map_push}
 use Rattle.std.proofs.lemmas.List.Elements.{All-from_recursion, recursion_from_All}
 use Rattle.std.proofs.lemmas.List.Sorted.{All-permutation, length_permutation, sum_by-IsPermutation}
@@ -14,13 +14,10 @@ use Rattle.ic_round.specs.declared.work.Work.{Work}
 use Rattle.ic_round.specs.declared.work.Fired.{Fired}
 use Rattle.ic_round.specs.Works.{PlainWork, suits, result_of}
 use Rattle.ic_round.specs.WorkViews.{work_of, fired_of}
-use Rattle.ic_pool.specs.declared.fault.PoolFault.{PoolFault}
-use Rattle.ic_pool.specs.declared.fault.PoolFault.TheVariants.{NoWorkers, Overgrown, NamesOut, NoThread, Memory, Lost, Stranger, RoundsOut}
 use Rattle.ic_crew.specs.Answers.{AnswerParts, IsAnswer}
-use Rattle.ic_crew.specs.Crews.{is_spending}
 use Rattle.ic_crew.specs.Dealing.{joined}
-use Rattle.ic_crew.specs.Matching.{work_eq, is_answer_to, times, answers_to, IsLost, Matches}
-use Rattle.ic_crew.specs.WorkLists.{works_of, results_of}
+use Rattle.ic_crew.specs.Matching.{work_eq, is_answer_to, times, answers_to, IsLost}
+use Rattle.ic_crew.specs.WorkLists.{works_of}
 use Rattle.ic_crew.specs.lemmas.WorkEq.{work_eq-Decides, answers_it}
 
 -- the answers left, once those to the first of the works are taken
@@ -97,28 +94,6 @@ some_left (suc n) r e is = omega arith
 
 pub none_left : (n : ℕ) (r : Bool) → r ≡ (n == 0) → r ≡ true → n ≡ 0
 none_left n r e is = (unsigned_Decides n 0).0 (sym e ∙ is)
-
--- ---- what was matched
-
-pub matched_all : (rs : Rules) (ws : List PlainWork) (given : List AnswerParts) (r : Result (Vec Fired Global) PoolFault) → Matches rs ws given (results_of r)
-    → IfOk r (λ fired. map fired_of fired.items ≡ map (result_of rs.rules) ws)
-matched_all rs ws given (Ok fired) m = m.0
-matched_all rs ws given (Err fault) m = tt
-
-spends_by : (rs : Rules) (ws : List PlainWork) (given : List AnswerParts) (fault : PoolFault) → Matches rs ws given (Err fault) → is_spending fault ≡ true
-spends_by rs ws given NoWorkers m = absurd m
-spends_by rs ws given Overgrown m = absurd m
-spends_by rs ws given NamesOut m = absurd m
-spends_by rs ws given NoThread m = absurd m
-spends_by rs ws given Memory m = refl
-spends_by rs ws given Lost m = refl
-spends_by rs ws given Stranger m = refl
-spends_by rs ws given RoundsOut m = absurd m
-
-pub matched_or_spent : (rs : Rules) (ws : List PlainWork) (given : List AnswerParts) (r : Result (Vec Fired Global) PoolFault) → Matches rs ws given (results_of r)
-    → IfErr r (λ fault. IsTrue (is_spending fault))
-matched_or_spent rs ws given (Ok fired) m = tt
-matched_or_spent rs ws given (Err fault) m = spends_by rs ws given fault m
 
 -- ---- the works of each part suit the rules
 

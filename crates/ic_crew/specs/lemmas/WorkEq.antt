@@ -1,8 +1,8 @@
 -- The test of equality of works is equality.
-use Rattle.std.specs.Prelude.{◌≡◌, ◌==◌, Bool, true, ◌&&◌, refl}
+use Rattle.std.specs.Prelude.{◌≡◌, ◌==◌, true, refl}
 use Rattle.std.specs.Bool.{Decides}
 use Rattle.std.specs.Cmp.{unsigned_Decides}
-use Rattle.std.proofs.lemmas.Bool.{and_parts}
+use Rattle.std.proofs.lemmas.Bool.{and_parts, and_from}
 use Rattle.std.proofs.Common.{sym, ◌∙◌, ap}
 use Rattle.ic_term.specs.Tree.{tree_eq}
 use Rattle.ic_term.specs.lemmas.TreeLaws.{tree_eq-Decides}
@@ -11,9 +11,6 @@ use Rattle.ic_rules.specs.lemmas.RuleLaws.{rules_eq-Decides}
 use Rattle.ic_round.specs.Works.{PlainWork}
 use Rattle.ic_crew.specs.Answers.{AnswerParts}
 use Rattle.ic_crew.specs.Matching.{work_eq, is_answer_to}
-
-both : (a b : Bool) → a ≡ true → b ≡ true → (a && b) ≡ true
-both a b ea eb = rw (ea, eb) refl
 
 work_eq-true : (v w : PlainWork) → work_eq v w ≡ true → v ≡ w
 work_eq-true v w e =
@@ -30,7 +27,7 @@ work_eq-true v w e =
 
 work_eq-refl : (w : PlainWork) → work_eq w w ≡ true
 work_eq-refl w =
-    both _ _ (both _ _ (both _ _ (both _ _ ((unsigned_Decides w.place w.place).1 refl) ((unsigned_Decides w.base w.base).1 refl))
+    and_from _ _ (and_from _ _ (and_from _ _ (and_from _ _ ((unsigned_Decides w.place w.place).1 refl) ((unsigned_Decides w.base w.base).1 refl))
     ((unsigned_Decides w.active.rule w.active.rule).1 refl))
     ((tree_eq-Decides w.active.left w.active.left).1 refl))
     ((tree_eq-Decides w.active.right w.active.right).1 refl)

@@ -1,6 +1,6 @@
 use Rattle.std.proofs.Common.{◌≡◌, ◌⊎◌, inl, inr, IsTrue, refl, sym, subst}
 use Rattle.ic_pool.specs.declared.fault.PoolFault.{PoolFault}
-use Rattle.ic_pool.specs.declared.fault.PoolFault.TheVariants.{NoWorkers, Overgrown, NamesOut, NoThread, Memory, Lost, Stranger, RoundsOut}
+use Rattle.ic_pool.specs.declared.fault.PoolFault.TheVariants.{Memory, Lost, Stranger}
 use Rattle.ic_crew.specs.Crews.{is_spending}
 use Rattle.ic_crew.proofs.laws.crews_are_spent_so.Goals as goal
 
@@ -8,14 +8,10 @@ abbrev IsOfThree : PoolFault → Type 0
 IsOfThree fault = (fault ≡ Memory) ⊎ ((fault ≡ Lost) ⊎ (fault ≡ Stranger))
 
 spent : (fault : PoolFault) → IsTrue (is_spending fault) → IsOfThree fault
-spent NoWorkers e = cc
-spent Overgrown e = cc
-spent NamesOut e = cc
-spent NoThread e = cc
 spent Memory e = inl refl
 spent Lost e = inr (inl refl)
 spent Stranger e = inr (inr refl)
-spent RoundsOut e = cc
+spent _ e = cc
 
 spends : (fault : PoolFault) → IsOfThree fault → IsTrue (is_spending fault)
 spends fault h = elim h [

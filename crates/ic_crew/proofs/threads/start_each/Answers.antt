@@ -1,6 +1,6 @@
 use denote.Param.Send.{sendable}
 use Rattle.std.proofs.Crossing.{crosses}
-use Rattle.ic_crew.proofs.Crossings.{Post_send}
+use Rattle.ic_crew.specs.lemmas.Crossings.{Post_send}
 use Rattle.ic_crew.proofs.threads.start_each.Goals as goal
 
 pub spawn-requires-send-F : goal.spawn-requires-send-F

@@ -20,10 +20,10 @@ Rule_send = search (sendable, crosses, terms) depth 40
 Rule_sync : IsSync Rule.the_field.row
 Rule_sync = search (sendable, crosses, terms) depth 40
 
-RuleSet_send : IsSend RuleSet.the_field.row
+pub RuleSet_send : IsSend RuleSet.the_field.row
 RuleSet_send = search (Rule_send, symbols.the_send, pair.the_field_send, sendable, crosses, maps) depth 40
 
-RuleSet_sync : IsSync RuleSet.the_field.row
+pub RuleSet_sync : IsSync RuleSet.the_field.row
 RuleSet_sync = search (Rule_sync, symbols.the_sync, pair.the_field_sync, sendable, crosses, maps) depth 40
 
 Work_send : IsSend Work.the_field.row
@@ -35,10 +35,10 @@ Fired_send = search (sendable, crosses, terms) depth 40
 Answer_send : IsSend Answer.the_field.row
 Answer_send = search (RuleSet_send, RuleSet_sync, Work_send, Fired_send, sendable, crosses) depth 40
 
-Parcel_send : IsSend Parcel.the_field.row
+pub Parcel_send : IsSend Parcel.the_field.row
 Parcel_send = search (RuleSet_send, RuleSet_sync, Work_send, sendable, crosses) depth 40
 
-Returned_send : IsSend Returned.the_field.row
+pub Returned_send : IsSend Returned.the_field.row
 Returned_send = search (Answer_send, sendable, crosses) depth 40
 
 pub Post_send : IsSend Post.the_field.row
