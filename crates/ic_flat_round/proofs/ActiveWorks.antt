@@ -4,14 +4,13 @@ use Rattle.std.proofs.lemmas.List.{map-append, reverse-append}
 use Rattle.std.proofs.lemmas.Option.{same_Some, slice_get_read}
 use Rattle.std.specs.Option.{option_map_or}
 use Rattle.ic_term.specs.declared.term.Term.{Term}
-use Rattle.ic_term.specs.Tree.{Tree, name, agent, Pair}
+use Rattle.ic_term.specs.Tree.{Tree, Pair}
 use Rattle.ic_term.specs.Term.{tree}
 use Rattle.ic_rules.specs.Rule.{Rule}
 use Rattle.ic_round.specs.Firing.{Active, oriented, rule_of_sides, active_pair, count_of, names_taken, next_after}
 use Rattle.ic_round.specs.Works.{PlainWork, work_at, works_from}
 use Rattle.ic_round.specs.lemmas.ActiveRules.{active_by}
 use Rattle.ic_round.specs.lemmas.FiredNames.{next_grows}
-use Rattle.ic_flat_round.specs.inner.Activity.{is_agent}
 
 -- ---- terms taken from a stack
 
@@ -28,12 +27,6 @@ none_left [] t ts none top = cc
 none_left (x ∷ xs) t ts none top = absurd (omega (arith, none))
 
 -- ---- an active equation
-
--- its sides are agents
-pub agents : (rs : List Rule) (t u : Tree) (found : ℕ × Bool) → rule_of_sides rs t u ≡ Some found → is_agent t × is_agent u
-agents rs (name n) u found e = cc
-agents rs (agent a ts) (name n) found e = cc
-agents rs (agent a ts) (agent b us) found e = (tt, tt)
 
 -- and so many names are taken
 pub taken_by : (rs : List Rule) (p : Pair) (a : Active) → active_pair rs p ≡ Some a → names_taken rs p ≡ count_of rs a.rule

@@ -1,10 +1,7 @@
 -- What is appended to a list within its room, part by part.
-use Rattle.std.proofs.Common.{List, [], ◌++◌, length-append, append-nil, append_assoc, refl, sym, ap, ◌∙◌, arith}
+use Rattle.std.proofs.Common.{List, ◌++◌, length-append, append_assoc, ap, ◌∙◌, arith}
 use Rattle.std.specs.Prelude.{Vec}
 use Rattle.ic_flat_round.specs.inner.Room.{HasRoom, Appended, GoesOn, GoesOnTo}
-
-pub goes_on-start : {X Z : Type 0} (start : Vec X Z) (all : List X) → HasRoom start all → GoesOn start all start all
-goes_on-start start all room = record { items = refl; len = refl; capacity = refl; room = room }
 
 pub goes_on-room : {X Z : Type 0} (start now : Vec X Z) (all xs left : List X) → GoesOn start all now (xs ++ left) → HasRoom now xs
 goes_on-room start now all xs left g = let room = g.room in omega (arith, room, length-append xs left)
@@ -22,15 +19,6 @@ goes_on-next start now new all xs left g a =
       len = omega (arith, len, added, length-append xs left);
       capacity = same ∙ capacity;
       room = omega (arith, room, added, same, length-append xs left);
-    }
-
-pub goes_on-end : {X Z : Type 0} (start now : Vec X Z) (all : List X) → GoesOn start all now [] → Appended start now all
-goes_on-end start now all g =
-    let len = g.len in
-    record {
-      items = sym (append-nil now.items) ∙ g.items;
-      len = omega (arith, len);
-      capacity = g.capacity;
     }
 
 pub appended-both : {X Z : Type 0} (old half new : Vec X Z) (xs ys : List X) → Appended old half xs → Appended half new ys → Appended old new (xs ++ ys)

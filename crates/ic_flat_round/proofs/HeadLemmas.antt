@@ -10,41 +10,13 @@ use Rattle.ic_flat.specs.declared.word.Word.{Word}
 use Rattle.ic_flat.specs.declared.word.Word.TheVariants.{Name, Agent}
 use Rattle.ic_flat.specs.Words.{with_word, forest}
 use Rattle.ic_flat_round.specs.inner.Standing.{first_of, tree_at}
-use Rattle.ic_flat_round.specs.inner.Heads.{head, heads, told_at, told}
-
--- ---- the first of two sides
-
-pub told-first : (f : ℕ → Option ℕ) (l r : Tree) (x : Applicable × ℕ) → Some x ≡ told_at f Left l → Some x ≡ told f l r
-told-first f l r x =
-    elim (outlet_at f Left l) as (λ o. ◌≡◌ {A = Option (Applicable × ℕ)} (Some x) (option_map (λ w. (applicable_of w, w.target)) o)
-    → ◌≡◌ {A = Option (Applicable × ℕ)} (Some x) (option_map (λ w. (applicable_of w, w.target)) (first_outlet o (outlet_at f Right r)))) [
-      | None ↦ λ e. cc
-      | Some w ↦ λ e. e
-    ]
-
-pub told-second : (f : ℕ → Option ℕ) (l r : Tree) → None ≡ told_at f Left l → told_at f Right r ≡ told f l r
-told-second f l r =
-    elim (outlet_at f Left l) as (λ o. ◌≡◌ {A = Option (Applicable × ℕ)} None (option_map (λ w. (applicable_of w, w.target)) o)
-    → ◌≡◌ {A = Option (Applicable × ℕ)} (told_at f Right r) (option_map (λ w. (applicable_of w, w.target)) (first_outlet o (outlet_at f Right r)))) [
-      | None ↦ λ e. refl
-      | Some w ↦ λ e. cc
-    ]
+use Rattle.ic_flat_round.specs.inner.Heads.{head, heads, told}
 
 -- ---- what is told of an outlet
-
-match_none : {O W : Type 0} (g : O → W) (o : Option O) (A : Type 0) (B : O → Type 0) → None ≡ option_map g o → A → MatchOption o A B
-match_none g None A B e a = a
-match_none g (Some x) A B e a = cc
 
 match_some : {O W : Type 0} (g : O → W) (o : Option O) (w : W) (A : Type 0) (B : O → Type 0) → Some w ≡ option_map g o → ((x : O) → w ≡ g x → B x) → MatchOption o A B
 match_some g None w A B e b = cc
 match_some g (Some x) w A B e b = let same : w ≡ g x = cc in b x same
-
-pub chosen-none : (r : ℕ → ℕ) (place : ℕ) (look : ℕ → Option (ℕ × ℕ)) (p : Pair) (links : List ℕ) (found : Option Applicable)
-    → None ≡ told (λ y. elsewhere r place (look y)) p.left p.right → found ≡ None → IsRoot links r → IsChosen r place look p links found
-chosen-none r place look p links found none is root =
-    match_none (λ o. (applicable_of o, o.target)) (outlet (λ y. elsewhere r place (look y)) p.left p.right)
-    ((found ≡ None) × IsRoot links r) (λ o. (found ≡ Some (applicable_of o)) × IsRoot links (redirected place o.target r)) none (is, root)
 
 pub chosen-some : (r : ℕ → ℕ) (place : ℕ) (look : ℕ → Option (ℕ × ℕ)) (p : Pair) (links : List ℕ) (a : Applicable) (target : ℕ)
     → Some (a, target) ≡ told (λ y. elsewhere r place (look y)) p.left p.right → IsRoot links (redirected place target r) → IsChosen r place look p links (Some a)

@@ -50,16 +50,6 @@ pub record IsPassingAt (c : Configuration) (kept : List Pair) (es : List (ℕ ×
   pub counted : length chosen ≡ number
   pub passing : IsPassing c kept es links look_up chosen rest
 
--- while there is an equation, its number is one of theirs
-pub number_inside : (c : Configuration) (kept : List Pair) (es : List (ℕ × Tree)) (links : List ℕ) (look_up : ℕ → Option (ℕ × ℕ)) (number : ℕ) (rest : List Pair)
-    (p : Pair) (later : List Pair) → IsPassingAt c kept es links look_up number rest → rest ≡ p ∷ later → number < length c.equations
-number_inside c kept es links look_up number rest p later at next =
-    let s = at.passing in
-    let all = ap length s.split in
-    let counted = s.counted in
-    let same = at.counted in
-    omega (arith, all, length-append s.front rest, counted, same, ap length next)
-
 other_is : (ws : List Word) (left right : ℕ) (side : Side)
     → tree_at ws (other_place left right side) ≡ other_side (record { left = tree_at ws left; right = tree_at ws right }) side
 other_is ws left right Left = refl

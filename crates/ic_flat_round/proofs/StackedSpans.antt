@@ -1,5 +1,5 @@
 -- Spans of terms, and a stack of them.
-use Rattle.std.proofs.Common.{◌≡◌, ℕ, suc, ◌+◌, ◌-◌, ◌<◌, ◌≤◌, List, [], ◌∷◌, ◌++◌, Option, Some, length, map, take, drop, get_or, zero, refl, sym, ap, ◌∙◌, arith, subst as transport}
+use Rattle.std.proofs.Common.{◌≡◌, ℕ, suc, ◌+◌, ◌-◌, ◌<◌, ◌≤◌, List, [], ◌∷◌, ◌++◌, Option, Some, length, map, take, drop, get_or, zero, sym, ap, ◌∙◌, arith, subst as transport}
 use Rattle.std.specs.List.{flat_map, AllByRecursion}
 use Rattle.std.specs.Option.{option_to_list}
 use Rattle.std.proofs.lemmas.List.{reverse-append, drop_more, length-drop, length-take-le}
@@ -106,10 +106,6 @@ span-agent ws s d sym_of arity whole is some word =
       sym (take-sum (s.count - 1) arity f fits),
       enough,
     )
-
-pub none_of : {X : Type 0} (xs : List X) → length xs ≡ 0 → xs ≡ []
-none_of [] none = refl
-none_of (x ∷ xs) none = absurd (omega arith)
 
 -- ---- the places of an equation's sides
 

@@ -3,8 +3,9 @@ use Rattle.ic_term.specs.Tree.{Tree}
 use Rattle.ic_flat_round.specs.inner.Waits.{waiting}
 use Rattle.ic_flat_round.specs.inner.Rebuilding.{IsSpan, PutsOn, span_terms, stacked, state, on_stack}
 use Rattle.ic_flat_round.proofs.PutWords.{puts-none, puts-both}
-use Rattle.ic_flat_round.proofs.StackedSpans.{all_front, stacked-pop, span_none, none_of}
+use Rattle.ic_flat_round.proofs.StackedSpans.{all_front, stacked-pop, span_none}
 use Rattle.std.specs.List.{AllByRecursion}
+use Rattle.std.proofs.lemmas.List.{nil_from_length}
 use Rattle.ic_flat_round.specs.declared.rebuilding.Span.{Span}
 use Rattle.ic_flat_round.proofs.rebuilding.put_terms.Goals as goal
 
@@ -57,7 +58,7 @@ pub returns-in-None-clause-puts : goal.returns-in-None-clause-puts
 returns-in-None-clause-puts c =
     let ws = c.args.words.now in
     let start = state (waiting ws c.args.bound.now.entries) c.args.out.now.items (span_terms ws c.args.span) in
-    let nothing : c.loop-span.stack.items ≡ [] = none_of c.loop-span.stack.items (omega (arith, c.in-None.ensures.cases.0, c.loop-span.stack.ok.0)) in
+    let nothing : c.loop-span.stack.items ≡ [] = nil_from_length c.loop-span.stack.items (omega (arith, c.in-None.ensures.cases.0, c.loop-span.stack.ok.0)) in
     let left : span_terms ws c.loop-span.span ++ stacked ws c.loop-span.stack.items ≡ [] =
     (λ j. span_none ws c.loop-span.span c.if-span-gt0.false j ++ stacked ws (nothing j)) in
     transport (λ (l : List Tree). PutsOn start (state (waiting ws c.loop-span.bound.entries) c.loop-span.out.items l)) left c.loop-span.invariant.puts
