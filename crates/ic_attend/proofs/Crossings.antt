@@ -2,8 +2,6 @@
 use denote.RattleType.{RattleType}
 use denote.Param.Send.{IsSend, IsSync, sendable}
 use Rattle.std.proofs.Crossing.{crosses}
-use Rattle.std.proofs.MapsCrossing.{crosses as maps}
-use Rattle.ic_term.proofs.term.Term.TheLaws.TheKnot.{crosses as terms}
 use Rattle.ic_term.proofs.symbols.Symbols.TheSendSync as symbols
 use Rattle.ic_rules.proofs.rule_set.SymbolPair.TheSendSync as pair
 use Rattle.ic_flat.proofs.word.Word.TheSendSync as word
@@ -22,6 +20,7 @@ use Rattle.ic_crew.specs.contracts.parcels.Returned as Returned
 use Rattle.ic_crew.specs.contracts.posts.Line as Line
 use Rattle.ic_crew.specs.contracts.posts.Post as Post
 use Rattle.ic_crew.specs.contracts.crews.Crew as Crew
+use Rattle.ic_crew.specs.lemmas.Crossings.{RuleSet_send, RuleSet_sync, Parcel_send, Returned_send}
 use Rattle.ic_flat.specs.contracts.flat.Flat as Flat
 use Rattle.ic_flat.specs.contracts.wide.WideFlat as WideFlat
 use Rattle.ic_flat.specs.contracts.system.FlatSystem as FlatSystem
@@ -39,18 +38,6 @@ use Rattle.ic_book.specs.contracts.book.Book as Book
 use Rattle.ic_attend.specs.contracts.desk.Desk as Desk
 use Rattle.ic_attend.specs.contracts.attended.ClientRun as ClientRun
 use Rattle.ic_attend.specs.contracts.client.Speech as Speech
-
-Rule_send : IsSend Rule.the_field.row
-Rule_send = search (sendable, crosses, terms) depth 40
-
-Rule_sync : IsSync Rule.the_field.row
-Rule_sync = search (sendable, crosses, terms) depth 40
-
-pub RuleSet_send : IsSend RuleSet.the_field.row
-RuleSet_send = search (Rule_send, symbols.the_send, pair.the_field_send, sendable, crosses, maps) depth 40
-
-pub RuleSet_sync : IsSync RuleSet.the_field.row
-RuleSet_sync = search (Rule_sync, symbols.the_sync, pair.the_field_sync, sendable, crosses, maps) depth 40
 
 WideFlat_send : IsSend WideFlat.the_field.row
 WideFlat_send = search (word.the_field_send, sendable, crosses) depth 40
@@ -110,24 +97,6 @@ pub Desk_row_sync : (D : RattleType) (g : Ghosts D.Denot) → IsSend D → IsSyn
 Desk_row_sync D g s = let b = Book_send D g s in search (sendable, crosses) depth 40
 
 -- ---- crews
-
-Work_send : IsSend Work.the_field.row
-Work_send = search (sendable, crosses, terms) depth 40
-
-Fired_send : IsSend Fired.the_field.row
-Fired_send = search (sendable, crosses, terms) depth 40
-
-Answer_send : IsSend Answer.the_field.row
-Answer_send = search (RuleSet_send, RuleSet_sync, Work_send, Fired_send, sendable, crosses) depth 40
-
-Parcel_send : IsSend Parcel.the_field.row
-Parcel_send = search (RuleSet_send, RuleSet_sync, Work_send, sendable, crosses) depth 40
-
-Returned_send : IsSend Returned.the_field.row
-Returned_send = search (Answer_send, sendable, crosses) depth 40
-
-pub Post_send : IsSend Post.the_field.row
-Post_send = search (Parcel_send, Returned_send, sendable, crosses) depth 80 fits 100000
 
 Line_send : IsSend Line.the_field.row
 Line_send = search (Parcel_send, Returned_send, sendable, crosses) depth 80 fits 100000

@@ -1,6 +1,6 @@
 -- Where something differs, the comparison says so.
 use Rattle.std.proofs.Common.{◌≡◌, ℕ, ◌+◌, ◌<◌, ◌≤◌, suc, arith, List, [], ◌∷◌, ◌++◌, Option, Some, true, false, length, take, drop, refl, sym, ap, subst, ◌∙◌, inl, inr}
-use Rattle.std.specs.Prelude.{Result, Ok, Err, IsSomeAnd, IsTrue, slice_index_or, slice_get}
+use Rattle.std.specs.Prelude.{IsSomeAnd, IsTrue, slice_index_or, slice_get}
 use Rattle.std.specs.Cmp.{unsigned_Decides}
 use Rattle.std.specs.List.{cons_option}
 use Rattle.std.proofs.Math.Seq.{drop-cons, get_or-append_seam}
@@ -14,17 +14,13 @@ use Rattle.ic_jobs.specs.declared.event.Event.TheVariants.{Command as by_command
 use Rattle.ic_jobs.specs.declared.event.Entry.{Entry}
 use Rattle.ic_jobs.specs.declared.reply.Reply.{Reply}
 use Rattle.ic_jobs.specs.Job.{JobParts}
-use Rattle.ic_slots.specs.Held.{IsHeld, the_table}
 use Rattle.ic_book.specs.declared.fault.BookFault.TheVariants.{Device}
 use Rattle.ic_book.specs.Entries.{is_round, AreRounds}
 use Rattle.ic_attend.specs.declared.attended.Attended.{Attended}
 use Rattle.ic_attend.specs.declared.attended.ClientRun.{ClientRun}
-use Rattle.ic_attend.specs.declared.fault.AttendFault.{AttendFault}
-use Rattle.ic_attend.specs.declared.fault.AttendFault.TheVariants.{Open, NoThread, Memory, Torn}
 use Rattle.ic_book.specs.Book.{start_of, log_of}
 use Rattle.ic_attend.specs.Parts.{answer_to, part, AreOfClients}
 use Rattle.ic_attend.specs.Clients.{MayStandAfter}
-use Rattle.ic_attend.specs.Faults.{IfTorn, IsTorn, Differs}
 use Rattle.ic_attend.specs.OneHistory.{Agrees, IsOneHistory}
 use Rattle.ic_attend.proofs.PartLemmas.{answer_to-own, part-append, runs_counted}
 
@@ -125,15 +121,3 @@ agrees_of opening scripts runners turns a start history =
       failed = history.failed;
       ends = history.ends;
     }
-
--- what is torn on this table is torn on the table that the disk holds
-pub torn_of : {D : Type 0} {ghosts : Ghosts D} (disk : D) (opening : List JobParts) (scripts : List (List Command))
-    (runners turns workers : ℕ) (r : Result (Attended D ghosts) (AttendFault D ghosts))
-    → (IsTrue (ghosts.keeps disk) → IsHeld (the_table opening) (ghosts.content disk))
-    → IfTorn r (Differs opening scripts runners turns workers)
-    → IfTorn r (IsTorn ghosts disk scripts runners turns workers)
-torn_of disk opening scripts runners turns workers (Ok a) held torn = tt
-torn_of disk opening scripts runners turns workers (Err (Open fault)) held torn = tt
-torn_of disk opening scripts runners turns workers (Err (NoThread a)) held torn = tt
-torn_of disk opening scripts runners turns workers (Err (Memory book)) held torn = tt
-torn_of disk opening scripts runners turns workers (Err (Torn a)) held torn = record { opening = opening; held = held; torn = torn }

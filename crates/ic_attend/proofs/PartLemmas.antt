@@ -1,11 +1,12 @@
 -- Parts of a history.
-use Rattle.std.proofs.Common.{◌≡◌, ◌≢◌, ℕ, ◌+◌, ◌-◌, ◌<◌, ◌≤◌, ◌==◌, ◌&&◌, not, suc, arith, subst, List, [], ◌∷◌, ◌++◌, Bool, true, false, Option, None, Some, length, take, drop, refl, sym, ap, ◌∙◌, if◌then◌else◌}
+use Rattle.std.proofs.Common.{◌≡◌, ◌≢◌, ℕ, ◌+◌, ◌-◌, ◌<◌, ◌≤◌, ◌==◌, not, suc, arith, subst, List, [], ◌∷◌, ◌++◌, Bool, true, false, Option, None, Some, length, take, drop, refl, sym, ap, ◌∙◌, if◌then◌else◌}
 use Rattle.std.specs.Prelude.{IfSome, slice_index_or}
 use Rattle.std.specs.Cmp.{unsigned_Decides}
 use Rattle.std.specs.List.{All, cons_option, AllZip}
 use Rattle.std.specs.Option.{unwrap_or}
 use Rattle.std.proofs.lemmas.List.{append-nil, length_push, take_at, take_more, take-append-drop, take-take}
 use Rattle.std.proofs.lemmas.List.Elements.{All-push, filter_map-append}
+use Rattle.std.proofs.lemmas.Bool.{not-true}
 use Rattle.ic_jobs.specs.declared.command.Command.{Command}
 use Rattle.ic_jobs.specs.declared.event.Event.{Event}
 use Rattle.ic_jobs.specs.declared.event.Event.TheVariants.{Command as by_command, Round}
@@ -20,6 +21,7 @@ use Rattle.ic_attend.specs.declared.attended.RunnerEnd.TheVariants.{Idle}
 use Rattle.ic_attend.specs.Clients.{KeepsTo}
 use Rattle.ic_attend.specs.Ends.{EndMayBe}
 use Rattle.ic_attend.specs.inner.Speech.{Speaks}
+use Rattle.ic_round.specs.lemmas.FreshNames.{apart_false}
 
 pub part-snoc : (who : ℕ) (es : List Entry) (e : Entry) → part who (es ++ e ∷ []) ≡ part who es ++ cons_option (answer_to who e) []
 part-snoc who es e = filter_map-append (answer_to who) es (e ∷ [])
@@ -51,11 +53,6 @@ answer_to-own who e command reply own event told = rw (own, event, told) refl
 
 pub part-append : (who : ℕ) (h k : List Entry) → part who (h ++ k) ≡ part who h ++ part who k
 part-append who h k = filter_map-append (answer_to who) h k
-
-pub is_other : (m n : ℕ) → (m ≡ n → ⊥) → (m == n) ≡ false
-is_other m n apart =
-    let P : Bool → Type 0 = λ b. (m == n) ≡ b → (m == n) ≡ false in
-    (elim (m == n) as P [ true ↦ λ is. absurd (apart ((unsigned_Decides m n).0 is)) | false ↦ λ is. is ]) refl
 
 pub part-own : (who : ℕ) (h : List Entry) (c : Command) (r : Reply)
     → part who (h ++ command_entry who c r ∷ []) ≡ part who h ++ (c, r) ∷ []
@@ -160,7 +157,7 @@ place_of who (e ∷ es) before after c r is =
 pub not_another : (who other : ℕ) (e : Entry) (a : Command × Reply) → answer_to who e ≡ Some a → other ≢ who → answer_to other e ≡ None
 not_another who other e a some apart =
     let own : e.who ≡ who = (answer_is who e a.0 a.1 some).own in
-    answer_to-other other e (is_other e.who other (λ same. apart (sym same ∙ own)))
+    answer_to-other other e (apart_false e.who other (λ same. apart (sym same ∙ own)))
 
 -- ---- stops
 
@@ -211,33 +208,19 @@ front_rounds es front last is rounds =
 pub runs_more : (R : List Command → ClientRun → Type 0) (scripts : List (List Command)) (runs : List ClientRun) (script : List Command) (run : ClientRun)
     → AllZip R scripts runs → R script run → AllZip R (scripts ++ script ∷ []) (runs ++ run ∷ [])
 runs_more R [] [] script run all one = (one, tt)
-runs_more R [] (r ∷ rs) script run all one = absurd all
-runs_more R (s ∷ ss) [] script run all one = absurd all
 runs_more R (s ∷ ss) (r ∷ rs) script run all one = (all.0, runs_more R ss rs script run all.1 one)
+runs_more R _ _ script run all one = absurd all
 
 pub runs_counted : (scripts : List (List Command)) (runs : List ClientRun) → AllZip KeepsTo scripts runs → length runs ≡ length scripts
 runs_counted [] [] all = refl
-runs_counted [] (r ∷ rs) all = absurd all
-runs_counted (s ∷ ss) [] all = absurd all
 runs_counted (s ∷ ss) (r ∷ rs) all = ap suc (runs_counted ss rs all.1)
-
-pub both_true : (a b : Bool) → (a && b) ≡ true → (a ≡ true) × (b ≡ true)
-both_true true b is = (refl, is)
-both_true false b is = absurd (let no : false ≡ true = is in cc)
-
-pub not_true : (b : Bool) → not b ≡ true → b ≡ false
-not_true true is = absurd (let no : false ≡ true = is in cc)
-not_true false is = refl
-
-pub not_false : (b : Bool) → not b ≡ false → b ≡ true
-not_false true is = refl
-not_false false is = absurd (let no : true ≡ false = is in cc)
+runs_counted _ _ all = absurd all
 
 -- a client that wasn't told to stop keeps to its script
 pub keeps_to : (a b : List Command) (speech : Speech) → a ≡ b → Speaks a speech → not speech.stopped ≡ true → KeepsTo b speech.run
 keeps_to a b speech same speaks on =
     let s = subst (λ (l : List Command). Speaks l speech) same speaks in
-    record { follows = s.follows; finished = s.finished (not_true speech.stopped on) }
+    record { follows = s.follows; finished = s.finished (not-true speech.stopped on) }
 
 -- a runner whose thread wasn't started is idle
 may_be_or_idle : (workers : ℕ) (end : Option RunnerEnd) → IfSome end (EndMayBe workers) → EndMayBe workers (unwrap_or end Idle)

@@ -1,7 +1,7 @@
 use denote.Param.Send.{sendable}
 use Rattle.std.proofs.Crossing.{crosses}
-use Rattle.ic_attend.proofs.Crossings.{Post_send}
 use Rattle.ic_attend.proofs.crews.start_each.Goals as goal
+use Rattle.ic_crew.specs.lemmas.Crossings.{Post_send}
 
 pub spawn-requires-send-F : goal.spawn-requires-send-F
 spawn-requires-send-F g c κs within =

@@ -3,11 +3,11 @@ use Rattle.std.specs.Prelude.{Result, Ok, Err}
 use Rattle.ic_disk.specs.declared.disk.Disk.{Ghosts}
 use Rattle.ic_jobs.specs.declared.command.Command.{Command}
 use Rattle.ic_jobs.specs.declared.landed.Landed.{Landed}
-use Rattle.ic_jobs.specs.declared.landed.Landed.TheVariants.{Moved, Stale}
+use Rattle.ic_jobs.specs.declared.landed.Landed.TheVariants.{Moved}
 use Rattle.ic_jobs.specs.declared.reply.Reply.{Reply}
 use Rattle.ic_book.specs.declared.book.Book.{Book}
 use Rattle.ic_book.specs.declared.fault.BookFault.{BookFault}
-use Rattle.ic_book.specs.declared.fault.BookFault.TheVariants.{Broken, LogFull, Worn, Memory, Device}
+use Rattle.ic_book.specs.declared.fault.BookFault.TheVariants.{Device}
 use Rattle.ic_book.specs.Book.{log_of}
 use Rattle.ic_book.specs.Entries.{command_entry, round_entry}
 use Rattle.ic_book.specs.Moves.{round_move}
@@ -19,16 +19,12 @@ by_command : {D : Type 0} {ghosts : Ghosts D} (who : ℕ) (command : Command) (r
     → StepsByCommand who command result old new → AddsOneAtMost (log_of old) (log_of new)
 by_command who command (Ok reply) old new step = inr (command_entry who command reply, step.answered.page.0.adds.entry)
 by_command who command (Err Device) old new step = let failed = step.failed refl in inr (command_entry who command failed.0, failed.1.page.0.adds.entry)
-by_command who command (Err Broken) old new step = inl (step.refused refl (λ e. cc)).page.0.log
-by_command who command (Err LogFull) old new step = inl (step.refused refl (λ e. cc)).page.0.log
-by_command who command (Err Worn) old new step = inl (step.refused refl (λ e. cc)).page.0.log
-by_command who command (Err Memory) old new step = inl (step.refused refl (λ e. cc)).page.0.log
+by_command who command _ old new step = inl (step.refused refl (λ e. cc)).page.0.log
 
 by_round : {D : Type 0} {ghosts : Ghosts D} (name : List ℕ) (reply : Reply) (result : Result Landed BookFault) (old new : Book D ghosts)
     → Step (round_move name reply result) (up old) (up new) → AddsOneAtMost (log_of old) (log_of new)
 by_round name reply (Ok Moved) old new step = inr (round_entry name reply, step.page.0.adds.entry)
-by_round name reply (Ok Stale) old new step = inl step.page.0.log
-by_round name reply (Err fault) old new step = inl step.page.0.log
+by_round name reply _ old new step = inl step.page.0.log
 
 pub returns-clause-commanded : goal.returns-clause-commanded
 returns-clause-commanded g c = λ who command result call. by_command who command result call.old call.new call.step

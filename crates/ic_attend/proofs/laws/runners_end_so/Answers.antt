@@ -5,31 +5,23 @@ use Rattle.ic_pool.specs.PoolFault.{is_of_flight}
 use Rattle.ic_pool.specs.declared.fault.PoolFault.{PoolFault}
 use Rattle.ic_pool.specs.declared.fault.PoolFault.TheVariants as of_pool
 use Rattle.ic_book.specs.declared.book.Book.{Book as TheBook}
-use Rattle.ic_book.specs.declared.fault.BookFault.TheVariants.{Broken, LogFull, Worn, Memory, Device}
+use Rattle.ic_book.specs.declared.fault.BookFault.TheVariants.{Worn, Device}
 use Rattle.ic_attend.specs.Ends.{EndMayBe, EndTells}
 use Rattle.ic_attend.specs.declared.attended.RunnerEnd.{RunnerEnd}
-use Rattle.ic_attend.specs.declared.attended.RunnerEnd.TheVariants.{Idle, Turns, Book as by_book, Pool as by_pool}
+use Rattle.ic_attend.specs.declared.attended.RunnerEnd.TheVariants.{Book as by_book, Pool as by_pool}
 use Rattle.ic_attend.proofs.laws.runners_end_so.Goals as goal
 
 of_flight : (workers : ℕ) (fault : PoolFault) → IsTrue (is_of_flight fault) → EndMayBe workers (by_pool fault) → ⊥
-of_flight workers of_pool.NoWorkers of may = absurd (let no : false ≡ true = of in cc)
 of_flight workers of_pool.Overgrown of may = may
 of_flight workers of_pool.NamesOut of may = may
-of_flight workers of_pool.NoThread of may = absurd (let no : false ≡ true = of in cc)
-of_flight workers of_pool.Memory of may = absurd (let no : false ≡ true = of in cc)
-of_flight workers of_pool.Lost of may = absurd (let no : false ≡ true = of in cc)
-of_flight workers of_pool.Stranger of may = absurd (let no : false ≡ true = of in cc)
 of_flight workers of_pool.RoundsOut of may = may
+of_flight workers _ of may = absurd (let no : false ≡ true = of in cc)
 
 told_end : {D : Type 0} {ghosts : Ghosts D} (workers : ℕ) (book : TheBook D ghosts) (end : RunnerEnd) → EndTells workers book end → EndMayBe workers end
-told_end workers book Idle told = tt
-told_end workers book Turns told = tt
-told_end workers book (by_book Broken) told = tt
-told_end workers book (by_book LogFull) told = tt
 told_end workers book (by_book Worn) told = told
-told_end workers book (by_book Memory) told = tt
 told_end workers book (by_book Device) told = told
 told_end workers book (by_pool fault) told = told
+told_end workers book _ told = tt
 
 pub returns-clause-book : goal.returns-clause-book
 returns-clause-book g c = λ workers. (λ may. may, λ may. may)

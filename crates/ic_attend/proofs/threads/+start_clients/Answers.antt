@@ -2,9 +2,10 @@ use Rattle.std.proofs.Common.{◌≡◌, List, [], ◌∷◌, ◌++◌, not, map
 use Rattle.std.proofs.lemmas.List.{map-append, length_push}
 use Rattle.ic_jobs.specs.declared.command.Command.{Command}
 use Rattle.std.specs.List.{All}
+use Rattle.std.proofs.lemmas.Bool.{and_parts}
 use Rattle.ic_attend.specs.Clients.{Follows, KeepsTo}
 use Rattle.ic_attend.specs.Ends.{EndMayBe}
-use Rattle.ic_attend.proofs.PartLemmas.{both_true, keeps_to, runs_more}
+use Rattle.ic_attend.proofs.PartLemmas.{keeps_to, runs_more}
 use Rattle.ic_attend.proofs.threads.+start_clients.Goals as goal
 
 pub returns-clause-gathered : goal.returns-clause-gathered
@@ -27,7 +28,7 @@ returns-clause-gathered g t c =
           let said : Follows script.items run = subst (λ (l : List Command). Follows l run) same speaks.follows in
           rw (all, c.add_speech.ensures.answers) (runs_more Follows before old.answers.items script.items run rec.followed said);
       runs = λ complete.
-          let parts = both_true old.complete (not c.hear-speech.result.stopped) (sym c.add_speech.ensures.complete ∙ complete) in
+          let parts = and_parts old.complete (not c.hear-speech.result.stopped) (sym c.add_speech.ensures.complete ∙ complete) in
           let one : KeepsTo script.items run = keeps_to c.of-commands.result.value.items script.items c.hear-speech.result same speaks parts.1 in
           rw (all, c.add_speech.ensures.answers) (runs_more KeepsTo before old.answers.items script.items run (rec.runs parts.0) one);
     }
