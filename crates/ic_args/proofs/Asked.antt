@@ -18,7 +18,7 @@ use Rattle.ic_args.specs.declared.words.TextWord.{TextWord}
 use Rattle.ic_args.specs.declared.words.ReportFormat.{ReportFormat}
 use Rattle.ic_args.specs.declared.words.ReportFormat.TheVariants as check
 use Rattle.ic_args.specs.declared.words.TraceFormat.{TraceFormat}
-use Rattle.ic_args.specs.declared.words.TraceFormat.TheVariants.{Tsv, Svg, Json}
+use Rattle.ic_args.specs.declared.words.TraceFormat.TheVariants.{Tsv, Json}
 use Rattle.ic_args.specs.declared.words.TextLimits.{TextLimits}
 use Rattle.ic_args.specs.declared.words.TextLimits.TheVariants.{Served, Wide}
 use Rattle.ic_args.specs.declared.words.FiguresFormat.{FiguresFormat}
@@ -38,8 +38,7 @@ pub record IsAnswer (words : List Text) (r : Result Task WordsFault) : Type 0 wh
 
 format_is : (format : TraceFormat) → is_format (format_word format) ≡ true
 format_is Tsv = refl
-format_is Svg = refl
-format_is Json = refl
+format_is _ = refl
 
 limits_is : (limits : TextLimits) → is_limits (limits_word limits) ≡ true
 limits_is Served = refl
@@ -234,18 +233,6 @@ not_taken words kind (Ok (Version text)) made is =
       help = λ alone. absurd (help_or_version (sym (asked_alone _ _ _ _ help_asked alone mistake)));
       version = λ alone. (text, refl, is.1);
     }
-not_taken words kind (Ok (task.Text word file)) made is = absurd is
-not_taken words kind (Ok (Create disk overwrite)) made is = absurd is
-not_taken words kind (Ok (Serve disk workers every explain)) made is = absurd is
-not_taken words kind (Ok (Attend disk runners turns workers scripts)) made is = absurd is
-not_taken words kind (Ok (Reduce workers steps nodes partial stats limits format quiet file)) made is = absurd is
-not_taken words kind (Ok (ReduceKept disk begins seconds steps nodes partial stats format quiet file)) made is = absurd is
-not_taken words kind (Ok (ReduceByRounds rounds workers partial file)) made is = absurd is
-not_taken words kind (Ok (Trace rounds format file)) made is = absurd is
-not_taken words kind (Ok (Dump disk names)) made is = absurd is
-not_taken words kind (Ok (Inspect disk format)) made is = absurd is
-not_taken words kind (Ok (Check files format script)) made is = absurd is
-not_taken words kind (Ok (Batch disk rounds every workers lines)) made is = absurd is
 not_taken words kind (Err (Words text)) made is =
     let mistake = made is.0 in
     record {
@@ -256,3 +243,4 @@ not_taken words kind (Err (Words text)) made is =
       version = λ alone. absurd (is.2 (asked_alone _ _ _ _ version_asked alone mistake));
     }
 not_taken words kind (Err Memory) made is = record { answers = tt; named = tt; alone = λ word is. tt; help = λ alone. tt; version = λ alone. tt }
+not_taken words kind _ made is = absurd is

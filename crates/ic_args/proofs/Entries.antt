@@ -1,7 +1,7 @@
 -- The options of a command as rows of its entry: how the parser finds them by their names.
 use Rattle.std.proofs.Common.{◌≡◌, ◌==◌, zero, suc, arith, List, [], ◌∷◌, ◌++◌, Bool, true, false, ◌&&◌, ◌||◌, not, cond, Option, None, Some, codes, find, map, option_map, refl, sym, ◌∙◌, ap, ap₂, true≢false, leb}
 use Rattle.std.specs.List.{list_all}
-use Rattle.std.proofs.lemmas.Bool.{eq-eqb}
+use Rattle.std.proofs.lemmas.Bool.{eq-eqb, and_parts, not-true, or_parts}
 use Rattle.std.specs.Prelude.{option_and_then}
 use Rattle.std.specs.Str.{bytes_eq}
 use Rattle.std.proofs.lemmas.Slice.Eq.{bytes_eq-Decides}
@@ -77,37 +77,25 @@ is_sound (an_option name kind default needed) = is_name name && (kind_fits kind 
 
 -- ---- tests
 
-pub both_true : (a b : Bool) → (a && b) ≡ true → (a ≡ true) × (b ≡ true)
-both_true true b is = (refl, is)
-both_true false b is = absurd (true≢false (sym is))
-
-pub not_true : (b : Bool) → not b ≡ true → b ≡ false
-not_true true is = absurd (true≢false (sym is))
-not_true false is = refl
-
-neither : (a b : Bool) → (a || b) ≡ false → (a ≡ false) × (b ≡ false)
-neither true b is = absurd (true≢false is)
-neither false b is = (refl, is)
-
 -- what holds of all holds of one that is found
 pub one_of_all : {X : Type 0} (xs : List X) (p q : X → Bool) (x : X) → find p xs ≡ Some x → list_all q xs ≡ true → q x ≡ true
 one_of_all [] p q x is all = cc
 one_of_all (y ∷ ys) p q x is all = go (p y) (one_of_all ys p q x) is
   where
     go : (b : Bool) → (find p ys ≡ Some x → list_all q ys ≡ true → q x ≡ true) → cond b (Some y) (find p ys) ≡ Some x → q x ≡ true
-    go true rest is = let same : y ≡ x = cc in ap q (sym same) ∙ (both_true (q y) (list_all q ys) all).0
-    go false rest is = rest is (both_true (q y) (list_all q ys) all).1
+    go true rest is = let same : y ≡ x = cc in ap q (sym same) ∙ (and_parts (q y) (list_all q ys) all).0
+    go false rest is = rest is (and_parts (q y) (list_all q ys) all).1
 
 -- an option differs from those after it, and from what stands after them
 pub apart_parts : (x : Choice) (xs : List Choice) (aside : Text) → are_apart (x ∷ xs) aside ≡ true
     → (differ (name_of x) xs ≡ true) × (bytes_eq (name_of x) aside ≡ false) × (are_apart xs aside ≡ true)
 apart_parts x xs aside apart =
-    let parts = both_true (differ (name_of x) xs) (not (bytes_eq (name_of x) aside) && are_apart xs aside) apart in
-    let more = both_true (not (bytes_eq (name_of x) aside)) (are_apart xs aside) parts.1 in
-    (parts.0, not_true _ more.0, more.1)
+    let parts = and_parts (differ (name_of x) xs) (not (bytes_eq (name_of x) aside) && are_apart xs aside) apart in
+    let more = and_parts (not (bytes_eq (name_of x) aside)) (are_apart xs aside) parts.1 in
+    (parts.0, not-true _ more.0, more.1)
 
 pub differ_parts : (name : Text) (x : Choice) (xs : List Choice) → differ name (x ∷ xs) ≡ true → (bytes_eq (name_of x) name ≡ false) × (differ name xs ≡ true)
-differ_parts name x xs apart = let parts = both_true (not (bytes_eq (name_of x) name)) (differ name xs) apart in (not_true _ parts.0, parts.1)
+differ_parts name x xs apart = let parts = and_parts (not (bytes_eq (name_of x) name)) (differ name xs) apart in (not-true _ parts.0, parts.1)
 
 pub aside_differs : (options : List Choice) (aside : Text) → are_apart options aside ≡ true → differ aside options ≡ true
 aside_differs [] aside apart = refl
@@ -137,7 +125,7 @@ default_value name options = option_and_then default_of (choice_named name optio
 
 pub choice_apart : (options : List Choice) (aside : Text) → are_apart options aside ≡ true → (name : Text) (x : Choice) → choice_named name options ≡ Some x → bytes_eq (name_of x) aside ≡ false
 choice_apart options aside apart name x is =
-    not_true _ (one_of_all options (λ (y : Choice). bytes_eq (name_of y) name) (λ (y : Choice). not (bytes_eq (name_of y) aside)) x is (aside_differs options aside apart))
+    not-true _ (one_of_all options (λ (y : Choice). bytes_eq (name_of y) name) (λ (y : Choice). not (bytes_eq (name_of y) aside)) x is (aside_differs options aside apart))
 
 pub choice_sound : (options : List Choice) → list_all is_sound options ≡ true → (name : Text) (x : Choice) → choice_named name options ≡ Some x → is_sound x ≡ true
 choice_sound options sound name x is = one_of_all options (λ (y : Choice). bytes_eq (name_of y) name) is_sound x is sound
@@ -146,13 +134,13 @@ choice_sound options sound name x is = one_of_all options (λ (y : Choice). byte
 
 lacks : (name : Text) → has_byte 61 name ≡ false → Lacks 61 name
 lacks [] none i below = absurd (omega arith)
-lacks (x ∷ xs) none zero below = λ same. true≢false (sym (eq-eqb x 61 same) ∙ (neither _ _ none).0)
-lacks (x ∷ xs) none (suc i) below = lacks xs (neither (x == 61) _ none).1 i (omega arith)
+lacks (x ∷ xs) none zero below = λ same. true≢false (sym (eq-eqb x 61 same) ∙ (or_parts _ _ none).0)
+lacks (x ∷ xs) none (suc i) below = lacks xs (or_parts (x == 61) _ none).1 i (omega arith)
 
 pub spelled : (name : Text) → is_name name ≡ true → IsSpelled name
 spelled [] is = absurd (true≢false (sym is))
 spelled (x ∷ xs) is =
-    let free = lacks (x ∷ xs) (not_true _ is) in
+    let free = lacks (x ∷ xs) (not-true _ is) in
     record { joined = λ v. (refl, ap Some (name_and_value-at (x ∷ xs) v free)); alone = (refl, ap Some (name_and_value-without (x ∷ xs) free)) }
 
 -- ---- the rule of a name

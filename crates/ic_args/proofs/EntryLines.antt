@@ -4,6 +4,8 @@ use Rattle.std.specs.Prelude.{find, option_and_then, option_map}
 use Rattle.std.specs.List.{AllByRecursion, list_all, list_any}
 use Rattle.std.specs.Str.{bytes_eq}
 use Rattle.std.proofs.lemmas.Slice.Eq.{bytes_eq-Decides}
+use Rattle.std.proofs.lemmas.Bool.{and_parts}
+use Rattle.std.proofs.Math.Bool.{and-false}
 use Rattle.clap.specs.Words.{Kinds, Row, Rule, Shape, Text, all_of, fault_of, first_of, subcommand_of}
 use Rattle.clap.specs.Simple.{new_shape}
 use Rattle.clap.specs.Takes.{is_given}
@@ -18,7 +20,7 @@ use Rattle.ic_args.specs.Lines.{ArePlain, AreWrittenBy, Given, Gives, given_valu
 use Rattle.ic_args.specs.inner.Asking.{IsMet}
 use Rattle.ic_args.proofs.Accepted.{accepted}
 use Rattle.ic_args.proofs.Arguments.{HaveNoDefault, IsGivenBy, IsPlainWord, ReadsArgument, first_shown, found_after, hyphen_alone, many_read, no_hyphen, none_after, none_first, none_kept, none_read, one_argument, one_read, plain_word, range_none, range_some, same_id, several_argument, shown_of}
-use Rattle.ic_args.proofs.Entries.{after_options, apart_parts, are_apart, aside_differs, both_true, built_choice, choice_apart, choice_sound, default_of, default_passes, default_value, differ, differ_parts, id_is, is_name, is_sound, kind_fits, named_so, reader, rule_after, rule_by_id, rule_by_index, rule_by_long, rules_of, spelled, tail_name}
+use Rattle.ic_args.proofs.Entries.{after_options, apart_parts, are_apart, aside_differs, built_choice, choice_apart, choice_sound, default_of, default_passes, default_value, differ, differ_parts, id_is, is_name, is_sound, kind_fits, named_so, reader, rule_after, rule_by_id, rule_by_index, rule_by_long, rules_of, spelled, tail_name}
 use Rattle.ic_args.proofs.Flags.{built_flag, flag_free}
 use Rattle.ic_args.proofs.LineEnds.{IsHarmless, either_none, entered_after, given_row, given_there, last_found, or_none, text}
 use Rattle.ic_args.proofs.LineRows.{default_found, first_value, found_in, fresh_first, given_found, not_given}
@@ -63,9 +65,8 @@ module _ (base : Shape) (c : List Rule) (name : Text) (by_long : arg_by_long c n
 -- ---- what is said of all arguments of a command
 
 defaults_of : (x : Choice) → (built_choice x).defaults ≡ listed (default_of x)
-defaults_of (a_flag name) = refl
 defaults_of (an_option name kind None needed) = refl
-defaults_of (an_option name kind (Some v) needed) = refl
+defaults_of _ = refl
 
 -- no option of another name has a default of this one
 module _ (more : List Rule) (name : Text) (plain : HaveNoDefault name more) where
@@ -105,20 +106,16 @@ module _ (more : List Rule) (beyond : AllByRecursion IsHarmless more) where
   pub harmless_all : (options : List Choice) → list_all is_sound options ≡ true → AllByRecursion IsHarmless (map built_choice options ++ more)
   unfolding clap_on_literals
   harmless_all [] sound = beyond
-  harmless_all (a_flag n ∷ xs) sound = ((λ rows. or_none _ _ refl), harmless_all xs (both_true (is_name n) _ sound).1)
-  harmless_all (an_option n kind None needed ∷ xs) sound = ((λ rows. either_none _ _), harmless_all xs (both_true (is_sound (an_option n kind None needed)) _ sound).1)
+  harmless_all (a_flag n ∷ xs) sound = ((λ rows. or_none _ _ refl), harmless_all xs (and_parts (is_name n) _ sound).1)
+  harmless_all (an_option n kind None needed ∷ xs) sound = ((λ rows. either_none _ _), harmless_all xs (and_parts (is_sound (an_option n kind None needed)) _ sound).1)
   harmless_all (an_option n kind (Some v) needed ∷ xs) sound =
-      let parts = both_true (is_sound (an_option n kind (Some v) needed)) (list_all is_sound xs) sound in
-      let passes = (both_true (kind_fits kind) _ (both_true (is_name n) _ parts.0).1).1 in
+      let parts = and_parts (is_sound (an_option n kind (Some v) needed)) (list_all is_sound xs) sound in
+      let passes = (and_parts (kind_fits kind) _ (and_parts (is_name n) _ parts.0).1).1 in
       ((λ rows. or_none _ _ (ap (λ (b : Bool). or_else (cond b [] (refused_kind (reader kind) ∷ [])) []) passes)), harmless_all xs parts.1)
 
 -- an argument that isn't missing at the end: it needn't be given, or is
 abbrev pub IsThere : List Row → Rule → Type 0
 IsThere rows a = (a.required ≡ false) ⊎ (is_given a.id rows ≡ true)
-
-and_false : (b : Bool) → (b && false) ≡ false
-and_false true = refl
-and_false false = refl
 
 none_missing : (rows : List Row) (c : List Rule) → AllByRecursion (IsThere rows) c → list_any (λ (a : Rule). a.required && not (is_given a.id rows)) c ≡ false
 none_missing rows [] there = refl
@@ -126,7 +123,7 @@ none_missing rows (a ∷ c) there = ap₂ (λ (x y : Bool). x || y) (one there.0
   where
     one : IsThere rows a → (a.required && not (is_given a.id rows)) ≡ false
     one (inl is) = ap (λ (b : Bool). b && not (is_given a.id rows)) is
-    one (inr is) = ap (λ (b : Bool). a.required && not b) is ∙ and_false a.required
+    one (inr is) = ap (λ (b : Bool). a.required && not b) is ∙ and-false a.required
 
 -- options that have to be given are
 abbrev pub HasNeeded : List Given → List Choice → Type 0
@@ -157,13 +154,11 @@ is_needed (many_words name needed) = needed
 
 pub tail_plain : (tail : Tail) (id : Text) → HaveNoDefault id (after_options tail)
 tail_plain no_words id = (inr refl, tt)
-tail_plain (one_word name needed) id = (inr refl, (inr refl, tt))
-tail_plain (many_words name needed) id = (inr refl, (inr refl, tt))
+tail_plain _ id = (inr refl, (inr refl, tt))
 
 tail_harmless : (tail : Tail) → AllByRecursion IsHarmless (after_options tail)
 tail_harmless no_words = ((λ rows. either_none _ _), tt)
-tail_harmless (one_word name needed) = ((λ rows. either_none _ _), ((λ rows. either_none _ _), tt))
-tail_harmless (many_words name needed) = ((λ rows. either_none _ _), ((λ rows. either_none _ _), tt))
+tail_harmless _ = ((λ rows. either_none _ _), ((λ rows. either_none _ _), tt))
 
 given_word : (c : List Rule) (id : Text) (rest : List Text) (rows : List Row) → rest ≢ [] → IsGivenBy id rest rows → is_given id (fold with_default rows c) ≡ true
 given_word c id [] rows some given = absurd (some refl)
@@ -172,10 +167,9 @@ given_word c id (v ∷ vs) rows some given = given_row id (fold with_default row
 tail_there : (c : List Rule) (tail : Tail) (rest : List Text) (rows : List Row) → (is_needed tail ≡ true → rest ≢ []) → IsGivenBy (tail_name tail) rest rows
     → AllByRecursion (IsThere (fold with_default rows c)) (after_options tail)
 tail_there c no_words rest rows some given = (inl refl, tt)
-tail_there c (one_word name false) rest rows some given = (inl refl, (inl refl, tt))
 tail_there c (one_word name true) rest rows some given = (inr (given_word c name rest rows (some refl) given), (inl refl, tt))
-tail_there c (many_words name false) rest rows some given = (inl refl, (inl refl, tt))
 tail_there c (many_words name true) rest rows some given = (inr (given_word c name rest rows (some refl) given), (inl refl, tt))
+tail_there c _ rest rows some given = (inl refl, (inl refl, tt))
 
 module _ (base : Shape) (options : List Choice) where
   abbrev options_and_tail : Tail → List Rule
@@ -251,10 +245,10 @@ module _ (entry : Entry) (known : IsKnown entry) where
           let x = an_option n kind default needed in
           let named : n ≡ g.name = named_so options g.name x is in
           let found = ap (λ (t : Text). choice_named t options) named ∙ is in
-          let parts = both_true (is_name n) (kind_fits kind && default_passes kind default) (choice_sound options known.sound g.name x is) in
+          let parts = and_parts (is_name n) (kind_fits kind && default_passes kind default) (choice_sound options known.sound g.name x is) in
           given_as base c n default (reader kind) needed (rule_by_long after options n x found) (rule_by_id after options n x found) (same_id n)
           (spelled n parts.0) aside (choice_apart options aside known.apart g.name x is) g (sym named) words how.1 h settles none
-          (takes_value kind g.value (both_true (kind_fits kind) (default_passes kind default) parts.1).0 how.0)
+          (takes_value kind g.value (and_parts (kind_fits kind) (default_passes kind default) parts.1).0 how.0)
 
   -- no option is named as what stands after them
   given_apart : (g : Given) (words : List Text) → IsOneOf options g words → bytes_eq g.name aside ≡ false

@@ -108,11 +108,10 @@ given_found (g ∷ gs) (r ∷ rs) name value are gives = go (bytes_eq g.name nam
 
 pub not_given : (gs : List Given) (rows : List Row) (name : Text) → AreRowsOf gs rows → HasNone gs name → has_row name rows ≡ false
 not_given [] [] name are none = refl
-not_given [] (r ∷ rs) name are none = absurd are
-not_given (g ∷ gs) [] name are none = absurd are
 not_given (g ∷ gs) (r ∷ rs) name are none =
     let parts = none_parts g gs name none in
     ap₂ (λ a b. a || b) (ap (λ n. bytes_eq n name) are.0.0 ∙ parts.0) (not_given gs rs name are.1 parts.1)
+not_given _ _ name are none = absurd are
 
 -- ---- defaults
 

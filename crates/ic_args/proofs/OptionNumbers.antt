@@ -5,16 +5,17 @@ use Rattle.std.specs.List.{AllByRecursion}
 use Rattle.std.specs.Str.{bytes_eq}
 use Rattle.std.specs.Str.Parse.{digits_value, without_leading_plus}
 use Rattle.std.proofs.lemmas.Slice.Eq.{bytes_eq-Decides}
+use Rattle.std.proofs.lemmas.Bool.{and_parts}
 use Rattle.clap.specs.Words.{Rule, Row, Shape, Text, fault_of, subcommand_of}
 use Rattle.clap.specs.Values.{Accepts, refused_kind}
 use Rattle.clap.specs.ValueTests.{accepts}
 use Rattle.clap.proofs.ValueTestLemmas.{accepts-Accepts}
 use Rattle.clap.specs.Walk.{has_row, nothing_held, settled, walk, with_default}
 use Rattle.clap.specs.declared.builder.value_parser.ValueParser.TheVariants as vp
-use Rattle.ic_args.specs.Words.{BeginsWith, Choice, Entry, IsNumberIfGiven, IsNumberOf, IsNumberOr, Tail, a_flag, a_number, an_option, choice_named, command_line, name_of, is_given, many_words, no_words, one_word, value_met}
+use Rattle.ic_args.specs.Words.{BeginsWith, Choice, Entry, IsNumberIfGiven, IsNumberOf, IsNumberOr, Tail, a_flag, a_number, an_option, choice_named, command_line, name_of, is_given, no_words, value_met}
 use Rattle.ic_args.specs.Lines.{IsWithin}
 use Rattle.ic_args.specs.inner.Asking.{IsReadFrom, IsReadIfGiven, IsReadOr}
-use Rattle.ic_args.proofs.Entries.{after_options, apart_parts, are_apart, both_true, built_choice, choice_apart, choice_sound, default_of, differ, differ_parts, is_name, kind_fits, rules_of, tail_name}
+use Rattle.ic_args.proofs.Entries.{after_options, apart_parts, are_apart, built_choice, choice_apart, choice_sound, default_of, differ, differ_parts, is_name, kind_fits, rules_of, tail_name}
 use Rattle.ic_args.proofs.LineRows.{apart_other_way}
 use Rattle.ic_args.proofs.EntryLines.{IsKnown, defaults_are, leaf, tail_plain}
 use Rattle.ic_args.proofs.LineEnds.{text}
@@ -48,8 +49,7 @@ module _ (name : Text) (least most : ℕ) (default : Option Text) (needed : Bool
 
   tail_typed : (tail : Tail) → bytes_eq (tail_name tail) name ≡ false → bytes_eq (codes "help") name ≡ false → AllByRecursion IsTyped (after_options tail)
   tail_typed no_words other help = ((refl, λ same. absurd (true≢false (sym same ∙ help))), tt)
-  tail_typed (one_word id must) other help = ((refl, λ same. absurd (true≢false (sym same ∙ other))), ((refl, λ same. absurd (true≢false (sym same ∙ help))), tt))
-  tail_typed (many_words id must) other help = ((refl, λ same. absurd (true≢false (sym same ∙ other))), ((refl, λ same. absurd (true≢false (sym same ∙ help))), tt))
+  tail_typed _ other help = ((refl, λ same. absurd (true≢false (sym same ∙ other))), ((refl, λ same. absurd (true≢false (sym same ∙ help))), tt))
 
   module _ (more : List Rule) (after : AllByRecursion IsTyped more) where
     others_typed : (options : List Choice) → differ name options ≡ true → AllByRecursion IsTyped (map built_choice options ++ more)
@@ -128,7 +128,7 @@ module _ (entry : Entry) (known : IsKnown entry) (words : List Text) (none : fau
       accepted : accepts false (vp.Unsigned least most) v ≡ true
       accepted =
           let sound = choice_sound entry.options known.sound name (an_option name (a_number least most) (Some v) false) is in
-          (both_true (kind_fits (a_number least most)) _ (both_true (is_name name) _ sound).1).1
+          (and_parts (kind_fits (a_number least most)) _ (and_parts (is_name name) _ sound).1).1
 
       go : (value_met name met ≡ v) ⊎ IsWithin least most (value_met name met) → IsWithin least most (value_met name met)
       go (inl same) = subst (IsWithin least most) (sym same) (within least most v accepted)

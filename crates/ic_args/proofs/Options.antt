@@ -9,7 +9,7 @@ use Rattle.clap.specs.Kinds.{value_kinds}
 use Rattle.clap.specs.Walk.{action_of, has_row, more_values, nothing_held, reading_by, settled, used, used_as, values_or_missing, walk, walk_from, with_values, without}
 use Rattle.clap.specs.Faults.{level_fault, settle_fault, use_fault, walk_fault}
 use Rattle.clap.specs.declared.builder.action.ArgAction.{ArgAction}
-use Rattle.clap.specs.declared.builder.action.ArgAction.TheVariants.{Set, Append, SetTrue, SetFalse, Count, Help, HelpShort, HelpLong, Version}
+use Rattle.clap.specs.declared.builder.action.ArgAction.TheVariants.{Set, Append, SetTrue, SetFalse, Count}
 use Rattle.clap.specs.declared.builder.value_parser.Reading.{Reading}
 use Rattle.clap.specs.declared.builder.value_parser.ValueParser.{ValueParser}
 use Rattle.clap.specs.declared.parser.matches.ValueSource.{ValueSource}
@@ -72,10 +72,7 @@ module _ (target : Text) (q : ValueParser) (default : Option Text) (needed : Boo
   by_action SetFalse id how vs rows single first good = with_good id how CommandLine vs (without id rows) first (without_good id rows good)
   by_action Append id how vs rows single first good = with_good id how CommandLine vs rows first good
   by_action Count id how vs rows single first good = absurd (true≢false single)
-  by_action Help id how vs rows single first good = good
-  by_action HelpShort id how vs rows single first good = good
-  by_action HelpLong id how vs rows single first good = good
-  by_action Version id how vs rows single first good = good
+  by_action _ id how vs rows single first good = good
 
   first_used : (values : List Text) (rows : List Row) → use_fault false own values rows ≡ [] → First q (values_or_missing own values)
   first_used [] rows e = absurd (fails _ _ e)

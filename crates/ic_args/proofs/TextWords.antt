@@ -7,7 +7,7 @@ use Rattle.ic_args.specs.Words.{command_line, file_met, is_text_word, own_faults
 use Rattle.ic_args.specs.Lines.{IsTextLine}
 use Rattle.ic_args.specs.inner.Asking.{IsMet}
 use Rattle.ic_args.specs.declared.words.TextWord.{TextWord}
-use Rattle.ic_args.specs.declared.words.TextWord.TheVariants.{Settle, Once, Draw, Expand}
+use Rattle.ic_args.specs.declared.words.TextWord.TheVariants.{Settle}
 use Rattle.ic_args.proofs.Entries.{rules_of}
 use Rattle.ic_args.proofs.EntryLines.{file_is, file_rest, leaf, taken}
 use Rattle.ic_args.proofs.WordsExact.{IsCommand}
@@ -29,9 +29,7 @@ pub record IsWord (word : TextWord) : Type 0 where
 
 pub is_word : (word : TextWord) → IsWord word
 is_word Settle = record { found = refl; one = refl; own = refl; command = record { is = refl; enters = λ rest. refl; meets = λ rest. refl } }
-is_word Once = record { found = refl; one = refl; own = refl; command = record { is = refl; enters = λ rest. refl; meets = λ rest. refl } }
-is_word Draw = record { found = refl; one = refl; own = refl; command = record { is = refl; enters = λ rest. refl; meets = λ rest. refl } }
-is_word Expand = record { found = refl; one = refl; own = refl; command = record { is = refl; enters = λ rest. refl; meets = λ rest. refl } }
+is_word _ = record { found = refl; one = refl; own = refl; command = record { is = refl; enters = λ rest. refl; meets = λ rest. refl } }
 
 pub same_word : (one other : TextWord) → text_word one ≡ text_word other → one ≡ other
 same_word one other is = let e : Some one ≡ Some other = sym (is_word one).found ∙ ap word_of is ∙ (is_word other).found in cc

@@ -75,11 +75,10 @@ short_refused again false false rest next e = cc
 
 long_refused : (again is_help is_version : Bool) (text : Option Text)
     → long_fault rules again (argument_of is_help is_version) text nothing_held ≡ [] → ⊥
-long_refused again true v None e = cc
 long_refused again true v (Some t) e = cc
 long_refused again false true None e = cc
 long_refused again false true (Some t) e = cc
-long_refused again false false text e = cc
+long_refused again _ _ _ e = cc
 
 -- what a word is held to be, after the fault that it may have itself
 abbrev word_kinds : Kinds → Held × Step → Kinds

@@ -160,11 +160,10 @@ reduce_wrong met wrong = go (asks_rounds met) (asks_in_place met) wrong
   where
     place : (c k f w l : Bool) → place_by c k f w l ≢ [] → (kind : ErrorKind) × (place_by c k f w l ≡ kind ∷ []) × IsMistake kind
     place true k f w l other = (ArgumentConflict, refl, ((λ e. cc), λ e. cc))
-    place false true true w l other = absurd (other refl)
     place false true false w l other = (InvalidValue, refl, ((λ e. cc), λ e. cc))
     place false false f true l other = (MissingRequiredArgument, refl, ((λ e. cc), λ e. cc))
-    place false false f false true other = absurd (other refl)
     place false false f false false other = (InvalidValue, refl, ((λ e. cc), λ e. cc))
+    place false _ _ _ _ other = absurd (other refl)
 
     go : (r p : Bool) → faults_by r p (place_of met) ≢ [] → (kind : ErrorKind) × (faults_by r p (place_of met) ≡ kind ∷ []) × IsMistake kind
     go false p other = place (clashes met) (asks_kept met) (is_figures (figures_met met)) (is_given (codes "seconds") met) (are_known met) other
@@ -188,10 +187,6 @@ pub value_read : (option : Text) (met : Option (Text × List Row)) (found : Foun
     → Some (rows_of found) ≡ option_map (λ (p : Text × List Row). p.1) met
     → option_map (λ s. s.now) read ≡ first_value found option → option_map (λ s. s.now) read ≡ value_if_met option met
 value_read option met found read rows is = is ∙ first_value-rows found option ∙ sym (value_of_rows option met (rows_of found) rows)
-
-pub value_missing : (option : Text) (met : Option (Text × List Row)) → None ≡ option_map (λ (p : Text × List Row). p.1) met → None ≡ value_if_met option met
-value_missing option None is = refl
-value_missing option (Some p) is = cc
 
 -- ---- the values of an argument
 
