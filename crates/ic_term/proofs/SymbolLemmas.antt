@@ -69,10 +69,8 @@ pub with_symbol-new : (ss : List Symbol) (text : List ℕ) (arity : ℕ) → num
 with_symbol-new ss text arity none = rw none refl
 
 pub answers_same : (r s : Result ℕ SymbolFault) → r ≡ s → Answers r s
-answers_same (Ok n) s e = e
-answers_same (Err Limit) s e = e
-answers_same (Err (Arity n)) s e = e
 answers_same (Err Memory) s e = tt
+answers_same _ s e = e
 
 AllByRecursion-push : {X : Type 0} (P : X → Type 0) (xs : List X) (y : X) → AllByRecursion P xs → P y → AllByRecursion P (xs ++ y ∷ [])
 AllByRecursion-push P [] y each here = (here, tt)

@@ -1,5 +1,5 @@
 -- How often a name stands in a list, and the first name that stands there for the third time.
-use Rattle.std.proofs.Common.{◌≡◌, ℕ, zero, suc, ◌+◌, ◌<◌, ◌≤◌, ◌==◌, List, [], ◌∷◌, ◌++◌, Option, None, Some, unwrap_or, length, get_or, take, drop, refl, sym, ◌∙◌, ap, cond, append_assoc, add-one, add-zero, arith, drop-cons, ◌⊎◌, inl, inr, subst}
+use Rattle.std.proofs.Common.{◌≡◌, ℕ, suc, ◌+◌, ◌<◌, ◌≤◌, ◌==◌, List, [], ◌∷◌, ◌++◌, Option, None, Some, unwrap_or, length, get_or, take, drop, refl, sym, ◌∙◌, ap, cond, append_assoc, add-one, add-zero, arith, drop-cons, ◌⊎◌, inl, inr, subst}
 use Rattle.std.specs.Cmp.{unsigned_Decides}
 use Rattle.std.proofs.lemmas.Bool.{cases_Bool, eqb-true}
 use Rattle.std.proofs.lemmas.Grind.{common_steps}
@@ -32,9 +32,8 @@ pub occurrences_more : (q : ℕ) (names : List ℕ) (i : ℕ) → i < length nam
 occurrences_more q names i within below few = rw (take_more names i 0 within) (occurrences_next q (take i names) (get_or names i 0) below few)
 
 below_two : (k : ℕ) → (k < 2) ⊎ (2 ≤ k)
-below_two zero = inl (omega arith)
-below_two (suc zero) = inl (omega arith)
 below_two (suc (suc k)) = inr (omega arith)
+below_two _ = inl (omega arith)
 
 -- where no name stands there for the third time, each stands there at most twice
 pub twice_from_none : (seen ns : List ℕ) → third_from seen ns ≡ None → ((q : ℕ) → occurrences q seen ≤ 2) → (q : ℕ) → occurrences q (seen ++ ns) ≤ 2

@@ -1,19 +1,13 @@
 -- The test of equality of configurations is equality.
-use Rattle.std.specs.Prelude.{◌≡◌, ◌==◌, Bool, true, false, ◌&&◌, refl}
+use Rattle.std.specs.Prelude.{◌≡◌, ◌==◌, true, refl}
 use Rattle.std.specs.Bool.{Decides}
 use Rattle.std.specs.Cmp.{IsEquivalence, decided, unsigned_Decides}
 use Rattle.std.specs.Cmp.Lexicographic.{pointwise, pointwise_decides}
 use Rattle.std.proofs.Common.{sym, ◌∙◌, ap}
+use Rattle.std.proofs.lemmas.Bool.{and_parts, and_from}
 use Rattle.ic_term.specs.Tree.{tree_eq, pair_eq}
 use Rattle.ic_term.specs.lemmas.TreeLaws.{tree_eq-Decides, pair_eq-Decides}
 use Rattle.ic_term.specs.Configuration.{Configuration, configuration_eq}
-
-and_parts : (a b : Bool) → (a && b) ≡ true → (a ≡ true) × (b ≡ true)
-and_parts true b e = (refl, e)
-and_parts false b e = cc
-
-both : (a b : Bool) → a ≡ true → b ≡ true → (a && b) ≡ true
-both a b ea eb = rw (ea, eb) refl
 
 configuration_eq-true : (c d : Configuration) → configuration_eq c d ≡ true → c ≡ d
 configuration_eq-true c d e =
@@ -26,7 +20,7 @@ configuration_eq-true c d e =
 
 configuration_eq-refl : (c : Configuration) → configuration_eq c c ≡ true
 configuration_eq-refl c =
-    both _ _ (both _ _ ((unsigned_Decides c.next c.next).1 refl) ((pointwise_decides tree_eq-Decides c.interface c.interface).1 refl))
+    and_from _ _ (and_from _ _ ((unsigned_Decides c.next c.next).1 refl) ((pointwise_decides tree_eq-Decides c.interface c.interface).1 refl))
     ((pointwise_decides pair_eq-Decides c.equations c.equations).1 refl)
 
 pub configuration_eq-Decides : (c d : Configuration) → Decides (configuration_eq c d) (c ≡ d)

@@ -22,21 +22,19 @@ abbrev mutual
 mutual
   pub tree_code-injective : (t u : Tree) → tree_code t ≡ tree_code u → t ≡ u
   tree_code-injective (name m) (name n) e = cc
-  tree_code-injective (name m) (agent r us) e = cc
-  tree_code-injective (agent s ts) (name n) e = cc
   tree_code-injective (agent s ts) (agent r us) e =
       let codes_equal : trees_code ts ≡ trees_code us = cc in
       let below = trees_code-injective ts us codes_equal in cc
+  tree_code-injective _ _ e = cc
 
   pub trees_code-injective : (ts us : Trees) → trees_code ts ≡ trees_code us → ts ≡ us
   trees_code-injective no_trees no_trees e = refl
-  trees_code-injective no_trees (more_trees u us) e = cc
-  trees_code-injective (more_trees t ts) no_trees e = cc
   trees_code-injective (more_trees t ts) (more_trees u us) e =
       let heads : tree_code t ≡ tree_code u = cc in
       let tails : trees_code ts ≡ trees_code us = cc in
       let first = tree_code-injective t u heads in
       let rest = trees_code-injective ts us tails in cc
+  trees_code-injective _ _ e = cc
 
 abbrev pub coded_tree : Coded Tree
 coded_tree = record { code = tree_code; inj = tree_code-injective }
@@ -67,23 +65,21 @@ mutual
 mutual
   pub tree_eq-true : (t u : Tree) → tree_eq t u ≡ true → t ≡ u
   tree_eq-true (name m) (name n) e = ap name ((unsigned_Decides m n).0 e)
-  tree_eq-true (name m) (agent r us) e = cc
-  tree_eq-true (agent s ts) (name n) e = cc
   tree_eq-true (agent s ts) (agent r us) e =
       let parts = and_parts (s == r) (trees_eq ts us) e in
       let symbols = (unsigned_Decides s r).0 parts.0 in
       let arguments = trees_eq-true ts us parts.1 in
       cc
+  tree_eq-true _ _ e = cc
 
   pub trees_eq-true : (ts us : Trees) → trees_eq ts us ≡ true → ts ≡ us
   trees_eq-true no_trees no_trees e = refl
-  trees_eq-true no_trees (more_trees u us) e = cc
-  trees_eq-true (more_trees t ts) no_trees e = cc
   trees_eq-true (more_trees t ts) (more_trees u us) e =
       let parts = and_parts (tree_eq t u) (trees_eq ts us) e in
       let first = tree_eq-true t u parts.0 in
       let rest = trees_eq-true ts us parts.1 in
       cc
+  trees_eq-true _ _ e = cc
 
 -- the test of equality tells exactly whether two terms are equal
 pub tree_eq-Decides : (t u : Tree) → Decides (tree_eq t u) (t ≡ u)
