@@ -88,9 +88,6 @@ module _ (slot : Slot) (r m : ℕ) (a c : List ℕ) (torn : Torn r m a c) (from 
         older = older;
       }
 
-  pub still_made : IsMade a → IsMade c
-  still_made made = omega (arith, torn.no_shorter)
-
 -- A write at the gate of an older slot leaves that slot's number.
 pub gate_torn : (slot : Slot) (n : ℕ) (kept a c : List ℕ) → Stands slot n false kept a → IsMade a → Torn (place (other slot)) 1 a c → Stands slot n false kept c
 gate_torn slot n kept a c stands made torn =

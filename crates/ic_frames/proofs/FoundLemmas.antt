@@ -8,7 +8,7 @@ use Rattle.ic_frames.specs.declared.slot.Slot.TheVariants.{First, Second}
 use Rattle.ic_frames.specs.declared.found.Newest.{Newest}
 use Rattle.ic_frames.specs.declared.found.Found.{Found}
 use Rattle.ic_frames.specs.declared.faults.OpenCause.{OpenCause}
-use Rattle.ic_frames.specs.declared.faults.OpenCause.TheVariants.{Device, NoSlot, TwoAlike, Damaged, Memory}
+use Rattle.ic_frames.specs.declared.faults.OpenCause.TheVariants.{Device, Damaged, Memory}
 use Rattle.ic_frames.specs.Places.{place, other}
 use Rattle.ic_frames.specs.Fields.{body, is_open, is_whole, IsMade}
 use Rattle.ic_frames.specs.Held.{Held, the_body, damaged, body_held}
@@ -66,7 +66,6 @@ found_spoiled newest file chosen why =
 
 pub damage_answers : (cause : OpenCause) (held : Held) → IsDamage cause → held ≡ damaged → Answers cause held
 damage_answers Damaged held is damage = damage
-damage_answers NoSlot held is damage = absurd is
-damage_answers TwoAlike held is damage = absurd is
 damage_answers Device held is damage = tt
 damage_answers Memory held is damage = tt
+damage_answers _ held is damage = absurd is

@@ -1,15 +1,11 @@
 -- Calls that only read, one after another.
-use Rattle.std.proofs.Common.{◌≡◌, ℕ, List, refl, ◌∙◌}
+use Rattle.std.proofs.Common.{◌≡◌, ℕ, List, ◌∙◌}
 use Rattle.ic_disk.specs.Images.{Within}
 use Rattle.ic_disk.specs.Time.{Elapses, LeftSince}
 use Rattle.ic_disk.specs.lemmas.Moments.{started, goes_on, then_runs}
 use Rattle.ic_frames.specs.inner.Reading.{OnlyReads}
 
 module _ {D : Type 0} (content : D → List ℕ) (image : D → List ℕ → Type 0) (clock : D → ℕ) (left : D → ℕ → List ℕ → Type 0) where
-  -- no call at all
-  pub reads_nothing : (disk : D) → Within (LeftSince (left disk) (clock disk)) (image disk) → OnlyReads content image clock left disk disk
-  reads_nothing disk law = record { same = refl; images = λ file is. is; leaves = started clock left disk (image disk) law }
-
   pub reads_once : (old new : D) → Within (LeftSince (left old) (clock old)) (image old) → content new ≡ content old → Within (image new) (image old) → Elapses (clock old) (clock new) (left old) (left new) (image old)
       → OnlyReads content image clock left old new
   reads_once old new law same images time = record {
