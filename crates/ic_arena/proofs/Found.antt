@@ -169,9 +169,8 @@ apart k j m n ws d e h some =
 
 at_seam : (xs ys : List Word) (x : Word) (j : ℕ) → length xs ≡ j → entry (xs ++ x ∷ ys) j ≡ x
 at_seam [] ys x zero h = refl
-at_seam [] ys x (suc j) h = absurd (omega arith)
-at_seam (v ∷ xs) ys x zero h = absurd (omega arith)
 at_seam (v ∷ xs) ys x (suc j) h = at_seam xs ys x j (omega arith)
+at_seam _ ys x _ h = absurd (omega arith)
 
 -- the first word of a block
 pub firsts_at : (k j m n : ℕ) (ws : List Word) (d : Word) → n ≡ j + suc m → length ws ≡ n * k → 1 ≤ k

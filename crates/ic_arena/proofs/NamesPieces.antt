@@ -82,11 +82,6 @@ pub opened_after : (ws : List Word) (n : ℕ)
 opened_after ws n =
     replaced_end ws 0 (length ws) (record { tag = IDLE; index = n }) (sym (zero-add (length ws)))
 
--- the entry after the last is free
-pub after_is_free : (ws : List Word) → (entry ws (length ws)).tag ≡ FREE
-after_is_free [] = refl
-after_is_free (w ∷ ws) = after_is_free ws
-
 -- a word waits
 pub put_to_wait : (ws : List Word) (i : ℕ) (v : Word) → i < length ws → (entry ws i).tag ≡ IDLE
     → v.tag < IDLE
