@@ -75,25 +75,19 @@ pub settles_carried : Carried Settles
 settles_carried front rest end (Ok line) s =
     record { symbols = s.symbols; configuration = s.configuration; reads = read_as _ _ front rest end _ s.reads; prints = s.prints }
 settles_carried front rest end (Err (Text fault)) s = (read_as _ _ front rest end _ s.0, s.1)
-settles_carried front rest end (Err (Round fault)) s = absurd s
-settles_carried front rest end (Err Read) s = absurd s
-settles_carried front rest end (Err Memory) s = absurd s
-settles_carried front rest end (Err Write) s = absurd s
+settles_carried front rest end _ s = absurd s
 
 pub rounds_carried : Carried Rounds
 rounds_carried front rest end (Ok line) s = record { system = s.system; reads = read_as _ _ front rest end _ s.reads; fits = s.fits; prints = s.prints }
 rounds_carried front rest end (Err (Text fault)) s = (read_as _ _ front rest end _ s.0, s.1)
 rounds_carried front rest end (Err (Round fault)) s = record { system = s.system; reads = read_as _ _ front rest end _ s.reads; refused = s.refused }
-rounds_carried front rest end (Err Read) s = absurd s
-rounds_carried front rest end (Err Memory) s = absurd s
-rounds_carried front rest end (Err Write) s = absurd s
+rounds_carried front rest end _ s = absurd s
 
 fault_as : (Answers : Answering) (front text : List ℕ) (fault : StreamFault) → Carries Answers front text → FaultOf Answers front fault → FaultOf Answers text fault
-fault_as Answers front text Read same f = tt
 fault_as Answers front text (Text fault) same f = same _ f
 fault_as Answers front text (Round fault) same f = same _ f
-fault_as Answers front text Memory same f = tt
 fault_as Answers front text Write same f = (f.0, same _ f.1)
+fault_as Answers front text _ same f = tt
 
 part_as : (Answers : Answering) (front text : List ℕ) (before after : Option (List ℕ)) → Carries Answers front text
     → WritesPart Answers front before after → WritesPart Answers text before after
