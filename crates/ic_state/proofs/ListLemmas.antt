@@ -29,14 +29,13 @@ module _ {X : Type 0} (spell : X → List ℕ) where
       pub same_spelled : (xs ys : List X) (a b : List ℕ) → AllByRecursion Fits xs → AllByRecursion Fits ys → length xs ≡ length ys
           → flat_map spell xs ++ a ≡ flat_map spell ys ++ b → (xs ≡ ys) × (a ≡ b)
       same_spelled [] [] a b fits fits_too same e = (refl, e)
-      same_spelled [] (y ∷ ys) a b fits fits_too same e = absurd (omega (arith, same))
-      same_spelled (x ∷ xs) [] a b fits fits_too same e = absurd (omega (arith, same))
       same_spelled (x ∷ xs) (y ∷ ys) a b fits fits_too same e =
           let parts = fronts (spell x) (spell y) (flat_map spell xs ++ a) (flat_map spell ys ++ b) (eight x ∙ sym (eight y))
           (sym (append_assoc (spell x) (flat_map spell xs) a) ∙ e ∙ append_assoc (spell y) (flat_map spell ys) b) in
           let first : x ≡ y = one x y fits.0 fits_too.0 parts.0 in
           let rest = same_spelled xs ys a b fits.1 fits_too.1 (omega (arith, same)) parts.1 in
           (rw (first, rest.0) refl, rest.1)
+      same_spelled _ _ a b fits fits_too same e = absurd (omega (arith, same))
 
 -- what is appended for the next element
 pub put_more : {X : Type 0} (spell : X → List ℕ) (xs : List X) (i : ℕ) (d : X) (start out new : List ℕ) → i < length xs → out ≡ start ++ flat_map spell (take i xs)
@@ -54,9 +53,6 @@ put_all spell xs i start out all so_far = so_far ∙ ap (λ l. start ++ flat_map
 pub all_push : {X : Type 0} (P : X → Type 0) (xs : List X) (x : X) → AllByRecursion P xs → P x → AllByRecursion P (xs ++ x ∷ [])
 all_push P [] x all one = (one, tt)
 all_push P (y ∷ ys) x all one = (all.0, all_push P ys x all.1 one)
-
-pub all_more : {X : Type 0} (P : X → Type 0) (xs : List X) (i : ℕ) (d : X) → i < length xs → AllByRecursion P (take i xs) → P (get_or xs i d) → AllByRecursion P (take (i + 1) xs)
-all_more P xs i d below all one = subst (λ l. AllByRecursion P l) (sym (take_more xs i d below)) (all_push P (take i xs) (get_or xs i d) all one)
 
 pub all_taken : {X : Type 0} (P : X → Type 0) (xs : List X) (i : ℕ) → length xs ≤ i → AllByRecursion P (take i xs) → AllByRecursion P xs
 all_taken P xs i all is = subst (λ l. AllByRecursion P l) (take_all i xs all) is

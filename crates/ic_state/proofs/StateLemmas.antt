@@ -85,10 +85,9 @@ ended_told true n e = ap (λ (m : ℕ). nat_eq m 1) e
 ended_told false n e = ap (λ (m : ℕ). nat_eq m 1) e
 
 one_ended : (a b : Bool) → ended_number a ≡ ended_number b → a ≡ b
-one_ended true true e = refl
-one_ended false false e = refl
 one_ended true false e = absurd (omega (arith, e))
 one_ended false true e = absurd (omega (arith, e))
+one_ended _ _ e = refl
 
 -- two states of the same bytes
 pub one_state : (k other : Kept) → IsKept k → IsKept other → state_bytes k ≡ state_bytes other → k ≡ other
