@@ -238,7 +238,5 @@ filled_alike byte s left other one two = ext_get_or 0 left other (one.as_long �
         (cases_lt i (length s.synced))
 
 pub takes_one : (choice : Choice) (s : State) (left other : List ℕ) → Takes choice s left → Takes choice s other → left ≡ other
-takes_one Synced s left other one two = one ∙ sym two
-takes_one Written s left other one two = one ∙ sym two
 takes_one (Fill byte) s left other one two = filled_alike byte s left other one two
-takes_one (Front n) s left other one two = one ∙ sym two
+takes_one _ s left other one two = one ∙ sym two

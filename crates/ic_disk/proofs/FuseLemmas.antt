@@ -1,5 +1,5 @@
 -- What the answer of a disk with a fuse says of the disk behind it.
-use Rattle.std.proofs.Common.{refl, ◌≡◌, ◌⊎◌, inl, inr, ⊎_elim, ℕ, ◌-◌, List, ◌++◌, length, take, arith, length-append, length-take, Result, Ok, Err, OnOk, OnErr}
+use Rattle.std.proofs.Common.{refl, ◌≡◌, ◌⊎◌, inl, inr, ⊎_elim, ℕ, ◌-◌, List, length, take, arith, length-append, length-take, Result, Ok, Err, OnOk, OnErr}
 use Rattle.std.proofs.lemmas.List.{length-replicate}
 use Rattle.std.specs.Prelude.{IsErr, is_ok, replicate}
 use Rattle.ic_disk.specs.Model.{Write, Call, write, sync}
@@ -37,9 +37,8 @@ write_answers_err (Tear n) w (Err e) old new answers = ⊎_elim
 pub sync_answers_err : {T E : Type 0} (turn : Turn) (result : Result T E) (old new : History) → Answers turn sync result old new → OnErr result (LeftBySync old new)
 sync_answers_err turn (Ok x) old new answers = tt
 sync_answers_err Make (Err e) old new answers = inr (inl answers.1)
-sync_answers_err Skip (Err e) old new answers = inl answers.1
 sync_answers_err MakeAndFail (Err e) old new answers = ⊎_elim (λ made. inr (inr made)) (λ failed. inr (inl failed)) answers.1
-sync_answers_err (Tear n) (Err e) old new answers = inl answers.1
+sync_answers_err _ (Err e) old new answers = inl answers.1
 
 pub answers_by : {T E : Type 0} (turn turn' : Turn) (call : Call) (result : Result T E) (old new : History) → turn ≡ turn' → Answers turn' call result old new → Answers turn call result old new
 answers_by turn turn' call result old new same answers = rw same answers

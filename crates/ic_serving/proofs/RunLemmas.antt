@@ -1,5 +1,5 @@
 -- The rounds of a run, one after the other.
-use Rattle.std.proofs.Common.{◌≡◌, ◌⊎◌, inl, inr, ℕ, zero, suc, ◌+◌, ◌-◌, ◌<◌, List, [], ◌∷◌, ◌++◌, None, Some, length, refl, sym, ap, ◌∙◌, arith, append-nil, append_assoc, length-append, Result, Ok, Err}
+use Rattle.std.proofs.Common.{◌≡◌, ◌⊎◌, inl, inr, ℕ, zero, suc, ◌+◌, ◌-◌, ◌<◌, List, [], ◌∷◌, ◌++◌, None, Some, length, refl, sym, ap, subst, ◌∙◌, arith, append-nil, append_assoc, length-append, Result, Ok, Err}
 use Rattle.std.specs.Prelude.{OnErr}
 use Rattle.std.specs.Option.{option_map_or}
 use Rattle.std.proofs.lemmas.List.Sums.{fold-append}
@@ -118,6 +118,12 @@ whole t kept count made place u w v x r none same last =
 pub run_idle : (t kept : List JobParts) (count made place : ℕ) (u w v x : List JobParts) → InRun t kept count made place u w → due u place ≡ None
     → v ≡ u → x ≡ w → IsRun t kept count made v x
 run_idle t kept count made place u w v x r none same last = whole t kept count made place u w v x r (turns_over (count - made) place u none) same last
+
+pub run_full : (t kept : List JobParts) (count made place : ℕ) (u w : List JobParts) → InRun t kept count made place u w → made ≡ count
+    → IsRun t kept count count u w
+run_full t kept count made place u w r all =
+    let none : count - made ≡ 0 = omega (arith, all) in
+    subst (λ (n : ℕ). IsRun t kept count n u w) all (whole t kept count made place u w u w r (ap (λ n. turns n place u) none) refl refl)
 
 -- a fault came
 pub run_begun : (t kept : List JobParts) (count made place : ℕ) (u w v x : List JobParts) → InRun t kept count made place u w → v ≡ u
