@@ -1,7 +1,7 @@
 //! What any disk that keeps the model is good for, proved from the clauses of its calls alone, and
 //! laws of the definitions that those cite.
 
-ghost use Rattle.std.specs.Prelude.{◌≡◌, ◌⊎◌, ◌+◌, ◌-◌, ◌^◌, ◌<◌, ◌≤◌, ◌↔◌, [], ◌∷◌, List, ℕ, length, IsTrue, OnOk, OnErr, Result};
+ghost use Rattle.std.specs.Prelude.{◌≡◌, ◌⊎◌, ◌+◌, ◌-◌, ◌^◌, ◌<◌, ◌≤◌, ◌↔◌, [], ◌∷◌, List, ℕ, length, max, slice_index, IsTrue, OnOk, OnErr, Result};
 ghost use Rattle.ic_disk.specs.Content.{laid};
 ghost use Rattle.ic_disk.specs.Course.{Course, IsCourse, MayRead, MaySync, MayTell, MayWrite, after_call, calls_in, content_in, failures_in, first_course, image_in, keeps_in, left_in};
 ghost use Rattle.ic_disk.specs.Crash.{Takes};
@@ -212,6 +212,21 @@ pub fn courses_go_on<T, E>(answer: &Result<T, E>)
 {
     let _ = answer;
 }
+
+/// A write lays its bytes over a file. Each place of its range has the byte for it, each other place
+/// of the file keeps its byte, and each place between the file's end and the range has a 0. The file
+/// is then as long as it was, or reaches to the range's end.
+pub fn a_write_lays_its_bytes()
+    ensures inside { (at : ℕ) (bytes file : List ℕ) (i : ℕ) → i < length bytes
+        → slice_index (laid at bytes file) (at + i) ≡ slice_index bytes i }
+    ensures outside { (at : ℕ) (bytes file : List ℕ) (i : ℕ) → i < length file
+        → (i < at) ⊎ (at + length bytes ≤ i)
+        → slice_index (laid at bytes file) i ≡ slice_index file i }
+    ensures gap { (at : ℕ) (bytes file : List ℕ) (i : ℕ) → length file ≤ i → i < at
+        → slice_index (laid at bytes file) i ≡ 0 }
+    ensures length { (at : ℕ) (bytes file : List ℕ)
+        → length (laid at bytes file) ≡ max (length file) (at + length bytes) }
+{}
 
 /// The count of failures rises by one where a call failed, until it is at its end.
 pub fn failures_rise<T, E>(answer: &Result<T, E>)
