@@ -21,3 +21,4 @@ pub mod Spots
 pub mod Taking
 pub mod Twice
 pub mod NameCounts
+pub mod Reached

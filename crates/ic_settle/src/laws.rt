@@ -3,6 +3,7 @@
 ghost use Rattle.std.specs.Prelude.{◌≡◌, ◌↔◌, ◌+◌, ◌∷◌, [], None, Some, length};
 ghost use Rattle.std.specs.List.{AllByRecursion};
 ghost use Rattle.ic_term.specs.Configuration.{Configuration};
+ghost use Rattle.ic_settle.specs.NameSteps.{NameStep, NameSteps};
 ghost use Rattle.ic_settle.specs.Settling.{Choice, settling_step, first_choice, applied, settled};
 ghost use Rattle.ic_settle.specs.Bindings.{replaced, bound_names, IsSideIn, ReplacesFirst};
 
@@ -22,4 +23,11 @@ pub fn each_step_replaces_its_name()
         → AllByRecursion (λ b. IsSideIn c.equations b.term) (replaced c) }
     ensures count { (c : Configuration)
         → length (replaced c) + length (settled c).equations ≡ length c.equations }
+{}
+
+/// A settled configuration is reached by name steps (indirection and collect), and none is possible
+/// in it.
+pub fn settling_goes_on_to_its_end()
+    ensures reached { (c : Configuration) → NameSteps c (settled c) }
+    ensures ended { (c d : Configuration) → ¬ NameStep (settled c) d }
 {}
