@@ -1,1 +1,2 @@
+pub mod FiringLemmas
 pub mod WorkLemmas

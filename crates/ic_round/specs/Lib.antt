@@ -4,6 +4,7 @@ pub mod Instance
 pub mod Firing
 pub mod Steps
 pub mod CountedSteps
+pub mod Interactions
 pub mod Works
 pub mod WorkViews
 pub mod Rounds

@@ -1,16 +1,18 @@
 //! Laws of the definitions that the contracts of this crate cite.
 
-ghost use Rattle.std.specs.Prelude.{◌≡◌, ◌↔◌, ℕ, ◌<◌, ◌≤◌, List, None, Some, Ok, is_some, map, IsPermutation, IsTrue};
+ghost use Rattle.std.specs.Prelude.{◌≡◌, ◌↔◌, ℕ, ◌<◌, ◌≤◌, Bool, List, None, Some, Ok, count_by, is_some, map, IsPermutation, IsTrue};
 ghost use Rattle.std.specs.List.{AllByRecursion, list_any};
-ghost use Rattle.ic_term.specs.Tree.{Tree, name, agent, Trees};
+ghost use Rattle.ic_term.specs.Tree.{Tree, name, agent, Pair, Trees};
 ghost use Rattle.ic_term.specs.Symbol.{Symbol, is_over};
 ghost use Rattle.ic_term.specs.Configuration.{Configuration, IsConfiguration, configuration_names, occurrences};
 ghost use Rattle.ic_rules.specs.Rule.{Rule};
 ghost use Rattle.ic_rules.specs.RuleSet.{Rules, IsRuleSet, has_pair};
+ghost use Rattle.ic_settle.specs.NameSteps.{NameStep, NameSteps};
 ghost use Rattle.ic_settle.specs.Settling.{settled};
 ghost use Rattle.ic_round.specs.Completing.{Completes};
 ghost use Rattle.ic_round.specs.Firing.{Active, active_pair, fired};
 ghost use Rattle.ic_round.specs.Gathering.{gapped, gathered};
+ghost use Rattle.ic_round.specs.Interactions.{Interactions, active_equations};
 ghost use Rattle.ic_round.specs.Naming.{HasNames};
 ghost use Rattle.ic_round.specs.Plans.{PlainPlan, planned};
 ghost use Rattle.ic_round.specs.Quiet.{is_quiet};
@@ -87,6 +89,27 @@ pub fn rounds_are_steps()
     ensures round { (rs : List Rule) (c : Configuration) → Steps rs c (round rs c) }
     ensures none { (rs : List Rule) (c : Configuration) → iterate rs 0 c ≡ c }
     ensures iterate { (rs : List Rule) (n : ℕ) (c : Configuration) → Steps rs c (iterate rs n c) }
+{}
+
+/// A round fires what is active at its start: interactions lead to the fired configuration, one for
+/// each active equation, in their order, and no other. Wherever such interactions lead, it is this
+/// configuration, up to the order of its equations. Then name steps lead to the round's end, where
+/// none is possible.
+pub fn a_round_fires_what_was_active()
+    ensures fires { (rs : List Rule) (c : Configuration)
+        → Interactions rs (active_equations rs c) c (fired rs c) }
+
+    // There is no other end but for the order of equations: each is there as often.
+    ensures interface { (rs : List Rule) (c d : Configuration)
+        → Interactions rs (active_equations rs c) c d → d.interface ≡ (fired rs c).interface }
+    ensures equations { (rs : List Rule) (c d : Configuration)
+        → Interactions rs (active_equations rs c) c d → (test : Pair → Bool)
+        → count_by test d.equations ≡ count_by test (fired rs c).equations }
+    ensures next { (rs : List Rule) (c d : Configuration)
+        → Interactions rs (active_equations rs c) c d → d.next ≡ (fired rs c).next }
+
+    ensures settles { (rs : List Rule) (c : Configuration) → NameSteps (fired rs c) (round rs c) }
+    ensures settled { (rs : List Rule) (c d : Configuration) → ¬ NameStep (round rs c) d }
 {}
 
 /// An equation of two agents is active exactly where the rules hold one of its two symbols, and one

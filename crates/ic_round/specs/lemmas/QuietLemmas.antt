@@ -1,11 +1,11 @@
 -- Lemmas: `is_quiet` tells exactly whether no step is possible.
-use Rattle.std.proofs.Common.{◌≡◌, ℕ, List, [], ◌∷◌, ◌++◌, true, Option, None, Some, is_none, refl, sym, ◌∙◌, append_assoc, append-nil, length, subst as transport}
+use Rattle.std.proofs.Common.{◌≡◌, ℕ, List, [], ◌∷◌, ◌++◌, true, Option, None, Some, is_none, refl, sym, ◌∙◌, append_assoc, length, subst as transport}
 use Rattle.std.specs.Prelude.{◌↔◌}
 use Rattle.std.specs.List.{flat_map, list_all}
-use Rattle.ic_term.specs.Tree.{Tree, Pair, names}
+use Rattle.ic_term.specs.Tree.{Pair, names}
 use Rattle.ic_term.specs.Configuration.{Configuration, names_in}
 use Rattle.ic_rules.specs.Rule.{Rule}
-use Rattle.ic_settle.specs.Settling.{Binding, Choice, binding, choice_or, first_choice, applied, occurs}
+use Rattle.ic_settle.specs.Settling.{Binding, Choice, first_choice, applied, occurs}
 use Rattle.ic_settle.specs.NameSteps.{Binds}
 use Rattle.ic_round.specs.Firing.{Active, active_pair}
 use Rattle.ic_round.specs.Steps.{Step, StandsAt, interaction, indirection, collect}
@@ -14,6 +14,7 @@ use Rattle.ic_round.specs.Quiet.{is_inert, is_settled, is_quiet}
 use Rattle.std.proofs.lemmas.Bool.{and_parts}
 use Rattle.ic_settle.specs.lemmas.SubstitutionLaws.{and_both}
 use Rattle.ic_settle.specs.lemmas.ChoiceLaws.{binding_some}
+use Rattle.ic_settle.specs.lemmas.Reached.{unbound_at}
 use Rattle.ic_round.specs.lemmas.NameStepLemmas.{name_step, in_either, in_first}
 use Rattle.ic_round.specs.lemmas.SettledLemmas.{choice_step}
 
@@ -28,19 +29,6 @@ inert_at : (rs : List Rule) (before : List Pair) (p : Pair) (after : List Pair)
 inert_at rs [] p after all = none_of _ (and_parts _ (list_all (λ q. is_none (active_pair rs q)) after) all).0
 inert_at rs (q ∷ before) p after all =
     inert_at rs before p after (and_parts (is_none (active_pair rs q)) (list_all (λ r. is_none (active_pair rs r)) (before ++ p ∷ after)) all).1
-
-no_choice : (before after : List Pair) (here : Option Binding) (later : Option Choice) → choice_or before after here later ≡ None
-    → (here ≡ None) × (later ≡ None)
-no_choice before after None later e = (refl, e)
-no_choice before after (Some b) later e = cc
-
--- where there is no choice, no equation has an applicable side
-unbound_at : (ts : List Tree) (done before : List Pair) (p : Pair) (after : List Pair) → first_choice ts done (before ++ p ∷ after) ≡ None
-    → binding (names_in ts ((done ++ before) ++ after)) p ≡ None
-unbound_at ts done [] p after none = rw (append-nil done) (no_choice done after (binding (names_in ts (done ++ after)) p) _ none).0
-unbound_at ts done (q ∷ before) p after none =
-    let later = (no_choice done (before ++ p ∷ after) (binding (names_in ts (done ++ (before ++ p ∷ after))) q) _ none).1 in
-    rw (← append_assoc done (q ∷ []) before) (unbound_at ts (done ++ q ∷ []) before p after later)
 
 no_binding : (c : Configuration) (place : ℕ) (before : List Pair) (p : Pair) (after : List Pair) (b : Binding)
     → first_choice c.interface [] c.equations ≡ None → StandsAt c.equations place before p after → Binds p b

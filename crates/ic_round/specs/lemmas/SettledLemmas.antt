@@ -1,28 +1,11 @@
 -- Lemmas: a settled configuration is one, and stays over its symbols.
 use Rattle.std.proofs.Common.{◌≡◌, ℕ, zero, suc, List, [], ◌∷◌, ◌++◌, true, Option, None, Some, refl, sym, ap, ◌∙◌, subst as transport}
 use Rattle.ic_term.specs.Symbol.{Symbol, is_over}
-use Rattle.ic_term.specs.Configuration.{Configuration, IsConfiguration, names_in}
+use Rattle.ic_term.specs.Configuration.{Configuration, IsConfiguration}
 use Rattle.ic_settle.specs.Settling.{Choice, first_choice, applied, settled_in, settled}
 use Rattle.ic_settle.specs.NameSteps.{NameStep}
-use Rattle.ic_settle.specs.lemmas.ChoiceLaws.{is_choice, binding_binds}
+pub use Rattle.ic_settle.specs.lemmas.Reached.{choice_step}
 use Rattle.ic_settle.specs.lemmas.StepLaws.{configuration_kept, over_kept}
-
--- a choice is a step of the calculus
-pub choice_step : (c : Configuration) (choice : Choice) → first_choice c.interface [] c.equations ≡ Some choice
-    → NameStep c (applied c choice)
-choice_step c choice e =
-    let is = is_choice c.interface [] c.equations choice e in
-    let bound = binding_binds (names_in c.interface (choice.before ++ choice.after)) is.equation choice.bound is.binds in
-    record {
-      before = choice.before;
-      equation = is.equation;
-      after = choice.after;
-      bound = choice.bound;
-      place = is.place;
-      side = bound.0;
-      outside = bound.1;
-      result = refl;
-    }
 
 -- ---- what such a step keeps
 
