@@ -1,4 +1,4 @@
--- To be believed: which help the program has, and which each of its commands. The texts stand in src/help.rt.
+-- Which help the program has, and which each of its commands. The texts stand in src/help.rt.
 use Rattle.std.specs.Prelude.{◌≡◌, ◌+◌, ◌*◌, ◌%◌, ℕ, List, [], ◌∷◌, codes, bytes_eq, find, fold, Option, None, Some, option_map, unwrap_or, length, take, drop}
 use Rattle.clap.specs.Words.{Text}
 use Rattle.ic_args.specs.declared.help.TheConstants.{ATTEND, BATCH, CHECK, CREATE, DRAW, DUMP, EXPAND, HELP}

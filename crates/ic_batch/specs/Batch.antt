@@ -1,4 +1,4 @@
--- To be believed: what a batch over a book leaves and writes (this project's choice).
+-- What a batch over a book leaves and writes (this project's choice).
 use Rattle.std.specs.Prelude.{◌≡◌, ◌≢◌, ℕ, List, [], Option, Result, Err, IfErr, OnOk}
 use Rattle.std.specs.Io.KnownBytes.{Appends, Keeps}
 use Rattle.ic_disk.specs.declared.disk.Disk.{Ghosts}

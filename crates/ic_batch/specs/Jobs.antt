@@ -1,4 +1,4 @@
--- To be believed: the jobs that lines submit (this project's choice).
+-- The jobs that lines submit (this project's choice).
 use Rattle.std.specs.Prelude.{◌≤◌, ℕ, List, Ok, length, map}
 use Rattle.std.specs.List.{IsDistinct}
 use Rattle.std.specs.Str.{bytes_eq}

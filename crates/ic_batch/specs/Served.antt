@@ -1,4 +1,4 @@
--- To be believed: what one server is asked to do with the same jobs (this project's choice).
+-- What one server is asked to do with the same jobs (this project's choice).
 use Rattle.std.specs.Prelude.{ℕ, List, Ok, codes, map}
 use Rattle.ic_jobs.specs.declared.command.Command.TheVariants.{Fetch}
 use Rattle.ic_jobs.specs.Job.{JobParts}

@@ -1,4 +1,4 @@
--- To be believed: how far a batch takes a job, and what is on a disk meanwhile (this project's choice).
+-- How far a batch takes a job, and what is on a disk meanwhile (this project's choice).
 use Rattle.std.specs.Prelude.{◌≡◌, ◌⊎◌, ◌&&◌, ◌++◌, ℕ, zero, suc, List, Bool, false, not, is_some, nat_lt, if◌then◌else◌, filter, map, IfSome}
 use Rattle.std.specs.List.{AllByRecursion, AllZip, flat_map}
 use Rattle.ic_round.specs.Rounds.{iterate}

@@ -1,4 +1,4 @@
--- To be believed: which calls of a book make up a call over it, as moves of a server, and which
+-- Which calls of a book make up a call over it, as moves of a server, and which
 -- disk is found after a stop in its midst. This project's choice.
 use Rattle.std.specs.Prelude.{◌≡◌, List, [], ◌∷◌, ◌++◌, IsTrue}
 use Rattle.ic_disk.specs.declared.disk.Disk.{Ghosts}

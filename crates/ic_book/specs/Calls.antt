@@ -89,8 +89,9 @@ pub record TakesRound {D : Type 0} {ghosts : Ghosts D} (entry : Entry) (expected
 
 -- ---- a keep
 
--- All is kept, by at most six calls to the disk, and by none where it was kept before. At Ok reads
--- give the table, and a disk to which it was written is made.
+-- A keep makes at most six calls to the disk, and none where all was kept before. At Ok all is
+-- kept, the book isn't broken and reads give the table; a disk to which it was written is made. At
+-- Err nothing more is kept.
 pub record KeepsAll {T D : Type 0} {ghosts : Ghosts D} (result : Result T BookFault)
     (old new : Book D ghosts) : Type 0 where
   pub table : table_of new ≡ table_of old

@@ -18,7 +18,7 @@ is_round (Round name) = true
 abbrev pub AreRounds : List Entry → Type 0
 AreRounds es = AllByRecursion (λ e. IsTrue (is_round e.event)) es
 
--- rounds are sent by nobody
+-- an entry of a round has the sender 0
 abbrev pub IsSentByNobody : Entry → Type 0
 IsSentByNobody e = IsTrue (is_round e.event) → e.who ≡ 0
 
@@ -28,7 +28,7 @@ command_entry who command reply = record { who = who; event = by_command command
 abbrev pub round_entry : List ℕ → Reply → Entry
 round_entry name reply = record { who = 0; event = Round name; reply = reply }
 
--- A round's entry: sent by nobody, and answered by what became of its job.
+-- A round's entry: its sender is 0, and its reply is what became of its job.
 pub record IsRoundEntry (e : Entry) : Type 0 where
   pub name : List ℕ
   pub event : e.event ≡ Round name

@@ -21,8 +21,8 @@ abbrev pub HoldsKeptOrAll : (start : List JobParts) (log : List Entry) (kept : �
 HoldsKeptOrAll start log kept file =
     HoldsEitherTable (table_kept start log kept) (replay start log) file
 
--- Entries that may follow those that are kept: rounds, and one last command where the book is
--- broken.
+-- Entries that may follow those that are kept: rounds, and where the book is broken one last entry
+-- of any kind.
 pub record MayBeUnkept (broken : Bool) (es : List Entry) : Type 0 where
   pub unbroken : broken ≡ false → AreRounds es
   pub but_last : AreRounds (take (length es - 1) es)
@@ -39,8 +39,9 @@ pub record IsHistory (start : List JobParts) (log : List Entry) (table : List Jo
   pub by_nobody : AllByRecursion IsSentByNobody log
   pub sound : IsTable (table_kept start log kept)
 
--- What a book keeps on a disk that keeps the model: what reads give and what a crash may leave.
--- Where the book is broken that is said only if each image is made.
+-- What a book keeps on a disk that keeps the model. Unless it is broken, reads and each image give
+-- the table that was kept. If each image is made, each holds that table or the one after all
+-- entries.
 pub record IsOnDisk (content : List ℕ) (image : List ℕ → Type 0) (start : List JobParts)
     (log : List Entry) (kept : ℕ) (broken : Bool) : Type 0 where
   pub held : broken ≡ false → IsHeld (the_table (table_kept start log kept)) content

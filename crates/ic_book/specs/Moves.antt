@@ -14,7 +14,8 @@ use Rattle.ic_book.specs.Entries.{command_entry, round_entry}
 -- - a command is answered, or the disk fails at it, and nobody is told the reply;
 -- - a round is landed, or its job is halted;
 -- - all that has come is kept, as by a keep or for a new page;
--- - nothing comes to the history, as at a stale round, a refusal or a look;
+-- - nothing comes to the history, as at a stale round, a refusal, a look, or a keep at which the
+--   disk fails (which breaks the book);
 -- - the disk is closed;
 -- - a stop comes in the midst of a move.
 pub data Move : Type 0 where

@@ -82,22 +82,23 @@ pub record Does {D : Type 0} {ghosts : Ghosts D} (move : Move)
 
 -- ---- openings and closings
 
--- An opening finds the table that the disk holds, and leaves the disk as it was.
+-- An opening finds the table that the disk holds. Reads give what they gave, and a crash now leaves
+-- just this.
 pub record Opens {D : Type 0} {ghosts : Ghosts D} (disk : D) (book : Book D ghosts) : Type 0 where
   pub leaves : LeavesAsFound ghosts.keeps ghosts.content ghosts.image ghosts.clock ghosts.left
       (Ok book) disk (disk_of book)
   pub held : IsTrue (ghosts.keeps disk) → IsHeld (the_table (start_of book)) (ghosts.content disk)
   pub log : log_of book ≡ []
 
--- One that is refused says what the disk holds, and leaves the disk as it was.
+-- One that is refused says what the disk holds, and reads give what they gave.
 pub record Refuses {D : Type 0} (ghosts : Ghosts D) (why : OpenCause)
     (disk after : D) : Type 0 where
   pub leaves : LeavesAsFound {T = Book D ghosts} ghosts.keeps ghosts.content ghosts.image
       ghosts.clock ghosts.left (Err why) disk after
   pub says : IsTrue (ghosts.keeps disk) → Says why (ghosts.content disk)
 
--- The disk is handed out. A crash now leaves the table that was kept, or where the book is broken
--- that or the one after all.
+-- The disk is handed out. On a made one a crash now leaves the table that was kept, or the one
+-- after all entries.
 pub record Closes {D : Type 0} {ghosts : Ghosts D} (book : Book D ghosts) (disk : D) : Type 0 where
   pub same : disk ≡ disk_of book
   pub images : IsTrue (ghosts.keeps disk) → Within (ghosts.image disk) IsMade
@@ -105,17 +106,16 @@ pub record Closes {D : Type 0} {ghosts : Ghosts D} (book : Book D ghosts) (disk 
 
 -- ---- steps
 
--- This disk is found after a stop in the midst of what led from one disk to another: there is one
--- moment since the first at which a crash may have left each of its images. It has one image where
--- power was lost, and maybe more where the process was killed.
+-- Between `before` and `after` a stop came, and `found` is the disk found then: at one moment since
+-- `before` a crash may have left every image of `found`.
 pub record IsFound {D : Type 0} (ghosts : Ghosts D) (before after found : D) : Type 0 where
   pub keeps : IsTrue (ghosts.keeps found)
   pub moment : ℕ
   pub since : ghosts.clock before ≤ moment
   pub left : Within (ghosts.image found) (ghosts.left after moment)
 
--- One move leads from one server to another. Where it is stopped, it would have led somewhere, and
--- a disk is found.
+-- One move leads from one server to another. A stopped move would have led to some server, and a
+-- disk is found on the way. A stop between two moves is `stops stays`.
 abbrev pub Step : {D : Type 0} {ghosts : Ghosts D}
     → Move → Server ghosts → Server ghosts → Type 0
 Step (stops (stops move)) before after = ⊥

@@ -1,4 +1,4 @@
--- To be believed: why a call to a file has failed, in words (this project's choice).
+-- Why a call to a file has failed, in words (this project's choice).
 use Rattle.std.specs.Prelude.{ℕ, Bool, List, [], ◌∷◌, ◌++◌, ◌&&◌, nat_le, nat_lt, if◌then◌else◌}
 use Rattle.std.specs.Prelude.{Option, None, Some, codes, map}
 use Rattle.std.specs.Fmt.{decimal}

@@ -1,4 +1,4 @@
--- To be believed: what is noted of calls to files (this project's choice).
+-- What is noted of calls to files (this project's choice).
 use Rattle.std.specs.Prelude.{Option, None, Some, Result, Ok, Err, option_map}
 use Rattle.std.specs.Fs.{metadata_mode}
 use Rattle.std.specs.IoError.{error_kind, raw_os_error}

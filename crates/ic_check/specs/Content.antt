@@ -1,4 +1,4 @@
--- To be believed: what a file gives.
+-- What a file gives.
 use Rattle.std.specs.Prelude.{ℕ, List}
 
 -- a text, a script, or the lines that say why it isn't looked over

@@ -1,4 +1,4 @@
--- To be believed: which symbols look like names, as variables are written elsewhere (this project's choice).
+-- Which symbols look like names, as variables are written elsewhere (this project's choice).
 use Rattle.std.specs.Prelude.{ℕ, ◌==◌, List, [], ◌∷◌, Bool, false, ◌&&◌, ◌||◌, not, length, nat_le}
 use Rattle.std.specs.Char.{is_ascii_uppercase}
 use Rattle.std.specs.List.{list_any}

@@ -1,4 +1,4 @@
--- To be believed: where in a line its refusal is found (this project's choice).
+-- Where in a line its refusal is found (this project's choice).
 use Rattle.std.specs.Prelude.{◌≡◌, ℕ, ◌+◌, ◌<◌, ◌≤◌, List, [], ◌∷◌, ◌++◌, Bool, true, false, ◌||◌, Option, None, Some, IsTrue, codes, length, nat_le, take, if◌then◌else◌}
 use Rattle.std.specs.Str.{bytes_eq}
 use Rattle.ic_rules.specs.JobName.{is_job_word}

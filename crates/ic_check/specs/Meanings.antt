@@ -1,4 +1,4 @@
--- To be believed: what is told, in words of the calculus and of files.
+-- What is told, in words of the calculus and of files.
 use Rattle.std.specs.Prelude.{◌≡◌, ◌⊎◌, ℕ, ◌<◌, ◌==◌, List, [], ◌∷◌, ◌++◌, Bool, false, ◌&&◌, Option, None, Some, IfSome, IsTrue, codes, length, slice_get}
 use Rattle.std.specs.List.{AllByRecursion, count_by, flat_map, list_any}
 use Rattle.ic_term.specs.Tree.{Tree, name, agent, Trees, no_trees, more_trees, Pair}

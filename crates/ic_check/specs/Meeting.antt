@@ -1,4 +1,4 @@
--- To be believed: whether two agents of a configuration can come to meet, as far as the sides of its
+-- Whether two agents of a configuration can come to meet, as far as the sides of its
 -- equations tell (this project's choice).
 use Rattle.std.specs.Prelude.{ℕ, ◌==◌, List, [], ◌∷◌, ◌++◌, Bool, true, false, ◌&&◌, not}
 use Rattle.std.specs.List.{flat_map, list_all, list_any}

@@ -1,4 +1,4 @@
--- To be believed: what is told of a text as objects of JSON (RFC 8259), one a line (this project's
+-- What is told of a text as objects of JSON (RFC 8259), one a line (this project's
 -- choice).
 use Rattle.std.specs.Prelude.{ℕ, ◌+◌, ◌/◌, ◌%◌, ◌==◌, ◌||◌, List, [], ◌∷◌, ◌++◌, bytes_eq, codes, drop, if◌then◌else◌, length, nat_lt}
 use Rattle.std.specs.List.{concat, flat_map}

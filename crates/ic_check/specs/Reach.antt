@@ -1,4 +1,4 @@
--- To be believed: which symbols rules can bring into a configuration.
+-- Which symbols rules can bring into a configuration.
 use Rattle.std.specs.Prelude.{◌≡◌, ℕ, List, Bool, IsTrue, Some}
 use Rattle.std.specs.List.{AllByRecursion}
 use Rattle.ic_term.specs.Tree.{Pair}

@@ -1,4 +1,4 @@
--- To be believed: what is told of the lines of a script (this project's choice).
+-- What is told of the lines of a script (this project's choice).
 use Rattle.std.specs.Prelude.{◌≡◌, ℕ, List, Bool, true, false, ◌&&◌, Option, None, Some, codes, drop, length, nat_le, if◌then◌else◌}
 use Rattle.std.specs.Str.{bytes_eq}
 use Rattle.ic_lines.specs.Lines.{lines}

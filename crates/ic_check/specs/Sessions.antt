@@ -1,4 +1,4 @@
--- To be believed: what a session is told of its lines that are refused (this project's choice).
+-- What a session is told of its lines that are refused (this project's choice).
 use Rattle.std.specs.Prelude.{◌≡◌, ℕ, ◌+◌, List, [], ◌∷◌, ◌++◌, Bool, false, ◌||◌, Result, Ok, Err, codes, nat_eq, take, drop, if◌then◌else◌}
 use Rattle.std.specs.Fmt.{decimal}
 use Rattle.std.specs.List.{concat, starts_with}

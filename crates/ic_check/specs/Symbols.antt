@@ -1,4 +1,4 @@
--- To be believed: the symbols of terms, rules and systems, each as often as it occurs there.
+-- The symbols of terms, rules and systems, each as often as it occurs there.
 use Rattle.std.specs.Prelude.{ℕ, List, [], ◌∷◌, ◌++◌}
 use Rattle.std.specs.List.{flat_map}
 use Rattle.ic_term.specs.Tree.{Tree, name, agent, Trees, no_trees, more_trees, Pair}

@@ -1,4 +1,4 @@
--- To be believed: how a fault is told (this project's choice).
+-- How a fault is told (this project's choice).
 use Rattle.std.specs.Prelude.{ℕ, ◌+◌, List, [], ◌∷◌, ◌++◌, Bool, true, false, ◌&&◌, ◌||◌, Option, None, Some, codes, drop, take, nat_eq, if◌then◌else◌}
 use Rattle.std.specs.Fmt.{decimal}
 use Rattle.std.specs.List.{concat, starts_with}

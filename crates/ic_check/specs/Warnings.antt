@@ -1,4 +1,4 @@
--- To be believed: what is legal in a system and mostly a mistake, told in lines (this project's
+-- What is legal in a system and mostly a mistake, told in lines (this project's
 -- choice).
 use Rattle.std.specs.Prelude.{◌≡◌, ℕ, ◌+◌, ◌==◌, List, [], ◌∷◌, ◌++◌, Bool, ◌&&◌, codes, is_some, slice_get, if◌then◌else◌}
 use Rattle.std.specs.Fmt.{decimal}

@@ -1,4 +1,4 @@
--- To be believed: how each line is written in its plainest form, with one space after its word, and the words of each
+-- How each line is written in its plainest form, with one space after its word, and the words of each
 -- line in order (this project's choice).
 use Rattle.std.specs.Prelude.{◌≡◌, ℕ, ◌≤◌, List, [], ◌∷◌, ◌++◌, Ok, true, Option, None, Some, length, IsTrue, IfSome, codes}
 use Rattle.std.specs.List.{list_all}

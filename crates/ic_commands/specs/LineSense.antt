@@ -1,4 +1,4 @@
--- To be believed: what a command line that is written means.
+-- What a command line that is written means.
 use Rattle.std.specs.Prelude.{ℕ, List, Bool, true, ◌&&◌, Option, None, Some, Result, Ok, Err, length, nat_lt, nat_le, if◌then◌else◌}
 use Rattle.std.specs.Option.{option_map}
 use Rattle.ic_rules.specs.System.{SystemParts}

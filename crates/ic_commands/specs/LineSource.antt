@@ -1,4 +1,4 @@
--- To be believed: a command line as it is written.
+-- A command line as it is written.
 use Rattle.std.specs.Prelude.{ℕ, List, [], ◌∷◌, ◌++◌, Bool, false, ◌||◌, Option, None, Some, IsTrue, IfSome, codes}
 use Rattle.std.specs.Str.{bytes_eq}
 use Rattle.ic_rules.specs.JobName.{is_job_word}

@@ -1,4 +1,4 @@
--- To be believed: what a text of a command line is read as.
+-- What a text of a command line is read as.
 use Rattle.std.specs.Prelude.{ℕ, ◌≤◌, List, ◌&&◌, Option, Result, IsTrue, length}
 use Rattle.ic_rules.specs.JobName.{is_job_name}
 use Rattle.ic_commands.specs.declared.line.Line.{Line}

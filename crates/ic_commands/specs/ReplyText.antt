@@ -1,4 +1,4 @@
--- To be believed: the lines that answer (this project's choice).
+-- The lines that answer (this project's choice).
 use Rattle.std.specs.Prelude.{ℕ, List, [], ◌∷◌, ◌++◌, map, codes}
 use Rattle.std.specs.List.{flat_map, join_with_byte}
 use Rattle.std.specs.Fmt.{decimal}

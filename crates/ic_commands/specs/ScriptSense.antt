@@ -1,4 +1,4 @@
--- To be believed: what a line of a script is read as (this project's choice). A script holds
+-- What a line of a script is read as (this project's choice). A script holds
 -- commands, and a run is no phrase of it.
 use Rattle.std.specs.Prelude.{ℕ, List, Option, None, Some, Result, Ok, Err}
 use Rattle.ic_jobs.specs.declared.command.Command.{Command}

@@ -1,4 +1,4 @@
--- To be believed: how a place of a text is told: its line and column, the line with a mark under the
+-- How a place of a text is told: its line and column, the line with a mark under the
 -- place, and a sentence (this project's choice).
 use Rattle.std.specs.Prelude.{◌≡◌, ℕ, ◌+◌, ◌-◌, ◌==◌, List, [], ◌∷◌, ◌++◌, Bool, true, false, ◌&&◌, ◌||◌, codes, map, length, take, drop, replicate, nat_le, nat_lt, if◌then◌else◌}
 use Rattle.std.specs.List.{concat, count_by, list_all, list_any}

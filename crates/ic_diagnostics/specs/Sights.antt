@@ -1,4 +1,4 @@
--- To be believed: what stands where a text doesn't go on, as far as it tells what is amiss (this
+-- What stands where a text doesn't go on, as far as it tells what is amiss (this
 -- project's choice).
 use Rattle.std.specs.Prelude.{ℕ, ◌-◌, ◌==◌, List, [], ◌∷◌, Bool, true, false, ◌&&◌, ◌||◌, not, Option, None, Some, codes, length, nat_eq, nat_le, slice_get, take, drop, if◌then◌else◌}
 use Rattle.std.specs.Char.{is_ascii_digit, is_ascii_lowercase, is_ascii_uppercase}

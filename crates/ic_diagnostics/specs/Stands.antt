@@ -1,4 +1,4 @@
--- To be believed: where in a text a place stands, by what stands before it (this project's choice).
+-- Where in a text a place stands, by what stands before it (this project's choice).
 use Rattle.std.specs.Prelude.{ℕ, ◌+◌, ◌-◌, ◌==◌, List, fold, ◌||◌, if◌then◌else◌}
 use Rattle.ic_diagnostics.specs.declared.stands.Spot.{Spot}
 use Rattle.ic_diagnostics.specs.declared.stands.Stand.{Stand}

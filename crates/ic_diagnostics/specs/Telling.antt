@@ -1,4 +1,4 @@
--- To be believed: what is told of a refused text beside its refusal (this project's choice).
+-- What is told of a refused text beside its refusal (this project's choice).
 use Rattle.std.specs.Prelude.{◌≡◌, ℕ, ◌+◌, List, [], ◌∷◌, ◌++◌, Option, None, Some, Err, codes, drop, slice_get, ◌==◌, Bool, true, false, ◌||◌, if◌then◌else◌}
 use Rattle.std.specs.Fmt.{decimal}
 use Rattle.std.specs.List.{concat}

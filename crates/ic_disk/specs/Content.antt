@@ -1,5 +1,5 @@
 -- What reads give of a disk, as a list of bytes, and what a write makes of it.
--- To be read: contracts of public calls cite it. This project's choice.
+-- This project's choice.
 use Rattle.std.specs.Prelude.{ℕ, ◌+◌, ◌-◌, List, ◌++◌, length, take, drop, replicate}
 
 -- the file with zeros after it, up to this place

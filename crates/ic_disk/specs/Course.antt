@@ -1,5 +1,5 @@
 -- The written model in time: a disk as its state, and the moments that it has been through.
--- To be read: laws say that whatever the written model allows is what the trait `Disk` says.
+-- Laws say that whatever the written model allows is what the trait `Disk` says.
 use Rattle.std.specs.Prelude.{◌≡◌, ◌⊎◌, ℕ, ◌+◌, ◌-◌, ◌^◌, ◌<◌, ◌≤◌, min, Bool, true, List, [], ◌∷◌, length, Result, Ok, Err}
 use Rattle.ic_disk.specs.Content.{bytes_at}
 use Rattle.ic_disk.specs.Images.{Torn}

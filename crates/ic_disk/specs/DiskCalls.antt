@@ -1,6 +1,5 @@
--- What each call of a disk that keeps the model does to what reads give, to what a crash may leave
--- and to what it may have left: the clauses of the trait `Disk`.
--- To be read: contracts of public calls cite it.
+-- What each call does to the content, to the images, and to what crashes so far may have left, on a
+-- disk that keeps the model: the clauses of the trait `Disk`.
 use Rattle.std.specs.Prelude.{◌≡◌, ◌⊎◌, ℕ, List, length, Result, IfOk, OnOk, OnErr}
 use Rattle.ic_disk.specs.Content.{bytes_at, laid}
 use Rattle.ic_disk.specs.Images.{Only, StaysOrTears, Torn, TornFrom, Within}
@@ -22,7 +21,9 @@ pub record ChangesNothing {D : Type 0} (content : D → List ℕ) (image : D →
   pub stay : Within (image old) (image new)
   pub time : Elapses (clock old) (clock new) (left old) (left new) (image old)
 
--- a write of these bytes
+-- A write of these bytes. At Ok they are laid over the content, and the images are the old ones,
+-- each torn there in any way. At Err nothing has changed, or the content is torn there, and the
+-- images are as at Ok.
 pub record IsDiskWrite {D T E : Type 0} (content : D → List ℕ) (image : D → List ℕ → Type 0)
     (clock : D → ℕ) (left : D → ℕ → List ℕ → Type 0) (at : ℕ) (bytes : List ℕ)
     (result : Result T E) (old new : D) : Type 0 where
@@ -36,7 +37,8 @@ pub record IsDiskWrite {D T E : Type 0} (content : D → List ℕ) (image : D �
   pub time : Elapses (clock old) (clock new) (left old) (left new)
       (TornFrom at (length bytes) (image old))
 
--- a sync
+-- A sync. The content stays. At Ok it is the only image. At Err the images are the old ones, or the
+-- content alone.
 pub record IsDiskSync {D T E : Type 0} (content : D → List ℕ) (image : D → List ℕ → Type 0)
     (clock : D → ℕ) (left : D → ℕ → List ℕ → Type 0) (result : Result T E) (old new : D)
     : Type 0 where

@@ -1,4 +1,4 @@
--- The parts of a disk in a file that contracts of public calls speak of. To be read.
+-- The parts of a disk in a file that contracts of public calls speak of.
 use Rattle.std.specs.Prelude.{◌⊎◌, ℕ, Bool}
 use Rattle.std.specs.Fs.{IsDir, IsFile}
 use Rattle.std.specs.declared.fs.attrs.FileType.{FileType}

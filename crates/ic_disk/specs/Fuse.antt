@@ -1,5 +1,5 @@
 -- Which calls of the disk with a fuse fail, and what they leave.
--- To be read: contracts of public calls cite it. This project's choice.
+-- This project's choice.
 use Rattle.std.specs.Prelude.{◌≡◌, ◌⊎◌, ◌==◌, ℕ, ◌-◌, nat_lt, if◌then◌else◌, List, ◌++◌, length, take, replicate, Result, IsOk, IsErr, OnOk, OnErr}
 use Rattle.ic_disk.specs.Model.{Write, Call, write, sync}
 use Rattle.ic_disk.specs.History.{History, with_call, with_failure}

@@ -1,4 +1,4 @@
--- The parts of the disk with a fuse that contracts of public calls speak of. To be read.
+-- The parts of the disk with a fuse that contracts of public calls speak of.
 use Rattle.std.specs.Prelude.{◌≡◌, ◌+◌, ℕ}
 use Rattle.ic_disk.specs.History.{History}
 use Rattle.ic_disk.specs.Fuse.{turn_of}

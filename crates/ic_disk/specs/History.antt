@@ -1,5 +1,5 @@
 -- What the disk in memory has been through, and what follows from it.
--- To be read: contracts of public calls cite it. This project's choice.
+-- This project's choice.
 use Rattle.std.specs.Prelude.{◌+◌, ◌-◌, ◌^◌, ◌≤◌, ℕ, min, List, [], ◌∷◌, ◌++◌, length, take, Result}
 use Rattle.ic_disk.specs.DiskCalls.{IsDiskSync, IsDiskWrite}
 use Rattle.ic_disk.specs.Time.{LeftSince}

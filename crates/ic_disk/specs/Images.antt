@@ -1,5 +1,5 @@
 -- What a crash may leave of a disk, as tests on lists of bytes.
--- To be read: contracts of public calls cite it. This project's choice.
+-- This project's choice.
 use Rattle.std.specs.Prelude.{◌≡◌, ◌⊎◌, ℕ, ◌+◌, ◌<◌, ◌≤◌, List, [], ◌∷◌, length, slice_index}
 use Rattle.ic_disk.specs.Content.{laid}
 
@@ -61,7 +61,7 @@ Within images others = (file : List ℕ) → images file → others file
 pub record Only (file : List ℕ) (images : List ℕ → Type 0) : Type 0 where
   pub no_other : (other : List ℕ) → images other → other ≡ file
 
--- A call that failed has changed nothing, or the torn images have joined.
+-- A call that failed has changed nothing, or each old image, torn in any way, is an image now.
 abbrev pub StaysOrTears : (at n : ℕ) (content new_content : List ℕ)
     (images new_images : List ℕ → Type 0) → Type 0
 StaysOrTears at n content new_content images new_images =

@@ -1,5 +1,5 @@
 -- The written model of a disk: what it holds, what is sure to stay, and which writes are pending.
--- To be read: all that is said of crashes rests on it. This project's choice.
+-- All that is said of crashes rests on it. This project's choice.
 use Rattle.std.specs.Prelude.{◌≡◌, ℕ, List, [], ◌∷◌, ◌++◌, length, map}
 use Rattle.ic_disk.specs.Content.{laid}
 use Rattle.ic_disk.specs.Images.{Range, IsImage, Within}

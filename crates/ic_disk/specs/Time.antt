@@ -1,13 +1,13 @@
 -- What crashes at the moments of a run may leave, and how failures are counted.
--- To be read: contracts of public calls cite it. This project's choice.
+-- This project's choice.
 use Rattle.std.specs.Prelude.{◌≡◌, ◌⊎◌, ℕ, ◌+◌, ◌-◌, ◌^◌, ◌<◌, ◌≤◌, min, List, Result, MatchResult}
 
 -- What a crash may have left at some moment from t on.
 abbrev pub LeftSince : (left : ℕ → List ℕ → Type 0) → ℕ → List ℕ → Type 0
 LeftSince left t file = (k : ℕ) × (t ≤ k) × left k file
 
--- Time goes on by one call at most: a crash at some moment may have left what it might have left
--- before, or from the call on, what its midst leaves.
+-- The clock goes on by one at most. What crashes may have left stays possible; since the call
+-- began, what a crash in its midst leaves is possible too, and nothing else.
 pub record Elapses (before now : ℕ) (past since : ℕ → List ℕ → Type 0)
     (midst : List ℕ → Type 0) : Type 0 where
   pub later : before ≤ now
@@ -16,8 +16,8 @@ pub record Elapses (before now : ℕ) (past since : ℕ → List ℕ → Type 0)
       → past t file ⊎ ((before ≤ t) × midst file)
   pub keeps : (t : ℕ) (file : List ℕ) → past t file → since t file
 
--- A crash at any moment from `old` to `new` leaves a file that has P. Earlier moments leave what
--- they did.
+-- Each file that a crash may leave from `old` to `new` has P. Earlier moments leave no other files
+-- than they did.
 pub record LeavesOnly {D : Type 0} (clock : D → ℕ) (left : D → ℕ → List ℕ → Type 0)
     (old new : D) (P : List ℕ → Type 0) : Type 0 where
   pub later : clock old ≤ clock new

@@ -1,4 +1,4 @@
--- To be believed: when a line submits a job.
+-- When a line submits a job.
 use Rattle.std.specs.Prelude.{◌≡◌, ◌≤◌, ℕ, List, Ok, map}
 use Rattle.ic_term.specs.Configuration.{Configuration, configuration_names, occurrences}
 use Rattle.ic_rules.specs.Renaming.{renamed}

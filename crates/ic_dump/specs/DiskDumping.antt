@@ -1,4 +1,4 @@
--- To be believed: what a dump of a disk writes, and what its faults say (this project's choice).
+-- What a dump of a disk writes, and what its faults say (this project's choice).
 use Rattle.std.specs.Prelude.{ℕ, List, Bool, IsTrue, Option, Result, Ok, Err}
 use Rattle.ic_frames.specs.declared.faults.OpenCause.{OpenCause}
 use Rattle.ic_jobs.specs.Job.{JobParts}

@@ -1,4 +1,4 @@
--- To be believed: what a dump of a table writes (this project's choice).
+-- What a dump of a table writes (this project's choice).
 use Rattle.std.specs.Prelude.{◌≡◌, ℕ, List, [], ◌∷◌, ◌++◌, Bool, true, not, is_some, Option, None, Some, Result, Ok, Err, filter, find}
 use Rattle.std.specs.List.{flat_map, list_any}
 use Rattle.std.specs.Io.KnownBytes.{Appends}

@@ -1,4 +1,4 @@
--- To be believed: the jobs that the lines of a table's jobs submit.
+-- The jobs that the lines of a table's jobs submit.
 use Rattle.std.specs.Prelude.{ℕ, List, codes}
 use Rattle.ic_rules.specs.System.{SystemParts}
 use Rattle.ic_jobs.specs.Job.{JobParts, begun}

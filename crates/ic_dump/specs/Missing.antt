@@ -1,4 +1,4 @@
--- To be believed: the first of some names that no job of a table has.
+-- The first of some names that no job of a table has.
 use Rattle.std.specs.Prelude.{◌≡◌, ℕ, List, ◌∷◌, ◌++◌, Contains}
 use Rattle.ic_jobs.specs.Job.{JobParts}
 use Rattle.ic_jobs.specs.Table.{job_names}

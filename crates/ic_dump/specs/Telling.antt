@@ -1,4 +1,4 @@
--- To be believed: the line that submits a job (this project's choice).
+-- The line that submits a job (this project's choice).
 use Rattle.std.specs.Prelude.{ℕ, ◌∷◌, ◌++◌, List, Bool, codes, length, nat_lt}
 use Rattle.ic_rules.specs.System.{SystemParts}
 use Rattle.ic_jobs.specs.Job.{JobParts}

@@ -1,4 +1,4 @@
--- To be believed: the configuration that a job is told with (this project's choice).
+-- The configuration that a job is told with (this project's choice).
 use Rattle.std.specs.Prelude.{Bool, nat_le, if◌then◌else◌}
 use Rattle.std.specs.List.{list_all}
 use Rattle.ic_term.specs.Configuration.{Configuration, configuration_names}

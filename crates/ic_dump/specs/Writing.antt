@@ -1,4 +1,4 @@
--- To be believed: a system as it is written, each symbol by its text.
+-- A system as it is written, each symbol by its text.
 use Rattle.std.specs.Prelude.{ℕ, List, [], ◌∷◌, ◌++◌, map, slice_get}
 use Rattle.ic_term.specs.Symbol.{Symbol}
 use Rattle.ic_term.specs.Tree.{Tree, trees_of}

@@ -1,4 +1,4 @@
--- To be believed: with what a text begins (this project's choice).
+-- With what a text begins (this project's choice).
 use Rattle.std.specs.Prelude.{ℕ, ◌+◌, ◌==◌, List, [], ◌∷◌, Bool, true, ◌||◌, drop, if◌then◌else◌}
 use Rattle.ic_text.specs.Token.{is_blank}
 

@@ -1,4 +1,4 @@
--- To be believed: what a comment is (this project's choice).
+-- What a comment is (this project's choice).
 use Rattle.std.specs.Prelude.{ℕ, ◌==◌, List, [], ◌∷◌, Bool, true, false, not, if◌then◌else◌}
 
 -- whether a byte is of a comment, by whether the byte before it is: `#` begins one, and the end of the

@@ -1,4 +1,4 @@
--- To be believed: the text of the calculus that a text stands for, or why there is none.
+-- The text of the calculus that a text stands for, or why there is none.
 use Rattle.std.specs.Prelude.{ℕ, ◌+◌, ◌==◌, List, [], ◌∷◌, ◌++◌, Bool, true, ◌&&◌, ◌||◌, Option, None, Some, Result, Ok, Err, filter, length, map, nat_le, if◌then◌else◌}
 use Rattle.std.specs.List.{list_any}
 use Rattle.std.specs.Str.{bytes_eq}

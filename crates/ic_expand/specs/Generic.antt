@@ -1,4 +1,4 @@
--- To be believed: the rules for which `copy` and `erase` stand (Lafont 1997: the combinators delta and epsilon).
+-- The rules for which `copy` and `erase` stand (Lafont 1997: the combinators delta and epsilon).
 use Rattle.std.specs.Prelude.{ℕ, ◌+◌, ◌==◌, List, [], ◌∷◌, ◌++◌, Bool, false, ◌&&◌, ◌||◌, not, codes, map, replicate, if◌then◌else◌}
 use Rattle.std.specs.List.{list_any, range_with_len}
 use Rattle.std.specs.Str.{bytes_eq}

@@ -1,4 +1,4 @@
--- To be believed: the names of a text, and what they are written as (this project's choice).
+-- The names of a text, and what they are written as (this project's choice).
 use Rattle.std.specs.Prelude.{◌≡◌, ℕ, ◌+◌, ◌==◌, List, [], ◌∷◌, ◌++◌, Bool, false, ◌&&◌, ◌||◌, not, Option, None, Some, IsTrue, filter, get_or, length, if◌then◌else◌}
 use Rattle.std.specs.List.{fold, list_all, list_any, position, range_with_len, AllByRecursion}
 use Rattle.std.specs.Str.{bytes_eq}

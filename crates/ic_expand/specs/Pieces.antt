@@ -1,4 +1,4 @@
--- To be believed: the words of a text, and what stands between them (this project's choice).
+-- The words of a text, and what stands between them (this project's choice).
 use Rattle.std.specs.Prelude.{ℕ, ◌==◌, List, [], ◌∷◌, Bool, false, ◌&&◌, ◌||◌, if◌then◌else◌}
 use Rattle.ic_text.specs.Token.{is_word_byte}
 

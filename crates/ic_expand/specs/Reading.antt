@@ -1,4 +1,4 @@
--- To be believed: what a text says of its symbols and rules.
+-- What a text says of its symbols and rules.
 use Rattle.std.specs.Prelude.{ℕ, ◌+◌, ◌-◌, ◌==◌, List, [], ◌∷◌, ◌++◌, Bool, false, ◌&&◌, ◌||◌, not, length, nat_lt, if◌then◌else◌}
 use Rattle.std.specs.List.{concat, fold, list_any, take_while}
 use Rattle.std.specs.Str.{bytes_eq}

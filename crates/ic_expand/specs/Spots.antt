@@ -1,4 +1,4 @@
--- To be believed: where in a text a rule begins, and where one is generic (this project's choice).
+-- Where in a text a rule begins, and where one is generic (this project's choice).
 use Rattle.std.specs.Prelude.{ℕ, ◌==◌, List, Bool, ◌||◌, codes, if◌then◌else◌}
 use Rattle.std.specs.Str.{bytes_eq}
 use Rattle.ic_text.specs.Token.{is_blank}

@@ -1,4 +1,4 @@
--- To be believed: what a stream is answered whose text is expanded (this project's choice).
+-- What a stream is answered whose text is expanded (this project's choice).
 use Rattle.std.specs.Prelude.{◌≡◌, ◌≤◌, ℕ, ◌+◌, List, ◌++◌, Option, Ok, Err, codes, length}
 use Rattle.std.specs.Fmt.{decimal}
 use Rattle.std.specs.Io.KnownBytes.{Consumes, IsAtEnd}

@@ -39,7 +39,7 @@ content_of {D} {ghosts} f = ghosts.content (disk_of f)
 abbrev pub KeepsModel : {D : Type 0} {ghosts : Ghosts D} → Frames D ghosts → Type 0
 KeepsModel {D} {ghosts} f = IsTrue (ghosts.keeps (disk_of f))
 
--- each file that a crash now may leave has P
+-- each image of their disk has P
 abbrev pub EachImage : {D : Type 0} {ghosts : Ghosts D} → Frames D ghosts → (List ℕ → Type 0) → Type 0
 EachImage {D} {ghosts} f P = Within (ghosts.image (disk_of f)) P
 

@@ -1,4 +1,4 @@
--- To be believed: why no further round of a job can be made, and the words that tell it (this
+-- Why no further round of a job can be made, and the words that tell it (this
 -- project's choice).
 use Rattle.std.specs.Prelude.{ℕ, ◌==◌, if◌then◌else◌, List, Option, None, Some, codes}
 use Rattle.ic_term.specs.Configuration.{Configuration}

@@ -1,4 +1,4 @@
--- To be believed: what two slots that were seen so hold.
+-- What two slots that were seen so hold.
 use Rattle.std.specs.Prelude.{ℕ, ◌==◌, nat_lt, Option, None, Some, if◌then◌else◌}
 use Rattle.ic_frames.specs.declared.slot.Slot.{Slot}
 use Rattle.ic_frames.specs.declared.slot.Slot.TheVariants as slot

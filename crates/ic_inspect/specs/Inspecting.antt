@@ -1,4 +1,4 @@
--- To be believed: what is told of a file, and what is read of it (this project's choice).
+-- What is told of a file, and what is read of it (this project's choice).
 use Rattle.std.specs.Prelude.{◌≡◌, ℕ, List, [], ◌∷◌, Option}
 use Rattle.std.specs.Io.KnownBytes.{Appends}
 use Rattle.ic_output.specs.Output.{AppendsFront}

@@ -1,4 +1,4 @@
--- To be believed: a file that a server writes while it is read, as it is at each moment (this
+-- A file that a server writes while it is read, as it is at each moment (this
 -- project's choice).
 use Rattle.std.specs.Prelude.{◌≡◌, ◌⊎◌, ◌+◌, ◌<◌, ◌≤◌, ℕ, List, true, false, length, slice_index}
 use Rattle.ic_frames.specs.declared.frame.TheConstants.{HEAD}

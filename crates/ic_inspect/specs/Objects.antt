@@ -1,4 +1,4 @@
--- To be believed: what is seen of a file as objects of JSON (RFC 8259), one a line (this project's
+-- What is seen of a file as objects of JSON (RFC 8259), one a line (this project's
 -- choice). No string of them has a byte that has to be told otherwise.
 use Rattle.std.specs.Prelude.{ℕ, List, [], ◌∷◌, ◌++◌, Bool, true, false, Option, None, Some, codes}
 use Rattle.std.specs.Fmt.{decimal}

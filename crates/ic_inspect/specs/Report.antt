@@ -1,4 +1,4 @@
--- To be believed: the lines of what is seen of a file (this project's choice).
+-- The lines of what is seen of a file (this project's choice).
 use Rattle.std.specs.Prelude.{ℕ, List, [], ◌∷◌, ◌++◌, Bool, true, false, Option, None, Some, codes, count_by, is_some}
 use Rattle.std.specs.Fmt.{decimal}
 use Rattle.std.specs.List.{flat_map}

@@ -1,4 +1,4 @@
--- To be believed: what is seen of the slots of a file.
+-- What is seen of the slots of a file.
 use Rattle.std.specs.Prelude.{◌≡◌, ◌+◌, ◌<◌, ◌≤◌, ℕ, List, Option, None, Some, true, length}
 use Rattle.ic_jobs.specs.Job.{JobParts}
 use Rattle.ic_jobs.specs.Table.{IsTable}

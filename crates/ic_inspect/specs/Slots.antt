@@ -1,4 +1,4 @@
--- To be believed: what is read of the two slots of a file (this project's choice).
+-- What is read of the two slots of a file (this project's choice).
 use Rattle.std.specs.Prelude.{◌≡◌, ◌⊎◌, ℕ, ◌+◌, List, [], ◌∷◌, ◌++◌, Bool, true, false, ◌&&◌, Option, None, Some, length, nat_le, take, if◌then◌else◌}
 use Rattle.ic_disk.specs.Content.{filled_to}
 use Rattle.ic_frames.specs.declared.frame.TheConstants.{HEAD, MAX_BODY}

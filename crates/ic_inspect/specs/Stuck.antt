@@ -1,4 +1,4 @@
--- To be believed: which pair of a job is told to be stuck (this project's choice).
+-- Which pair of a job is told to be stuck (this project's choice).
 use Rattle.std.specs.Prelude.{ℕ, List, Option, None}
 use Rattle.ic_jobs.specs.declared.state.State.{State}
 use Rattle.ic_jobs.specs.declared.state.State.TheVariants as state

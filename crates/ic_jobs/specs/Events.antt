@@ -35,7 +35,7 @@ submitted t name system budget =
     (if nat_lt (length t) MAX_JOBS then outcome (t ++ begun name system budget ∷ []) Accepted
     else refused t Full)
 
--- what comes of a job, where it is there
+-- what comes of a job; without one the answer is `NoJob`
 abbrev pub unless_missing : List JobParts → (JobParts → Outcome) → Option JobParts → Outcome
 unless_missing t what None = refused t NoJob
 unless_missing t what (Some j) = what j

@@ -83,8 +83,8 @@ last_beginning name t (e ∷ es) =
     option_or (last_beginning name (table_after t e.event) es)
     (option_map (λ s. record { system = s; since = es }) (begins name t e.event e.reply))
 
--- What a job has lived through since it began: it is none where the job was cancelled, else its
--- rounds are counted.
+-- The life of a job since it began: none if it was cancelled, else its system and the number of its
+-- rounds.
 abbrev pub life_since : List ℕ → Beginning → Option Life
 life_since name b =
     if list_any (λ e. ends name e.event e.reply) b.since then None else
@@ -98,7 +98,8 @@ life_since name b =
 abbrev pub life : List ℕ → List Entry → Option Life
 life name h = option_and_then (life_since name) (last_beginning name [] h)
 
--- A job is as its life says: these rules, these rounds, and the configuration after so many rounds.
+-- A job is as its life says: it has the life's rules and its number r of rounds, and its
+-- configuration is the r-th iterate of the round on the life's first configuration.
 pub record HasLived (j : JobParts) (l : Life) : Type 0 where
   pub rules : j.rules ≡ l.rules
   pub rounds : j.rounds ≡ l.rounds

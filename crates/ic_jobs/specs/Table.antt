@@ -1,4 +1,4 @@
--- The job table: jobs in the order in which they were submitted.
+-- The job table: a list of jobs. A new one goes last.
 use Rattle.std.specs.Prelude.{◌≤◌, ℕ, List, Bool, not, Option, length, map, filter, find, if◌then◌else◌}
 use Rattle.std.specs.List.{AllByRecursion, IsDistinct}
 use Rattle.std.specs.Str.{bytes_eq}

@@ -1,4 +1,4 @@
--- To be believed: what lines ask for, leave and are answered (this project's choice).
+-- What lines ask for, leave and are answered (this project's choice).
 use Rattle.std.specs.Prelude.{ℕ, List, [], ◌∷◌, ◌++◌, Result, Ok, Err, length, codes}
 use Rattle.std.specs.List.{fold}
 use Rattle.std.specs.Fmt.{decimal}

@@ -1,4 +1,4 @@
--- To be believed: the lines of a text.
+-- The lines of a text.
 use Rattle.std.specs.Prelude.{ℕ, ◌==◌, List, [], ◌∷◌, ◌++◌, Bool, if◌then◌else◌}
 use Rattle.std.specs.List.{list_any, onto_first}
 

@@ -1,4 +1,4 @@
--- To be believed: lines that are served, from a table on.
+-- Lines that are served, from a table on.
 use Rattle.std.specs.Prelude.{◌≡◌, ℕ, List, [], ◌∷◌, ◌++◌, Some, Ok, Err, length, codes}
 use Rattle.std.specs.Fmt.{decimal}
 use Rattle.ic_jobs.specs.Job.{JobParts}

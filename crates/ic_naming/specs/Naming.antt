@@ -1,4 +1,4 @@
--- To be believed: the names that a net is told with (this project's choice).
+-- The names that a net is told with (this project's choice).
 use Rattle.std.specs.Prelude.{◌≡◌, ◌≤◌, ◌<◌, ℕ, ◌+◌, ◌==◌, ◌&&◌, List, Bool, not, filter, length, map, get_or, nat_le, if◌then◌else◌}
 use Rattle.std.specs.List.{flat_map, range_with_len, AllByRecursion}
 use Rattle.ic_term.specs.Tree.{Pair}

@@ -1,4 +1,4 @@
--- To be believed: what an output has whose writer has failed.
+-- What an output has whose writer has failed.
 use Rattle.std.specs.Prelude.{◌≡◌, ℕ, List, ◌++◌, Option}
 use Rattle.std.specs.Io.KnownBytes.{Appends}
 

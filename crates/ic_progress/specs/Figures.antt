@@ -1,4 +1,4 @@
--- To be believed: what is told of a reduction in place by so many threads that took so many milliseconds (this
+-- What is told of a reduction in place by so many threads that took so many milliseconds (this
 -- project's choice).
 use Rattle.std.specs.Prelude.{ℕ, zero, suc, ◌+◌, ◌==◌, ◌/◌, ◌%◌, List, [], ◌∷◌, ◌++◌, Option, None, Some, codes, drop, length, nat_lt, option_map, slice_get, if◌then◌else◌}
 use Rattle.std.specs.Arc.{arc_value}

@@ -1,4 +1,4 @@
--- To be believed: what the line of progress says (this project's choice).
+-- What the line of progress says (this project's choice).
 use Rattle.std.specs.Prelude.{ℕ, ◌*◌, ◌/◌, ◌^◌, ◌-◌, min, max, List, [], ◌∷◌, ◌++◌, Option, None, Some, codes}
 use Rattle.std.specs.Fmt.{decimal}
 use Rattle.ic_progress.specs.declared.line.Pace.{Pace}

@@ -47,12 +47,13 @@ abbrev pub products : Rule → Tree → Tree → List Pair
 products copy left right =
     against (arguments left) copy.left_args ++ against (arguments right) copy.right_args
 
--- the products with the rule at a place, whose names begin at a base
+-- the products of an active equation, by its rule with names from a base on; none if no rule stands
+-- there
 abbrev pub products_by : List Rule → ℕ → Active → List Pair
 products_by rs base a =
     option_map_or (λ r. products (inst r base) a.left a.right) (slice_get rs a.rule) []
 
--- how many names a rule has
+-- how many names the rule at a place has, or 0 without one
 abbrev pub count_of : List Rule → ℕ → ℕ
 count_of rs i = option_map_or (λ r. r.names) (slice_get rs i) 0
 

@@ -13,7 +13,7 @@ abbrev mutual
   renamed_trees f no_trees = no_trees
   renamed_trees f (more_trees t ts) = more_trees (renamed f t) (renamed_trees f ts)
 
--- the names of a list in the order in which they first occur, after those seen
+-- those seen, and then the other names of a list in the order in which they first occur
 abbrev pub first_after : List ℕ → List ℕ → List ℕ
 first_after seen [] = seen
 first_after seen (n ∷ ns) = if list_any (λ m. n == m) seen then first_after seen ns

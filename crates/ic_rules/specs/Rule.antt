@@ -48,8 +48,8 @@ abbrev pub rule_eq : Rule → Rule → Bool
 rule_eq r s = r.left == s.left && r.right == s.right && pointwise tree_eq r.left_args s.left_args
     && pointwise tree_eq r.right_args s.right_args && r.names == s.names
 
--- A rule of a symbol with itself is allowed only where it is its own swap, the names numbered in both (this
--- project's choice).
+-- A rule is lopsided if both its symbols are one, and it isn't its own swap with the swap's names
+-- numbered anew. It is asked of rules whose names are numbered (this project's choice).
 abbrev pub is_lopsided : Rule → Bool
 is_lopsided r = r.left == r.right && not (rule_eq r (numbered (swapped r)))
 

@@ -91,7 +91,7 @@ abbrev pub found_or : Bool → Option ℕ → Option (ℕ × Bool) → Option (�
 found_or turned (Some i) other = Some (i, turned)
 found_or turned None other = other
 
--- the rule of a pair of symbols: its place, and whether the first symbol is its right one only
+-- the rule of a pair of symbols: its place, and whether the pair is turned round
 abbrev pub rule_for : List Rule → ℕ → ℕ → Option (ℕ × Bool)
 rule_for rs a b = found_or false (position_from (stands_for a b) 0 rs)
     (found_or true (position_from (stands_for b a) 0 rs) None)
@@ -100,7 +100,7 @@ rule_for rs a b = found_or false (position_from (stands_for a b) 0 rs)
 abbrev pub has_pair : ℕ → ℕ → Rule → Bool
 has_pair a b r = stands_for a b r || stands_for b a r
 
--- the symbols of a rule are these two: as they stand, or turned round where they don't stand so
+-- the symbols of a rule are these two, in this order; if `turned`, in the other order alone
 abbrev pub stands_turned : ℕ → ℕ → Bool → Rule → Type 0
 stands_turned a b false r = stands_for a b r ≡ true
 stands_turned a b true r = (stands_for b a r ≡ true) × (stands_for a b r ≡ false)

@@ -1,4 +1,4 @@
--- To be believed: what scripts that are given to a disk come to (this project's choice).
+-- What scripts that are given to a disk come to (this project's choice).
 use Rattle.std.specs.Prelude.{◌≡◌, ◌⊎◌, ℕ, List, [], Option, Result, Ok, Err, IsErrAnd, IsTrue, OnOk}
 use Rattle.std.specs.Io.KnownBytes.{Appends, Keeps}
 use Rattle.ic_disk.specs.declared.disk.Disk.{Ghosts}

@@ -1,4 +1,4 @@
--- To be believed: which of several faults is told (this project's choice).
+-- Which of several faults is told (this project's choice).
 use Rattle.std.specs.Prelude.{◌≡◌, List, [], ◌∷◌, ◌++◌, Option, None, Some, Result, Ok, Err, option_map, slice_get}
 use Rattle.std.specs.List.{filter_map}
 use Rattle.ic_disk.specs.declared.disk.Disk.{Ghosts}

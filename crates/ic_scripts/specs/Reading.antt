@@ -1,4 +1,4 @@
--- To be believed: scripts that are read one after the other (this project's choice).
+-- Scripts that are read one after the other (this project's choice).
 use Rattle.std.specs.Prelude.{◌≡◌, ℕ, List, [], ◌∷◌, ◌++◌, Ok, Err}
 use Rattle.std.specs.List.{AllZip}
 use Rattle.ic_jobs.specs.declared.command.Command.{Command}

@@ -1,4 +1,4 @@
--- To be believed: why scripts have no history, and what a keep after a history says (this project's choice).
+-- Why scripts have no history, and what a keep after a history says (this project's choice).
 use Rattle.std.specs.Prelude.{◌≡◌, ◌≢◌, ℕ, ◌-◌, ◌^◌, ◌<◌, List, true, false, length, Result, Ok, Err}
 use Rattle.ic_disk.specs.declared.disk.Disk.{Ghosts}
 use Rattle.ic_frames.specs.declared.faults.OpenFault.{OpenFault}

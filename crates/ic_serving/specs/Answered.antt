@@ -1,4 +1,4 @@
--- To be believed: what one line is answered, and what it leaves.
+-- What one line is answered, and what it leaves.
 use Rattle.std.specs.Prelude.{◌≡◌, ◌≢◌, ◌<◌, ◌-◌, ◌^◌, ℕ, List, ◌∷◌, Ok, Err, false, length}
 use Rattle.ic_disk.specs.declared.disk.Disk.{Ghosts}
 use Rattle.ic_jobs.specs.declared.reply.Reply.{Reply}

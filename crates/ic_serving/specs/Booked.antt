@@ -1,4 +1,4 @@
--- To be believed: what a serving speaks of in a book.
+-- What a serving speaks of in a book.
 use Rattle.std.specs.Prelude.{◌≡◌, ◌⊎◌, ℕ, ◌-◌, ◌<◌, List, [], ◌∷◌, Some, length}
 use Rattle.ic_disk.specs.declared.disk.Disk.{Ghosts}
 use Rattle.ic_flights.specs.Flight.{FlightParts}

@@ -1,4 +1,4 @@
--- To be believed: what a line adds to the history of a book.
+-- What a line adds to the history of a book.
 use Rattle.std.specs.Prelude.{◌≡◌, ◌+◌, ◌<◌, List, ◌++◌, length, map}
 use Rattle.std.specs.List.{AllByRecursion}
 use Rattle.ic_disk.specs.declared.disk.Disk.{Ghosts}

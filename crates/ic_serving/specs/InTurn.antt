@@ -1,4 +1,4 @@
--- To be believed: lines that were answered one after the other, and the moves that they made.
+-- Lines that were answered one after the other, and the moves that they made.
 use Rattle.std.specs.Prelude.{◌≡◌, ℕ, List, [], ◌∷◌, ◌++◌, Ok, Err}
 use Rattle.ic_disk.specs.declared.disk.Disk.{Ghosts}
 use Rattle.ic_commands.specs.declared.line.Line.TheVariants.{Blank, Command, Run}

@@ -1,4 +1,4 @@
--- To be believed: what a call leaves, by its fault and by a crash in its midst.
+-- What a call leaves, by its fault and by a crash in its midst.
 use Rattle.std.specs.Prelude.{◌≡◌, ◌⊎◌, ℕ, List, false, Result, IfErr, OnOk}
 use Rattle.ic_disk.specs.declared.disk.Disk.{Ghosts}
 use Rattle.ic_disk.specs.Time.{LeavesOnly}

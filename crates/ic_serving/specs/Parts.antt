@@ -1,4 +1,4 @@
--- To be believed: tables between the events of a line.
+-- Tables between the events of a line.
 use Rattle.std.specs.Prelude.{◌≡◌, ◌⊎◌, ℕ, List, [], ◌∷◌, ◌++◌}
 use Rattle.ic_jobs.specs.Job.{JobParts}
 use Rattle.ic_jobs.specs.declared.event.Event.{Event}

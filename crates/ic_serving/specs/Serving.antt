@@ -1,4 +1,4 @@
--- To be believed: what a serving of lines over a book leaves.
+-- What a serving of lines over a book leaves.
 use Rattle.std.specs.Prelude.{◌≡◌, ◌≢◌, ℕ, List, [], ◌++◌, Option, Result, Err, IfErr, OnOk}
 use Rattle.ic_disk.specs.declared.disk.Disk.{Ghosts}
 use Rattle.ic_book.specs.declared.book.Book.{Book}

@@ -1,4 +1,4 @@
--- To be believed: what a crash in the midst of a serving leaves.
+-- What a crash in the midst of a serving leaves.
 use Rattle.std.specs.Prelude.{◌≡◌, ◌⊎◌, ℕ, List, ◌++◌}
 use Rattle.ic_jobs.specs.Job.{JobParts}
 use Rattle.ic_slots.specs.Held.{HoldsTable}

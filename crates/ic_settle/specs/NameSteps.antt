@@ -1,5 +1,5 @@
--- The steps of the calculus that put a term for a name (Fernández and Mackie 1999, indirection and
--- collect).
+-- Name steps: indirection and collect of Fernández and Mackie (1999) as one relation, without a
+-- place.
 use Rattle.std.specs.Prelude.{◌≡◌, List, ◌∷◌, ◌++◌, true, ◌⊎◌}
 use Rattle.ic_term.specs.Tree.{name, Pair}
 use Rattle.ic_term.specs.Configuration.{Configuration, names_in}

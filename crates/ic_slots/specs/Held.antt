@@ -22,7 +22,7 @@ pub record HoldsFormOf (t : List JobParts) (file : List ℕ) : Type 0 where
   pub held : body_held file ≡ the_body body
   pub form : IsFormOf t body
 
--- it is whole, and the byte form of no table
+-- the body that the file holds is the byte form of no table
 abbrev pub HoldsNoTable : List ℕ → Type 0
 HoldsNoTable file =
     (body : List ℕ) × (body_held file ≡ the_body body)

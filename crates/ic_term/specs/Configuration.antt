@@ -34,7 +34,7 @@ configuration_names c = names_in c.interface c.equations
 abbrev pub occurrences : ℕ → List ℕ → ℕ
 occurrences n ns = count_by (λ m. m == n) ns
 
--- the first name of a list, after the names seen, that occurs there for the third time
+-- the first name of a list that stands twice before: among the names seen, or earlier in the list
 abbrev pub third_from : List ℕ → List ℕ → Option ℕ
 third_from seen [] = None
 third_from seen (n ∷ ns) = if nat_le 2 (occurrences n seen) then Some n
@@ -75,7 +75,7 @@ is_small_enough ts es = nat_le (nodes_in ts es) MAX_NODES && nat_le (length ts) 
 abbrev pub is_wide_enough : List Tree → List Pair → Bool
 is_wide_enough ts es = nat_le (nodes_in ts es) MAX_WIDE_NODES
 
--- the sizes pass, as told, `next` passes no limit, and each name is below it
+-- `sizes` holds, `next` is within its limit, and each name is below `next`
 abbrev pub is_numbered_within : Bool → Configuration → Bool
 is_numbered_within sizes c = sizes && nat_le c.next MAX_NEXT
     && list_all (λ n. nat_lt n c.next) (configuration_names c)
@@ -93,8 +93,8 @@ abbrev pub unless_third : Configuration → Option ℕ → Result Configuration 
 unless_third c None = Ok c
 unless_third c (Some n) = Err (Name n)
 
--- the configuration, or the first refusal in the order of `ConfigFault`, where it is told whether it keeps
--- the limits
+-- the configuration, or the first refusal in the order of `ConfigFault`; `within` says whether it
+-- keeps the limits
 abbrev pub restored_if : Bool → Configuration → Result Configuration ConfigFault
 restored_if within c = if within then unless_third c (third_occurrence (configuration_names c))
     else Err Limit
@@ -112,7 +112,8 @@ abbrev pub one_above : List ℕ → ℕ
 one_above [] = 0
 one_above (n ∷ ns) = max (n + 1) (one_above ns)
 
--- terms and equations as a configuration whose `next` is one above its greatest name
+-- terms and equations as a configuration whose `next` is one above its greatest name, or 0 without
+-- names
 abbrev pub configured : List Tree → List Pair → Configuration
 configured ts es = record { interface = ts; equations = es; next = one_above (names_in ts es) }
 

@@ -22,7 +22,7 @@ is_symbol_text [] = false
 is_symbol_text (b ∷ bs) = (is_ascii_uppercase b || is_ascii_digit b)
     && list_all is_ascii_alphanumeric bs
 
--- the limits of one symbol (this project's choice)
+-- a symbol's text and arity are within the limits (this project's choice)
 abbrev pub fits_limits : List ℕ → ℕ → Bool
 fits_limits text arity = nat_le (length text) MAX_SYMBOL_TEXT && nat_le arity MAX_ARITY
 
@@ -68,7 +68,7 @@ abbrev pub with_symbol : List Symbol → List ℕ → ℕ → List Symbol
 with_symbol ss text arity = if is_some (number_of_text ss text) then ss
     else ss ++ record { text = text; arity = arity } ∷ []
 
--- The number is this answer, unless a growth was refused.
+-- A result is this answer, or `Memory`.
 abbrev pub Answers : Result ℕ SymbolFault → Result ℕ SymbolFault → Type 0
 Answers (Ok n) answer = Ok n ≡ answer
 Answers (Err Limit) answer = Err Limit ≡ answer

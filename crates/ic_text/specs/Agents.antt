@@ -1,4 +1,4 @@
--- To be believed: the agents of rules that are written, one by one.
+-- The agents of rules that are written, one by one.
 use Rattle.std.specs.Prelude.{ℕ, List, [], ◌∷◌, sum_by}
 use Rattle.std.specs.List.{flat_map}
 use Rattle.ic_text.specs.Source.{nodes_of_sources}

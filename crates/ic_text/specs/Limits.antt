@@ -1,4 +1,4 @@
--- To be believed: the limits with which a text is read (this project's choice).
+-- The limits with which a text is read (this project's choice).
 use Rattle.std.specs.Prelude.{ℕ}
 use Rattle.ic_rules.specs.declared.limits.TheConstants.{MAX_RULES, MAX_WIDE_RULES}
 use Rattle.ic_term.specs.declared.limits.TheConstants.{MAX_NODES, MAX_INTERFACE, MAX_SYMBOLS, MAX_WIDE_NODES, MAX_WIDE_SYMBOLS}

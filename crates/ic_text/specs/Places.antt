@@ -1,4 +1,4 @@
--- To be believed: where in a text its refusal is found.
+-- Where in a text its refusal is found.
 use Rattle.std.specs.Prelude.{◌≡◌, ℕ, ◌-◌, ◌==◌, ◌<◌, ◌≤◌, List, ◌++◌, Bool, ◌&&◌, ◌||◌, not, Option, None, Some, IsTrue, length, get_or, take}
 use Rattle.ic_text.specs.declared.limits.Limits.{Limits}
 use Rattle.ic_text.specs.declared.limits.Limits.TheVariants.{Served}

@@ -1,4 +1,4 @@
--- To be believed: how a text spells a phrase of some kind, and what it is read as.
+-- How a text spells a phrase of some kind, and what it is read as.
 use Rattle.std.specs.Prelude.{◌≡◌, ℕ, ◌<◌, ◌≤◌, List, Some, Result, Err, length}
 use Rattle.ic_text.specs.declared.limits.Limits.{Limits}
 use Rattle.ic_text.specs.declared.limits.Limits.TheVariants.{Served}

@@ -1,4 +1,4 @@
--- To be believed: what a configuration that is written means.
+-- What a configuration that is written means.
 use Rattle.std.specs.Prelude.{ℕ, List, [], ◌∷◌, Bool, ◌&&◌, Option, None, Some, Result, Ok, Err, length, map, nat_le, if◌then◌else◌, slice_get, option_and_then, unwrap_or}
 use Rattle.std.specs.List.{list_all}
 use Rattle.ic_term.specs.Tree.{Tree, name, agent, Trees, no_trees, more_trees, Pair}

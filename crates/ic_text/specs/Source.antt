@@ -1,4 +1,4 @@
--- To be believed: a configuration as it is written.
+-- A configuration as it is written.
 use Rattle.std.specs.Prelude.{ℕ, ◌+◌, List, [], ◌∷◌, ◌++◌, IsTrue, map, sum_by}
 use Rattle.std.specs.List.{flat_map, AllByRecursion}
 use Rattle.ic_term.specs.Symbol.{Symbol, is_symbol_text}

@@ -1,4 +1,4 @@
--- To be believed: what a system that is written means.
+-- What a system that is written means.
 use Rattle.std.specs.Prelude.{ℕ, List, [], Bool, ◌&&◌, Option, None, Some, Result, Ok, Err, length, map, sum_by, nat_le, if◌then◌else◌}
 use Rattle.std.specs.List.{list_all}
 use Rattle.ic_term.specs.Tree.{list_of}

@@ -1,4 +1,4 @@
--- To be believed: a system as it is written, rules and a configuration (Lafont 1990; Fernández
+-- A system as it is written, rules and a configuration (Lafont 1990; Fernández
 -- and Mackie 1999, section 2).
 use Rattle.std.specs.Prelude.{ℕ, ◌+◌, List, ◌∷◌, ◌++◌, map}
 use Rattle.std.specs.List.{flat_map, AllByRecursion}

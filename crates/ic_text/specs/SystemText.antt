@@ -1,4 +1,4 @@
--- To be believed: what a text of a system is read as.
+-- What a text of a system is read as.
 use Rattle.std.specs.Prelude.{ℕ, ◌≤◌, List, Result, length}
 use Rattle.ic_rules.specs.System.{SystemParts}
 use Rattle.ic_text.specs.declared.fault.TextFault.{TextFault}

@@ -1,4 +1,4 @@
--- To be believed: what a text of a configuration is read as, and how a configuration is printed.
+-- What a text of a configuration is read as, and how a configuration is printed.
 use Rattle.std.specs.Prelude.{ℕ, ◌+◌, ◌≤◌, List, [], ◌++◌, Option, None, Some, Result, length, map, slice_get, codes}
 use Rattle.std.specs.List.{flat_map}
 use Rattle.std.specs.Fmt.{decimal}

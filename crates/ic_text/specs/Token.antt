@@ -1,4 +1,4 @@
--- To be believed: what the tokens of a text are.
+-- What the tokens of a text are.
 use Rattle.std.specs.Prelude.{ℕ, ◌==◌, List, [], ◌∷◌, ◌++◌, Bool, ◌||◌, Option, None, Some, if◌then◌else◌}
 use Rattle.std.specs.Char.{is_ascii_alphanumeric}
 use Rattle.ic_text.specs.declared.token.Mark.{Mark}

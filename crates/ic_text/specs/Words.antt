@@ -1,4 +1,4 @@
--- To be believed: the words of what is written, in the order of the text, each with the number of arguments that
+-- The words of what is written, in the order of the text, each with the number of arguments that
 -- follow it (Łukasiewicz's notation, which needs no parentheses).
 use Rattle.std.specs.Prelude.{ℕ, List, [], ◌∷◌, ◌++◌, length, map, if◌then◌else◌}
 use Rattle.std.specs.List.{flat_map}
