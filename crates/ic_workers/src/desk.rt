@@ -137,8 +137,8 @@ impl Desk {
         self.light(alloc, part, policy, policy.light)
     }
 
-    /// How many nodes a part may share: an eighth as many as it made interactions in its last step, or a few of 1,000 of all
-    /// interactions.
+    /// How many nodes a part may share: an eighth as many as it made interactions in its last step, or a 256th as many as all
+    /// parts have made.
     fn few_nodes(&self, part: usize) -> usize
         requires { part < length self.now.parts.items }
     {
