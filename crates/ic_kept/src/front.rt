@@ -1,6 +1,6 @@
 //! What a file says by its first bytes.
 
-ghost use Rattle.std.specs.Prelude.{◌≡◌, ◌↔◌, ◌<◌, true, length, IfSome, IsNone};
+ghost use Rattle.std.specs.Prelude.{◌≡◌, ◌↔◌, ◌<◌, ◌≤◌, true, length, IfSome, IsNone};
 ghost use Rattle.std.specs.Int.{w64, from_be_bytes};
 ghost use Rattle.ic_kept.specs.Sheet.{gate, number, size};
 ghost use Rattle.ic_kept.specs.declared.head.TheConstants.{HEAD};
@@ -21,6 +21,7 @@ pub struct Front {
 /// What a file says that begins with these bytes, if there are enough.
 pub fn front_of(bytes: &[u8]) -> Option<Front>
     ensures cut { IsNone result → length bytes.now < HEAD }
+    ensures whole { IfSome result (λ front. HEAD ≤ length bytes.now) }
     ensures gate { IfSome result (λ front. (front.opened ≡ true) ↔ (gate bytes.now ≡ 1)) }
     ensures number { IfSome result (λ front. number bytes.now ≡ front.number) }
     ensures size { IfSome result (λ front. size bytes.now ≡ front.size) }
