@@ -10,6 +10,7 @@ ghost use Rattle.ic_term.specs.Symbol.{Symbol, is_over, is_symbol_text};
 ghost use Rattle.ic_term.specs.Tree.{Pair, Tree, Trees, agent, list_of};
 ghost use Rattle.ic_rules.specs.Rule.{Rule};
 ghost use Rattle.ic_rules.specs.RuleSet.{IsRuleSet, Rules};
+ghost use Rattle.ic_rules.specs.System.{SystemParts};
 ghost use Rattle.ic_round.specs.Firing.{Active, active_pair};
 ghost use Rattle.ic_round.specs.Rounds.{iterate};
 ghost use Rattle.ic_round.specs.Steps.{Interaction, Steps};
@@ -20,13 +21,14 @@ ghost use Rattle.ic_causes.specs.Causes.{shown_path};
 ghost use Rattle.ic_diagnostics.specs.Lines.{column, last_line, line_number, told_at};
 ghost use Rattle.ic_diagnostics.specs.Sights.{is_command};
 ghost use Rattle.ic_diagnostics.specs.declared.telling.Kind.{Kind};
+ghost use Rattle.ic_diagnostics.specs.declared.telling.Kind.TheVariants.{Config, System};
 ghost use Rattle.std.specs.Io.KnownBytes.{Appends};
 ghost use Rattle.ic_output.specs.Output.{AppendsFront};
 ghost use Rattle.ic_check.specs.declared.files.Layout.{Layout};
 ghost use Rattle.ic_check.specs.declared.files.Verdict.{Verdict};
 ghost use Rattle.ic_check.specs.Content.{Content};
 ghost use Rattle.ic_check.specs.Files.{AreLooks, Look, LooksOver, LooksOverFront, LooksOverPart, lines_of, reasons_of, verdict_of, told as look_told};
-ghost use Rattle.ic_check.specs.Checking.{Tells, TellsLine, TellsLines, before, form_of, told_fault, told_line_fault};
+ghost use Rattle.ic_check.specs.Checking.{Tells, TellsConfig, TellsLine, TellsLines, TellsSystem, before, form_of, told_fault, told_line_fault};
 ghost use Rattle.ic_check.specs.LinePlaces.{IsDue, IsLinePlace, IsOwnPlace, IsWhole, is_system_due, own_passed};
 ghost use Rattle.ic_check.specs.declared.due.Due.{Due};
 ghost use Rattle.ic_check.specs.declared.due.Due.TheVariants as due;
@@ -45,11 +47,13 @@ ghost use Rattle.ic_jobs.specs.declared.limits.TheConstants.{MAX_BUDGET};
 ghost use Rattle.ic_rules.specs.JobName.{is_job_name};
 ghost use Rattle.ic_rules.specs.declared.job_name.TheConstants.{MAX_JOB_NAME};
 ghost use Rattle.ic_text.specs.Name.{name_text, number_in};
-ghost use Rattle.ic_text.specs.Text.{fault_text};
+ghost use Rattle.ic_text.specs.Text.{Reads, fault_text};
+ghost use Rattle.ic_text.specs.Source.{IsPhrase, phrase_words};
+ghost use Rattle.ic_text.specs.SystemText.{ReadsSystem};
 ghost use Rattle.ic_text.specs.Places.{IsPlaced, IsSyntaxPlace};
 ghost use Rattle.ic_text.specs.SystemSense.{system_sense};
 ghost use Rattle.ic_text.specs.SystemSource.{IsSystemPhrase, SystemPhrase, system_words};
-ghost use Rattle.ic_text.specs.Words.{written_system};
+ghost use Rattle.ic_text.specs.Words.{written_phrase, written_system};
 ghost use Rattle.ic_text.specs.declared.fault.TextFault.TheVariants.{Limit, Syntax};
 ghost use Rattle.ic_text.specs.declared.limits.TheConstants.{MAX_TEXT};
 ghost use Rattle.ic_check.specs.declared.checking.Form.TheVariants as form;
@@ -63,7 +67,7 @@ ghost use Rattle.ic_check.specs.Sessions.{TellsRefusal, lines_sentence, refusal_
 ghost use Rattle.ic_check.specs.Symbols.{config_symbols, text_symbols};
 ghost use Rattle.ic_check.specs.Objects.{fault_fields, finding_fields, object_of, objects_of};
 ghost use Rattle.ic_check.specs.Telling.{fault_line, line_limit_sentence, line_sentence, place_text, placed_line, sought_sentence, spot_text};
-ghost use Rattle.ic_check.specs.Warnings.{Warns, free_line, idle_line, idle_words, once_line, once_text, once_texts, pair_text, ruleless_line, unused_line, warning_line, with_commas};
+ghost use Rattle.ic_check.specs.Warnings.{Warns, free_line, idle_line, idle_words, once_line, once_text, once_texts, pair_text, ruleless_line, unused_line, warning_line, warning_lines, with_commas};
 
 /// An equation is told as one without a rule exactly where both sides are agents and no rule is of their two symbols.
 /// Then it is stuck: no interaction takes it, in whatever configuration it stands, and no step takes away an equation
@@ -557,3 +561,30 @@ pub fn files_are_looked_over_one_after_the_other()
         × AppendsFront old new (flat_map lines_of looks) lines
         × (after ≡ before ++ flat_map reasons_of looks) }
 {}
+
+/// What is told of a file that is a configuration or a system is by its reading. Of a configuration that is read it is nothing,
+/// and of a system its warnings, which are those of what it reaches. Of any other text it is its fault, at its place.
+pub fn texts_are_told_by_their_readings()
+    ensures config { (file text told : List ℕ) (faulty : Bool) (value : List Symbol × Configuration)
+        → TellsConfig file text told faulty → Reads text (Ok value)
+        → (told ≡ []) × (faulty ≡ false) }
+    ensures config_fault { (file text told : List ℕ) (faulty : Bool) (fault : TextFault)
+        → TellsConfig file text told faulty → Reads text (Err fault)
+        → (place : Option ℕ) × (detail : Detail)
+        × IsPlaced IsPhrase phrase_words written_phrase text fault place detail
+        × (told ≡ told_fault file Config text place fault detail) × (faulty ≡ true) }
+    ensures system { (file text told : List ℕ) (faulty : Bool) (s : SystemParts)
+        → TellsSystem file text told faulty → ReadsSystem text (Ok s)
+        → Warns file s.rules s.config told × (faulty ≡ false) }
+    ensures system_fault { (file text told : List ℕ) (faulty : Bool) (fault : TextFault)
+        → TellsSystem file text told faulty → ReadsSystem text (Err fault)
+        → (place : Option ℕ) × (detail : Detail)
+        × IsPlaced IsSystemPhrase system_words written_system text fault place detail
+        × (told ≡ told_fault file System text place fault detail) × (faulty ≡ true) }
+    ensures warnings { (place told : List ℕ) (rs : Rules) (c : Configuration)
+        → Warns place rs c told → (among : ℕ → Bool) × IsReach rs.rules c among
+        × (told ≡ warning_lines place among rs c) }
+{
+    ic_text::laws::one_reading();
+    ic_text::laws::one_system_reading();
+}
