@@ -1,10 +1,12 @@
 //! Laws of what a reduction tells, by however many threads it was made.
 
-ghost use Rattle.std.specs.Prelude.{◌≡◌, ◌≢◌, ◌⊎◌, ℕ, suc, ◌+◌, ◌*◌, ◌^◌, ◌<◌, ◌≤◌, ◌++◌, List, [], true, false, Option, None, SomeIff, length, max, slice_index_or, sum_by};
+ghost use Rattle.std.specs.Prelude.{◌≡◌, ◌≢◌, ◌⊎◌, ℕ, suc, ◌+◌, ◌*◌, ◌^◌, ◌<◌, ◌≤◌, ◌++◌, List, [], ◌∷◌, true, false, Option, None, SomeIff, length, max, slice_index_or, sum_by};
 ghost use Rattle.std.specs.List.{AllByRecursion};
 ghost use Rattle.std.specs.Arc.{arc_value};
 ghost use Rattle.std.specs.Option.{option_map};
 ghost use Rattle.ic_term.specs.Configuration.{Configuration, configuration_names};
+ghost use Rattle.ic_term.specs.Tree.{agent, more_trees, name, no_trees};
+ghost use Rattle.ic_rules.specs.Rule.{Rule};
 ghost use Rattle.ic_rules.specs.System.{SystemParts};
 ghost use Rattle.ic_round.specs.Rounds.{IsQuiet, iterate};
 ghost use Rattle.ic_machine.specs.Net.{all_places, equations_in, pieces, IsPair};
@@ -147,8 +149,8 @@ pub fn rounds_fire_as_many_pairs_as_several()
     ic_by_rounds::laws::rows_count_interactions();
 }
 
-/// Of each symbol the last machine of several threads, or the machine of one, has no more places than there were agents at
-/// once: in some configuration that the first of the interactions lead to. As all is put together, it has no more names than the
+/// Of each symbol a machine that holds the net of several threads, or the machine of one, has no more places than there were
+/// agents at once: in some configuration that the first of the interactions lead to. At some moment it had no more names than the
 /// configuration and the rules that had fired.
 pub fn places_of_several_were_in_use()
     ensures agents { (s : SystemParts) (bounds : Bounds) (asked : Asked) (outcome : Outcome)
@@ -168,7 +170,23 @@ pub fn places_of_several_were_in_use()
     crate::places::a_machine_begins_with_what_its_configuration_has();
 }
 
-/// The last machine runs on from what was reached before by all, and is looked at as that of one thread is. It is told that
+/// Agents of a symbol are counted by hand, in `<S(Z)|S(x)=Z>` with S for 0 and Z for 1. The names at a place are those of
+/// the rule there.
+pub fn agents_and_names_are_counted_so()
+    ensures agents { (c : Configuration) (x : ℕ) → c ≡ record {
+      interface = agent 0 (more_trees (agent 1 no_trees) no_trees) ∷ [];
+      equations = record {
+        left = agent 0 (more_trees (name x) no_trees);
+        right = agent 1 no_trees;
+      } ∷ [];
+      next = suc x;
+    } → (agents_of_symbol 0 c ≡ 2) × (agents_of_symbol 1 c ≡ 2) × (agents_of_symbol 2 c ≡ 0) }
+    ensures first { (r : Rule) (rs : List Rule) → names_at (r ∷ rs) 0 ≡ r.names }
+    ensures later { (r : Rule) (rs : List Rule) (i : ℕ) → names_at (r ∷ rs) (suc i) ≡ names_at rs i }
+    ensures none { (i : ℕ) → names_at [] i ≡ 0 }
+{}
+
+/// This machine runs on from what was reached at that moment, and is looked at as that of one thread is. It is told that
 /// there were too many places and equations only at a look, after each 4,096 interactions. They pass the bound, or what there
 /// was before, by no more than so many interactions may make.
 pub fn the_last_machine_is_looked_at()
