@@ -89,9 +89,9 @@ pub record TakesRound {D : Type 0} {ghosts : Ghosts D} (entry : Entry) (expected
 
 -- ---- a keep
 
--- A keep makes at most six calls to the disk, and none where all was kept before. At Ok all is
--- kept, the book isn't broken and reads give the table; a disk to which it was written is made. At
--- Err nothing more is kept.
+-- A keep makes at most six calls to the disk, and none where all was kept before. At Ok the book
+-- isn't broken and reads give the table; a disk to which it was written is made. At Err nothing more
+-- is kept. That all is kept at Ok is said by the move of a keep.
 pub record KeepsAll {T D : Type 0} {ghosts : Ghosts D} (result : Result T BookFault)
     (old new : Book D ghosts) : Type 0 where
   pub table : table_of new ≡ table_of old

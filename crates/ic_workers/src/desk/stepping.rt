@@ -78,8 +78,8 @@ pub fn run_by_workers<R: Threads + Sync, C: Clock + Sync, V: Watch>(
     })
 }
 
-/// Whether a machine has no more names than the plan of the configuration makes, and the rules that fired have. It has no more,
-/// whatever parts handed on; if it had, nothing of it would be kept.
+/// Whether a machine has no more names than the plan of the configuration makes, and the rules that fired have. That it never has
+/// more isn't proved; if it had, nothing of it would be kept.
 fn has_few_names(
     alloc: Global,
     system: &WideSystem,
