@@ -14,7 +14,8 @@ use Rattle.ic_rules.specs.RuleSet.{IsRuleOver}
 use Rattle.ic_rules.specs.lemmas.FitLaws.{first_unfit-None}
 use Rattle.ic_jobs.specs.declared.state.State.{State}
 use Rattle.ic_jobs.specs.declared.state.State.TheVariants.{Running}
-use Rattle.ic_codec.specs.Form.{form_digit, form_head, state_byte, budget_bytes, budget_number, heading_bytes, heading_of}
+use Rattle.ic_jobs.specs.State.{state_number}
+use Rattle.ic_codec.specs.Form.{form_digit, form_head, budget_bytes, budget_number, heading_bytes, heading_of}
 use Rattle.ic_codec.specs.declared.form.Form.{Form}
 use Rattle.ic_codec.specs.declared.form.Form.TheVariants.{Ict1, Ict2}
 use Rattle.ic_jobs.specs.Job.{JobParts, IsJob}
@@ -142,7 +143,7 @@ rule_are_bytes ss few r over =
       ),
     )
 
-state_small : (s : State) → state_byte s < 256
+state_small : (s : State) → state_number s < 256
 state_small Running = omega arith
 state_small _ = omega arith
 
@@ -153,7 +154,7 @@ budget_are_bytes Ict2 budget = eight_are_bytes (budget_number budget)
 heading_are_bytes : (form : Form) (h : Heading) → is_job_name h.name ≡ true → AreBytes (heading_bytes form h)
 heading_are_bytes form h is =
     let after = budget_bytes form h.budget ++ eight_bytes h.next in
-    bytes_both (text_bytes h.name) (state_byte h.state ∷ (eight_bytes h.rounds ++ after))
+    bytes_both (text_bytes h.name) (state_number h.state ∷ (eight_bytes h.rounds ++ after))
     (omega (arith, short_name h.name is), name_bytes h.name is) (
       state_small h.state,
       bytes_both (eight_bytes h.rounds) after (eight_are_bytes h.rounds)

@@ -10,7 +10,8 @@ use Rattle.ic_term.specs.Symbol.{Symbol, is_symbol_text, fits_limits}
 use Rattle.ic_term.specs.Configuration.{Configuration, IsConfiguration}
 use Rattle.ic_rules.specs.JobName.{is_job_name}
 use Rattle.ic_rules.specs.Rule.{Rule, rule_nodes}
-use Rattle.ic_codec.specs.Form.{state_byte, budget_bytes, budget_number, heading_bytes, heading_of}
+use Rattle.ic_jobs.specs.State.{state_number}
+use Rattle.ic_codec.specs.Form.{budget_bytes, budget_number, heading_bytes, heading_of}
 use Rattle.ic_codec.specs.declared.form.Form.{Form}
 use Rattle.ic_codec.specs.declared.form.Form.TheVariants.{Ict1, Ict2}
 use Rattle.ic_jobs.specs.Job.{JobParts, IsJob}
@@ -89,7 +90,7 @@ heading_length form h is =
       length-eight_bytes h.next,
       length-append (budget_bytes form h.budget) (eight_bytes h.next),
       length-append (eight_bytes h.rounds) after,
-      length-append (text_bytes h.name) (state_byte h.state ∷ numbers),
+      length-append (text_bytes h.name) (state_number h.state ∷ numbers),
     )
 
 -- there are no more equations than nodes

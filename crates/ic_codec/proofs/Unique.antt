@@ -17,9 +17,9 @@ use Rattle.ic_rules.specs.lemmas.FitLaws.{first_unfit-None}
 use Rattle.ic_rules.specs.lemmas.NumberingLaws.{Among, each_among}
 use Rattle.ic_jobs.specs.declared.state.State.{State}
 use Rattle.ic_jobs.specs.declared.state.State.TheVariants.{Running}
-use Rattle.ic_jobs.specs.State.{state_numbered}
+use Rattle.ic_jobs.specs.State.{state_number, state_numbered}
 use Rattle.ic_jobs.specs.Budget.{IsBudget}
-use Rattle.ic_codec.specs.Form.{state_byte, budget_number, budget_bytes, heading_bytes}
+use Rattle.ic_codec.specs.Form.{budget_number, budget_bytes, heading_bytes}
 use Rattle.ic_codec.specs.declared.form.Form.{Form}
 use Rattle.ic_codec.specs.declared.form.Form.TheVariants.{Ict1, Ict2}
 use Rattle.ic_codec.specs.declared.form.Heading.{Heading}
@@ -54,11 +54,11 @@ text_front x y a b e =
     let tails : x ++ a ≡ y ++ b = cc in
     fronts x y a b counts tails
 
-byte_numbered : (s : State) → state_numbered (state_byte s) ≡ s
+byte_numbered : (s : State) → state_numbered (state_number s) ≡ s
 byte_numbered Running = refl
 byte_numbered _ = refl
 
-pub state_same : (s r : State) → state_byte s ≡ state_byte r → s ≡ r
+pub state_same : (s r : State) → state_number s ≡ state_number r → s ≡ r
 state_same s r e = sym (byte_numbered s) ∙ ap state_numbered e ∙ byte_numbered r
 
 abbrev pub AnySymbol : Symbol → Type 0
@@ -104,18 +104,18 @@ budget_tells Ict2 b c x y v w e =
 
 pub heading_spread : (form : Form) (h : Heading) (rest : List ℕ)
     → heading_bytes form h ++ rest
-    ≡ text_bytes h.name ++ (state_byte h.state ∷ (eight_bytes h.rounds ++ (budget_bytes form h.budget ++ (eight_bytes h.next ++ rest))))
+    ≡ text_bytes h.name ++ (state_number h.state ∷ (eight_bytes h.rounds ++ (budget_bytes form h.budget ++ (eight_bytes h.next ++ rest))))
 heading_spread form h rest =
     let budget = budget_bytes form h.budget in
-    append_assoc (text_bytes h.name) (state_byte h.state ∷ (eight_bytes h.rounds ++ (budget ++ eight_bytes h.next))) rest
-    ∙ ap (λ (bs : List ℕ). text_bytes h.name ++ (state_byte h.state ∷ bs))
+    append_assoc (text_bytes h.name) (state_number h.state ∷ (eight_bytes h.rounds ++ (budget ++ eight_bytes h.next))) rest
+    ∙ ap (λ (bs : List ℕ). text_bytes h.name ++ (state_number h.state ∷ bs))
     (append_assoc (eight_bytes h.rounds) (budget ++ eight_bytes h.next) rest
     ∙ ap (λ (bs : List ℕ). eight_bytes h.rounds ++ bs) (append_assoc budget (eight_bytes h.next) rest))
 
 pub heading_tells : (form : Form) → Tells (HasHeadingBytes form) (heading_bytes form)
 heading_tells form g h a b v w e =
     let first = text_front g.name h.name _ _ (sym (heading_spread form g a) ∙ e ∙ heading_spread form h b) in
-    let states : state_byte g.state ≡ state_byte h.state = cc (first.1) in
+    let states : state_number g.state ≡ state_number h.state = cc (first.1) in
     let after : eight_bytes g.rounds ++ (budget_bytes form g.budget ++ (eight_bytes g.next ++ a))
     ≡ eight_bytes h.rounds ++ (budget_bytes form h.budget ++ (eight_bytes h.next ++ b)) = cc (first.1) in
     let rounds = eight_front g.rounds h.rounds _ _ v.rounds w.rounds after in

@@ -1,9 +1,10 @@
--- What one form says otherwise than another: its letters, the bytes of states, and what stands before
--- the symbols of a job (this project's choice).
+-- In what the two forms differ, their letters and the budget, and what both have before a job's
+-- symbols (this project's choice).
 use Rattle.std.specs.Prelude.{ℕ, List, [], ◌∷◌, ◌++◌, Option, None, Some}
 use Rattle.ic_jobs.specs.Job.{JobParts}
 use Rattle.ic_jobs.specs.declared.state.State.{State}
 use Rattle.ic_jobs.specs.declared.state.State.TheVariants.{Running, Paused, Done, Halted, Spent}
+use Rattle.ic_jobs.specs.State.{state_number}
 use Rattle.ic_codec.specs.declared.form.Form.{Form}
 use Rattle.ic_codec.specs.declared.form.Form.TheVariants.{Ict1, Ict2}
 use Rattle.ic_codec.specs.declared.form.Heading.{Heading}
@@ -19,15 +20,7 @@ form_digit Ict2 = 50
 abbrev pub form_head : Form → List ℕ
 form_head form = 73 ∷ 67 ∷ 84 ∷ form_digit form ∷ []
 
--- a state in one byte
-abbrev pub state_byte : State → ℕ
-state_byte Running = 0
-state_byte Paused = 1
-state_byte Done = 2
-state_byte Halted = 3
-state_byte Spent = 4
-
--- all states, in the order of their bytes
+-- all states, in the order of their numbers
 abbrev pub all_states : List State
 all_states = Running ∷ Paused ∷ Done ∷ Halted ∷ Spent ∷ []
 
@@ -45,7 +38,7 @@ budget_bytes Ict2 budget = eight_bytes (budget_number budget)
 -- configuration
 abbrev pub heading_bytes : Form → Heading → List ℕ
 heading_bytes form h =
-    text_bytes h.name ++ (state_byte h.state
+    text_bytes h.name ++ (state_number h.state
     ∷ (eight_bytes h.rounds ++ (budget_bytes form h.budget ++ eight_bytes h.next)))
 
 -- the heading of a job

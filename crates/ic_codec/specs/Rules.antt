@@ -10,6 +10,6 @@ abbrev pub rule_bytes : Rule → List ℕ
 rule_bytes r =
     r.left ∷ r.right ∷ (flat_map tree_bytes r.left_args ++ flat_map tree_bytes r.right_args)
 
--- rules are their number in two bytes, then each of them in order
+-- rules are how many there are, in two bytes, then each of them in order
 abbrev pub rules_bytes : List Rule → List ℕ
 rules_bytes rs = two_bytes (length rs) ++ flat_map rule_bytes rs

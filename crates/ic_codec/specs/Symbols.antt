@@ -8,6 +8,6 @@ use Rattle.ic_codec.specs.Texts.{text_bytes}
 abbrev pub symbol_bytes : Symbol → List ℕ
 symbol_bytes s = text_bytes s.text ++ s.arity ∷ []
 
--- symbols are their number in one byte, then each of them in order
+-- symbols are how many there are, in one byte, then each of them in order
 abbrev pub symbols_bytes : List Symbol → List ℕ
 symbols_bytes ss = length ss ∷ flat_map symbol_bytes ss

@@ -7,7 +7,7 @@ use Rattle.ic_codec.specs.declared.form.Form.TheVariants.{Ict1, Ict2}
 use Rattle.ic_codec.specs.Form.{form_head}
 use Rattle.ic_codec.specs.Jobs.{job_bytes}
 
--- a table is the head of the form, the number of its jobs in one byte, and the jobs in order
+-- a table is the head of the form, how many jobs it has, in one byte, and the jobs in order
 abbrev pub table_bytes_in : Form → List JobParts → List ℕ
 table_bytes_in form t = form_head form ++ (length t ∷ flat_map (job_bytes form) t)
 

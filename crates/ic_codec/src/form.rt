@@ -3,7 +3,8 @@
 
 ghost use Rattle.std.specs.Prelude.{◌≡◌, ◌≢◌, ◌<◌, ◌∷◌, ◌++◌, ℕ, List, [], IfOk, IfErr, IfSome, IsNone, IsTrue};
 ghost use Rattle.ic_rules.specs.JobName.{is_job_name};
-ghost use Rattle.ic_codec.specs.Form.{form_head, state_byte, budget_number, budget_bytes, heading_bytes, heading_of};
+ghost use Rattle.ic_jobs.specs.State.{state_number};
+ghost use Rattle.ic_codec.specs.Form.{form_head, budget_number, budget_bytes, heading_bytes, heading_of};
 ghost use Rattle.ic_codec.specs.inner.Room.{Fits, Appended};
 ghost use Rattle.ic_codec.specs.inner.Forms.{HasBudgetBytes, HasHeadingBytes};
 ghost use Rattle.ic_codec.specs.Texts.{text_bytes};
@@ -91,7 +92,7 @@ pub(crate) fn put_heading(heading: Heading, out: &mut Vec<u8>)
 }
 
 fn state_byte(state: State) -> u8
-    ensures { result ≡ state_byte state }
+    ensures { result ≡ state_number state }
 {
     match state {
         State::Running => 0,
@@ -149,9 +150,9 @@ fn name_of(text: &[u8]) -> Result<JobName, CodecFault>
 }
 
 fn state_at(bytes: &[u8]) -> Result<(State, &[u8]), CodecFault>
-    ensures read { IfOk result (λ r. bytes.now ≡ state_byte r.0 ∷ r.1.now) }
+    ensures read { IfOk result (λ r. bytes.now ≡ state_number r.0 ∷ r.1.now) }
     ensures refused { IfErr result (λ fault. fault ≡ NotATable
-        → (s : State) (rest : List ℕ) → bytes.now ≢ state_byte s ∷ rest) }
+        → (s : State) (rest : List ℕ) → bytes.now ≢ state_number s ∷ rest) }
 {
     let (byte, rest) = byte_at(bytes)?;
     match state_of(byte) {
@@ -161,7 +162,7 @@ fn state_at(bytes: &[u8]) -> Result<(State, &[u8]), CodecFault>
 }
 
 fn state_of(byte: u8) -> Option<State>
-    ensures state { IfSome result (λ s. byte ≡ state_byte s) }
+    ensures state { IfSome result (λ s. byte ≡ state_number s) }
     ensures none { IsNone result → 4 < byte }
 {
     match byte {

@@ -6,7 +6,8 @@ ghost use Rattle.ic_jobs.specs.Job.{JobParts};
 ghost use Rattle.ic_jobs.specs.Table.{IsTable};
 ghost use Rattle.ic_jobs.specs.declared.state.State.{State};
 ghost use Rattle.ic_codec.specs.Numbers.{two_bytes, eight_bytes};
-ghost use Rattle.ic_codec.specs.Form.{state_byte, all_states};
+ghost use Rattle.ic_jobs.specs.State.{state_number};
+ghost use Rattle.ic_codec.specs.Form.{all_states};
 ghost use Rattle.ic_codec.specs.Tables.{table_bytes, old_table_bytes, IsFormOf};
 ghost use Rattle.ic_codec.specs.Worked.{one_plus_one, one_plus_one_done, one_plus_one_spent, submitted_by_hand, done_by_hand, spent_by_hand, old_submitted_by_hand, old_done_by_hand};
 ghost use Rattle.ic_codec.specs.CodecFault.{codec_fault_number, all_codec_faults};
@@ -61,7 +62,7 @@ pub fn numbers_and_states_are()
     ensures eight { eight_bytes 0x0102030405060708
         ≡ 1 ∷ 2 ∷ 3 ∷ 4 ∷ 5 ∷ 6 ∷ 7 ∷ 8 ∷ [] }
     ensures all_states { (state : State) → Contains all_states state }
-    ensures states { map state_byte all_states ≡ 0 ∷ 1 ∷ 2 ∷ 3 ∷ 4 ∷ [] }
+    ensures states { map state_number all_states ≡ 0 ∷ 1 ∷ 2 ∷ 3 ∷ 4 ∷ [] }
 {}
 
 /// The lasting numbers of the faults.

@@ -1,5 +1,5 @@
 -- What an opening leaves of a disk, and what a refusal says. This project's choice.
-use Rattle.std.specs.Prelude.{◌≡◌, ℕ, Bool, List, Result, IsTrue, IsErrOf, OnOk}
+use Rattle.std.specs.Prelude.{◌≡◌, ℕ, Bool, List, Result, IsTrue, IsErrOf}
 use Rattle.ic_disk.specs.Images.{Only}
 use Rattle.ic_disk.specs.Time.{LeavesOnly}
 use Rattle.ic_frames.specs.declared.faults.OpenCause.{OpenCause}
@@ -14,14 +14,12 @@ Answers Damaged held = held ≡ damaged
 Answers Device held = Unit {0}
 Answers Memory held = Unit {0}
 
--- What an opening leaves of a disk, seen by these members: what was there. A crash at any moment
--- leaves an image from before. Unless the disk has failed, a sync was made, and so there is one
--- image then: what reads give.
+-- An opening changes nothing that reads give. A crash meanwhile leaves an image from before. Unless
+-- a call failed, the content is then the only image.
 pub record LeavesAsFound {D T : Type 0} (keeps_model : D → Bool) (content : D → List ℕ)
     (image : D → List ℕ → Type 0) (clock : D → ℕ) (left : D → ℕ → List ℕ → Type 0)
     (result : Result T OpenCause) (old new : D) : Type 0 where
   pub keeps : keeps_model new ≡ keeps_model old
   pub any_moment : IsTrue (keeps_model old) → LeavesOnly clock left old new (image old)
   pub same : IsTrue (keeps_model old) → content new ≡ content old
-  pub settled : IsTrue (keeps_model old) → OnOk result (Only (content old) (image new))
   pub synced : IsTrue (keeps_model old) → ¬ IsErrOf result Device → Only (content old) (image new)

@@ -1,8 +1,9 @@
 -- What standing among others comes to, and which names have a job.
-use Rattle.std.proofs.Common.{◌≡◌, ◌⊎◌, ◌↔◌, ⊎_elim, inl, inr, ℕ, List, [], ◌∷◌, ◌++◌, Option, None, Some, refl, sym, ap, ◌∙◌}
+use Rattle.std.proofs.Common.{◌≡◌, ◌⊎◌, ◌↔◌, ⊎_elim, inl, inr, ℕ, List, [], ◌∷◌, ◌++◌, Option, None, Some, refl, sym, ap, subst}
+use Rattle.ic_round.specs.Rounds.{iterate}
 use Rattle.ic_jobs.specs.declared.event.Entry.{Entry}
 use Rattle.ic_jobs.specs.Job.{JobParts}
-use Rattle.ic_jobs.specs.Life.{Life, life}
+use Rattle.ic_jobs.specs.Life.{Life, life, HasLived, IsAsLived}
 use Rattle.ic_jobs.specs.Table.{job_named}
 use Rattle.ic_book.specs.Moves.{Move}
 use Rattle.ic_book.specs.Server.{Runs, Server}
@@ -23,18 +24,29 @@ among_at (f ∷ front) back (o ∷ others) e (inl here) =
 among_at (f ∷ front) back (o ∷ others) e (inr later) =
     let r = among_at (f ∷ front) back others e later in (o ∷ r.0, r.1, ap (λ (l : List Entry). o ∷ l) r.2, inr r.3, r.4)
 
-none_or_some : {A : Type 0} (o : Option A) → (o ≡ None) ⊎ ((a : A) × (o ≡ Some a))
-none_or_some None = inl refl
-none_or_some (Some a) = inr (a, refl)
-
-none_lives : (l : Option Life) (began : Life) → l ≡ None → l ≡ Some began → ⊥
-none_lives l began gone lives = let never : None ≡ Some began = sym gone ∙ lives in cc
+lives_too : (job : Option JobParts) (lived : Option Life) → IsAsLived job lived → (job ≡ None) ↔ (lived ≡ None)
+lives_too None None is = (λ e. refl, λ e. refl)
+lives_too None (Some l) is = absurd is
+lives_too (Some j) None is = absurd is
+lives_too (Some j) (Some l) is = (λ e. cc, λ e. cc)
 
 pub living : (history : List Entry) (table : List JobParts) (name : List ℕ) → AreIterates history table → (job_named name table ≡ None) ↔ (life name history ≡ None)
-living history table name are = (
-  are.no_other name,
-  λ gone. ⊎_elim (λ none. none) (λ some. let one = are.each name some.0 some.1 in absurd (none_lives (life name history) one.0 gone one.1)) (none_or_some (job_named name table)),
-)
+living history table name are = lives_too (job_named name table) (life name history) (are name)
+
+lived_by : (job : Option JobParts) (lived : Option Life) (j : JobParts) → IsAsLived job lived → job ≡ Some j
+    → (began : Life) × (lived ≡ Some began) × (j.rounds ≡ began.rounds) × (j.config ≡ iterate began.rules.rules began.rounds began.began)
+lived_by None lived j is e = cc
+lived_by (Some k) None j is e = absurd is
+lived_by (Some k) (Some l) j is e =
+    let P : JobParts → Type 0 = λ i. HasLived i l in
+    let has = subst P (same_some e) is in (l, refl, has.rounds, has.config)
+  where
+    same_some : Some k ≡ Some j → k ≡ j
+    same_some e = cc
+
+pub iterate_of : (history : List Entry) (table : List JobParts) (name : List ℕ) (j : JobParts) → AreIterates history table → job_named name table ≡ Some j
+    → (began : Life) × (life name history ≡ Some began) × (j.rounds ≡ began.rounds) × (j.config ≡ iterate began.rules.rules began.rounds began.began)
+iterate_of history table name j are is = lived_by (job_named name table) (life name history) j (are name) is
 
 pub told_past : {D : Type 0} {ghosts : Ghosts D} (moves : List Move) (first last : Server ghosts) (run : Runs moves first last) (past : Past) → AreTold moves first last run past
     → IsPast moves past × Tells past last

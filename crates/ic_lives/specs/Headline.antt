@@ -1,34 +1,24 @@
 -- What the law over all runs of a server concludes.
-use Rattle.std.specs.Prelude.{◌≡◌, ◌≤◌, ℕ, List, [], ◌∷◌, None, Some, length, take}
+use Rattle.std.specs.Prelude.{◌≡◌, ◌≤◌, ℕ, List, [], ◌∷◌, length, take}
 use Rattle.ic_disk.specs.declared.disk.Disk.{Ghosts}
-use Rattle.ic_round.specs.Rounds.{iterate}
 use Rattle.ic_jobs.specs.declared.event.Entry.{Entry}
 use Rattle.ic_jobs.specs.Job.{JobParts}
 use Rattle.ic_jobs.specs.Table.{job_named}
 use Rattle.ic_jobs.specs.History.{replay, IsLegal}
-use Rattle.ic_jobs.specs.Life.{Life, life}
+use Rattle.ic_jobs.specs.Life.{life, IsAsLived}
 use Rattle.ic_slots.specs.Held.{HoldsTable}
 use Rattle.ic_book.specs.Book.{table_of}
 use Rattle.ic_book.specs.Moves.{Move}
 use Rattle.ic_book.specs.Server.{Server, down, up, Runs}
 use Rattle.ic_lives.specs.Past.{Past, nothing, Next, IsPast}
 
--- A job after its r-th round has the rules of the life that it began, and its configuration is the
--- r-th iterate of the sequential round on the one that it began with.
-pub record IsIterate (job : JobParts) (began : Life) : Type 0 where
-  pub rules : job.rules ≡ began.rules
-  pub rounds : job.rounds ≡ began.rounds
-  pub config : job.config ≡ iterate job.rules.rules job.rounds began.began
-
--- A table has the jobs that live by this history, each after as many rounds as it tells, and no
--- other.
-pub record AreIterates (history : List Entry) (table : List JobParts) : Type 0 where
-  pub each : (name : List ℕ) (job : JobParts) → job_named name table ≡ Some job
-      → (began : Life) × (life name history ≡ Some began) × IsIterate job began
-  pub no_other : (name : List ℕ) → job_named name table ≡ None → life name history ≡ None
+-- A name has a job in the table exactly if it lives by this history, and the job is as its life says.
+abbrev pub AreIterates : (history : List Entry) (table : List JobParts) → Type 0
+AreIterates history table =
+    (name : List ℕ) → IsAsLived (job_named name table) (life name history)
 
 -- A past tells of a table: it is a legal history, the table is the replay of all its entries, and
--- each job is an iterate.
+-- each job is as its life says.
 pub record TellsTable (past : Past) (table : List JobParts) : Type 0 where
   pub legal : IsLegal [] past.entries
   pub lasting : past.lasting ≤ length past.entries
@@ -50,7 +40,8 @@ pub record IsTableAfter (moves : List Move) (table : List JobParts) : Type 0 whe
   pub comes : IsPast moves past
   pub tells : TellsTable past table
 
--- a file that is found after these moves holds what a past of them tells
+-- a file that is found after these moves holds the table after a prefix of some past of them, and
+-- this prefix has all entries that last
 pub record HoldsPrefixAfter (moves : List Move) (file : List ℕ) : Type 0 where
   pub past : Past
   pub comes : IsPast moves past

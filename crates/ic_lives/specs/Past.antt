@@ -22,7 +22,7 @@ Grows more old new = new.entries ≡ old.entries ++ more
 abbrev pub AllLast : Past → Type 0
 AllLast new = new.lasting ≡ length new.entries
 
--- no more of them last than before
+-- as many of them last as before
 abbrev pub NoMoreLast : Past → Past → Type 0
 NoMoreLast old new = new.lasting ≡ old.lasting
 

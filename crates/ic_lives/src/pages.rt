@@ -64,17 +64,6 @@ pub fn lives_law()
     ic_jobs::laws::histories_split_and_join();
 }
 
-/// A history that is legal from the empty table leaves a job of a name exactly where the name's
-/// life is some rules, a configuration and a number of rounds. Then the job has these rules and
-/// rounds, and its configuration is the iterate, after so many rounds, of the one that it began
-/// with.
-pub fn life_law()
-    ensures { (name : List ℕ) (h : List Entry) → IsLegal [] h
-        → IsAsLived (job_named name (replay [] h)) (life name h) }
-{
-    ic_jobs::laws::life_law();
-}
-
 /// After any number of stops, at each moment of the last life, when its log had n entries: the
 /// history of all lives up to then is legal from the empty table and leaves the table of that
 /// moment. In this table there are the jobs that have a life in this history, each as its life

@@ -2,7 +2,7 @@
 -- collect of Fernández and Mackie 1999.
 use Rattle.std.specs.Prelude.{ℕ, zero, suc, ◌==◌, List, [], ◌∷◌, ◌++◌, Bool, Option, None, Some, length, map, if◌then◌else◌}
 use Rattle.std.specs.List.{list_any}
-use Rattle.std.specs.Option.{option_map, option_map_or}
+use Rattle.std.specs.Option.{option_map, option_map_or, option_or}
 use Rattle.ic_term.specs.Tree.{Tree, name, agent, Trees, no_trees, more_trees, Pair}
 use Rattle.ic_term.specs.Configuration.{Configuration, names_in}
 
@@ -42,14 +42,10 @@ side_binding outside (name x) other =
     if occurs x outside then Some (record { name = x; term = other }) else None
 side_binding outside (agent s ts) other = None
 
-abbrev pub first_of_two : Option Binding → Option Binding → Option Binding
-first_of_two (Some b) _ = Some b
-first_of_two None other = other
-
 -- the binding of an equation with these names outside of it: the left side is tried first
 abbrev pub binding : List ℕ → Pair → Option Binding
 binding outside p =
-    first_of_two (side_binding outside p.left p.right) (side_binding outside p.right p.left)
+    option_or (side_binding outside p.left p.right) (side_binding outside p.right p.left)
 
 -- an equation with an applicable side, the equations before it and those after it
 pub record Choice : Type 0 where

@@ -103,10 +103,6 @@ not_device a is = subst (λ x. ¬ IsErrOf x cause.Device) (sym is) (λ e. cc)
 pub isnt_device : {T : Type 0} (c : OpenCause) → c ≡ cause.NoSlot → ¬ IsErrOf {T = T} (Err c) cause.Device
 isnt_device c is = not_device (Err c) (ap Err is)
 
-on-any : {U E : Type 0} (b : Result U E) (P : Type 0) → P → OnOk b P
-on-any (Ok u) P p = p
-on-any (Err e) P p = tt
-
 module _ {D : Type 0} (clock : D → ℕ) (left : D → ℕ → List ℕ → Type 0) (image : D → List ℕ → Type 0) (content : D → List ℕ) where
   -- one call that changes nothing, and then others
   pub then-looks : (old mid new : D) → ((file : List ℕ) → LeftSince (left old) (clock old) file → image old file) → ChangesNothing content image clock left old mid
@@ -131,6 +127,5 @@ module _ {D : Type 0} (clock : D → ℕ) (left : D → ℕ → List ℕ → Typ
         keeps = same_keeps ∙ found.keeps;
         any_moment = λ k. then_runs clock left old mid new (image old) (image mid) (found.any_moment k) (leaves (kept k)) (λ file is. (found.any_moment k).each file (reaches file is (found.any_moment k).later));
         same = λ k. same (kept k) ∙ found.same k;
-        settled = λ k. on-any b (Only (content old) (image new)) (settled k);
         synced = λ k _. settled k;
       }

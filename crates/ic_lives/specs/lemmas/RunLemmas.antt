@@ -287,7 +287,7 @@ module _ {D : Type 0} {ghosts : Ghosts D} where
     found_book past disk book legal model here call =
         let found = take here.prefix past.entries in
         let long : length found ≡ here.prefix = length-take-le here.prefix past.entries here.within in
-        let only = call.leaves.settled model in (
+        let only = call.leaves.synced model (λ failed. cc) in (
           record { entries = found; lasting = length found },
           record { left = here.prefix; entries = refl; within = here.within; holds = here.enough; lasting = refl },
           record {

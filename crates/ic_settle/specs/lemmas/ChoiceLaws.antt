@@ -2,9 +2,10 @@
 use Rattle.std.proofs.Common.{◌≡◌, ℕ, zero, suc, ◌+◌, ◌==◌, List, [], ◌∷◌, ◌++◌, Bool, true, false, cond, Option, None, Some, length, map, refl, sym, ◌∙◌, ap, append_assoc, append-nil, add-one, inl, inr, arith, subst as transport}
 use Rattle.std.proofs.lemmas.List.{map-append}
 use Rattle.std.proofs.lemmas.Bool.{eqb-true, false_from_ne_true}
+use Rattle.std.specs.Option.{option_or}
 use Rattle.ic_term.specs.Tree.{Tree, name, agent, Pair, names}
 use Rattle.ic_term.specs.Configuration.{Configuration, names_in, occurrences}
-use Rattle.ic_settle.specs.Settling.{Binding, Choice, subst, subst_pair, occurs, side_binding, binding, first_of_two, choice_or, first_choice, applied, settled_in, settled}
+use Rattle.ic_settle.specs.Settling.{Binding, Choice, subst, subst_pair, occurs, side_binding, binding, choice_or, first_choice, applied, settled_in, settled}
 use Rattle.ic_settle.specs.NameSteps.{Binds}
 use Rattle.ic_settle.specs.lemmas.SubstitutionLaws.{occurrences_none, occurs_none}
 use Rattle.ic_settle.specs.lemmas.MiddleLaws.{occurrences-middle}
@@ -26,7 +27,7 @@ side_binds outside (name x) other b e = named_side outside x other b (occurs x o
 side_binds outside (agent s ts) other b e = cc
 
 two_bind : (outside : List ℕ) (p : Pair) (b : Binding) (left right : Option Binding) → side_binding outside p.left p.right ≡ left → side_binding outside p.right p.left ≡ right
-    → first_of_two left right ≡ Some b → Binds p b × (occurs b.name outside ≡ true)
+    → option_or left right ≡ Some b → Binds p b × (occurs b.name outside ≡ true)
 two_bind outside p b (Some c) right e f g =
     let bound = side_binds outside p.left p.right b (e ∙ g) in
     (inl (ap (λ t. record { left = t; right = p.right }) bound.0 ∙ ap (λ t. record { left = name b.name; right = t }) bound.1), bound.2)
@@ -39,11 +40,11 @@ binding_binds outside p b e = two_bind outside p b (side_binding outside p.left 
 
 -- ---- an equation that binds no name
 
-parts_none : (left right : Option Binding) → first_of_two left right ≡ None → (left ≡ None) × (right ≡ None)
+parts_none : (left right : Option Binding) → option_or left right ≡ None → (left ≡ None) × (right ≡ None)
 parts_none (Some b) right e = cc
 parts_none None right e = (refl, e)
 
-both_none : (left right : Option Binding) → left ≡ None → right ≡ None → first_of_two left right ≡ None
+both_none : (left right : Option Binding) → left ≡ None → right ≡ None → option_or left right ≡ None
 both_none left right e f = rw (e, f) refl
 
 -- no equation that binds a name which occurs outside has no binding

@@ -2,12 +2,13 @@
 use Rattle.std.proofs.Common.{◌≡◌, ℕ, ◌+◌, ◌*◌, ◌<◌, ◌≤◌, ◌==◌, List, [], ◌∷◌, ◌++◌, Bool, true, false, cond, Option, None, Some, is_some, option_map, length, map, refl, sym, ap, ◌∙◌, eq-eqb, inl, inr, arith}
 use Rattle.std.proofs.lemmas.Bool.{cases_Bool, eqb-true, ne_eqb, true_from_ne_false}
 use Rattle.std.proofs.lemmas.Option.{same_Some}
+use Rattle.std.specs.Option.{option_or}
 use Rattle.ic_term.specs.Tree.{Tree, name, agent, Pair, pair_names}
 use Rattle.ic_term.specs.Configuration.{names_in, occurrences}
 use Rattle.ic_settle.specs.declared.applicability.Side.{Side}
 use Rattle.ic_settle.specs.declared.applicability.Side.TheVariants.{Left, Right}
 use Rattle.ic_settle.specs.declared.applicability.Outlet.{Outlet}
-use Rattle.ic_settle.specs.Settling.{Binding, occurs, side_binding, binding, first_of_two}
+use Rattle.ic_settle.specs.Settling.{Binding, occurs, side_binding, binding}
 use Rattle.ic_settle.specs.Sides.{other_side, bound_by}
 use Rattle.ic_settle.specs.lemmas.Waiting.{put_each, put_each_pair, bound, IsTop}
 use Rattle.ic_settle.specs.lemmas.Containers.{elsewhere, outlet_at, first_outlet, outlet, applicable_of, redirected}
@@ -173,12 +174,12 @@ pub binding_is : (outside : List ℕ) (f : ℕ → Option ℕ) (bs : List Bindin
     → binding outside (put_each_pair bs q) ≡ option_map (λ o. bound_by (put_each_pair bs q) (applicable_of o)) (outlet f q.left q.right)
 binding_is outside f bs q left right says =
     let p = put_each_pair bs q in
-    ap (λ o. first_of_two o (side_binding outside p.right p.left)) (side_is outside f bs p Left q.left left says)
-    ∙ ap (first_of_two (option_map (λ o. bound_by p (applicable_of o)) (outlet_at f Left q.left))) (side_is outside f bs p Right q.right right says)
+    ap (λ o. option_or o (side_binding outside p.right p.left)) (side_is outside f bs p Left q.left left says)
+    ∙ ap (option_or (option_map (λ o. bound_by p (applicable_of o)) (outlet_at f Left q.left))) (side_is outside f bs p Right q.right right says)
     ∙ first_is p (outlet_at f Left q.left) (outlet_at f Right q.right)
   where
     first_is : (p : Pair) (a b : Option Outlet)
-        → first_of_two (option_map (λ o. bound_by p (applicable_of o)) a) (option_map (λ o. bound_by p (applicable_of o)) b) ≡ option_map (λ o. bound_by p (applicable_of o)) (first_outlet a b)
+        → option_or (option_map (λ o. bound_by p (applicable_of o)) a) (option_map (λ o. bound_by p (applicable_of o)) b) ≡ option_map (λ o. bound_by p (applicable_of o)) (first_outlet a b)
     first_is p (Some o) b = refl
     first_is p None b = refl
 

@@ -3,11 +3,11 @@
 use Rattle.std.proofs.Common.{◌≡◌, ℕ, zero, suc, ◌+◌, ◌<◌, ◌≤◌, ◌==◌, List, [], ◌∷◌, ◌++◌, Bool, true, false, ◌&&◌, ◌||◌, not, cond, Option, None, Some, is_none, length, get_or, refl, sym, ap, ◌∙◌, append_assoc, add-one, arith, inl, inr}
 use Rattle.std.specs.Prelude.{nat_eq, nat_le, nat_lt}
 use Rattle.std.specs.List.{list_any}
-use Rattle.std.specs.Option.{option_map}
+use Rattle.std.specs.Option.{option_map, option_or}
 use Rattle.std.proofs.lemmas.Bool.{cases_Bool, eqb-true, eqb-false, eq-eqb, false_from_ne_true, le-leb, lt-leb, le-ltb}
 use Rattle.ic_term.specs.Tree.{Tree, name, agent, Pair, names, pair_names}
 use Rattle.ic_term.specs.Configuration.{Configuration, names_in, configuration_names, occurrences}
-use Rattle.ic_settle.specs.Settling.{Binding, Choice, occurs, side_binding, first_of_two, binding, choice_or, first_choice, applied, settling_step}
+use Rattle.ic_settle.specs.Settling.{Binding, Choice, occurs, side_binding, binding, choice_or, first_choice, applied, settling_step}
 use Rattle.ic_settle.specs.lemmas.Ended.{is_applicable, has_applicable}
 use Rattle.ic_settle.specs.lemmas.SubstitutionLaws.{occurrences-append, occurrences-cons, occurrences_none, occurrences_some}
 use Rattle.ic_settle.specs.lemmas.MiddleLaws.{occurrences-middle}
@@ -46,7 +46,7 @@ side_same outside all (agent s ts) other total few = refl
 
 -- ---- an equation
 
-none_of_two : (a b : Option Binding) → is_none (first_of_two a b) ≡ (is_none a && is_none b)
+none_of_two : (a b : Option Binding) → is_none (option_or a b) ≡ (is_none a && is_none b)
 none_of_two None b = refl
 none_of_two (Some a) b = refl
 
