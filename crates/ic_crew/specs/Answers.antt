@@ -3,7 +3,8 @@ use Rattle.std.specs.Prelude.{◌≡◌, ℕ, List, IsTrue, refl}
 use Rattle.std.specs.Coded.{Coded, code_by, coded×, coded_ℕ, coded_list}
 use Rattle.ic_term.specs.Tree.{Tree, Pair}
 use Rattle.ic_term.specs.lemmas.TreeLaws.{coded_tree, coded_pair}
-use Rattle.ic_rules.specs.RuleSet.{Rules, coded_rules}
+use Rattle.ic_rules.specs.RuleSet.{Rules}
+use Rattle.ic_rules.specs.lemmas.Codings.{coded_rules}
 use Rattle.ic_round.specs.Works.{PlainWork, PlainFired, suits, result_of}
 
 -- the rules, a work, and its products

@@ -23,7 +23,8 @@ pub struct Flat {
 }
 
 impl Model for Flat {
-    ghost use Rattle.ic_term.specs.Configuration.{Configuration, IsConfiguration, coded_configuration};
+    ghost use Rattle.ic_term.specs.Configuration.{Configuration, IsConfiguration};
+    ghost use Rattle.ic_term.specs.lemmas.Codings.{coded_configuration};
 
     ghost Value = { Configuration };
 

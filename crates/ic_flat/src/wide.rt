@@ -23,7 +23,8 @@ pub struct WideFlat {
 }
 
 impl Model for WideFlat {
-    ghost use Rattle.ic_term.specs.Configuration.{Configuration, coded_configuration};
+    ghost use Rattle.ic_term.specs.Configuration.{Configuration};
+    ghost use Rattle.ic_term.specs.lemmas.Codings.{coded_configuration};
     ghost use Rattle.ic_flat.specs.Flat.{configuration_of, IsWideFlat};
 
     ghost Value = { Configuration };

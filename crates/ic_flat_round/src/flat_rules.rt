@@ -25,7 +25,8 @@ pub struct FlatRules {
 impl Model for FlatRules {
     ghost use Rattle.std.specs.Prelude.{◌≡◌};
     ghost use Rattle.std.specs.List.{flat_map};
-    ghost use Rattle.ic_rules.specs.RuleSet.{Rules, IsRuleSet, coded_rules};
+    ghost use Rattle.ic_rules.specs.RuleSet.{Rules, IsRuleSet};
+    ghost use Rattle.ic_rules.specs.lemmas.Codings.{coded_rules};
     ghost use Rattle.ic_flat_round.specs.inner.RuleWords.{rule_words, bounds_from};
 
     ghost Value = { Rules };

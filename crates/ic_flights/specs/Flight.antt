@@ -2,8 +2,10 @@
 use Rattle.std.specs.Prelude.{ℕ, ◌≤◌, ◌==◌, ◌||◌, List, Bool, not, IsTrue, refl}
 use Rattle.std.specs.Coded.{Coded, code_by, coded×, coded_ℕ, coded_list}
 use Rattle.ic_term.specs.Symbol.{is_over}
-use Rattle.ic_term.specs.Configuration.{Configuration, coded_configuration}
-use Rattle.ic_rules.specs.RuleSet.{Rules, coded_rules}
+use Rattle.ic_term.specs.Configuration.{Configuration}
+use Rattle.ic_term.specs.lemmas.Codings.{coded_configuration}
+use Rattle.ic_rules.specs.RuleSet.{Rules}
+use Rattle.ic_rules.specs.lemmas.Codings.{coded_rules}
 use Rattle.ic_round.specs.Rounds.{fits}
 use Rattle.ic_flights.specs.declared.limits.TheConstants.{MAX_ROUNDS}
 

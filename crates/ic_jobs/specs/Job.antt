@@ -1,12 +1,11 @@
 -- A job of the table.
-use Rattle.std.specs.Prelude.{◌≡◌, ℕ, ◌+◌, ◌≤◌, ◌==◌, ◌↔◌, ◌&&◌, List, Bool, Option, Some, IsTrue, IfSome, nat_lt, if◌then◌else◌, refl}
+use Rattle.std.specs.Prelude.{◌≡◌, ℕ, ◌+◌, ◌≤◌, ◌==◌, ◌↔◌, ◌&&◌, List, Bool, Option, Some, IsTrue, IfSome, nat_lt, if◌then◌else◌}
 use Rattle.std.specs.Str.{bytes_eq}
 use Rattle.std.specs.Cmp.Lexicographic.{pointwise}
-use Rattle.std.specs.Coded.{Coded, code_by, coded×, coded_ℕ, coded_list, coded_option}
 use Rattle.ic_term.specs.Symbol.{AreSymbols, is_over}
-use Rattle.ic_term.specs.Configuration.{Configuration, IsConfiguration, configuration_eq, coded_configuration}
+use Rattle.ic_term.specs.Configuration.{Configuration, IsConfiguration, configuration_eq}
 use Rattle.ic_rules.specs.JobName.{is_job_name}
-use Rattle.ic_rules.specs.RuleSet.{Rules, AreServed, IsRuleSet, rules_eq, coded_rules}
+use Rattle.ic_rules.specs.RuleSet.{Rules, AreServed, IsRuleSet, rules_eq}
 use Rattle.ic_rules.specs.System.{SystemParts}
 use Rattle.ic_round.specs.Rounds.{fits, round, IsQuiet}
 use Rattle.ic_flights.specs.declared.limits.TheConstants.{MAX_ROUNDS}
@@ -14,7 +13,6 @@ use Rattle.ic_jobs.specs.declared.state.State.{State}
 use Rattle.ic_jobs.specs.declared.state.State.TheVariants.{Running, Done, Spent}
 use Rattle.ic_jobs.specs.State.{state_eq}
 use Rattle.ic_jobs.specs.Budget.{IsBudget, is_used_up, budget_eq}
-use Rattle.ic_jobs.specs.lemmas.StateLaws.{coded_state}
 use Rattle.ic_round.specs.Quiet.{is_quiet}
 
 -- A job: its name, its rules and configuration, how many rounds it has made, its state, and how many
@@ -92,20 +90,3 @@ job_eq j k =
 -- whether two tables have the same jobs in the same order
 abbrev pub table_eq : List JobParts → List JobParts → Bool
 table_eq = pointwise job_eq
-
--- a job is stored as the tuple of its fields
-abbrev pub coded_job : Coded JobParts
-coded_job =
-    code_by (List ℕ × (Rules × (Configuration × (ℕ × (State × Option ℕ)))))
-    (coded× (coded_list coded_ℕ) (coded× coded_rules (coded× coded_configuration
-    (coded× coded_ℕ (coded× coded_state (coded_option coded_ℕ))))))
-    (λ j. (j.name, (j.rules, (j.config, (j.rounds, (j.state, j.budget))))))
-    (λ p. record {
-      name = p.0;
-      rules = p.1.0;
-      config = p.1.1.0;
-      rounds = p.1.1.1.0;
-      state = p.1.1.1.1.0;
-      budget = p.1.1.1.1.1;
-    })
-    (λ _. refl)

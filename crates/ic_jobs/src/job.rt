@@ -31,7 +31,8 @@ pub struct Job {
 
 impl Model for Job {
     ghost use Rattle.std.specs.Arc.{arc_value};
-    ghost use Rattle.ic_jobs.specs.Job.{JobParts, IsJob, coded_job};
+    ghost use Rattle.ic_jobs.specs.Job.{JobParts, IsJob};
+    ghost use Rattle.ic_jobs.specs.lemmas.Codings.{coded_job};
 
     ghost Value = { JobParts };
 

@@ -26,7 +26,8 @@ impl Model for ShownJob {
     ghost use Rattle.std.specs.Prelude.{IsTrue};
     ghost use Rattle.std.specs.Arc.{arc_value};
     ghost use Rattle.ic_term.specs.Symbol.{is_over};
-    ghost use Rattle.ic_jobs.specs.Shown.{ShownParts, coded_shown};
+    ghost use Rattle.ic_jobs.specs.Shown.{ShownParts};
+    ghost use Rattle.ic_jobs.specs.lemmas.Codings.{coded_shown};
 
     ghost Value = { ShownParts };
 

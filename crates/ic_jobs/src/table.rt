@@ -25,7 +25,8 @@ pub struct Table {
 impl Model for Table {
     ghost use Rattle.std.specs.Prelude.{◌≡◌, List, IfSome};
     ghost use Rattle.std.specs.Coded.{coded_list};
-    ghost use Rattle.ic_jobs.specs.Job.{JobParts, coded_job};
+    ghost use Rattle.ic_jobs.specs.Job.{JobParts};
+    ghost use Rattle.ic_jobs.specs.lemmas.Codings.{coded_job};
     ghost use Rattle.ic_jobs.specs.Shown.{listed};
     ghost use Rattle.ic_jobs.specs.Table.{IsTable};
 

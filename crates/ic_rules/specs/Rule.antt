@@ -1,9 +1,7 @@
-use Rattle.std.specs.Prelude.{◌≡◌, ℕ, ◌+◌, ◌==◌, List, [], ◌∷◌, ◌++◌, Bool, false, ◌&&◌, ◌||◌, not, length, map, sum_by, IsTrue, refl}
+use Rattle.std.specs.Prelude.{◌≡◌, ℕ, ◌+◌, ◌==◌, List, [], ◌∷◌, ◌++◌, Bool, false, ◌&&◌, ◌||◌, not, length, map, sum_by, IsTrue}
 use Rattle.std.specs.List.{flat_map, range_with_len}
 use Rattle.std.specs.Cmp.Lexicographic.{pointwise}
-use Rattle.std.specs.Coded.{Coded, code_by, coded×, coded_ℕ, coded_list}
 use Rattle.ic_term.specs.Tree.{Tree, name, agent, Trees, no_trees, more_trees, trees_of, list_of, nodes, names, tree_eq}
-use Rattle.ic_term.specs.lemmas.TreeLaws.{coded_tree}
 use Rattle.ic_rules.specs.Renaming.{renamed, first_occurrences, number_among, are_paired}
 
 -- An interaction rule `A(t1,..,tn)><B(u1,..,um)` as plain data (Lafont 1990): its symbols by number, its
@@ -86,17 +84,3 @@ abbrev mutual
 abbrev pub rule_agents : Rule → List (ℕ × ℕ)
 rule_agents r = agents (agent r.left (trees_of r.left_args))
     ++ agents (agent r.right (trees_of r.right_args))
-
--- a rule is stored as the tuple of its fields
-abbrev pub coded_rule : Coded Rule
-coded_rule = code_by (ℕ × (ℕ × (List Tree × (List Tree × ℕ))))
-    (coded× coded_ℕ
-    (coded× coded_ℕ (coded× (coded_list coded_tree) (coded× (coded_list coded_tree) coded_ℕ))))
-    (λ r. (r.left, (r.right, (r.left_args, (r.right_args, r.names)))))
-    (λ p. record {
-      left = p.0;
-      right = p.1.0;
-      left_args = p.1.1.0;
-      right_args = p.1.1.1.0;
-      names = p.1.1.1.1;
-    }) (λ _. refl)

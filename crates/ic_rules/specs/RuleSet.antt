@@ -1,12 +1,11 @@
-use Rattle.std.specs.Prelude.{◌≡◌, ℕ, ◌≤◌, List, [], ◌∷◌, ◌++◌, Bool, true, false, ◌&&◌, not, Option, None, Some, Result, Ok, Err, length, map, sum_by, nat_le, slice_get, if◌then◌else◌, refl}
+use Rattle.std.specs.Prelude.{◌≡◌, ℕ, ◌≤◌, List, [], ◌∷◌, ◌++◌, Bool, true, false, ◌&&◌, not, Option, None, Some, Result, Ok, Err, length, map, sum_by, nat_le, slice_get, if◌then◌else◌}
 use Rattle.std.specs.List.{flat_map, list_all, list_any, position_from, AllByRecursion}
 use Rattle.std.specs.Prelude.{◌<◌, ◌||◌, IfSome, IsTrue}
-use Rattle.std.specs.Coded.{Coded, code_by, coded×, coded_list}
-use Rattle.ic_term.specs.Symbol.{Symbol, has_arity, is_tree_over, symbols_eq, coded_symbol}
+use Rattle.ic_term.specs.Symbol.{Symbol, has_arity, is_tree_over, symbols_eq}
 use Rattle.std.specs.Cmp.Lexicographic.{pointwise}
 use Rattle.ic_term.specs.declared.limits.TheConstants.{MAX_SYMBOLS}
 use Rattle.ic_rules.specs.Renaming.{are_paired}
-use Rattle.ic_rules.specs.Rule.{Rule, rule_names, rule_nodes, rule_agents, numbered, is_lopsided, stands_for, same_pair, rule_eq, IsRule, coded_rule}
+use Rattle.ic_rules.specs.Rule.{Rule, rule_names, rule_nodes, rule_agents, numbered, is_lopsided, stands_for, same_pair, rule_eq, IsRule}
 use Rattle.ic_rules.specs.declared.limits.TheConstants.{MAX_RULES, MAX_RULE_NODES, MAX_WIDE_RULES}
 use Rattle.ic_rules.specs.declared.rule_set.RuleFault.{RuleFault}
 use Rattle.ic_rules.specs.declared.rule_set.RuleFault.TheVariants.{Limit, Arity, NameCount, Twice, Lopsided}
@@ -109,12 +108,6 @@ stands_turned a b true r = (stands_for b a r ≡ true) × (stands_for a b r ≡ 
 pub record IsRuleFor (rs : List Rule) (a b i : ℕ) (turned : Bool) : Type 0 where
   pub there : i < length rs
   pub of_pair : IfSome (slice_get rs i) (stands_turned a b turned)
-
--- a rule set is stored as the pair of its lists
-abbrev pub coded_rules : Coded Rules
-coded_rules = code_by (List Symbol × List Rule)
-    (coded× (coded_list coded_symbol) (coded_list coded_rule)) (λ r. (r.symbols, r.rules))
-    (λ p. record { symbols = p.0; rules = p.1 }) (λ _. refl)
 
 -- whether two rule sets are the same: the same symbols and the same rules, in the same order
 abbrev pub rules_eq : Rules → Rules → Bool

@@ -5,3 +5,4 @@ pub mod NumberingLaws
 pub mod FitLaws
 pub mod FindLaws
 pub mod Spared
+pub mod Codings

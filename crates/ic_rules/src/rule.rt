@@ -27,7 +27,8 @@ pub struct Rule {
 impl Model for Rule {
     ghost use Rattle.std.specs.Prelude.{map};
     ghost use Rattle.ic_term.specs.Term.{tree};
-    ghost use Rattle.ic_rules.specs.Rule.{Rule as PlainRule, IsRule, coded_rule};
+    ghost use Rattle.ic_rules.specs.Rule.{Rule as PlainRule, IsRule};
+    ghost use Rattle.ic_rules.specs.lemmas.Codings.{coded_rule};
 
     ghost Value = { PlainRule };
 

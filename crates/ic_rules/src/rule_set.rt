@@ -73,7 +73,8 @@ pub struct RuleSet {
 impl Model for RuleSet {
     ghost use Rattle.std.specs.Prelude.{◌≡◌, ◌&&◌, ◌==◌};
     ghost use Rattle.std.specs.HashMap.{get};
-    ghost use Rattle.ic_rules.specs.RuleSet.{Rules, IsRuleSet, coded_rules};
+    ghost use Rattle.ic_rules.specs.RuleSet.{Rules, IsRuleSet};
+    ghost use Rattle.ic_rules.specs.lemmas.Codings.{coded_rules};
 
     ghost Value = { Rules };
 

@@ -21,7 +21,8 @@ impl Model for System {
     ghost use Rattle.std.specs.Prelude.{◌≡◌, true};
     ghost use Rattle.std.specs.Arc.{arc_value};
     ghost use Rattle.ic_term.specs.Symbol.{is_over};
-    ghost use Rattle.ic_rules.specs.System.{SystemParts, coded_system};
+    ghost use Rattle.ic_rules.specs.System.{SystemParts};
+    ghost use Rattle.ic_rules.specs.lemmas.Codings.{coded_system};
 
     ghost Value = { SystemParts };
 

@@ -1,7 +1,7 @@
 -- What a stopped `create` leaves has no open slot, and what is unused holds no job.
 use Rattle.std.proofs.Common.{◌≡◌, ◌∙◌, ◌↔◌, ℕ, suc, ◌+◌, ◌≤◌, ◌<◌, Bool, true, false, ◌==◌, List, [], ◌∷◌, length, ⊎_elim, ne_eqb, refl, sym, subst, ap, arith}
 use Rattle.std.proofs.lemmas.List.{get_or_past, take_all}
-use Rattle.std.specs.Prelude.{IsErrOf, IsTrue, OnOk, Result, Ok, Err, slice_index}
+use Rattle.std.specs.Prelude.{IsErrOf, IsTrue, Result, Err, slice_index}
 use Rattle.std.proofs.lemmas.Bool.{false_from_ne_true, both_ways}
 use Rattle.ic_codec.specs.Tables.{old_table_bytes, table_bytes}
 use Rattle.ic_disk.specs.Content.{bytes_at}

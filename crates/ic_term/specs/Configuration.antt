@@ -1,9 +1,7 @@
-use Rattle.std.specs.Prelude.{◌≡◌, ℕ, ◌+◌, ◌<◌, ◌≤◌, ◌==◌, List, [], ◌∷◌, ◌++◌, Bool, ◌&&◌, Option, None, Some, Result, Ok, Err, length, sum_by, count_by, nat_le, nat_lt, if◌then◌else◌, max, refl}
+use Rattle.std.specs.Prelude.{◌≡◌, ℕ, ◌+◌, ◌<◌, ◌≤◌, ◌==◌, List, [], ◌∷◌, ◌++◌, Bool, ◌&&◌, Option, None, Some, Result, Ok, Err, length, sum_by, count_by, nat_le, nat_lt, if◌then◌else◌, max}
 use Rattle.std.specs.List.{flat_map, list_all, AllByRecursion}
-use Rattle.std.specs.Coded.{Coded, code_by, coded×, coded_ℕ, coded_list}
 use Rattle.std.specs.Cmp.Lexicographic.{pointwise}
 use Rattle.ic_term.specs.Tree.{Tree, Pair, nodes, names, pair_nodes, pair_names, tree_eq, pair_eq}
-use Rattle.ic_term.specs.lemmas.TreeLaws.{coded_tree, coded_pair}
 use Rattle.ic_term.specs.declared.limits.TheConstants.{MAX_NODES, MAX_INTERFACE, MAX_NEXT, MAX_WIDE_NODES}
 use Rattle.ic_term.specs.declared.config.ConfigFault.{ConfigFault}
 use Rattle.ic_term.specs.declared.config.ConfigFault.TheVariants.{Limit, Name}
@@ -121,13 +119,3 @@ configured ts es = record { interface = ts; equations = es; next = one_above (na
 abbrev pub configuration_eq : Configuration → Configuration → Bool
 configuration_eq c d =
     c.next == d.next && pointwise tree_eq c.interface d.interface && pointwise pair_eq c.equations d.equations
-
--- a configuration is stored as the tuple of its fields
-abbrev pub coded_configuration : Coded Configuration
-coded_configuration = code_by (List Tree × (List Pair × ℕ))
-    (coded× (coded_list coded_tree) (coded× (coded_list coded_pair) coded_ℕ))
-    (λ c. (c.interface, (c.equations, c.next))) (λ p. record {
-      interface = p.0;
-      equations = p.1.0;
-      next = p.1.1;
-    }) (λ _. refl)

@@ -1,10 +1,9 @@
-use Rattle.std.specs.Prelude.{◌≡◌, ℕ, ◌≤◌, ◌==◌, List, [], ◌∷◌, ◌++◌, Bool, true, false, ◌&&◌, ◌||◌, Option, None, Some, Result, Ok, Err, length, map, nat_le, nat_lt, if◌then◌else◌, is_some, slice_get, IsTrue, refl}
+use Rattle.std.specs.Prelude.{◌≡◌, ℕ, ◌≤◌, ◌==◌, List, [], ◌∷◌, ◌++◌, Bool, true, false, ◌&&◌, ◌||◌, Option, None, Some, Result, Ok, Err, length, map, nat_le, nat_lt, if◌then◌else◌, is_some, slice_get, IsTrue}
 use Rattle.std.specs.List.{list_all, position, AllByRecursion, IsDistinct}
 use Rattle.std.specs.Str.{bytes_eq}
 use Rattle.std.specs.Cmp.Lexicographic.{pointwise}
 use Rattle.std.specs.Char.{is_ascii_uppercase, is_ascii_digit, is_ascii_alphanumeric}
 use Rattle.std.specs.Option.{option_map}
-use Rattle.std.specs.Coded.{Coded, code_by, coded×, coded_ℕ, coded_list}
 use Rattle.ic_term.specs.Tree.{Tree, name, agent, Trees, no_trees, more_trees, Pair, list_of}
 use Rattle.ic_term.specs.Configuration.{Configuration}
 use Rattle.ic_term.specs.declared.limits.TheConstants.{MAX_WIDE_SYMBOLS, MAX_SYMBOL_TEXT, MAX_ARITY}
@@ -92,10 +91,6 @@ is_pair_over ss p = is_tree_over ss p.left && is_tree_over ss p.right
 -- each agent of a configuration has a known symbol and as many arguments as its arity
 abbrev pub is_over : List Symbol → Configuration → Bool
 is_over ss c = list_all (is_tree_over ss) c.interface && list_all (is_pair_over ss) c.equations
-
-abbrev pub coded_symbol : Coded Symbol
-coded_symbol = code_by (List ℕ × ℕ) (coded× (coded_list coded_ℕ) coded_ℕ) (λ s. (s.text, s.arity))
-    (λ p. record { text = p.0; arity = p.1 }) (λ _. refl)
 
 -- whether two symbols are the same
 abbrev pub symbol_eq : Symbol → Symbol → Bool

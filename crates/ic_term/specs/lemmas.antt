@@ -3,3 +3,4 @@ pub mod TreeLaws
 pub mod TermLaws
 pub mod SymbolLaws
 pub mod ConfigurationEq
+pub mod Codings

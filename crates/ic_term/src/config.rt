@@ -45,7 +45,8 @@ pub struct Config {
 impl Model for Config {
     ghost use Rattle.std.specs.Prelude.{map};
     ghost use Rattle.ic_term.specs.Term.{tree, pair};
-    ghost use Rattle.ic_term.specs.Configuration.{Configuration, IsConfiguration, coded_configuration};
+    ghost use Rattle.ic_term.specs.Configuration.{Configuration, IsConfiguration};
+    ghost use Rattle.ic_term.specs.lemmas.Codings.{coded_configuration};
 
     ghost Value = { Configuration };
 

@@ -50,7 +50,8 @@ pub struct Symbols {
 impl Model for Symbols {
     ghost use Rattle.std.specs.Prelude.{List, map};
     ghost use Rattle.std.specs.Coded.{coded_list};
-    ghost use Rattle.ic_term.specs.Symbol.{Symbol, AreSymbols, coded_symbol};
+    ghost use Rattle.ic_term.specs.Symbol.{Symbol, AreSymbols};
+    ghost use Rattle.ic_term.specs.lemmas.Codings.{coded_symbol};
 
     ghost Value = { List Symbol };
 

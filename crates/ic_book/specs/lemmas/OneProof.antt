@@ -8,7 +8,8 @@ use Rattle.ic_jobs.specs.declared.event.Entry.{Entry}
 use Rattle.ic_jobs.specs.declared.reply.Reply.{Reply}
 use Rattle.ic_jobs.specs.declared.state.State.{State}
 use Rattle.ic_jobs.specs.Budget.{IsBudget}
-use Rattle.ic_jobs.specs.Job.{JobParts, IsJob, coded_job}
+use Rattle.ic_jobs.specs.Job.{JobParts, IsJob}
+use Rattle.ic_jobs.specs.lemmas.Codings.{coded_job}
 use Rattle.ic_jobs.specs.Table.{IsTable}
 use Rattle.ic_jobs.specs.History.{table_after, IsLegal}
 use Rattle.ic_term.specs.Symbol.{AreSymbols}
