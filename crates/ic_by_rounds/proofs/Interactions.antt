@@ -12,7 +12,8 @@ use Rattle.ic_term.specs.Configuration.{Configuration}
 use Rattle.ic_rules.specs.Rule.{Rule}
 use Rattle.ic_settle.specs.NameSteps.{NameStep}
 use Rattle.ic_settle.specs.Settling.{occurs, Choice, first_choice, applied, settled_in, settled}
-use Rattle.ic_round.specs.Firing.{Active, active, active_from, active_pair, products_by, count_of, names_taken, fired_pair, fired_from, next_after, fired}
+use Rattle.ic_round.specs.Firing.{Active, active_pair, products_by, count_of, names_taken, fired_pair, fired_from, next_after, fired}
+use Rattle.ic_round.specs.ActivePlaces.{active, active_from}
 use Rattle.ic_round.specs.Steps.{interaction, indirection, collect, Steps, no_steps, then_step}
 use Rattle.ic_round.specs.Rounds.{iterate}
 use Rattle.ic_round.specs.lemmas.SettledLemmas.{choice_step}

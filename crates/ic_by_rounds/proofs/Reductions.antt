@@ -9,8 +9,8 @@ use Rattle.ic_term.specs.Symbol.{Symbol}
 use Rattle.ic_term.specs.Configuration.{Configuration}
 use Rattle.ic_rules.specs.Rule.{Rule}
 use Rattle.ic_round.specs.Firing.{active_pair, oriented, rule_of_sides}
-use Rattle.ic_round.specs.Quiet.{is_inert, is_quiet, is_settled}
-use Rattle.ic_round.specs.Rounds.{IsQuiet, fits, is_small, has_names, iterate, round, unless_unfit}
+use Rattle.ic_round.specs.Quiet.{is_inert, is_quiet, is_settled, IsQuiet}
+use Rattle.ic_round.specs.Rounds.{fits, is_small, has_names, iterate, round, unless_unfit}
 use Rattle.ic_round.specs.lemmas.IdleLemmas.{quiet_stays}
 use Rattle.ic_round.specs.lemmas.QuietLemmas.{no_step, is_quiet_where, none_of}
 use Rattle.ic_round.specs.declared.round_fault.RoundFault.{RoundFault}

@@ -3,7 +3,8 @@
 use Rattle.std.specs.Prelude.{◌≡◌, ℕ, suc, ◌<◌, ◌≤◌, ◌⊎◌, List, Err, true}
 use Rattle.ic_term.specs.Configuration.{Configuration, configuration_nodes}
 use Rattle.ic_rules.specs.Rule.{Rule}
-use Rattle.ic_round.specs.Rounds.{IsQuiet, fits, iterate, unless_unfit}
+use Rattle.ic_round.specs.Rounds.{fits, iterate, unless_unfit}
+use Rattle.ic_round.specs.Quiet.{IsQuiet}
 use Rattle.ic_round.specs.declared.round_fault.RoundFault.{RoundFault}
 use Rattle.ic_by_rounds.specs.declared.ended.Ended.{Ended}
 use Rattle.ic_by_rounds.specs.declared.ended.Ended.TheVariants.{Whole, Refused}

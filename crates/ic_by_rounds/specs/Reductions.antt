@@ -6,7 +6,8 @@ use Rattle.ic_rules.specs.RuleSet.{Rules}
 use Rattle.ic_rules.specs.System.{SystemParts}
 use Rattle.ic_text.specs.SystemText.{ReadsSystem}
 use Rattle.ic_text.specs.declared.fault.TextFault.TheVariants as text
-use Rattle.ic_round.specs.Rounds.{IsQuiet, iterate}
+use Rattle.ic_round.specs.Rounds.{iterate}
+use Rattle.ic_round.specs.Quiet.{IsQuiet}
 use Rattle.ic_streams.specs.Streams.{Answering, line_of}
 use Rattle.ic_streams.specs.declared.fault.StreamFault.TheVariants.{Read, Text, Round, Memory, Write}
 use Rattle.ic_by_rounds.specs.Reducing.{IsReducedBy, IsRefusal}

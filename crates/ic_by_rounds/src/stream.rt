@@ -4,7 +4,8 @@ ghost use Rattle.std.specs.Prelude.{◌≡◌, ◌≢◌, ◌↔◌, List, [], i
 ghost use Rattle.std.specs.Io.KnownBytes.{Keeps};
 ghost use Rattle.ic_term.specs.Configuration.{Configuration};
 ghost use Rattle.ic_term.specs.Symbol.{is_over};
-ghost use Rattle.ic_round.specs.Rounds.{IsQuiet, iterate};
+ghost use Rattle.ic_round.specs.Rounds.{iterate};
+ghost use Rattle.ic_round.specs.Quiet.{IsQuiet};
 ghost use Rattle.ic_text.specs.SystemText.{ReadsSystem};
 ghost use Rattle.ic_streams.specs.Streams.{OfText, IsAnswered, FaultOf, TakesAt, TakesText, line_of};
 ghost use Rattle.ic_by_rounds.specs.Reductions.{EndsAs, Reduces, ReducesTo, Tells};

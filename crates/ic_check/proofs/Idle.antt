@@ -9,8 +9,8 @@ use Rattle.ic_names.specs.declared.table.NameTable.{NameTable}
 use Rattle.ic_term.specs.Tree.{Tree, name, agent, Pair}
 use Rattle.ic_term.specs.Configuration.{Configuration, occurrences}
 use Rattle.ic_rules.specs.Rule.{Rule}
-use Rattle.ic_settle.specs.Settling.{Binding, subst, subst_pair}
-use Rattle.ic_settle.specs.NameSteps.{Binds, NameStep}
+use Rattle.ic_settle.specs.Settling.{Binding, subst, subst_pair, Binds}
+use Rattle.ic_settle.specs.NameSteps.{NameStep}
 use Rattle.ic_settle.specs.lemmas.SubstitutionLaws.{occurrences-append as count_both}
 use Rattle.ic_round.specs.Firing.{Active, oriented, rule_of_sides}
 use Rattle.ic_round.specs.Steps.{Interaction, Step, Steps, collect, indirection, interaction, no_steps, then_step}

@@ -10,8 +10,8 @@ use Rattle.ic_term.specs.Configuration.{Configuration}
 use Rattle.ic_rules.specs.Rule.{Rule, stands_for}
 use Rattle.ic_rules.specs.RuleSet.{Rules, found_or, has_pair, rule_for}
 use Rattle.ic_rules.specs.lemmas.FindLaws.{any_of_two}
-use Rattle.ic_settle.specs.Settling.{Binding, subst, subst_pair}
-use Rattle.ic_settle.specs.NameSteps.{Binds, NameStep}
+use Rattle.ic_settle.specs.Settling.{Binding, subst, subst_pair, Binds}
+use Rattle.ic_settle.specs.NameSteps.{NameStep}
 use Rattle.ic_settle.specs.lemmas.SubstitutionLaws.{and_both}
 use Rattle.ic_round.specs.Firing.{Active, active_pair, oriented, products_by, rule_of_sides}
 use Rattle.ic_round.specs.Steps.{Interaction, Step, Steps, collect, indirection, interaction, no_steps, then_step}

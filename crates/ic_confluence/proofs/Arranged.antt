@@ -5,8 +5,7 @@ use Rattle.std.specs.Cmp.{unsigned_Decides}
 use Rattle.std.specs.List.{flat_map}
 use Rattle.ic_term.specs.Tree.{Tree, name, names, Pair, pair_names}
 use Rattle.ic_term.specs.Configuration.{occurrences}
-use Rattle.ic_settle.specs.Settling.{Binding, subst, subst_pair}
-use Rattle.ic_settle.specs.NameSteps.{Binds}
+use Rattle.ic_settle.specs.Settling.{Binding, subst, subst_pair, Binds}
 use Rattle.ic_settle.specs.lemmas.SubstitutionLaws.{occurrences-cons}
 use Rattle.ic_settle.specs.lemmas.StepLaws.{itself_once as alone_itself}
 use Rattle.ic_confluence.specs.Sameness.{turned, Rotated, Alike, itself, exchanged, rotated, in_turn, Rearranged, nothing, kept, swapped, one_by_one}

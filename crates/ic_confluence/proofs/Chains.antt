@@ -9,7 +9,8 @@ use Rattle.ic_rules.specs.Rule.{Rule}
 use Rattle.ic_rules.specs.RuleSet.{Rules, IsRuleSet}
 use Rattle.ic_round.specs.Firing.{products_by}
 use Rattle.ic_round.specs.Naming.{HasNames}
-use Rattle.ic_round.specs.Rounds.{IsQuiet, iterate}
+use Rattle.ic_round.specs.Rounds.{iterate}
+use Rattle.ic_round.specs.Quiet.{IsQuiet}
 use Rattle.ic_round.specs.Steps.{Step, Steps, no_steps, then_step}
 use Rattle.ic_round.specs.lemmas.FreshNames.{absent_above}
 use Rattle.ic_round.specs.lemmas.StepsLemmas.{iterate_reached}

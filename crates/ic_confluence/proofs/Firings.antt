@@ -7,8 +7,7 @@ use Rattle.ic_term.specs.Configuration.{Configuration, configuration_names, name
 use Rattle.ic_term.specs.Symbol.{Symbol, is_over, is_tree_over, is_pair_over}
 use Rattle.ic_rules.specs.Rule.{Rule}
 use Rattle.ic_rules.specs.RuleSet.{Rules, IsRuleSet}
-use Rattle.ic_settle.specs.Settling.{Binding, occurs, subst_pair}
-use Rattle.ic_settle.specs.NameSteps.{Binds}
+use Rattle.ic_settle.specs.Settling.{Binding, occurs, subst_pair, Binds}
 use Rattle.ic_round.specs.Firing.{Active, active_pair, products_by, count_of}
 use Rattle.ic_round.specs.Naming.{HasNames}
 use Rattle.ic_round.specs.Steps.{Interaction}

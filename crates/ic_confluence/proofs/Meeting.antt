@@ -5,8 +5,7 @@ use Rattle.ic_term.specs.Tree.{Tree, name, names, Pair}
 use Rattle.ic_term.specs.Configuration.{Configuration, configuration_names, names_in, occurrences}
 use Rattle.ic_rules.specs.Renaming.{renamed}
 use Rattle.ic_rules.specs.lemmas.RenamingLaws.{names-renamed}
-use Rattle.ic_settle.specs.Settling.{Binding, subst, subst_pair, subst_in}
-use Rattle.ic_settle.specs.NameSteps.{Binds}
+use Rattle.ic_settle.specs.Settling.{Binding, subst, subst_pair, subst_in, Binds}
 use Rattle.ic_settle.specs.lemmas.SubstitutionLaws.{subst-absent}
 use Rattle.ic_settle.specs.lemmas.StepLaws.{occurrences-binds, itself_once as alone_itself}
 use Rattle.ic_settle.specs.lemmas.PutEach.{occurrences-exact_in as occurrences-put_in}

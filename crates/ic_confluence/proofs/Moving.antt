@@ -4,8 +4,7 @@ use Rattle.std.proofs.lemmas.Bool.{cases_lt}
 use Rattle.ic_term.specs.Tree.{Tree, Pair}
 use Rattle.ic_term.specs.Configuration.{Configuration, configuration_names, names_in, occurrences}
 use Rattle.ic_rules.specs.Renaming.{renamed}
-use Rattle.ic_settle.specs.Settling.{Binding, subst_pair}
-use Rattle.ic_settle.specs.NameSteps.{Binds}
+use Rattle.ic_settle.specs.Settling.{Binding, subst_pair, Binds}
 use Rattle.ic_settle.specs.lemmas.SubstitutionLaws.{occurrences_some}
 use Rattle.ic_round.specs.Naming.{HasNames}
 use Rattle.ic_confluence.specs.Sameness.{Rearranged, renamed_pair, renamed_in, Renames, Rearranges, Same, renaming, rearranging, through}

@@ -9,7 +9,7 @@ use Rattle.ic_rules.specs.RuleSet.{Rules, IsRuleSet}
 use Rattle.ic_settle.specs.NameSteps.{NameStep}
 use Rattle.ic_round.specs.Firing.{Active}
 use Rattle.ic_round.specs.Naming.{HasNames}
-use Rattle.ic_round.specs.Rounds.{IsQuiet}
+use Rattle.ic_round.specs.Quiet.{IsQuiet}
 use Rattle.ic_round.specs.Steps.{Interaction, Step, interaction, indirection, collect, no_steps, then_step}
 use Rattle.ic_round.specs.lemmas.ChainLemmas.{steps-over, steps-names}
 use Rattle.ic_round.specs.lemmas.NameStepLemmas.{name_step, indirection_step, collect_step}

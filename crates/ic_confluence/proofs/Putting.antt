@@ -4,8 +4,8 @@ use Rattle.std.proofs.lemmas.Bool.{true_from_ne_false}
 use Rattle.std.specs.Cmp.{unsigned_Decides}
 use Rattle.ic_term.specs.Tree.{names, Pair}
 use Rattle.ic_term.specs.Configuration.{Configuration, configuration_names, names_in, occurrences}
-use Rattle.ic_settle.specs.Settling.{Binding, occurs, subst_in}
-use Rattle.ic_settle.specs.NameSteps.{Binds, NameStep}
+use Rattle.ic_settle.specs.Settling.{Binding, occurs, subst_in, Binds}
+use Rattle.ic_settle.specs.NameSteps.{NameStep}
 use Rattle.ic_settle.specs.lemmas.SubstitutionLaws.{occurrences_none, occurrences_some, occurrences-cons}
 use Rattle.ic_settle.specs.lemmas.StepLaws.{occurrences-binds}
 use Rattle.ic_settle.specs.lemmas.PutEach.{occurrences-exact_in as occurrences-put_in}

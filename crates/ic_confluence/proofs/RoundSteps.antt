@@ -13,8 +13,8 @@ use Rattle.ic_settle.specs.Settling.{Choice, first_choice, applied, settled_in, 
 use Rattle.ic_settle.specs.NameSteps.{NameSteps, no_step, one_more}
 use Rattle.ic_round.specs.Firing.{Active, active_pair, products_by, count_of, names_taken, fired_pair, fired_from, next_after, fired}
 use Rattle.ic_round.specs.Naming.{HasNames}
-use Rattle.ic_round.specs.Quiet.{is_inert, is_settled, is_quiet}
-use Rattle.ic_round.specs.Rounds.{IsQuiet, round, iterate}
+use Rattle.ic_round.specs.Quiet.{is_inert, is_settled, is_quiet, IsQuiet}
+use Rattle.ic_round.specs.Rounds.{round, iterate}
 use Rattle.ic_round.specs.Steps.{Step, interaction, Steps, no_steps, then_step}
 use Rattle.ic_round.specs.lemmas.ChainLemmas.{steps-over, steps-names}
 use Rattle.ic_round.specs.lemmas.IdleLemmas.{idle}

@@ -1,6 +1,7 @@
 -- Files that are torn on one range and then on another.
 use Rattle.std.proofs.Common.{⊎_elim, ℕ, ◌<◌, List, length, ◌∙◌, subst, arith}
-use Rattle.ic_disk.specs.Images.{AgreesOutside, AgreesWithAny, Only, TornFrom, Within, two_ranges}
+use Rattle.ic_disk.specs.Images.{Only, TornFrom, Within}
+use Rattle.ic_disk.specs.PlainImages.{AgreesOutside, AgreesWithAny, two_ranges}
 
 module _ (at n other m : ℕ) where
   pub torn_once : (images : List ℕ → Type 0) → Within (TornFrom at n images) (AgreesWithAny (two_ranges at n other m) images)

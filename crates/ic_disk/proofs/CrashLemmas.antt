@@ -5,7 +5,7 @@ use Rattle.std.proofs.lemmas.Bool.{cases_lt}
 use Rattle.std.proofs.lemmas.List.{take_min, ext_get_or, get_or-replicate, length-replicate}
 use Rattle.ic_disk.specs.Content.{laid}
 use Rattle.ic_disk.specs.lemmas.ContentLaws.{length-laid, laid-before, laid-inside, laid-after}
-use Rattle.ic_disk.specs.Images.{Range, IsOutside, AgreesOutside}
+use Rattle.ic_disk.specs.PlainImages.{Range, IsOutside, AgreesOutside}
 use Rattle.ic_disk.specs.Model.{Write, Call, write, sync, State, begun, after, range_of, IsImageIn}
 use Rattle.ic_disk.specs.History.{History, replay, state, content_of, image_of}
 use Rattle.ic_disk.specs.lemmas.HistoryLaws.{content_image}

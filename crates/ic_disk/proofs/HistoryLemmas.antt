@@ -3,7 +3,8 @@ use Rattle.std.proofs.Common.{◌≡◌, ◌⊎◌, inl, inr, ⊎_elim, ℕ, ◌
 use Rattle.std.proofs.lemmas.Bool.{cases_lt}
 use Rattle.std.proofs.lemmas.List.{take-append-le, map_push}
 use Rattle.ic_disk.specs.Content.{laid}
-use Rattle.ic_disk.specs.Images.{Range, IsImage, StaysOrTears, Torn, TornFrom, Within, Only}
+use Rattle.ic_disk.specs.Images.{StaysOrTears, Torn, TornFrom, Within, Only}
+use Rattle.ic_disk.specs.PlainImages.{Range, IsImage}
 use Rattle.ic_disk.specs.Time.{Elapses}
 use Rattle.ic_disk.specs.Model.{Write, Call, write, write_of, sync, State, begun, after, range_of, IsImageIn}
 use Rattle.ic_disk.specs.History.{History, replay, state, state_at, content_of, image_of, clock_of, IsLeftAt, IsSynced, IsWritten, with_call, with_failure}

@@ -6,7 +6,8 @@ use Rattle.std.proofs.lemmas.Bool.{cases_lt}
 use Rattle.std.proofs.lemmas.Bool.Decides.{nat_tests}
 use Rattle.std.proofs.lemmas.List.{ext_get_or}
 use Rattle.std.proofs.lemmas.List.FromFn.{get_or-map-range_with_len, length-map-range_with_len}
-use Rattle.ic_disk.specs.Images.{Range, IsOutside, IsImage, Torn, TornFrom, Within}
+use Rattle.ic_disk.specs.Images.{Torn, TornFrom, Within}
+use Rattle.ic_disk.specs.PlainImages.{Range, IsOutside, IsImage}
 use Rattle.ic_disk.specs.lemmas.ImageLaws.{IsOutside-append}
 
 -- whether a place is in the range

@@ -2,7 +2,8 @@
 use Rattle.std.proofs.Common.{◌≡◌, ◌⊎◌, inl, inr, ⊎_elim, ℕ, ◌≤◌, List, length, refl, sym, ◌∙◌, ap, subst, arith, Result, Ok, Err, OnOk, OnErr}
 use Rattle.std.specs.Prelude.{◌↔◌}
 use Rattle.ic_disk.specs.Content.{bytes_at, laid}
-use Rattle.ic_disk.specs.Images.{AgreesOutside, Only, StaysOrTears, Torn, TornFrom, Within, one_range}
+use Rattle.ic_disk.specs.Images.{Only, StaysOrTears, Torn, TornFrom, Within}
+use Rattle.ic_disk.specs.PlainImages.{AgreesOutside, one_range}
 use Rattle.ic_disk.specs.Time.{Elapses, LeftSince}
 use Rattle.ic_disk.specs.Course.{MayRead, MaySync, MayTell, MayWrite}
 use Rattle.ic_disk.specs.DiskCalls.{ReadsBytes, TellsLength}

@@ -2,7 +2,7 @@
 -- This project's choice.
 use Rattle.std.specs.Prelude.{◌≡◌, ◌⊎◌, ℕ, ◌+◌, ◌-◌, ◌<◌, ◌≤◌, List, [], ◌∷◌, length, slice_index, map, take}
 use Rattle.ic_disk.specs.Content.{laid}
-use Rattle.ic_disk.specs.Images.{Range, IsOutside}
+use Rattle.ic_disk.specs.PlainImages.{Range, IsOutside}
 use Rattle.ic_disk.specs.Model.{Write, State, range_of}
 use Rattle.ic_disk.specs.declared.mem.Choice.{Choice}
 use Rattle.ic_disk.specs.declared.mem.Choice.TheVariants.{Synced, Written, Fill, Front}

@@ -1,5 +1,6 @@
 pub mod Content
 pub mod Images
+pub mod PlainImages
 pub mod Time
 pub mod Model
 pub mod DiskCalls

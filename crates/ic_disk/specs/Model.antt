@@ -2,7 +2,8 @@
 -- All that is said of crashes rests on it. This project's choice.
 use Rattle.std.specs.Prelude.{◌≡◌, ℕ, List, [], ◌∷◌, ◌++◌, length, map}
 use Rattle.ic_disk.specs.Content.{laid}
-use Rattle.ic_disk.specs.Images.{Range, IsImage, Within}
+use Rattle.ic_disk.specs.Images.{Within}
+use Rattle.ic_disk.specs.PlainImages.{Range, IsImage}
 
 -- bytes written at a place
 pub record Write : Type 0 where

@@ -1,8 +1,7 @@
 //! Whether no step is possible.
 
 ghost use Rattle.std.specs.Prelude.{◌≡◌, ◌↔◌, IsTrue};
-ghost use Rattle.ic_round.specs.Quiet.{is_inert, is_quiet};
-ghost use Rattle.ic_round.specs.Rounds.{IsQuiet};
+ghost use Rattle.ic_round.specs.Quiet.{is_inert, is_quiet, IsQuiet};
 
 use crate::ended::is_settled;
 use crate::growth::rule_of;

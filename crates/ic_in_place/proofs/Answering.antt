@@ -18,7 +18,7 @@ use Rattle.ic_naming.specs.Naming.{RenamesUntold, renamed_word, renumbered, renu
 use Rattle.ic_naming.specs.lemmas.RenamedWords.{forest-renamed, whole-renamed, word_over-renamed}
 use Rattle.ic_naming.specs.lemmas.Renumbered.{renumbered-written}
 use Rattle.ic_round.specs.Naming.{HasNames}
-use Rattle.ic_round.specs.Rounds.{IsQuiet}
+use Rattle.ic_round.specs.Quiet.{IsQuiet}
 use Rattle.ic_reaching.specs.OneNet.{OneNet}
 use Rattle.ic_reaching.specs.Reaching.{Reaches}
 use Rattle.ic_machine.specs.Net.{Net, all_entries, equations_left, pieces, HasNext, IsPair}

@@ -6,8 +6,8 @@ use Rattle.std.proofs.lemmas.List.Sums.{sum_by-append, sum_by-cons}
 use Rattle.ic_term.specs.Tree.{Tree, name, agent, Trees, no_trees, more_trees, trees_of, names, names_of, Pair, pair_names}
 use Rattle.ic_term.specs.Configuration.{Configuration, names_in, occurrences}
 use Rattle.ic_rules.specs.Renaming.{renamed, renamed_trees}
-use Rattle.ic_settle.specs.NameSteps.{Binds, NameStep, NameSteps, no_step, one_more}
-use Rattle.ic_settle.specs.Settling.{Binding, subst, subst_all, subst_pair}
+use Rattle.ic_settle.specs.NameSteps.{NameStep, NameSteps, no_step, one_more}
+use Rattle.ic_settle.specs.Settling.{Binds, Binding, subst, subst_all, subst_pair}
 use Rattle.ic_settle.specs.lemmas.MiddleLaws.{occurrences-middle}
 use Rattle.ic_settle.specs.lemmas.SubstitutionLaws.{occurrences-append, occurrences_some}
 use Rattle.ic_round.specs.Naming.{HasNames}

@@ -20,7 +20,7 @@ use Rattle.ic_settle.specs.Settling.{subst_pair}
 use Rattle.ic_round.specs.Firing.{Active, active_pair, against, arguments, oriented, products_by, products, rule_of_sides}
 use Rattle.ic_round.specs.Instance.{inst}
 use Rattle.ic_round.specs.Naming.{HasNames}
-use Rattle.ic_round.specs.Rounds.{IsQuiet}
+use Rattle.ic_round.specs.Quiet.{IsQuiet}
 use Rattle.ic_round.specs.Steps.{Interaction}
 use Rattle.ic_round.specs.Works.{is_agent_of}
 use Rattle.ic_round.specs.lemmas.ActiveRules.{FitsRule, oriented_rule, rule_within, sides_fit}

@@ -6,8 +6,8 @@ use Rattle.std.specs.Cmp.{unsigned_Decides}
 use Rattle.std.specs.List.{AllByRecursion}
 use Rattle.ic_term.specs.Tree.{Tree, name, agent, names, Pair, pair_names}
 use Rattle.ic_term.specs.Configuration.{Configuration, configuration_names, names_in, occurrences}
-use Rattle.ic_settle.specs.NameSteps.{Binds, NameStep}
-use Rattle.ic_settle.specs.Settling.{Binding}
+use Rattle.ic_settle.specs.NameSteps.{NameStep}
+use Rattle.ic_settle.specs.Settling.{Binds, Binding}
 use Rattle.ic_settle.specs.lemmas.MiddleLaws.{occurrences-middle}
 use Rattle.ic_settle.specs.lemmas.SubstitutionLaws.{occurrences-append, occurrences_some}
 use Rattle.ic_round.specs.Naming.{HasNames}

@@ -16,7 +16,7 @@ use Rattle.ic_naming.specs.Naming.{RenamesUntold, renamed_pair, renamed_word, re
 use Rattle.ic_naming.specs.lemmas.RenamedWords.{terms_words-renamed}
 use Rattle.ic_naming.specs.lemmas.Renumbered.{renumbered-words}
 use Rattle.ic_settle.specs.NameSteps.{NameStep, NameSteps, no_step, one_more}
-use Rattle.ic_round.specs.Rounds.{IsQuiet}
+use Rattle.ic_round.specs.Quiet.{IsQuiet}
 use Rattle.ic_round.specs.lemmas.NameStepLemmas.{name_step}
 use Rattle.ic_confluence.specs.Sameness.{Same, Rearranged, nothing, kept, swapped, one_by_one, renaming, rearranging, through}
 use Rattle.ic_reaching.specs.OneNet.{OneNet, SameButNext, raised}

@@ -10,7 +10,7 @@ use Rattle.ic_flat.specs.declared.word.Word.{Word}
 use Rattle.ic_flat.specs.Words.{forest, is_word_over, IsWhole}
 use Rattle.ic_flat.specs.Flat.{configuration_of}
 use Rattle.ic_naming.specs.Naming.{renumbered}
-use Rattle.ic_round.specs.Rounds.{IsQuiet}
+use Rattle.ic_round.specs.Quiet.{IsQuiet}
 use Rattle.ic_round.specs.Steps.{Interaction}
 use Rattle.ic_reaching.specs.Reaching.{Reaches}
 use Rattle.ic_text.specs.declared.limits.TheConstants.{MAX_NAME}

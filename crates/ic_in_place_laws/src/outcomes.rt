@@ -5,7 +5,7 @@ ghost use Rattle.std.specs.Arc.{arc_value};
 ghost use Rattle.std.specs.Option.{option_map};
 ghost use Rattle.ic_term.specs.Configuration.{Configuration};
 ghost use Rattle.ic_rules.specs.System.{SystemParts};
-ghost use Rattle.ic_round.specs.Rounds.{IsQuiet};
+ghost use Rattle.ic_round.specs.Quiet.{IsQuiet};
 ghost use Rattle.ic_confluence.specs.Kinds.{Kind, Chain};
 ghost use Rattle.ic_reaching.specs.OneNet.{OneNet};
 ghost use Rattle.ic_reaching.specs.Reaching.{Reaches, rules_fired};

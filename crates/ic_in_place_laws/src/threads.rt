@@ -8,7 +8,8 @@ ghost use Rattle.ic_term.specs.Configuration.{Configuration, configuration_names
 ghost use Rattle.ic_term.specs.Tree.{agent, more_trees, name, no_trees};
 ghost use Rattle.ic_rules.specs.Rule.{Rule};
 ghost use Rattle.ic_rules.specs.System.{SystemParts};
-ghost use Rattle.ic_round.specs.Rounds.{IsQuiet, iterate};
+ghost use Rattle.ic_round.specs.Rounds.{iterate};
+ghost use Rattle.ic_round.specs.Quiet.{IsQuiet};
 ghost use Rattle.ic_machine.specs.Net.{all_places, equations_in, pieces, IsPair};
 ghost use Rattle.ic_meaning.specs.Nets.{net_of};
 ghost use Rattle.ic_confluence.specs.Kinds.{Kind, Chain};

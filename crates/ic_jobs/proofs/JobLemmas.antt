@@ -7,8 +7,8 @@ use Rattle.ic_term.specs.Configuration.{Configuration, IsConfiguration}
 use Rattle.ic_rules.specs.JobName.{is_job_name}
 use Rattle.ic_rules.specs.RuleSet.{Rules, AreServed, IsRuleSet}
 use Rattle.ic_rules.specs.System.{SystemParts}
-use Rattle.ic_round.specs.Rounds.{fits, round, IsQuiet}
-use Rattle.ic_round.specs.Quiet.{is_quiet}
+use Rattle.ic_round.specs.Rounds.{fits, round}
+use Rattle.ic_round.specs.Quiet.{IsQuiet, is_quiet}
 use Rattle.ic_round.specs.lemmas.QuietLemmas.{no_step, is_quiet_where}
 use Rattle.ic_round.specs.lemmas.RoundLemmas.{round_is_configuration, round_is_over}
 use Rattle.ic_flights.specs.declared.limits.TheConstants.{MAX_ROUNDS}

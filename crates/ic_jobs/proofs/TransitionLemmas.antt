@@ -6,8 +6,8 @@ use Rattle.std.specs.Cmp.Lexicographic.{bytes_decides}
 use Rattle.ic_term.specs.Configuration.{Configuration}
 use Rattle.ic_rules.specs.RuleSet.{Rules}
 use Rattle.ic_rules.specs.System.{SystemParts}
-use Rattle.ic_round.specs.Rounds.{round, IsQuiet}
-use Rattle.ic_round.specs.Quiet.{is_quiet}
+use Rattle.ic_round.specs.Rounds.{round}
+use Rattle.ic_round.specs.Quiet.{IsQuiet, is_quiet}
 use Rattle.ic_round.specs.lemmas.QuietLemmas.{no_step, is_quiet_where}
 use Rattle.ic_jobs.specs.declared.limits.TheConstants.{MAX_JOBS}
 use Rattle.ic_jobs.specs.declared.state.State.{State}

@@ -7,13 +7,13 @@ use Rattle.ic_term.specs.Configuration.{Configuration, IsConfiguration, configur
 use Rattle.ic_rules.specs.JobName.{is_job_name}
 use Rattle.ic_rules.specs.RuleSet.{Rules, AreServed, IsRuleSet, rules_eq}
 use Rattle.ic_rules.specs.System.{SystemParts}
-use Rattle.ic_round.specs.Rounds.{fits, round, IsQuiet}
+use Rattle.ic_round.specs.Rounds.{fits, round}
+use Rattle.ic_round.specs.Quiet.{IsQuiet, is_quiet}
 use Rattle.ic_flights.specs.declared.limits.TheConstants.{MAX_ROUNDS}
 use Rattle.ic_jobs.specs.declared.state.State.{State}
 use Rattle.ic_jobs.specs.declared.state.State.TheVariants.{Running, Done, Spent}
 use Rattle.ic_jobs.specs.State.{state_eq}
 use Rattle.ic_jobs.specs.Budget.{IsBudget, is_used_up, budget_eq}
-use Rattle.ic_round.specs.Quiet.{is_quiet}
 
 -- A job: its name, its rules and configuration, how many rounds it has made, its state, and how many
 -- rounds it makes at most, where that is set.

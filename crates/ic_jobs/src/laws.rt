@@ -5,7 +5,7 @@ ghost use Rattle.std.specs.List.{Contains};
 ghost use Rattle.ic_term.specs.Configuration.{Configuration};
 ghost use Rattle.ic_rules.specs.RuleSet.{Rules};
 ghost use Rattle.ic_rules.specs.System.{SystemParts};
-ghost use Rattle.ic_round.specs.Rounds.{IsQuiet};
+ghost use Rattle.ic_round.specs.Quiet.{IsQuiet};
 ghost use Rattle.ic_flights.specs.Flight.{FlightParts};
 ghost use Rattle.ic_jobs.specs.declared.state.State.{State};
 ghost use Rattle.ic_jobs.specs.declared.state.State.TheVariants.{Running, Done, Spent};

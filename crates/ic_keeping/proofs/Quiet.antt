@@ -9,8 +9,7 @@ use Rattle.ic_rules.specs.RuleSet.{Rules, IsRuleSet}
 use Rattle.ic_settle.specs.Settling.{applied, first_choice}
 use Rattle.ic_naming.specs.Naming.{renumbered}
 use Rattle.ic_round.specs.Naming.{HasNames}
-use Rattle.ic_round.specs.Quiet.{is_inert, is_quiet}
-use Rattle.ic_round.specs.Rounds.{IsQuiet}
+use Rattle.ic_round.specs.Quiet.{is_inert, is_quiet, IsQuiet}
 use Rattle.ic_confluence.specs.Sameness.{Same}
 use Rattle.ic_reaching.specs.OneNet.{SameButNext, raised}
 use Rattle.ic_text.specs.declared.limits.TheConstants.{MAX_NAME}

@@ -26,7 +26,7 @@ use Rattle.ic_in_place.specs.Counting.{AreCounts}
 use Rattle.ic_in_place.specs.Reducing.{EndsBy, IsPutTogether, IsReachedBy}
 use Rattle.ic_text.specs.SystemText.{ReadsSystemWithin}
 use Rattle.ic_text.specs.declared.limits.Limits.TheVariants.{Wide}
-use Rattle.ic_round.specs.Rounds.{IsQuiet}
+use Rattle.ic_round.specs.Quiet.{IsQuiet}
 use Rattle.ic_state.specs.State.{Kept}
 use Rattle.ic_keeping.specs.inner.Pieces.{IsWritten}
 use Rattle.ic_keeping.specs.Way.{AreSums, EndsWithin, IsAnswer, IsOnWay, IsReachedFrom, IsSound, IsStateOf}

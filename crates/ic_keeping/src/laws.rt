@@ -7,7 +7,7 @@ ghost use Rattle.ic_disk.specs.Images.{Within};
 ghost use Rattle.ic_disk.specs.Time.{LeftSince};
 ghost use Rattle.ic_term.specs.Configuration.{Configuration};
 ghost use Rattle.ic_term.specs.declared.limits.TheConstants.{MAX_WIDE_NODES};
-ghost use Rattle.ic_round.specs.Rounds.{IsQuiet};
+ghost use Rattle.ic_round.specs.Quiet.{IsQuiet};
 ghost use Rattle.ic_confluence.specs.Kinds.{Kind, Chain};
 ghost use Rattle.ic_reaching.specs.OneNet.{OneNet, SameButNext};
 ghost use Rattle.ic_reaching.specs.Reaching.{Reaches, rules_fired};

@@ -8,7 +8,8 @@ use Rattle.ic_jobs.specs.Table.{job_named}
 use Rattle.ic_book.specs.Moves.{Move}
 use Rattle.ic_book.specs.Server.{Runs, Server}
 use Rattle.ic_disk.specs.declared.disk.Disk.{Ghosts}
-use Rattle.ic_lives.specs.Headline.{AreIterates, AreTold, Tells}
+use Rattle.ic_lives.specs.Headline.{AreIterates}
+use Rattle.ic_lives.specs.Looks.{AreTold, Tells}
 use Rattle.ic_lives.specs.Histories.{StandAmong}
 use Rattle.ic_lives.specs.Past.{IsPast, Past}
 

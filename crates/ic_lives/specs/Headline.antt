@@ -1,16 +1,13 @@
 -- What the law over all runs of a server concludes.
-use Rattle.std.specs.Prelude.{◌≡◌, ◌≤◌, ℕ, List, [], ◌∷◌, length, take}
-use Rattle.ic_disk.specs.declared.disk.Disk.{Ghosts}
+use Rattle.std.specs.Prelude.{◌≡◌, ◌≤◌, ℕ, List, [], length, take}
 use Rattle.ic_jobs.specs.declared.event.Entry.{Entry}
 use Rattle.ic_jobs.specs.Job.{JobParts}
 use Rattle.ic_jobs.specs.Table.{job_named}
 use Rattle.ic_jobs.specs.History.{replay, IsLegal}
 use Rattle.ic_jobs.specs.Life.{life, IsAsLived}
 use Rattle.ic_slots.specs.Held.{HoldsTable}
-use Rattle.ic_book.specs.Book.{table_of}
 use Rattle.ic_book.specs.Moves.{Move}
-use Rattle.ic_book.specs.Server.{Server, down, up, Runs}
-use Rattle.ic_lives.specs.Past.{Past, nothing, Next, IsPast}
+use Rattle.ic_lives.specs.Past.{Past, IsPast}
 
 -- A name has a job in the table exactly if it lives by this history, and the job is as its life says.
 abbrev pub AreIterates : (history : List Entry) (table : List JobParts) → Type 0
@@ -46,18 +43,3 @@ pub record HoldsPrefixAfter (moves : List Move) (file : List ℕ) : Type 0 where
   pub past : Past
   pub comes : IsPast moves past
   pub tells : TellsFile past file
-
--- ---- several looks at one server
-
--- a past tells of an open book's table, or of whatever image is found of a disk
-abbrev pub Tells : {D : Type 0} {ghosts : Ghosts D} → Past → Server ghosts → Type 0
-Tells past (up book) = TellsTable past (table_of book)
-Tells {ghosts = g} past (down disk) = (file : List ℕ) → g.image disk file → TellsFile past file
-
--- Each server along a run is told by a past, and each of these pasts goes on from the one before.
-abbrev pub AreTold : {D : Type 0} {ghosts : Ghosts D} (moves : List Move)
-    (first last : Server ghosts) → Runs moves first last → Past → Type 0
-AreTold [] first last runs past = (past ≡ nothing) × Tells past last
-AreTold (move ∷ moves) first last runs past =
-    (before : Past) × AreTold moves first runs.0 runs.1 before
-    × Next move before past × Tells past last

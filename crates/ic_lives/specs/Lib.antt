@@ -1,4 +1,5 @@
 pub mod Past
 pub mod Headline
+pub mod Looks
 pub mod Histories
 pub mod lemmas

@@ -24,7 +24,8 @@ ghost use Rattle.ic_book.specs.Moves.{Move, answers, keeps, opens, refuses};
 ghost use Rattle.ic_book.specs.Server.{Server, Reaches, Runs, down, up};
 ghost use Rattle.ic_lives.specs.Histories.{IsHistoryOf};
 ghost use Rattle.ic_lives.specs.Past.{Past, Next, Leads, IsPast};
-ghost use Rattle.ic_lives.specs.Headline.{IsTableAfter, HoldsPrefixAfter, Tells, AreTold};
+ghost use Rattle.ic_lives.specs.Headline.{IsTableAfter, HoldsPrefixAfter};
+ghost use Rattle.ic_lives.specs.Looks.{Tells, AreTold};
 
 use ic_book::Book;
 use ic_disk::Disk;

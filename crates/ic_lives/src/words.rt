@@ -17,7 +17,8 @@ ghost use Rattle.ic_book.specs.Book.{table_of};
 ghost use Rattle.ic_book.specs.Entries.{command_entry};
 ghost use Rattle.ic_book.specs.Moves.{Move, answers, brings};
 ghost use Rattle.ic_book.specs.Server.{Runs, Server, down, up};
-ghost use Rattle.ic_lives.specs.Headline.{AreIterates, AreTold, Tells};
+ghost use Rattle.ic_lives.specs.Headline.{AreIterates};
+ghost use Rattle.ic_lives.specs.Looks.{AreTold, Tells};
 ghost use Rattle.ic_lives.specs.Histories.{IsHistoryOf, StandAmong, answered, come};
 ghost use Rattle.ic_lives.specs.Past.{IsPast, Next, Past};
 

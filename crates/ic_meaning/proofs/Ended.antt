@@ -9,15 +9,14 @@ use Rattle.ic_term.specs.Tree.{Tree, name, agent, Trees, no_trees, more_trees, n
 use Rattle.ic_term.specs.Configuration.{Configuration, configuration_names, names_in, occurrences}
 use Rattle.ic_rules.specs.Rule.{Rule}
 use Rattle.ic_rules.specs.RuleSet.{rule_for}
-use Rattle.ic_settle.specs.Settling.{Binding, subst, subst_all, subst_pair}
-use Rattle.ic_settle.specs.NameSteps.{Binds}
+use Rattle.ic_settle.specs.Settling.{Binding, subst, subst_all, subst_pair, Binds}
 use Rattle.ic_settle.specs.lemmas.SubstitutionLaws.{occurrences-append, occurrences-cons, occurrences_some}
 use Rattle.ic_settle.specs.lemmas.MiddleLaws.{occurrences-middle}
 use Rattle.ic_settle.specs.lemmas.WholeLaws.{whole, names_of-whole, subst_all-whole}
 use Rattle.ic_settle.specs.lemmas.StepLaws.{itself_once as name_itself}
 use Rattle.ic_round.specs.Naming.{HasNames}
 use Rattle.ic_round.specs.Firing.{Active, active_pair, oriented, rule_of_sides}
-use Rattle.ic_round.specs.Rounds.{IsQuiet}
+use Rattle.ic_round.specs.Quiet.{IsQuiet}
 use Rattle.ic_round.specs.Steps.{Step, interaction, indirection, collect}
 use Rattle.ic_reaching.specs.OneNet.{OneNet}
 use Rattle.ic_reaching.specs.Pieces.{piece_of}

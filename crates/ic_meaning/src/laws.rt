@@ -6,7 +6,7 @@ ghost use Rattle.ic_term.specs.Configuration.{Configuration, configuration_names
 ghost use Rattle.ic_term.specs.Symbol.{is_over};
 ghost use Rattle.ic_rules.specs.RuleSet.{Rules, IsRuleSet};
 ghost use Rattle.ic_round.specs.Naming.{HasNames};
-ghost use Rattle.ic_round.specs.Rounds.{IsQuiet};
+ghost use Rattle.ic_round.specs.Quiet.{IsQuiet};
 ghost use Rattle.ic_reaching.specs.OneNet.{OneNet};
 ghost use Rattle.ic_reaching.specs.Reaching.{Reaches};
 ghost use Rattle.ic_arena.specs.declared.word.Word.{Word};

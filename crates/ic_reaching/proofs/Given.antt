@@ -8,7 +8,8 @@ use Rattle.ic_rules.specs.RuleSet.{Rules, IsRuleSet}
 use Rattle.ic_settle.specs.Settling.{settled}
 use Rattle.ic_settle.specs.NameSteps.{NameStep, NameSteps}
 use Rattle.ic_round.specs.Naming.{HasNames}
-use Rattle.ic_round.specs.Rounds.{IsQuiet, iterate}
+use Rattle.ic_round.specs.Rounds.{iterate}
+use Rattle.ic_round.specs.Quiet.{IsQuiet}
 use Rattle.ic_round.specs.Steps.{Steps}
 use Rattle.ic_confluence.specs.Kinds.{Kind, StepOf, Chain}
 use Rattle.ic_confluence.specs.Sameness.{Same}

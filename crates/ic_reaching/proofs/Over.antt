@@ -4,8 +4,8 @@ use Rattle.std.proofs.lemmas.Bool.{and_parts}
 use Rattle.std.specs.List.{list_all}
 use Rattle.ic_term.specs.Configuration.{Configuration, names_in, occurrences}
 use Rattle.ic_term.specs.Symbol.{Symbol, is_tree_over, are_trees_over, is_pair_over, is_over}
-use Rattle.ic_settle.specs.Settling.{subst_all, subst_in}
-use Rattle.ic_settle.specs.NameSteps.{Binds, NameStep, NameSteps, no_step, one_more}
+use Rattle.ic_settle.specs.Settling.{subst_all, subst_in, Binds}
+use Rattle.ic_settle.specs.NameSteps.{NameStep, NameSteps, no_step, one_more}
 use Rattle.ic_settle.specs.lemmas.SubstitutionLaws.{and_both, occurrences_some}
 use Rattle.ic_settle.specs.lemmas.WholeLaws.{whole, names_of-whole, subst_all-whole, over-whole}
 use Rattle.ic_round.specs.lemmas.OverSymbols.{over_replaced}

@@ -9,13 +9,12 @@ use Rattle.ic_term.specs.Tree.{Tree, name, agent, Trees, names, Pair, pair_names
 use Rattle.ic_term.specs.Configuration.{Configuration, configuration_names, occurrences}
 use Rattle.ic_rules.specs.Rule.{Rule}
 use Rattle.ic_rules.specs.RuleSet.{Rules, IsRuleSet}
-use Rattle.ic_settle.specs.Settling.{Binding}
-use Rattle.ic_settle.specs.NameSteps.{Binds}
+use Rattle.ic_settle.specs.Settling.{Binding, Binds}
 use Rattle.ic_settle.specs.lemmas.SubstitutionLaws.{occurrences-append, occurrences_some}
 use Rattle.ic_settle.specs.lemmas.StepLaws.{itself_once as name_itself}
 use Rattle.ic_round.specs.Firing.{Active, active_pair, oriented, rule_of_sides}
 use Rattle.ic_round.specs.Naming.{HasNames}
-use Rattle.ic_round.specs.Rounds.{IsQuiet}
+use Rattle.ic_round.specs.Quiet.{IsQuiet}
 use Rattle.ic_round.specs.Steps.{Step, interaction, indirection, collect}
 use Rattle.ic_arena.specs.declared.word.Word.{Word}
 use Rattle.ic_machine.specs.declared.equation.Equation.{Equation}

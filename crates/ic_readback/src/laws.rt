@@ -5,7 +5,7 @@ ghost use Rattle.std.specs.List.{AllByRecursion};
 ghost use Rattle.ic_term.specs.Configuration.{configuration_names, occurrences};
 ghost use Rattle.ic_rules.specs.RuleSet.{Rules, IsRuleSet};
 ghost use Rattle.ic_round.specs.Naming.{HasNames};
-ghost use Rattle.ic_round.specs.Rounds.{IsQuiet};
+ghost use Rattle.ic_round.specs.Quiet.{IsQuiet};
 ghost use Rattle.ic_machine.specs.Net.{Net, IsStuck};
 ghost use Rattle.ic_machine.specs.Plan.{Plans};
 ghost use Rattle.ic_flat.specs.Words.{forest};

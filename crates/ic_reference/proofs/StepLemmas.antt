@@ -5,8 +5,7 @@ use Rattle.std.specs.List.{flat_map}
 use Rattle.ic_term.specs.Tree.{Pair, names, pair_names}
 use Rattle.ic_term.specs.Configuration.{Configuration}
 use Rattle.ic_rules.specs.Rule.{Rule}
-use Rattle.ic_settle.specs.Settling.{Binding, binding, occurs}
-use Rattle.ic_settle.specs.NameSteps.{Binds}
+use Rattle.ic_settle.specs.Settling.{Binding, binding, occurs, Binds}
 use Rattle.ic_round.specs.Firing.{Active, active_pair}
 use Rattle.ic_round.specs.Steps.{Interaction, Indirection, Collect}
 use Rattle.ic_reference.specs.SingleSteps.{interacted_by, interacted, others, bound_at, indirected, collected}

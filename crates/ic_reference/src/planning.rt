@@ -4,7 +4,8 @@ ghost use Rattle.std.specs.Prelude.{◌≡◌, List, Ok, map, IsTrue, IfOk, OnOk
 ghost use Rattle.std.specs.List.{All, AllByRecursion, Contains};
 ghost use Rattle.ic_term.specs.Symbol.{is_over};
 ghost use Rattle.ic_term.specs.Configuration.{Configuration, IsConfiguration};
-ghost use Rattle.ic_round.specs.Firing.{active, bases, fired};
+ghost use Rattle.ic_round.specs.Firing.{fired};
+ghost use Rattle.ic_round.specs.ActivePlaces.{active, bases};
 ghost use Rattle.ic_round.specs.Works.{PlainFired, suits, result_of};
 ghost use Rattle.ic_round.specs.WorkViews.{work_of};
 ghost use Rattle.ic_round.specs.Gathering.{gathered};

@@ -4,8 +4,7 @@ ghost use Rattle.std.specs.Prelude.{◌≡◌, ◌↔◌, IsTrue, map, is_none};
 ghost use Rattle.std.specs.List.{list_all};
 ghost use Rattle.ic_term.specs.Term.{pair};
 ghost use Rattle.ic_round.specs.Firing.{active_pair};
-ghost use Rattle.ic_round.specs.Quiet.{is_quiet};
-ghost use Rattle.ic_round.specs.Rounds.{IsQuiet};
+ghost use Rattle.ic_round.specs.Quiet.{is_quiet, IsQuiet};
 
 use crate::ended::is_settled;
 use crate::growth::rule_of;

@@ -5,7 +5,6 @@ use Rattle.ic_term.specs.declared.limits.TheConstants.{MAX_NODES, MAX_NEXT}
 use Rattle.ic_rules.specs.Rule.{Rule}
 use Rattle.ic_round.specs.Firing.{fired}
 use Rattle.ic_settle.specs.Settling.{settled}
-use Rattle.ic_round.specs.Steps.{Step}
 use Rattle.ic_round.specs.declared.round_fault.RoundFault.{RoundFault}
 use Rattle.ic_round.specs.declared.round_fault.RoundFault.TheVariants.{Overgrown, NamesOut}
 
@@ -35,7 +34,3 @@ unless_unfit rs c value =
 abbrev pub iterate : List Rule → ℕ → Configuration → Configuration
 iterate rs zero c = c
 iterate rs (suc n) c = round rs (iterate rs n c)
-
--- No step is possible.
-abbrev pub IsQuiet : List Rule → Configuration → Type 0
-IsQuiet rs c = (d : Configuration) → ¬ Step rs c d

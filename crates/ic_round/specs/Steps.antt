@@ -4,8 +4,7 @@ use Rattle.std.specs.List.{flat_map}
 use Rattle.ic_term.specs.Tree.{Pair, names, pair_names}
 use Rattle.ic_term.specs.Configuration.{Configuration}
 use Rattle.ic_rules.specs.Rule.{Rule}
-use Rattle.ic_settle.specs.Settling.{Binding, occurs, subst_in}
-use Rattle.ic_settle.specs.NameSteps.{Binds}
+use Rattle.ic_settle.specs.Settling.{Binding, occurs, subst_in, Binds}
 use Rattle.ic_round.specs.Firing.{Active, active_pair, products_by, count_of}
 
 -- An equation stands at a place, with these before it and those after it.

@@ -1,15 +1,9 @@
 -- Name steps: indirection and collect of Fernández and Mackie (1999) as one relation, without a
 -- place.
-use Rattle.std.specs.Prelude.{◌≡◌, List, ◌∷◌, ◌++◌, true, ◌⊎◌}
-use Rattle.ic_term.specs.Tree.{name, Pair}
+use Rattle.std.specs.Prelude.{◌≡◌, List, ◌∷◌, ◌++◌, true}
+use Rattle.ic_term.specs.Tree.{Pair}
 use Rattle.ic_term.specs.Configuration.{Configuration, names_in}
-use Rattle.ic_settle.specs.Settling.{Binding, occurs, subst_in}
-
--- one side of an equation is this name, the other one this term
-abbrev pub Binds : Pair → Binding → Type 0
-Binds p b =
-    (p ≡ record { left = name b.name; right = b.term })
-    ⊎ (p ≡ record { left = b.term; right = name b.name })
+use Rattle.ic_settle.specs.Settling.{Binding, Binds, occurs, subst_in}
 
 -- An equation of which one side is a name that occurs in another equation (indirection) or in the
 -- interface (collect) is removed, and its other side put for that name.

@@ -1,6 +1,6 @@
 -- What settling is: the order of its steps is this project's choice, each step is indirection or
 -- collect of Fernández and Mackie 1999.
-use Rattle.std.specs.Prelude.{ℕ, zero, suc, ◌==◌, List, [], ◌∷◌, ◌++◌, Bool, Option, None, Some, length, map, if◌then◌else◌}
+use Rattle.std.specs.Prelude.{◌≡◌, ◌⊎◌, ℕ, zero, suc, ◌==◌, List, [], ◌∷◌, ◌++◌, Bool, Option, None, Some, length, map, if◌then◌else◌}
 use Rattle.std.specs.List.{list_any}
 use Rattle.std.specs.Option.{option_map, option_map_or, option_or}
 use Rattle.ic_term.specs.Tree.{Tree, name, agent, Trees, no_trees, more_trees, Pair}
@@ -30,6 +30,12 @@ subst_in x u c = record c {
 pub record Binding : Type 0 where
   pub name : ℕ
   pub term : Tree
+
+-- one side of an equation is this name, the other one this term
+abbrev pub Binds : Pair → Binding → Type 0
+Binds p b =
+    (p ≡ record { left = name b.name; right = b.term })
+    ⊎ (p ≡ record { left = b.term; right = name b.name })
 
 -- whether a name occurs in a list of names
 abbrev pub occurs : ℕ → List ℕ → Bool

@@ -2,7 +2,8 @@
 use Rattle.std.proofs.Common.{◌≡◌, ℕ, ◌≤◌, List, [], ◌∷◌, ◌++◌, length, map, refl, sym, ap, subst, arith}
 use Rattle.std.proofs.lemmas.List.{take_all, map_push}
 use Rattle.ic_disk.specs.Content.{laid}
-use Rattle.ic_disk.specs.Images.{Range, IsImage, TornFrom, Within}
+use Rattle.ic_disk.specs.Images.{TornFrom, Within}
+use Rattle.ic_disk.specs.PlainImages.{Range, IsImage}
 use Rattle.ic_disk.specs.Model.{Write, Call, write, sync, State, begun, after, range_of, IsImageIn}
 use Rattle.ic_disk.specs.History.{History, replay, state, state_at, content_of, IsLeftSince, with_call}
 use Rattle.ic_disk.specs.lemmas.ImageLaws.{torn_laid, torn_image, settled_image}

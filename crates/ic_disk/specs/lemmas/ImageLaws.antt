@@ -1,7 +1,8 @@
 -- Lemmas: files that are torn, and what a crash may leave while ranges are pending.
 use Rattle.std.proofs.Common.{◌≡◌, ⊎_elim, ℕ, ◌<◌, List, [], ◌∷◌, ◌++◌, length, get_or, refl, ◌∙◌, arith}
 use Rattle.ic_disk.specs.Content.{laid}
-use Rattle.ic_disk.specs.Images.{Range, IsOutside, IsImage, Torn, TornFrom, Within, Only}
+use Rattle.ic_disk.specs.Images.{Torn, TornFrom, Within, Only}
+use Rattle.ic_disk.specs.PlainImages.{Range, IsOutside, IsImage}
 use Rattle.ic_disk.specs.lemmas.ContentLaws.{length-laid, laid-before, laid-after}
 
 pub torn_same : (at n : ℕ) (file : List ℕ) → Torn at n file file

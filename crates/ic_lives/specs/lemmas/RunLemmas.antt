@@ -22,7 +22,8 @@ use Rattle.ic_book.specs.Moves.{Move, opens, refuses, answers, fails, rounds, ke
 use Rattle.ic_book.specs.Server.{Server, down, up, disk_in, GoesOn, StaysOnPage, TurnsPage, Turns, Does, Opens, Refuses, Closes, IsFound, Step, Runs, Reaches}
 use Rattle.ic_book.specs.lemmas.Facts.{history_of}
 use Rattle.ic_lives.specs.Past.{Past, nothing, Next, Leads, IsPast}
-use Rattle.ic_lives.specs.Headline.{TellsTable, TellsFile, IsTableAfter, HoldsPrefixAfter, Tells, AreTold}
+use Rattle.ic_lives.specs.Headline.{TellsTable, TellsFile, IsTableAfter, HoldsPrefixAfter}
+use Rattle.ic_lives.specs.Looks.{Tells, AreTold}
 use Rattle.ic_lives.specs.lemmas.JobLemmas.{Lives, are_iterates}
 
 -- ---- what is known of histories and of files

@@ -5,8 +5,7 @@ use Rattle.std.specs.Option.{option_map_or}
 use Rattle.ic_term.specs.Tree.{Pair}
 use Rattle.ic_term.specs.Configuration.{Configuration, names_in}
 use Rattle.ic_rules.specs.Rule.{Rule}
-use Rattle.ic_settle.specs.Settling.{occurs}
-use Rattle.ic_settle.specs.NameSteps.{Binds}
+use Rattle.ic_settle.specs.Settling.{occurs, Binds}
 use Rattle.ic_round.specs.Firing.{Active, active_pair, fired_pair}
 use Rattle.ic_round.specs.Works.{suits, work_at}
 use Rattle.ic_settle.specs.Sides.{bound_by}

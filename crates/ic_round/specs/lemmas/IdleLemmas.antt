@@ -9,8 +9,8 @@ use Rattle.ic_rules.specs.Rule.{Rule}
 use Rattle.ic_settle.specs.Settling.{Choice, applied, first_choice, settled}
 use Rattle.ic_settle.specs.lemmas.ChoiceLaws.{settled-stop}
 use Rattle.ic_round.specs.Firing.{active_pair, count_of, fired, fired_from, fired_pair, names_taken, next_after, products_by}
-use Rattle.ic_round.specs.Quiet.{is_inert, is_settled}
-use Rattle.ic_round.specs.Rounds.{IsQuiet, round}
+use Rattle.ic_round.specs.Quiet.{is_inert, is_settled, IsQuiet}
+use Rattle.ic_round.specs.Rounds.{round}
 use Rattle.ic_round.specs.lemmas.QuietLemmas.{is_quiet_where, none_of}
 
 idle_equations : (rs : List Rule) (base : ℕ) (ps : List Pair) → list_all (λ p. is_none (active_pair rs p)) ps ≡ true → fired_from rs base ps ≡ ps

@@ -5,8 +5,7 @@ use Rattle.ic_term.specs.Tree.{Pair}
 use Rattle.ic_term.specs.Configuration.{Configuration}
 use Rattle.ic_rules.specs.Rule.{Rule}
 use Rattle.ic_round.specs.Firing.{active_pair, oriented, rule_of_sides}
-use Rattle.ic_round.specs.Rounds.{IsQuiet}
-use Rattle.ic_round.specs.Quiet.{is_quiet}
+use Rattle.ic_round.specs.Quiet.{IsQuiet, is_quiet}
 use Rattle.ic_round.specs.lemmas.ActiveRules.{active_by}
 use Rattle.ic_round.specs.lemmas.QuietLemmas.{quiet_is_no_step}
 

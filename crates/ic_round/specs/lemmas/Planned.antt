@@ -7,7 +7,8 @@ use Rattle.std.specs.Option.{option_map_or}
 use Rattle.ic_term.specs.Tree.{Pair}
 use Rattle.ic_term.specs.declared.limits.TheConstants.{MAX_NEXT}
 use Rattle.ic_rules.specs.Rule.{Rule}
-use Rattle.ic_round.specs.Firing.{Active, active_pair, count_of, names_taken, next_after, active_from, bases_from}
+use Rattle.ic_round.specs.Firing.{Active, active_pair, count_of, names_taken, next_after}
+use Rattle.ic_round.specs.ActivePlaces.{active_from, bases_from}
 use Rattle.ic_round.specs.Works.{PlainWork, work_at, works_from, suits, suits_rule, is_agent_of}
 use Rattle.ic_round.specs.lemmas.SoundRules.{HasSoundRule}
 use Rattle.ic_settle.specs.lemmas.SubstitutionLaws.{and_both}

@@ -5,12 +5,10 @@ use Rattle.std.specs.List.{flat_map, list_all}
 use Rattle.ic_term.specs.Tree.{Pair, names}
 use Rattle.ic_term.specs.Configuration.{Configuration, names_in}
 use Rattle.ic_rules.specs.Rule.{Rule}
-use Rattle.ic_settle.specs.Settling.{Binding, Choice, first_choice, applied, occurs}
-use Rattle.ic_settle.specs.NameSteps.{Binds}
+use Rattle.ic_settle.specs.Settling.{Binding, Choice, first_choice, applied, occurs, Binds}
 use Rattle.ic_round.specs.Firing.{Active, active_pair}
 use Rattle.ic_round.specs.Steps.{Step, StandsAt, interaction, indirection, collect}
-use Rattle.ic_round.specs.Rounds.{IsQuiet}
-use Rattle.ic_round.specs.Quiet.{is_inert, is_settled, is_quiet}
+use Rattle.ic_round.specs.Quiet.{IsQuiet, is_inert, is_settled, is_quiet}
 use Rattle.std.proofs.lemmas.Bool.{and_parts}
 use Rattle.ic_settle.specs.lemmas.SubstitutionLaws.{and_both}
 use Rattle.ic_settle.specs.lemmas.ChoiceLaws.{binding_some}

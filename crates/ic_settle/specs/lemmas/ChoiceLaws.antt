@@ -5,8 +5,7 @@ use Rattle.std.proofs.lemmas.Bool.{eqb-true, false_from_ne_true}
 use Rattle.std.specs.Option.{option_or}
 use Rattle.ic_term.specs.Tree.{Tree, name, agent, Pair, names}
 use Rattle.ic_term.specs.Configuration.{Configuration, names_in, occurrences}
-use Rattle.ic_settle.specs.Settling.{Binding, Choice, subst, subst_pair, occurs, side_binding, binding, choice_or, first_choice, applied, settled_in, settled}
-use Rattle.ic_settle.specs.NameSteps.{Binds}
+use Rattle.ic_settle.specs.Settling.{Binding, Choice, subst, subst_pair, occurs, side_binding, binding, choice_or, first_choice, applied, settled_in, settled, Binds}
 use Rattle.ic_settle.specs.lemmas.SubstitutionLaws.{occurrences_none, occurs_none}
 use Rattle.ic_settle.specs.lemmas.MiddleLaws.{occurrences-middle}
 use Rattle.ic_settle.specs.lemmas.StepLaws.{occurrences-binds, occurrences-subst_in, itself_once}

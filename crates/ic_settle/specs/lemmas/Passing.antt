@@ -10,8 +10,7 @@ use Rattle.ic_settle.specs.declared.applicability.Side.{Side}
 use Rattle.ic_settle.specs.declared.applicability.Side.TheVariants.{Left, Right}
 use Rattle.ic_settle.specs.declared.applicability.Applicable.{Applicable}
 use Rattle.ic_settle.specs.declared.applicability.Outlet.{Outlet}
-use Rattle.ic_settle.specs.Settling.{Binding, Choice, occurs, subst_pair, subst_in, binding, first_choice, applied}
-use Rattle.ic_settle.specs.NameSteps.{Binds}
+use Rattle.ic_settle.specs.Settling.{Binding, Choice, occurs, subst_pair, subst_in, binding, first_choice, applied, Binds}
 use Rattle.ic_settle.specs.Sides.{other_side, bound_by}
 use Rattle.ic_settle.specs.Bindings.{is_name, replacement, replaced_by, replaced_in, replaced}
 use Rattle.ic_settle.specs.lemmas.Waiting.{look, put_each, put_each_pair, bound, here, IsDelayed, IsTop, IsAdded, Resolves}

@@ -6,8 +6,7 @@ use Rattle.std.specs.List.{AllByRecursion, remove, zip}
 use Rattle.std.specs.Option.{option_map_or, option_to_list}
 use Rattle.ic_term.specs.Tree.{Tree, name, agent, Pair}
 use Rattle.ic_term.specs.Configuration.{Configuration, names_in}
-use Rattle.ic_settle.specs.Settling.{Binding, Choice, subst_pair, first_choice, settling_step, applied, settled}
-use Rattle.ic_settle.specs.NameSteps.{Binds}
+use Rattle.ic_settle.specs.Settling.{Binding, Choice, subst_pair, first_choice, settling_step, applied, settled, Binds}
 use Rattle.ic_settle.specs.Bindings.{is_name, replacement, replaced_by, replaced_in, replaced, bound_names, put_into, IsSideIn, ReplacesFirst}
 use Rattle.ic_settle.specs.lemmas.ChoiceLaws.{is_choice, binding_binds, settled-step, settled-stop}
 

@@ -5,8 +5,7 @@ use Rattle.std.proofs.lemmas.Bool.{and_parts}
 use Rattle.ic_term.specs.Tree.{Tree, name, Pair, names, names_of, nodes, nodes_of, pair_names, pair_nodes}
 use Rattle.ic_term.specs.Configuration.{IsConfiguration, names_in, nodes_in, occurrences}
 use Rattle.ic_term.specs.Symbol.{Symbol, is_tree_over, are_trees_over, is_pair_over, is_over}
-use Rattle.ic_settle.specs.Settling.{Binding, subst, subst_in, subst_all, subst_pair, occurs}
-use Rattle.ic_settle.specs.NameSteps.{Binds}
+use Rattle.ic_settle.specs.Settling.{Binding, subst, subst_in, subst_all, subst_pair, occurs, Binds}
 use Rattle.ic_settle.specs.lemmas.SubstitutionLaws.{occurrences-append, occurrences_some, occurrences-subst_all, nodes-subst_all, All-subst_all, over-subst_all, and_both, All-front, All-back}
 use Rattle.ic_settle.specs.lemmas.WholeLaws.{whole, names_of-whole, nodes_of-whole, subst_all-whole, over-whole, length-map_subst}
 use Rattle.ic_settle.specs.lemmas.MiddleLaws.{nodes-middle, occurrences-middle, All-middle, over-middle}

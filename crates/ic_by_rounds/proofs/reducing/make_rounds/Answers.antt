@@ -1,6 +1,7 @@
 use Rattle.std.proofs.Common.{◌≡◌, ◌∙◌, true, false, refl, sym, ap, subst, inr, arith}
 use Rattle.ic_term.specs.Configuration.{Configuration, configuration_nodes}
-use Rattle.ic_round.specs.Rounds.{IsQuiet, fits}
+use Rattle.ic_round.specs.Rounds.{fits}
+use Rattle.ic_round.specs.Quiet.{IsQuiet}
 use Rattle.ic_by_rounds.proofs.Rounds.{all_made, answered_fits, answered_next, goes_on, one_more_made, quiet_told, refusal_after}
 use Rattle.ic_by_rounds.proofs.reducing.make_rounds.Goals as goal
 

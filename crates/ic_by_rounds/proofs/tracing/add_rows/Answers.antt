@@ -1,6 +1,7 @@
 use Rattle.std.proofs.Common.{◌≡◌, ◌∙◌, ◌+◌, ◌∷◌, ◌++◌, [], ℕ, inr, true, refl, sym, ap, subst, add-one, arith}
 use Rattle.ic_term.specs.Configuration.{Configuration, configuration_nodes}
-use Rattle.ic_round.specs.Rounds.{IsQuiet, fits, iterate, round}
+use Rattle.ic_round.specs.Rounds.{fits, iterate, round}
+use Rattle.ic_round.specs.Quiet.{IsQuiet}
 use Rattle.ic_by_rounds.specs.Tracing.{row_between, rows_of}
 use Rattle.ic_by_rounds.proofs.Active.{active_told}
 use Rattle.ic_by_rounds.proofs.Rounds.{answered_fits, answered_next, goes_on, one_more_made, quiet_told, refusal_after}

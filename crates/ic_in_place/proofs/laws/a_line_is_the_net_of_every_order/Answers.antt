@@ -2,7 +2,8 @@ use Rattle.std.proofs.Common.{◌≡◌, ℕ, [], Result, Ok, length, sym, ap, �
 use Rattle.ic_term.specs.Tree.{Pair}
 use Rattle.ic_term.specs.Configuration.{Configuration, configuration_names, occurrences}
 use Rattle.ic_rules.specs.System.{SystemParts}
-use Rattle.ic_round.specs.Rounds.{IsQuiet, iterate}
+use Rattle.ic_round.specs.Rounds.{iterate}
+use Rattle.ic_round.specs.Quiet.{IsQuiet}
 use Rattle.ic_confluence.specs.Kinds.{Chain}
 use Rattle.ic_naming.specs.Naming.{renumbered}
 use Rattle.ic_reaching.specs.OneNet.{OneNet, SameButNext}

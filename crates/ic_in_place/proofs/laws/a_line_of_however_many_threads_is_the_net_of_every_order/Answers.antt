@@ -1,7 +1,7 @@
 use Rattle.std.proofs.Common.{◌≡◌, ℕ, [], length, sym, ap, ◌∙◌, arith}
 use Rattle.ic_term.specs.Tree.{Pair}
 use Rattle.ic_term.specs.Configuration.{Configuration, configuration_names, occurrences}
-use Rattle.ic_round.specs.Rounds.{IsQuiet}
+use Rattle.ic_round.specs.Quiet.{IsQuiet}
 use Rattle.ic_naming.specs.Naming.{renumbered}
 use Rattle.ic_reaching.specs.OneNet.{SameButNext}
 use Rattle.ic_streams.specs.Streams.{line_of}

@@ -1,7 +1,7 @@
 use Rattle.std.proofs.Common.{◌++◌, arith, subst}
 use Rattle.std.proofs.lemmas.List.{length-append}
 use Rattle.ic_rules.specs.RuleSet.{Rules}
-use Rattle.ic_round.specs.Rounds.{IsQuiet}
+use Rattle.ic_round.specs.Quiet.{IsQuiet}
 use Rattle.ic_reaching.specs.Reaching.{Reaches}
 use Rattle.ic_in_place.proofs.Orders.{OrderLaws, every_order_so, reached_through}
 use Rattle.ic_in_place.proofs.laws.a_reduction_that_was_cut_goes_on.Goals as goal

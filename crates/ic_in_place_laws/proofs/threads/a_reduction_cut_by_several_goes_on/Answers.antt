@@ -1,7 +1,7 @@
 use Rattle.std.proofs.Common.{◌++◌, subst, arith}
 use Rattle.std.proofs.lemmas.List.{length-append}
 use Rattle.ic_rules.specs.RuleSet.{Rules}
-use Rattle.ic_round.specs.Rounds.{IsQuiet}
+use Rattle.ic_round.specs.Quiet.{IsQuiet}
 use Rattle.ic_reaching.specs.Reaching.{Reaches, rules_fired}
 use Rattle.ic_in_place_laws.proofs.Again.{as_many, quiet_end}
 use Rattle.ic_in_place_laws.proofs.threads.a_reduction_cut_by_several_goes_on.Goals as goal
