@@ -95,6 +95,7 @@ pub record TakesRound {D : Type 0} {ghosts : Ghosts D} (entry : Entry) (expected
 pub record KeepsAll {T D : Type 0} {ghosts : Ghosts D} (result : Result T BookFault)
     (old new : Book D ghosts) : Type 0 where
   pub table : table_of new ≡ table_of old
+  pub all : OnOk result (kept_of new ≡ length (log_of new))
   pub ready : OnOk result (is_broken new ≡ false)
   pub unkept : OnErr result (kept_of new ≡ kept_of old)
   pub made_now : IsTrue (ghosts.keeps (disk_of old)) → kept_of old < length (log_of old)

@@ -20,15 +20,15 @@ size at file = from_be_bytes w32 (bytes_at (at + 9) 4 file)
 
 -- its body
 unfoldable pub body : ℕ → List ℕ → List ℕ
-body at file = bytes_at (at + 13) (size at file) file
+body at file = bytes_at (at + HEAD) (size at file) file
 
--- its head of thirteen bytes lies within the file, and its gate is 1
+-- its head, of `HEAD` bytes, lies within the file, and its gate is 1
 unfoldable pub is_open : ℕ → List ℕ → Bool
-is_open at file = nat_le (at + 13) (length file) && (gate at file == 1)
+is_open at file = nat_le (at + HEAD) (length file) && (gate at file == 1)
 
 -- its body is no longer than a body may be, and lies within the file
 unfoldable pub is_whole : ℕ → List ℕ → Bool
-is_whole at file = nat_le (size at file) MAX_BODY && nat_le (at + 13 + size at file) (length file)
+is_whole at file = nat_le (size at file) MAX_BODY && nat_le (at + HEAD + size at file) (length file)
 
 -- both heads lie within the file
 abbrev pub IsMade : List ℕ → Type 0

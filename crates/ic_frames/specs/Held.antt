@@ -1,6 +1,7 @@
 -- What a file with two slots holds. This project's choice.
 use Rattle.std.specs.Prelude.{◌≡◌, ◌⊎◌, ℕ, ◌<◌, ◌==◌, true, false, nat_lt, if◌then◌else◌, List}
 use Rattle.ic_disk.specs.Content.{bytes_at}
+use Rattle.ic_frames.specs.declared.frame.TheConstants.{HEAD}
 use Rattle.ic_frames.specs.declared.slot.Slot.{Slot}
 use Rattle.ic_frames.specs.declared.slot.Slot.TheVariants.{First, Second}
 use Rattle.ic_frames.specs.Places.{place, other}
@@ -50,10 +51,10 @@ pub record HasTwoAlike (file : List ℕ) : Type 0 where
   pub second : is_open (place Second) file ≡ true
   pub same : number (place First) file ≡ number (place Second) file
 
--- the thirteen bytes at the beginning of each slot are the same
+-- the heads of both slots are the same
 abbrev pub HasSameHeads : (old new : List ℕ) → Type 0
 HasSameHeads old new =
-    (slot : Slot) → bytes_at (place slot) 13 new ≡ bytes_at (place slot) 13 old
+    (slot : Slot) → bytes_at (place slot) HEAD new ≡ bytes_at (place slot) HEAD old
 
 -- the file holds this body, made or not
 abbrev pub HasBody : (kept file : List ℕ) → Type 0
