@@ -15,7 +15,7 @@ use Rattle.ic_jobs.specs.State.{is_running}
 use Rattle.ic_jobs.specs.Table.{job_named, with_changed}
 use Rattle.ic_jobs.specs.Events.{Outcome, apply, after_round, outcome, where_running}
 use Rattle.ic_jobs.specs.History.{replay, table_after, reply_to, IsLegal}
-use Rattle.ic_book.specs.Entries.{Adds, AreRounds, IsRoundEntry, IsSentByNobody, is_round}
+use Rattle.ic_book.specs.Entries.{Adds, AreRounds, IsRoundEntry, RoundHasSenderZero, is_round}
 use Rattle.ic_book.specs.Kept.{IsHistory}
 use Rattle.ic_book.proofs.HistoryLemmas.{IsLegal-push, replay-push, but_last_push}
 
@@ -47,7 +47,7 @@ rounds_named es = (
   λ each. at_all (λ (x : Entry). IsTrue (is_round x.event)) es (λ front back e is. ap is_round (each front back e is).1),
 )
 
-pub nobody_named : (e : Entry) → IsSentByNobody e ↔ ((name : List ℕ) → e.event ≡ Round name → e.who ≡ 0)
+pub nobody_named : (e : Entry) → RoundHasSenderZero e ↔ ((name : List ℕ) → e.event ≡ Round name → e.who ≡ 0)
 nobody_named e = (
   λ nobody name is. nobody (ap is_round is),
   λ each round. let n = named e.event round in each n.0 n.1,
@@ -71,11 +71,11 @@ told t name (Some j) r is =
     (told_where (is_running j.state) (after_round t name j) r is)
 
 -- a round of a legal history
-round_at : (t : List JobParts) (log front back : List Entry) (e : Entry) (name : List ℕ) → IsLegal t log → AllByRecursion IsSentByNobody log
+round_at : (t : List JobParts) (log front back : List Entry) (e : Entry) (name : List ℕ) → IsLegal t log → AllByRecursion RoundHasSenderZero log
     → log ≡ front ++ e ∷ back → e.event ≡ Round name → IsRoundEntry e
 round_at t log front back e name legal nobody is event =
     let here = legal_at t front back e (subst (λ (es : List Entry). IsLegal t es) is legal) in
-    let sent = all_at IsSentByNobody front back e (subst (λ (es : List Entry). AllByRecursion IsSentByNobody es) is nobody) in
+    let sent = all_at RoundHasSenderZero front back e (subst (λ (es : List Entry). AllByRecursion RoundHasSenderZero es) is nobody) in
     record {
       name = name;
       event = event;
@@ -85,7 +85,7 @@ round_at t log front back e name legal nobody is event =
 
 module _ (start : List JobParts) (log : List Entry) (table : List JobParts) (kept : ℕ) (broken : Bool) (is : IsHistory start log table kept broken) where
   pub round_anywhere : (front back : List Entry) (e : Entry) (name : List ℕ) → log ≡ front ++ e ∷ back → e.event ≡ Round name → IsRoundEntry e
-  round_anywhere front back e name at event = round_at start log front back e name is.legal is.by_nobody at event
+  round_anywhere front back e name at event = round_at start log front back e name is.legal is.round_senders at event
 
   round_after : (front back : List Entry) (e : Entry) → drop kept log ≡ front ++ e ∷ back → IsTrue (is_round e.event) → IsRoundEntry e
   round_after front back e at round =

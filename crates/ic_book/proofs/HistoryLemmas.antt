@@ -13,7 +13,7 @@ use Rattle.ic_jobs.specs.Table.{IsTable}
 use Rattle.ic_jobs.specs.Events.{Outcome, apply, outcome}
 use Rattle.ic_jobs.specs.History.{replay, table_after, reply_to, IsLegal}
 use Rattle.ic_book.specs.declared.limits.TheConstants.{MAX_ENTRIES}
-use Rattle.ic_book.specs.Entries.{Adds, AreRounds, IsSentByNobody, command_entry, is_round}
+use Rattle.ic_book.specs.Entries.{Adds, AreRounds, RoundHasSenderZero, command_entry, is_round}
 use Rattle.ic_book.specs.inner.Entering.{IsStale}
 use Rattle.ic_book.specs.Kept.{IsHistory, MayBeUnkept, table_kept}
 
@@ -67,7 +67,7 @@ unkept_broken es e = (
 -- ---- one entry more
 
 module _ (start : List JobParts) (log new_log : List Entry) (table new : List JobParts) (kept : ℕ) (broken : Bool) (e : Entry)
-    (is : IsHistory start log table kept broken) (ready : broken ≡ false) (adds : Adds e log new_log table new) (room : length log < MAX_ENTRIES) (nobody : IsSentByNobody e) where
+    (is : IsHistory start log table kept broken) (ready : broken ≡ false) (adds : Adds e log new_log table new) (room : length log < MAX_ENTRIES) (nobody : RoundHasSenderZero e) where
   event_here : apply (replay start log) e.event ≡ Some (outcome new e.reply)
   event_here = ap (λ (t : List JobParts). apply t e.event) is.replayed ∙ adds.event
 
@@ -91,8 +91,8 @@ module _ (start : List JobParts) (log new_log : List Entry) (table new : List Jo
   pub table_kept_after : table_kept start new_log kept ≡ table_kept start log kept
   table_kept_after = ap (replay start) taken_after
 
-  nobody_after : AllByRecursion IsSentByNobody new_log
-  nobody_after = subst (λ (es : List Entry). AllByRecursion IsSentByNobody es) (sym adds.entry) (all_push IsSentByNobody log e is.by_nobody nobody)
+  nobody_after : AllByRecursion RoundHasSenderZero new_log
+  nobody_after = subst (λ (es : List Entry). AllByRecursion RoundHasSenderZero es) (sym adds.entry) (all_push RoundHasSenderZero log e is.round_senders nobody)
 
   sound_after : IsTable (table_kept start new_log kept)
   sound_after = subst IsTable (sym table_kept_after) is.sound
@@ -111,7 +111,7 @@ module _ (start : List JobParts) (log new_log : List Entry) (table new : List Jo
     short = omega (arith, room, length_after);
     within = omega (arith, is.within, length_after);
     after = after;
-    by_nobody = nobody_after;
+    round_senders = nobody_after;
     sound = sound_after;
   }
 
@@ -140,7 +140,7 @@ module _ (start : List JobParts) (log new_log : List Entry) (table new : List Jo
     short = omega (arith, room, length_after);
     within = omega arith;
     after = subst (λ (k : ℕ). MayBeUnkept now (drop k new_log)) (sym count) (all_after new_log now);
-    by_nobody = nobody_after;
+    round_senders = nobody_after;
     sound = subst IsTable (sym (table_all_after n count)) sound;
   }
 
@@ -157,7 +157,7 @@ module _ (start : List JobParts) (log new_log : List Entry) (table new : List Jo
   idle_after n count same all = all_kept_after broken n count (sound_if_same same all)
 
 -- a client's command may be sent by anybody
-pub command_sent : (who : ℕ) (command : Command) (reply : Reply) → IsSentByNobody (command_entry who command reply)
+pub command_sent : (who : ℕ) (command : Command) (reply : Reply) → RoundHasSenderZero (command_entry who command reply)
 command_sent who command reply round = let never : false ≡ true = round in cc
 
 -- ---- a round, or no entry more
@@ -172,7 +172,7 @@ entered (Ok Moved) e log new_log table new moved same_log same_table = inr (move
 entered _ e log new_log table new moved same_log same_table = inl (same_log tt, same_table tt)
 
 module _ (start : List JobParts) (log new_log : List Entry) (table new : List JobParts) (kept : ℕ) (broken : Bool) (e : Entry)
-    (is : IsHistory start log table kept broken) (ready : broken ≡ false) (room : length log < MAX_ENTRIES) (nobody : IsSentByNobody e) (round : IsTrue (is_round e.event)) where
+    (is : IsHistory start log table kept broken) (ready : broken ≡ false) (room : length log < MAX_ENTRIES) (nobody : RoundHasSenderZero e) (round : IsTrue (is_round e.event)) where
   pub round_entered : Entered e log new_log table new → IsHistory start new_log new kept broken
   round_entered = ⊎_elim
       (λ same. subst (λ (t : List JobParts). IsHistory start new_log t kept broken) (sym same.1) (subst (λ (es : List Entry). IsHistory start es table kept broken) (sym same.0) is))
@@ -197,7 +197,7 @@ module _ (start : List JobParts) (log : List Entry) (table : List JobParts) (kep
     short = is.short;
     within = omega arith;
     after = all_after log now;
-    by_nobody = is.by_nobody;
+    round_senders = is.round_senders;
     sound = subst IsTable (sym table_all) sound;
   }
 
@@ -209,6 +209,6 @@ module _ (start : List JobParts) (log : List Entry) (table : List JobParts) (kep
     short = is.short;
     within = is.within;
     after = record { unbroken = λ whole. let never : true ≡ false = sym broke ∙ whole in cc; but_last = is.after.but_last };
-    by_nobody = is.by_nobody;
+    round_senders = is.round_senders;
     sound = is.sound;
   }

@@ -17,7 +17,7 @@ use Rattle.ic_book.specs.Calls.{LeavesKeptOrAll}
 use Rattle.ic_book.specs.Entries.{AddsCommand, command_entry, round_entry}
 use Rattle.ic_book.specs.inner.Entering.{EntersRound}
 use Rattle.ic_book.specs.Moves.{keeps, stays, round_move, keep_move}
-use Rattle.ic_book.specs.Server.{up, Does, Step, StepsByCommand}
+use Rattle.ic_book.specs.Server.{up, IsCall, Step, StepsByCommand}
 use Rattle.ic_book.proofs.BookLemmas.{unchanged}
 
 err-not-ok : (reply : Reply) → ¬ IsErr {T = Reply} {E = BookFault} (Ok reply)
@@ -33,7 +33,7 @@ module _ {D : Type 0} {ghosts : Ghosts D} where
 
   -- nothing comes to the history
   pub stays_on : (old new : Book D ghosts) → start_of new ≡ start_of old → log_of new ≡ log_of old → table_of new ≡ table_of old → kept_of new ≡ kept_of old
-      → LeavesKeptOrAll (log_of old) old new → (is_broken old ≡ true → is_broken new ≡ true) → Does stays old new
+      → LeavesKeptOrAll (log_of old) old new → (is_broken old ≡ true → is_broken new ≡ true) → IsCall stays old new
   stays_on old new start log table kept crash broken = record {
     page = (record { start = start; log = log; table = table }, kept);
     broken = broken;
@@ -42,7 +42,7 @@ module _ {D : Type 0} {ghosts : Ghosts D} where
 
   -- all is kept, on the same page
   pub keeps_page : (old new : Book D ghosts) → start_of new ≡ start_of old → log_of new ≡ log_of old → table_of new ≡ table_of old
-      → kept_of new ≡ length (log_of new) → LeavesKeptOrAll (log_of old) old new → is_broken old ≡ false → is_broken new ≡ false → Does keeps old new
+      → kept_of new ≡ length (log_of new) → LeavesKeptOrAll (log_of old) old new → is_broken old ≡ false → is_broken new ≡ false → IsCall keeps old new
   keeps_page old new start log table all crash was whole = record {
     page = (inl (record { start = start; log = log; table = table }), all, whole);
     broken = λ broke. absurd (both_ways (is_broken old) was broke);
@@ -51,7 +51,7 @@ module _ {D : Type 0} {ghosts : Ghosts D} where
 
   -- all is kept, and a new page begins
   pub turns_page : (old new : Book D ghosts) → start_of new ≡ table_of old → log_of new ≡ [] → table_of new ≡ table_of old
-      → kept_of new ≡ 0 → LeavesKeptOrAll (log_of old) old new → is_broken old ≡ false → is_broken new ≡ false → Does keeps old new
+      → kept_of new ≡ 0 → LeavesKeptOrAll (log_of old) old new → is_broken old ≡ false → is_broken new ≡ false → IsCall keeps old new
   turns_page old new start log table kept crash was whole = record {
     page = (inr (record { start = start; log = log; table = table }), kept ∙ sym (ap length log), whole);
     broken = λ broke. absurd (both_ways (is_broken old) was broke);
@@ -59,23 +59,23 @@ module _ {D : Type 0} {ghosts : Ghosts D} where
   }
 
   -- a keep is refused
-  pub keep_refused : {T E : Type 0} (result : Result T E) (fault : E) (old new : Book D ghosts) → result ≡ Err fault → Does stays old new → Step (keep_move result) (up old) (up new)
+  pub keep_refused : {T E : Type 0} (result : Result T E) (fault : E) (old new : Book D ghosts) → result ≡ Err fault → IsCall stays old new → Step (keep_move result) (up old) (up new)
   keep_refused {T} {E} result fault old new is done = subst (λ (r : Result T E). Step (keep_move r) (up old) (up new)) (sym is) done
 
   -- nothing is done at all
-  pub idles : ((disk : D) (file : List ℕ) → LeftSince (ghosts.left disk) (ghosts.clock disk) file → ghosts.image disk file) → (book : Book D ghosts) → Does stays book book
+  pub idles : ((disk : D) (file : List ℕ) → LeftSince (ghosts.left disk) (ghosts.clock disk) file → ghosts.image disk file) → (book : Book D ghosts) → IsCall stays book book
   idles law book = stays_on book book refl refl refl refl (unchanged law book) (λ is. is)
 
   -- ---- a round
 
   -- it is refused
-  pub round_refused : {E : Type 0} (name : List ℕ) (reply : Reply) (result : Result Landed E) (fault : E) (old new : Book D ghosts) → result ≡ Err fault → Does stays old new
+  pub round_refused : {E : Type 0} (name : List ℕ) (reply : Reply) (result : Result Landed E) (fault : E) (old new : Book D ghosts) → result ≡ Err fault → IsCall stays old new
       → Step (round_move name reply result) (up old) (up new)
   round_refused {E} name reply result fault old new is done = subst (λ (r : Result Landed E). Step (round_move name reply r) (up old) (up new)) (sym is) done
 
   -- a refusal brings nothing
   pub round_unmade : {E : Type 0} {expected : Type 0} (name : List ℕ) (reply : Reply) (fault : E) (old new : Book D ghosts) → start_of new ≡ start_of old → kept_of new ≡ kept_of old
-      → EntersRound (round_entry name reply) expected (Err fault) (log_of old) (log_of new) (table_of old) (table_of new) → LeavesKeptOrAll (log_of new) old new → (is_broken old ≡ true → is_broken new ≡ true) → Does stays old new
+      → EntersRound (round_entry name reply) expected (Err fault) (log_of old) (log_of new) (table_of old) (table_of new) → LeavesKeptOrAll (log_of new) old new → (is_broken old ≡ true → is_broken new ≡ true) → IsCall stays old new
   round_unmade name reply fault old new start kept is crash =
       stays_on old new start (is.same_log tt) (is.same_table tt) kept (subst (λ (es : List Entry). LeavesKeptOrAll es old new) (is.same_log tt) crash)
 
@@ -96,7 +96,7 @@ module _ {D : Type 0} {ghosts : Ghosts D} where
   -- ---- a command
 
   module _ (who : ℕ) (command : Command) (old new : Book D ghosts) where
-    refused_so : (fault : BookFault) → ¬ (fault ≡ Device) → Does stays old new → StepsByCommand who command (Err fault) old new
+    refused_so : (fault : BookFault) → ¬ (fault ≡ Device) → IsCall stays old new → StepsByCommand who command (Err fault) old new
     refused_so fault other done = record {
       answered = tt;
       failed = λ device. absurd (other (let same : fault ≡ Device = cc in same));
@@ -104,7 +104,7 @@ module _ {D : Type 0} {ghosts : Ghosts D} where
     }
 
     -- it is refused
-    pub command_refused : (result : Result Reply BookFault) (fault : BookFault) → result ≡ Err fault → ¬ (fault ≡ Device) → Does stays old new → StepsByCommand who command result old new
+    pub command_refused : (result : Result Reply BookFault) (fault : BookFault) → result ≡ Err fault → ¬ (fault ≡ Device) → IsCall stays old new → StepsByCommand who command result old new
     command_refused result fault is other done = subst (λ (r : Result Reply BookFault). StepsByCommand who command r old new) (sym is) (refused_so fault other done)
 
     module _ (reply : Reply) (crash : LeavesKeptOrAll (log_of new) old new) (start : start_of new ≡ start_of old)

@@ -7,7 +7,7 @@ use Rattle.ic_frames.specs.Fields.{IsMade}
 use Rattle.ic_book.specs.declared.book.Book.{Book}
 use Rattle.ic_book.specs.Book.{disk_of}
 use Rattle.ic_book.specs.Moves.{Move}
-use Rattle.ic_book.specs.Server.{Does, IsFound}
+use Rattle.ic_book.specs.Server.{IsCall, IsFound}
 
 -- its disk keeps the model and is made
 abbrev pub IsOnMadeDisk : {D : Type 0} {ghosts : Ghosts D} → Book D ghosts → Type 0
@@ -19,7 +19,7 @@ abbrev pub Calls : {D : Type 0} {ghosts : Ghosts D}
     → List Move → (first last : Book D ghosts) → Type 0
 Calls [] first last = last ≡ first
 Calls {D} {ghosts} (move ∷ moves) first last =
-    (before : Book D ghosts) × Calls moves first before × Does move before last
+    (before : Book D ghosts) × Calls moves first before × IsCall move before last
 
 -- A stop came in the midst of one of these calls, and this disk is found: the earlier ones lead to a
 -- book, and the next one was under way.
@@ -32,7 +32,7 @@ pub record IsStoppedWithin {D : Type 0} {ghosts : Ghosts D} (moves : List Move)
   pub before : Book D ghosts
   pub after : Book D ghosts
   pub calls : Calls earlier first before
-  pub under_way : Does move before after
+  pub under_way : IsCall move before after
   pub stop : IsFound ghosts (disk_of before) (disk_of after) found
 
 -- A book becomes another by calls of a book and nothing else. Whatever disk is found after a stop

@@ -19,8 +19,8 @@ abbrev pub AreRounds : List Entry → Type 0
 AreRounds es = AllByRecursion (λ e. IsTrue (is_round e.event)) es
 
 -- an entry of a round has the sender 0
-abbrev pub IsSentByNobody : Entry → Type 0
-IsSentByNobody e = IsTrue (is_round e.event) → e.who ≡ 0
+abbrev pub RoundHasSenderZero : Entry → Type 0
+RoundHasSenderZero e = IsTrue (is_round e.event) → e.who ≡ 0
 
 abbrev pub command_entry : ℕ → Command → Reply → Entry
 command_entry who command reply = record { who = who; event = by_command command; reply = reply }

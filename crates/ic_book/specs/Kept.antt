@@ -9,7 +9,7 @@ use Rattle.ic_jobs.specs.History.{replay, IsLegal}
 use Rattle.ic_frames.specs.Fields.{IsMade}
 use Rattle.ic_slots.specs.Held.{HoldsEitherTable, IsHeld, the_table}
 use Rattle.ic_book.specs.declared.limits.TheConstants.{MAX_ENTRIES}
-use Rattle.ic_book.specs.Entries.{AreRounds, IsSentByNobody}
+use Rattle.ic_book.specs.Entries.{AreRounds, RoundHasSenderZero}
 
 -- the table after the first so many entries
 abbrev pub table_kept : (start : List JobParts) (log : List Entry) (kept : ℕ) → List JobParts
@@ -36,7 +36,7 @@ pub record IsHistory (start : List JobParts) (log : List Entry) (table : List Jo
   pub short : length log ≤ MAX_ENTRIES
   pub within : kept ≤ length log
   pub after : MayBeUnkept broken (drop kept log)
-  pub by_nobody : AllByRecursion IsSentByNobody log
+  pub round_senders : AllByRecursion RoundHasSenderZero log
   pub sound : IsTable (table_kept start log kept)
 
 -- What a book keeps on a disk that keeps the model. Unless it is broken, reads and each image give

@@ -53,30 +53,30 @@ pub record TurnsPage {D : Type 0} {ghosts : Ghosts D} (old new : Book D ghosts) 
 
 -- What a call makes of the page. At an answer and at a keep all is kept, and the book isn't broken. A
 -- command at which the disk fails breaks it. Nothing more is kept by any other call.
-abbrev pub Turns : {D : Type 0} {ghosts : Ghosts D}
+abbrev pub MakesOfPage : {D : Type 0} {ghosts : Ghosts D}
     → Move → Book D ghosts → Book D ghosts → Type 0
-Turns (answers who command reply) old new =
+MakesOfPage (answers who command reply) old new =
     GoesOn (command_entry who command reply) old new × (kept_of new ≡ length (log_of new))
     × (is_broken new ≡ false)
-Turns (fails who command reply) old new =
+MakesOfPage (fails who command reply) old new =
     GoesOn (command_entry who command reply) old new × (kept_of new ≡ kept_of old)
     × (is_broken old ≡ false) × (is_broken new ≡ true)
-Turns (rounds name reply) old new =
+MakesOfPage (rounds name reply) old new =
     GoesOn (round_entry name reply) old new × (kept_of new ≡ kept_of old)
-Turns keeps old new =
+MakesOfPage keeps old new =
     (StaysOnPage old new ⊎ TurnsPage old new) × (kept_of new ≡ length (log_of new))
     × (is_broken new ≡ false)
-Turns stays old new = StaysOnPage old new × (kept_of new ≡ kept_of old)
-Turns opens old new = ⊥
-Turns (refuses cause) old new = ⊥
-Turns closes old new = ⊥
-Turns (stops move) old new = ⊥
+MakesOfPage stays old new = StaysOnPage old new × (kept_of new ≡ kept_of old)
+MakesOfPage opens old new = ⊥
+MakesOfPage (refuses cause) old new = ⊥
+MakesOfPage closes old new = ⊥
+MakesOfPage (stops move) old new = ⊥
 
 -- A call of an open book: what it makes of the page, and that a broken book stays broken. A crash in
 -- it leaves the table that was kept, or the one after the log and what the call brings.
-pub record Does {D : Type 0} {ghosts : Ghosts D} (move : Move)
+pub record IsCall {D : Type 0} {ghosts : Ghosts D} (move : Move)
     (old new : Book D ghosts) : Type 0 where
-  pub page : Turns move old new
+  pub page : MakesOfPage move old new
   pub broken : is_broken old ≡ true → is_broken new ≡ true
   pub crash : LeavesKeptOrAll (log_of old ++ brings move) old new
 
@@ -125,7 +125,7 @@ Step closes (up book) (down disk) = Closes book disk
 Step stays (down disk) (down after) = after ≡ disk
 Step {ghosts = g} (stops move) before (down found) =
     (after : Server g) × Step move before after × IsFound g (disk_in before) (disk_in after) found
-Step move (up old) (up new) = Does move old new
+Step move (up old) (up new) = IsCall move old new
 Step move before after = ⊥
 
 -- These moves lead from one server to another. The newest is first.

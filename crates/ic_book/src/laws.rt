@@ -15,7 +15,7 @@ ghost use Rattle.ic_jobs.specs.History.{replay, IsLegal};
 ghost use Rattle.ic_book.specs.declared.limits.TheConstants.{MAX_ENTRIES};
 ghost use Rattle.ic_book.specs.declared.fault.BookFault.{BookFault};
 ghost use Rattle.ic_book.specs.declared.fault.BookFault.TheVariants.{Device};
-ghost use Rattle.ic_book.specs.Entries.{AddsCommand, AddsRound, AreRounds, IsRoundEntry, IsSentByNobody, leaves_table};
+ghost use Rattle.ic_book.specs.Entries.{AddsCommand, AddsRound, AreRounds, IsRoundEntry, RoundHasSenderZero, leaves_table};
 ghost use Rattle.ic_book.specs.Kept.{IsHistory, MayBeUnkept};
 ghost use Rattle.ic_book.specs.Refusals.{CountsBook, all_book_faults, fault_number};
 ghost use Rattle.ic_book.specs.Book.{start_of, log_of, table_of, kept_of, keeper_of, disk_of, IsUnchanged};
@@ -92,7 +92,7 @@ pub fn rounds_are_told_so()
     ensures rounds { (es : List Entry) → AreRounds es
         ↔ ((front back : List Entry) (e : Entry) → es ≡ front ++ e ∷ back
         → (name : List ℕ) × (e.event ≡ Round name)) }
-    ensures nobody { (e : Entry) → IsSentByNobody e
+    ensures nobody { (e : Entry) → RoundHasSenderZero e
         ↔ ((name : List ℕ) → e.event ≡ Round name → e.who ≡ 0) }
 {}
 

@@ -10,7 +10,7 @@ use Rattle.ic_term.specs.Configuration.{Configuration}
 use Rattle.ic_rules.specs.Rule.{Rule}
 use Rattle.ic_round.specs.Firing.{active_pair, oriented, rule_of_sides}
 use Rattle.ic_round.specs.Quiet.{is_inert, is_quiet, is_settled, IsQuiet}
-use Rattle.ic_round.specs.Rounds.{fits, is_small, has_names, iterate, round, unless_unfit}
+use Rattle.ic_round.specs.Rounds.{fits, is_small, names_suffice, iterate, round, unless_unfit}
 use Rattle.ic_round.specs.lemmas.IdleLemmas.{quiet_stays}
 use Rattle.ic_round.specs.lemmas.QuietLemmas.{no_step, is_quiet_where, none_of}
 use Rattle.ic_round.specs.declared.round_fault.RoundFault.{RoundFault}
@@ -83,7 +83,7 @@ same_rounds rs c most m n is also =
     by (inr high) (inr more) up down = omega arith
 
 unfit : (rs : List Rule) (d e : Configuration) (fault : RoundFault) → unless_unfit rs d e ≡ Err fault → ¬ (fits rs d ≡ true)
-unfit rs d e fault refused = by (is_small rs d) (has_names rs d) refused
+unfit rs d e fault refused = by (is_small rs d) (names_suffice rs d) refused
   where
     by : (small named : Bool) → cond small (cond named (Ok e) (Err NamesOut)) (Err Overgrown) ≡ Err fault → ¬ ((small && named) ≡ true)
     by true true r f = cc
@@ -135,7 +135,7 @@ SomeWay rs c most = ((rounds : ℕ) × IsReducedBy rs c most rounds) ⊎ ((round
 
 -- whether a round is refused
 refusal : (rs : List Rule) (d x : Configuration) → (fits rs d ≡ true) ⊎ ((fault : RoundFault) × (unless_unfit rs d x ≡ Err fault))
-refusal rs d x = by (is_small rs d) (has_names rs d)
+refusal rs d x = by (is_small rs d) (names_suffice rs d)
   where
     by : (small named : Bool) → ((small && named) ≡ true) ⊎ ((fault : RoundFault) × (cond small (cond named (Ok x) (Err NamesOut)) (Err Overgrown) ≡ Err fault))
     by true true = inl refl

@@ -6,7 +6,7 @@ use borrow.Author.Count.{below_more}
 use Rattle.ic_term.specs.Configuration.{Configuration, configuration_nodes}
 use Rattle.ic_rules.specs.Rule.{Rule}
 use Rattle.ic_rules.specs.RuleSet.{Rules}
-use Rattle.ic_round.specs.Rounds.{fits, is_small, has_names, iterate, round, unless_unfit}
+use Rattle.ic_round.specs.Rounds.{fits, is_small, names_suffice, iterate, round, unless_unfit}
 use Rattle.ic_round.specs.Quiet.{IsQuiet}
 use Rattle.ic_round.specs.RoundAnswers.{Answers}
 use Rattle.ic_round.specs.declared.round_fault.RoundFault.{RoundFault}
@@ -47,7 +47,7 @@ fits_by true false a b e = cc
 fits_by false named a b e = cc
 
 pub answered_fits : (rs : List Rule) (c after : Configuration) → Answers (Ok after) (unless_unfit rs c (round rs c)) → fits rs c ≡ true
-answered_fits rs c after e = fits_by (is_small rs c) (has_names rs c) after (round rs c) e
+answered_fits rs c after e = fits_by (is_small rs c) (names_suffice rs c) after (round rs c) e
 
 answer_by : {T : Type 0} (small named : Bool) (a b : T) → Ok a ≡ cond small (cond named (Ok b) (Err NamesOut)) (Err Overgrown) → a ≡ b
 answer_by true true a b e = cc
@@ -57,7 +57,7 @@ answer_by false named a b e = cc
 -- what is answered after so many rounds is the configuration after one more
 pub answered_next : (rs : List Rule) (c now after : Configuration) (n : ℕ) → now ≡ iterate rs n c → Answers (Ok after) (unless_unfit rs now (round rs now)) → after ≡ iterate rs (n + 1) c
 answered_next rs c now after n is answer =
-    answer_by (is_small rs now) (has_names rs now) after (round rs now) answer ∙ ap (round rs) is ∙ ap (λ k. iterate rs k c) (sym (add-one n))
+    answer_by (is_small rs now) (names_suffice rs now) after (round rs now) answer ∙ ap (round rs) is ∙ ap (λ k. iterate rs k c) (sym (add-one n))
 
 answered_fault : {T : Type 0} (fault : RoundFault) (answer : Result T RoundFault) → Answers (Err fault) answer → fault ≢ Memory → answer ≡ Err fault
 answered_fault Memory answer e apart = absurd (apart refl)

@@ -166,7 +166,7 @@ mirrors r is self = at (rule_eq r (numbered (swapped r))) refl
           left = ap (λ (x : Rule). x.left_args) (sym equal);
           right = ap (λ (x : Rule). x.right_args) (sym equal);
         }
-    at false e = absurd (true≢false (sym (lopsided e) ∙ is.even))
+    at false e = absurd (true≢false (sym (lopsided e) ∙ is.level))
       where
         lopsided : rule_eq r (numbered (swapped r)) ≡ false → is_lopsided r ≡ true
         lopsided e = and_from (r.left == r.right) (not (rule_eq r (numbered (swapped r)))) same (ap not e)

@@ -20,7 +20,7 @@ elapses_in result c midst now P of_midst of_now = record {
       (λ present. inr (omega (arith, present.0), of_now file present.1))
       (λ past. ⊎_elim (λ before. inl (inl before)) (λ rest. ⊎_elim (λ during. inr (omega (arith, during.0), of_midst file during.1)) (λ long_ago. inl (inr long_ago)) rest) past)
       left;
-  keeps = λ t file left. inr (⊎_elim (λ present. inl present) (λ past. inr (inr past)) left);
+  stays = λ t file left. inr (⊎_elim (λ present. inl present) (λ past. inr (inr past)) left);
 }
 
 module _ (w : Write) (c : Course) where
@@ -51,7 +51,7 @@ module _ (w : Write) (c : Course) where
     torn = tt;
     images = during;
     stay = stay;
-    reached = reached;
+    all_torn = reached;
     failed = tt;
     time = elapses_in {T = T} {E = E} (Ok value) c pending pending Torn_images during during;
   }
@@ -62,7 +62,7 @@ module _ (w : Write) (c : Course) where
     torn = torn_same w.at (length w.bytes) (content_in c);
     images = before;
     stay = λ file image. image;
-    reached = tt;
+    all_torn = tt;
     failed = inl (refl, λ file image. image);
     time = elapses_in {T = T} {E = E} (Err fault) c pending c.state Torn_images during before;
   }
@@ -73,7 +73,7 @@ module _ (w : Write) (c : Course) where
     torn = is;
     images = during;
     stay = stay;
-    reached = tt;
+    all_torn = tt;
     failed = inr reached;
     time = elapses_in {T = T} {E = E} (Err fault) c pending (after_failed w content c.state) Torn_images during during;
   }

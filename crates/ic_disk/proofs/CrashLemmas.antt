@@ -134,8 +134,8 @@ filled_image byte h left filled =
         no_shorter = omega (arith, filled.as_long, now.agrees.no_shorter);
         same = λ i inside outside. filled.kept i inside outside ∙ now.agrees.same i inside outside;
       };
-      settled = λ none.
-          let same : content_of h ≡ (state h).synced = now.settled none in
+      nothing_pending = λ none.
+          let same : content_of h ≡ (state h).synced = now.nothing_pending none in
           ext_get_or 0 left (state h).synced (filled.as_long ∙ ap length same)
           (λ i inside. filled.kept i (omega (arith, inside, filled.as_long, ap length same)) (subst (λ (rs : List Range). IsOutside rs i) (sym none) tt) ∙ ap (λ (f : List ℕ). get_or f i 0) same);
     }
@@ -165,7 +165,7 @@ fronted_agrees n (w ∷ ws) file =
     }
 
 fronted_image : (n : ℕ) (s : State) → IsImageIn s (fronted n s.pending s.synced)
-fronted_image n s = record { agrees = fronted_agrees n s.pending s.synced; settled = λ none. alone s.pending none }
+fronted_image n s = record { agrees = fronted_agrees n s.pending s.synced; nothing_pending = λ none. alone s.pending none }
   where
     alone : (ws : List Write) → map range_of ws ≡ [] → fronted n ws s.synced ≡ s.synced
     alone [] none = refl
@@ -173,7 +173,7 @@ fronted_image n s = record { agrees = fronted_agrees n s.pending s.synced; settl
 
 -- each choice leaves an image
 pub takes_image : (choice : Choice) (h : History) (left : List ℕ) → Takes choice (state h) left → image_of h left
-takes_image Synced h left is = subst (image_of h) (sym is) (record { agrees = record { no_shorter = omega arith; same = λ i inside outside. refl }; settled = λ none. refl })
+takes_image Synced h left is = subst (image_of h) (sym is) (record { agrees = record { no_shorter = omega arith; same = λ i inside outside. refl }; nothing_pending = λ none. refl })
 takes_image Written h left is = subst (image_of h) (sym is) (content_image h)
 takes_image (Fill byte) h left is = filled_image byte h left is
 takes_image (Front n) h left is = subst (image_of h) (sym is) (fronted_image n (state h))

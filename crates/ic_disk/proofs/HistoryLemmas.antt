@@ -33,7 +33,7 @@ elapses_call call h midst within = record {
       (λ past. inl (omega arith, subst (λ (s : State). IsImageIn s file) (state_at-with_call t call h (omega arith)) left.1))
       (λ present. inr (omega (arith, present), within file (subst (λ (s : State). IsImageIn s file) (state_at_end t (with_call call h) (omega (arith, length-append h.calls (call ∷ []))) ∙ state-with_call call h) left.1)))
       (cases_lt t (length h.calls + 1));
-  keeps = λ t file left. (omega (arith, left.0, length-append h.calls (call ∷ [])), subst (λ (s : State). IsImageIn s file) (sym (state_at-with_call t call h left.0)) left.1);
+  stays = λ t file left. (omega (arith, left.0, length-append h.calls (call ∷ [])), subst (λ (s : State). IsImageIn s file) (sym (state_at-with_call t call h left.0)) left.1);
 }
 
 -- time goes on, with this in the midst
@@ -158,7 +158,7 @@ module _ (w : Write) (h : History) where
     torn = torn result new left;
     images = images_written result new made left;
     stay = stay_written result new made left;
-    reached = reached result new made;
+    all_torn = reached result new made;
     failed = failed_written result new left;
     time = time_written result new made left;
   }

@@ -42,7 +42,7 @@ restored_image synced ps r file image = record {
     no_shorter = omega (arith, length-restored r synced file);
     same = place;
   };
-  settled = λ none. ext_get_or 0 (restored r synced file) synced (length-restored r synced file)
+  nothing_pending = λ none. ext_get_or 0 (restored r synced file) synced (length-restored r synced file)
       (λ i inside. place i (omega (arith, length-restored r synced file, inside)) (subst (λ (l : List Range). IsOutside l i) (sym none) tt));
 }
   where

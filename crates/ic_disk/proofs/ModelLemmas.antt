@@ -18,7 +18,7 @@ pub reached_by : {D : Type 0} (image : D → List ℕ → Type 0) (clock : D →
     → Elapses (clock old) (clock new) (left old) (left new) midst
     → (file : List ℕ) → image old file ⊎ image new file → LeftSince (left new) (clock old) file
 reached_by image clock left old new midst image_is_left time file is = ⊎_elim
-    (λ before. let there = image_is_left old (clock old) file (omega arith) before in (there.0, there.1, time.keeps there.0 file there.2))
+    (λ before. let there = image_is_left old (clock old) file (omega arith) before in (there.0, there.1, time.stays there.0 file there.2))
     (λ after. image_is_left new (clock old) file time.later after)
     is
 
@@ -40,7 +40,7 @@ module _ {D : Type 0} (content : D → List ℕ) (image : D → List ℕ → Typ
   begins d now only = record {
     same = refl;
     no_others = λ file is. subst (IsImageIn (begun (content d))) (sym (only.no_other file is)) (settled_image (content d));
-    all = λ file is. subst (image d) (sym (is.settled refl)) now;
+    all = λ file is. subst (image d) (sym (is.nothing_pending refl)) now;
   }
 
   pub unchanged : (old new : D) (s : State) → Is old s → content new ≡ content old → Within (image new) (image old) → Within (image old) (image new) → Is new s
@@ -109,7 +109,7 @@ module _ {D : Type 0} (content : D → List ℕ) (image : D → List ℕ → Typ
   pub agrees_exactly : {T E : Type 0} (at : ℕ) (bytes : List ℕ) (old new : D) (result : Result T E)
       → OnOk result (Is new (after (write (record { at = at; bytes = bytes })) (begun (content old))))
       → OnOk result ((file : List ℕ) → image new file ↔ AgreesOutside (one_range at (length bytes)) (content old) file)
-  agrees_exactly at bytes old new (Ok x) is = λ file. (λ image. (is.no_others file image).agrees, λ agrees. is.all file (record { agrees = agrees; settled = λ none. cc }))
+  agrees_exactly at bytes old new (Ok x) is = λ file. (λ image. (is.no_others file image).agrees, λ agrees. is.all file (record { agrees = agrees; nothing_pending = λ none. cc }))
   agrees_exactly at bytes old new (Err e) is = tt
 
   -- a sync
@@ -118,7 +118,7 @@ module _ {D : Type 0} (content : D → List ℕ) (image : D → List ℕ → Typ
     alone only = record {
       same = same ∙ is.same;
       no_others = λ file image. subst (IsImageIn (after sync s)) (sym (only.no_other file image ∙ is.same)) (settled_image s.content);
-      all = λ file left. subst (image new) (same ∙ is.same ∙ sym (left.settled refl)) now;
+      all = λ file left. subst (image new) (same ∙ is.same ∙ sym (left.nothing_pending refl)) now;
     }
 
     pub synced : {T E : Type 0} (result : Result T E) → OnOk result (Only (content old) (image new)) → OnOk result (Is new (after sync s))

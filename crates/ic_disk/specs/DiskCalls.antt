@@ -31,7 +31,7 @@ pub record IsDiskWrite {D T E : Type 0} (content : D → List ℕ) (image : D �
   pub torn : OnErr result (Torn at (length bytes) (content old) (content new))
   pub images : Within (image new) (TornFrom at (length bytes) (image old))
   pub stay : Within (image old) (image new)
-  pub reached : OnOk result (Within (TornFrom at (length bytes) (image old)) (image new))
+  pub all_torn : OnOk result (Within (TornFrom at (length bytes) (image old)) (image new))
   pub failed : OnErr result (StaysOrTears at (length bytes)
       (content old) (content new) (image old) (image new))
   pub time : Elapses (clock old) (clock new) (left old) (left new)

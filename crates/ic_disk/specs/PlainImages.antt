@@ -34,7 +34,7 @@ two_ranges at n other m = record { at = at; size = n } ∷ record { at = other; 
 -- What a crash may leave where `synced` is on the disk and these ranges are pending.
 pub record IsImage (synced : List ℕ) (pending : List Range) (left : List ℕ) : Type 0 where
   pub agrees : AgreesOutside pending synced left
-  pub settled : pending ≡ [] → left ≡ synced
+  pub nothing_pending : pending ≡ [] → left ≡ synced
 
 -- One of the images torn by a write of these bytes, or the content with them laid over it, torn by
 -- a second write, of m bytes.

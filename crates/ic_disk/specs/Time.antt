@@ -8,13 +8,13 @@ LeftSince left t file = (k : ℕ) × (t ≤ k) × left k file
 
 -- The clock goes on by one at most. What crashes may have left stays possible; since the call
 -- began, what a crash in its midst leaves is possible too, and nothing else.
-pub record Elapses (before now : ℕ) (past since : ℕ → List ℕ → Type 0)
+pub record Elapses (before now : ℕ) (old_left new_left : ℕ → List ℕ → Type 0)
     (midst : List ℕ → Type 0) : Type 0 where
   pub later : before ≤ now
   pub one_call : now ≤ before + 1
-  pub nothing_else : (t : ℕ) (file : List ℕ) → since t file
-      → past t file ⊎ ((before ≤ t) × midst file)
-  pub keeps : (t : ℕ) (file : List ℕ) → past t file → since t file
+  pub nothing_else : (t : ℕ) (file : List ℕ) → new_left t file
+      → old_left t file ⊎ ((before ≤ t) × midst file)
+  pub stays : (t : ℕ) (file : List ℕ) → old_left t file → new_left t file
 
 -- Each file that a crash may leave from `old` to `new` has P. Earlier moments leave no other files
 -- than they did.

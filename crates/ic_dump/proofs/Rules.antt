@@ -104,7 +104,7 @@ module _ (table read : List Symbol) where
     module _ (same : (r : Rule) → r.left ≡ r.right → (is_lopsided (numbered r) ≡ false) ↔ IsOwnMirror r) (two : (r : Rule) → (r.left ≡ r.right → ⊥) → is_lopsided (numbered r) ≡ false) where
       level : (r : Rule) → IsRule r → BothMoved r → is_lopsided (numbered (turned_rule table read r)) ≡ false
       level r is moved = elim (cases_eq (number r.left) (number r.right)) [
-        | inl e ↦ (same (turned_rule table read r) e).1 (mirrored ((same r (one_number r.left r.right moved.0 moved.1 e)).0 (ap is_lopsided (numbered-same r is.in_order) ∙ is.even)))
+        | inl e ↦ (same (turned_rule table read r) e).1 (mirrored ((same r (one_number r.left r.right moved.0 moved.1 e)).0 (ap is_lopsided (numbered-same r is.in_order) ∙ is.level)))
         | inr differ ↦ two (turned_rule table read r) differ
       ]
         where

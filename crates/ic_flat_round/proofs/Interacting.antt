@@ -11,7 +11,7 @@ use Rattle.std.proofs.lemmas.List.Concat.{flat_map-append}
 use Rattle.std.proofs.Common.{cond, Result, Ok, Err}
 use Rattle.std.proofs.lemmas.Grind.{common_steps}
 use Rattle.ic_term.specs.declared.limits.TheConstants.{MAX_NODES}
-use Rattle.ic_round.specs.Rounds.{is_small, has_names, unless_unfit}
+use Rattle.ic_round.specs.Rounds.{is_small, names_suffice, unless_unfit}
 use Rattle.ic_round.specs.declared.round_fault.RoundFault.{RoundFault}
 use Rattle.ic_round.specs.declared.round_fault.RoundFault.TheVariants.{Overgrown, NamesOut}
 use Rattle.std.proofs.lemmas.Option.{same_Some}
@@ -279,12 +279,12 @@ flat_parts d ws terms equations next sound words interface count number = (
 pub answered : (rs : List Rule) (c d : Configuration) → configuration_nodes (fired rs c) ≤ MAX_NODES → (fired rs c).next ≤ MAX_NEXT → unless_unfit rs c d ≡ Ok d
 answered rs c d small low =
     let first : is_small rs c ≡ true = grind (arith, common_steps, small) in
-    let second : has_names rs c ≡ true = grind (arith, common_steps, low) in
+    let second : names_suffice rs c ≡ true = grind (arith, common_steps, low) in
     (λ i. cond (first i) (cond (second i) (Ok d) (Err NamesOut)) (Err Overgrown))
 
 -- what a round fires where it fits
 pub fired_where_fit : (rs : List Rule) (c v w : Configuration) → Ok v ≡ unless_unfit rs c w → v ≡ w
-fired_where_fit rs c v w e = by (is_small rs c) (has_names rs c) e
+fired_where_fit rs c v w e = by (is_small rs c) (names_suffice rs c) e
   where
     by : (a b : Bool) → ◌≡◌ {A = Result Configuration RoundFault} (Ok v) (cond a (cond b (Ok w) (Err NamesOut)) (Err Overgrown)) → v ≡ w
     by true true e = cc

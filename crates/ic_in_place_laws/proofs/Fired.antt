@@ -8,7 +8,7 @@ use Rattle.std.proofs.lemmas.List.{length-append}
 use Rattle.std.proofs.lemmas.List.Sums.{sum_by-cons}
 use Rattle.ic_term.specs.Symbol.{Symbol, has_arity}
 use Rattle.ic_rules.specs.Rule.{Rule, IsRule, rule_nodes}
-use Rattle.ic_rules.specs.RuleSet.{Rules, IsRuleSet, rule_for, stands_turned}
+use Rattle.ic_rules.specs.RuleSet.{Rules, IsRuleSet, rule_for, StandsTurned}
 use Rattle.ic_rules.specs.declared.limits.TheConstants.{MAX_RULE_NODES, MAX_WIDE_RULES}
 use Rattle.ic_rules.specs.lemmas.FindLaws.{rule_for-found}
 use Rattle.ic_rules.specs.lemmas.FitLaws.{rule_over_at}
@@ -131,7 +131,7 @@ record HasRule (rs : Rules) (numbers : List ℕ) (p : Plans) (i : ℕ) (f : IsFi
   pub stands : StandsFor p.arities (met_as turned rule) f.plan
 
 arguments_met : (rs : Rules) (a b m n : ℕ) (turned : Bool) (r : Rule) → IsTrue (has_arity (length r.left_args) (slice_get rs.symbols r.left))
-    → IsTrue (has_arity (length r.right_args) (slice_get rs.symbols r.right)) → stands_turned a b turned r
+    → IsTrue (has_arity (length r.right_args) (slice_get rs.symbols r.right)) → StandsTurned a b turned r
     → slice_get (map (λ x. x.arity) rs.symbols) a ≡ Some m → slice_get (map (λ x. x.arity) rs.symbols) b ≡ Some n
     → m + n ≡ length (rule_arguments (met_as turned r))
 arguments_met rs a b m n false r left right stands one two =
@@ -149,9 +149,9 @@ arguments_met rs a b m n true r left right stands one two =
     let second : m ≡ length r.right_args = symbol_arity rs.symbols a (length r.right_args) m (transport (λ s. IsTrue (has_arity (length r.right_args) (slice_get rs.symbols s))) same_too right) one in
     omega (arith, first, second, length-append r.right_args r.left_args)
 
-of_pair_at : (rs : List Rule) (a b i : ℕ) (turned : Bool) (r : Rule) → rule_for rs a b ≡ Some (i, turned) → slice_get rs i ≡ Some r → stands_turned a b turned r
+of_pair_at : (rs : List Rule) (a b i : ℕ) (turned : Bool) (r : Rule) → rule_for rs a b ≡ Some (i, turned) → slice_get rs i ≡ Some r → StandsTurned a b turned r
 of_pair_at rs a b i turned r found there =
-    let at_rule : IfSome (Some r) (stands_turned a b turned) = rw there at (rule_for-found rs a b i turned found).of_pair in at_rule
+    let at_rule : IfSome (Some r) (StandsTurned a b turned) = rw there at (rule_for-found rs a b i turned found).of_pair in at_rule
 
 same_planned : (x y : Planned) → ◌≡◌ {A = Option Planned} (Some x) (Some y) → x ≡ y
 same_planned x y e = cc
@@ -167,7 +167,7 @@ has_rule rs numbers p i f set plans of_rules = at (rule_for rs.rules f.left f.ri
         let r : Rule = is.of_rule in
         let number : rule_number numbers i ≡ n = number_there numbers i n is.number in
         let known = rule_over_at rs.symbols rs.rules n r set.fitting is.rule_there in
-        let pair : stands_turned f.left f.right turned r = of_pair_at rs.rules f.left f.right n turned r e is.rule_there in
+        let pair : StandsTurned f.left f.right turned r = of_pair_at rs.rules f.left f.right n turned r e is.rule_there in
         let same : is.plan ≡ f.plan = same_planned is.plan f.plan (sym is.plan_there ∙ f.has_plan) in
         let has : plan_of p f.left f.right ≡ Some f.plan = ap (plan_at p.plans) f.number ∙ f.has_plan in
         let plan : IsPlan p.arities (f.left_args + f.right_args) f.plan =

@@ -4,7 +4,7 @@ use Rattle.std.proofs.lemmas.Bool.{and_parts, lt-leb}
 use Rattle.ic_term.specs.Configuration.{configuration_nodes}
 use Rattle.ic_term.specs.declared.limits.TheConstants.{MAX_NEXT, MAX_NODES}
 use Rattle.ic_round.specs.Firing.{fired}
-use Rattle.ic_round.specs.Rounds.{has_names, is_small}
+use Rattle.ic_round.specs.Rounds.{names_suffice, is_small}
 use Rattle.ic_flights.specs.declared.limits.TheConstants.{MAX_ROUNDS}
 use Rattle.ic_jobs.specs.Job.{JobParts, can_move}
 use Rattle.ic_jobs.specs.declared.state.State.{State}
@@ -18,18 +18,18 @@ abbrev by_tests : (all small named : Bool) → Option Halt
 by_tests all small named =
     cond all (Some halt.Rounds) (cond small (cond named None (Some halt.Names)) (Some halt.Overgrown))
 
-halted_by : (j : JobParts) → j.state ≡ Halted → (all small named : Bool) → (j.rounds == MAX_ROUNDS) ≡ all → is_small j.rules.rules j.config ≡ small → has_names j.rules.rules j.config ≡ named
+halted_by : (j : JobParts) → j.state ≡ Halted → (all small named : Bool) → (j.rounds == MAX_ROUNDS) ≡ all → is_small j.rules.rules j.config ≡ small → names_suffice j.rules.rules j.config ≡ named
     → halt_of j ≡ by_tests all small named
 halted_by j is all small named e f g = ap (λ (s : State). halt_in s j) is ∙ (λ i. by_tests (e i) (f i) (g i))
 
 pub rounds_told : (j : JobParts) → j.state ≡ Halted → j.rounds ≡ MAX_ROUNDS → halt_of j ≡ Some halt.Rounds
-rounds_told j is all = halted_by j is true (is_small j.rules.rules j.config) (has_names j.rules.rules j.config) (eq-eqb j.rounds MAX_ROUNDS all) refl refl
+rounds_told j is all = halted_by j is true (is_small j.rules.rules j.config) (names_suffice j.rules.rules j.config) (eq-eqb j.rounds MAX_ROUNDS all) refl refl
 
 not_all : (j : JobParts) → j.rounds < MAX_ROUNDS → (j.rounds == MAX_ROUNDS) ≡ false
 not_all j below = ne_eqb j.rounds MAX_ROUNDS (λ same. omega (arith, below, same))
 
 pub nodes_told : (j : JobParts) → j.state ≡ Halted → j.rounds < MAX_ROUNDS → MAX_NODES < configuration_nodes (fired j.rules.rules j.config) → halt_of j ≡ Some halt.Overgrown
-nodes_told j is below over = halted_by j is false false (has_names j.rules.rules j.config) (not_all j below) (lt-leb (configuration_nodes (fired j.rules.rules j.config)) MAX_NODES over) refl
+nodes_told j is below over = halted_by j is false false (names_suffice j.rules.rules j.config) (not_all j below) (lt-leb (configuration_nodes (fired j.rules.rules j.config)) MAX_NODES over) refl
 
 pub names_out_told : (j : JobParts) → j.state ≡ Halted → j.rounds < MAX_ROUNDS → configuration_nodes (fired j.rules.rules j.config) ≤ MAX_NODES
     → MAX_NEXT < (fired j.rules.rules j.config).next → halt_of j ≡ Some halt.Names
@@ -49,11 +49,11 @@ below_by n m is = ne_eqb n m (λ same. let less = ltb-true n m is in omega (arit
 pub movable_told : (j : JobParts) → IsTrue (can_move j) → halt_of j ≡ None
 movable_told j can = go j.state
   where
-    parts : ((is_small j.rules.rules j.config && has_names j.rules.rules j.config) ≡ true) × (nat_lt j.rounds MAX_ROUNDS ≡ true)
-    parts = and_parts (is_small j.rules.rules j.config && has_names j.rules.rules j.config) (nat_lt j.rounds MAX_ROUNDS) can
+    parts : ((is_small j.rules.rules j.config && names_suffice j.rules.rules j.config) ≡ true) × (nat_lt j.rounds MAX_ROUNDS ≡ true)
+    parts = and_parts (is_small j.rules.rules j.config && names_suffice j.rules.rules j.config) (nat_lt j.rounds MAX_ROUNDS) can
 
-    both : (is_small j.rules.rules j.config ≡ true) × (has_names j.rules.rules j.config ≡ true)
-    both = and_parts (is_small j.rules.rules j.config) (has_names j.rules.rules j.config) parts.0
+    both : (is_small j.rules.rules j.config ≡ true) × (names_suffice j.rules.rules j.config ≡ true)
+    both = and_parts (is_small j.rules.rules j.config) (names_suffice j.rules.rules j.config) parts.0
 
     halted : blocked_by j ≡ None
     halted = λ i. by_tests (below_by j.rounds MAX_ROUNDS parts.1 i) (both.0 i) (both.1 i)

@@ -3,7 +3,7 @@
 use Rattle.std.specs.Prelude.{ℕ, ◌==◌, if◌then◌else◌, List, Option, None, Some, codes}
 use Rattle.ic_term.specs.Configuration.{Configuration}
 use Rattle.ic_rules.specs.Rule.{Rule}
-use Rattle.ic_round.specs.Rounds.{has_names, is_small}
+use Rattle.ic_round.specs.Rounds.{names_suffice, is_small}
 use Rattle.ic_flights.specs.declared.limits.TheConstants.{MAX_ROUNDS}
 use Rattle.ic_jobs.specs.declared.state.State.{State}
 use Rattle.ic_jobs.specs.declared.state.State.TheVariants as state
@@ -14,7 +14,7 @@ use Rattle.ic_inspect.specs.declared.halts.Halt.TheVariants as halt
 -- why a round refuses a configuration, if it does: it would have too many nodes, or else its names
 -- would be used up
 abbrev pub refused_by : List Rule → Configuration → Option Halt
-refused_by rs c = if is_small rs c then (if has_names rs c then None else Some halt.Names)
+refused_by rs c = if is_small rs c then (if names_suffice rs c then None else Some halt.Names)
     else Some halt.Overgrown
 
 -- why no further round of a job can be made, if none can: all are made, or the round is refused

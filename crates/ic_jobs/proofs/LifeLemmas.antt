@@ -36,7 +36,7 @@ use Rattle.ic_jobs.proofs.TableLookups.{job_named-changed, job_named-changed_oth
 
 -- a life that begins with a system
 abbrev fresh : SystemParts → Life
-fresh s = record { rules = s.rules; began = s.config; rounds = 0 }
+fresh s = record { rules = s.rules; first = s.config; rounds = 0 }
 
 -- a life with one round more
 abbrev longer : Life → Life
@@ -86,7 +86,7 @@ gone false true = refl
 gone false false = refl
 
 abbrev with_rounds : SystemParts → ℕ → Life
-with_rounds s n = record { rules = s.rules; began = s.config; rounds = n }
+with_rounds s n = record { rules = s.rules; first = s.config; rounds = n }
 
 since_more : (s : SystemParts) (ended ending moving : Bool) (n : ℕ)
     → cond (ended || (ending || false)) None (Some (with_rounds s (n + (0 + cond moving 1 0)))) ≡ going_on ending moving (cond ended None (Some (with_rounds s n)))

@@ -21,7 +21,7 @@ use Rattle.ic_jobs.specs.Replies.{is_accepted, is_okay, is_moved}
 -- A job's rules, the configuration that it began with, and how many rounds it has made.
 pub record Life : Type 0 where
   pub rules : Rules
-  pub began : Configuration
+  pub first : Configuration
   pub rounds : ℕ
 
 -- The system that a command begins the job of a name with, in a table: that which it submits, or that
@@ -90,7 +90,7 @@ life_since name b =
     if list_any (λ e. ends name e.event e.reply) b.since then None else
     Some (record {
       rules = b.system.rules;
-      began = b.system.config;
+      first = b.system.config;
       rounds = count_by (λ e. moves name e.event e.reply) b.since;
     })
 
@@ -103,7 +103,7 @@ life name h = option_and_then (life_since name) (last_beginning name [] h)
 pub record HasLived (j : JobParts) (l : Life) : Type 0 where
   pub rules : j.rules ≡ l.rules
   pub rounds : j.rounds ≡ l.rounds
-  pub config : j.config ≡ iterate l.rules.rules l.rounds l.began
+  pub config : j.config ≡ iterate l.rules.rules l.rounds l.first
 
 -- there is a job exactly where there is a life, and it is as its life says
 abbrev pub IsAsLived : Option JobParts → Option Life → Type 0

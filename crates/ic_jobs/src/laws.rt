@@ -57,11 +57,11 @@ pub fn lives_go_so()
     ensures submitted { (name : List ℕ) (h : List Entry) (e : Entry) (s : SystemParts)
         (budget : Option ℕ) → e.event ≡ by_command (Submit name s budget) → e.reply ≡ Accepted
         → life name (h ++ e ∷ [])
-        ≡ Some (record { rules = s.rules; began = s.config; rounds = 0 }) }
+        ≡ Some (record { rules = s.rules; first = s.config; rounds = 0 }) }
     ensures copied { (old name : List ℕ) (h : List Entry) (e : Entry) (j : JobParts)
         → e.event ≡ by_command (CopyJob old name) → e.reply ≡ Accepted
         → job_named old (replay [] h) ≡ Some j → life name (h ++ e ∷ [])
-        ≡ Some (record { rules = j.rules; began = j.config; rounds = 0 }) }
+        ≡ Some (record { rules = j.rules; first = j.config; rounds = 0 }) }
     ensures moved { (name : List ℕ) (h : List Entry) (e : Entry) (l : Life)
         → e.event ≡ Round name → e.reply ≡ Moved → life name h ≡ Some l
         → life name (h ++ e ∷ []) ≡ Some (record l { rounds = l.rounds + 1 }) }

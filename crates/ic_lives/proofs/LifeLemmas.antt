@@ -50,7 +50,7 @@ last_beginning-spared name t (x ∷ xs) e none =
     ∙ later xs e (last_beginning name (table_after t x.event) xs) (begins name t x.event x.reply)
 
 abbrev with_rounds : SystemParts → ℕ → Life
-with_rounds s n = record { rules = s.rules; began = s.config; rounds = n }
+with_rounds s n = record { rules = s.rules; first = s.config; rounds = n }
 
 since_spared : (s : SystemParts) (ended ending moving : Bool) (n : ℕ) → ending ≡ false → moving ≡ false
     → cond (ended || (ending || false)) None (Some (with_rounds s (n + (0 + cond moving 1 0)))) ≡ cond ended None (Some (with_rounds s n))

@@ -70,12 +70,12 @@ pub lived_once : (j : JobParts) (o : Option Life) → IsAsLived (Some j) o → I
 lived_once j None is = absurd is
 lived_once j (Some l) is = refl
 
-pub iterated : (j : JobParts) (l : Life) → HasLived j l → j.config ≡ iterate j.rules.rules j.rounds l.began
+pub iterated : (j : JobParts) (l : Life) → HasLived j l → j.config ≡ iterate j.rules.rules j.rounds l.first
 iterated j l lived =
-    let rounds : iterate l.rules.rules l.rounds l.began ≡ iterate l.rules.rules j.rounds l.began =
-    ap (λ n. iterate l.rules.rules n l.began) (sym lived.rounds) in
-    let rules : iterate l.rules.rules j.rounds l.began ≡ iterate j.rules.rules j.rounds l.began =
-    ap (λ (r : Rules). iterate r.rules j.rounds l.began) (sym lived.rules) in
+    let rounds : iterate l.rules.rules l.rounds l.first ≡ iterate l.rules.rules j.rounds l.first =
+    ap (λ n. iterate l.rules.rules n l.first) (sym lived.rounds) in
+    let rules : iterate l.rules.rules j.rounds l.first ≡ iterate j.rules.rules j.rounds l.first =
+    ap (λ (r : Rules). iterate r.rules j.rounds l.first) (sym lived.rules) in
     lived.config ∙ rounds ∙ rules
 
 pub at_job : (o : Option JobParts) (told : Option Life) (j : JobParts) → IsAsLived o told → o ≡ Some j → IsAsLived (Some j) told

@@ -46,10 +46,10 @@ kept then old new is same all =
 -- a prefix is found
 cut : (then old new : Past) → Begins then old → Cuts old new → Begins then new
 cut then old new is cuts =
-    let long : length new.entries ≡ cuts.left = ap length cuts.entries ∙ length-take-le cuts.left old.entries cuts.within in
+    let long : length new.entries ≡ cuts.found = ap length cuts.entries ∙ length-take-le cuts.found old.entries cuts.within in
     record {
-      front = ap (take then.lasting) cuts.entries ∙ take-take then.lasting cuts.left old.entries (omega (arith, is.lasting, cuts.holds)) ∙ is.front;
-      lasting = omega (arith, is.lasting, cuts.holds, cuts.lasting, long);
+      front = ap (take then.lasting) cuts.entries ∙ take-take then.lasting cuts.found old.entries (omega (arith, is.lasting, cuts.spares)) ∙ is.front;
+      lasting = omega (arith, is.lasting, cuts.spares, cuts.lasting, long);
       within = omega (arith, cuts.lasting);
     }
 

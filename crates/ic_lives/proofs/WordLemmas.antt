@@ -35,7 +35,7 @@ pub living : (history : List Entry) (table : List JobParts) (name : List ℕ) �
 living history table name are = lives_too (job_named name table) (life name history) (are name)
 
 lived_by : (job : Option JobParts) (lived : Option Life) (j : JobParts) → IsAsLived job lived → job ≡ Some j
-    → (began : Life) × (lived ≡ Some began) × (j.rounds ≡ began.rounds) × (j.config ≡ iterate began.rules.rules began.rounds began.began)
+    → (l : Life) × (lived ≡ Some l) × (j.rounds ≡ l.rounds) × (j.config ≡ iterate l.rules.rules l.rounds l.first)
 lived_by None lived j is e = cc
 lived_by (Some k) None j is e = absurd is
 lived_by (Some k) (Some l) j is e =
@@ -46,7 +46,7 @@ lived_by (Some k) (Some l) j is e =
     same_some e = cc
 
 pub iterate_of : (history : List Entry) (table : List JobParts) (name : List ℕ) (j : JobParts) → AreIterates history table → job_named name table ≡ Some j
-    → (began : Life) × (life name history ≡ Some began) × (j.rounds ≡ began.rounds) × (j.config ≡ iterate began.rules.rules began.rounds began.began)
+    → (l : Life) × (life name history ≡ Some l) × (j.rounds ≡ l.rounds) × (j.config ≡ iterate l.rules.rules l.rounds l.first)
 iterate_of history table name j are is = lived_by (job_named name table) (life name history) j (are name) is
 
 pub told_past : {D : Type 0} {ghosts : Ghosts D} (moves : List Move) (first last : Server ghosts) (run : Runs moves first last) (past : Past) → AreTold moves first last run past

@@ -23,15 +23,15 @@ abbrev pub AllLast : Past → Type 0
 AllLast new = new.lasting ≡ length new.entries
 
 -- as many of them last as before
-abbrev pub NoMoreLast : Past → Past → Type 0
-NoMoreLast old new = new.lasting ≡ old.lasting
+abbrev pub AsManyLast : Past → Past → Type 0
+AsManyLast old new = new.lasting ≡ old.lasting
 
 -- An opening finds a prefix that has all entries that last; and all that is found lasts.
 pub record Cuts (old new : Past) : Type 0 where
-  pub left : ℕ
-  pub entries : new.entries ≡ take left old.entries
-  pub within : left ≤ length old.entries
-  pub holds : old.lasting ≤ left
+  pub found : ℕ
+  pub entries : new.entries ≡ take found old.entries
+  pub within : found ≤ length old.entries
+  pub spares : old.lasting ≤ found
   pub lasting : AllLast new
 
 -- What one move makes of the past. What was under way at a stop stands in doubt at its end, until
@@ -42,13 +42,13 @@ Next (refuses cause) old new = new ≡ old
 Next (answers who command reply) old new =
     Grows (command_entry who command reply ∷ []) old new × AllLast new
 Next (fails who command reply) old new =
-    Grows (command_entry who command reply ∷ []) old new × NoMoreLast old new
+    Grows (command_entry who command reply ∷ []) old new × AsManyLast old new
 Next (rounds name reply) old new =
-    Grows (round_entry name reply ∷ []) old new × NoMoreLast old new
+    Grows (round_entry name reply ∷ []) old new × AsManyLast old new
 Next keeps old new = (new.entries ≡ old.entries) × AllLast new
 Next stays old new = new ≡ old
 Next closes old new = new ≡ old
-Next (stops move) old new = Grows (brings move) old new × NoMoreLast old new
+Next (stops move) old new = Grows (brings move) old new × AsManyLast old new
 
 -- These moves may lead from one past to another. The newest is first.
 abbrev pub Leads : List Move → (first last : Past) → Type 0

@@ -106,7 +106,7 @@ pub fn each_round_is_the_next_iterate()
         (l : Life) → AreLives [] (before ++ last ∷ [])
         → job_named name (replay last.start (take n last.log)) ≡ Some j
         → life name (lived before ++ take n last.log) ≡ Some l
-        → j.config ≡ iterate j.rules.rules j.rounds l.began }
+        → j.config ≡ iterate j.rules.rules j.rounds l.first }
 {
     each_job_is_as_it_lived();
 }

@@ -57,8 +57,8 @@ pub fn each_answer_is_told()
 pub fn each_job_is_an_iterate()
     ensures { (history : List Entry) (table : List JobParts) (name : List ℕ) (job : JobParts)
         → AreIterates history table → job_named name table ≡ Some job
-        → (began : Life) × (life name history ≡ Some began) × (job.rounds ≡ began.rounds)
-        × (job.config ≡ iterate began.rules.rules began.rounds began.began) }
+        → (lived : Life) × (life name history ≡ Some lived) × (job.rounds ≡ lived.rounds)
+        × (job.config ≡ iterate lived.rules.rules lived.rounds lived.first) }
 {}
 
 /// Exactly the names that live by the history have a job in such a table.

@@ -10,7 +10,7 @@ use Rattle.std.proofs.lemmas.List.{length-append}
 use Rattle.std.proofs.lemmas.Map.Keys.{any_passes_from_place}
 use Rattle.ic_term.specs.Symbol.{Symbol, has_arity, symbol_arity}
 use Rattle.ic_rules.specs.Rule.{Rule, stands_for}
-use Rattle.ic_rules.specs.RuleSet.{Rules, IsRuleSet, rule_for, has_pair, stands_turned}
+use Rattle.ic_rules.specs.RuleSet.{Rules, IsRuleSet, rule_for, has_pair, StandsTurned}
 use Rattle.ic_rules.specs.lemmas.FindLaws.{rule_for-found, rule_for-none}
 use Rattle.ic_rules.specs.lemmas.FitLaws.{rule_over_at}
 use Rattle.ic_machine.specs.Plan.{Planned, Plans, IsPlan, number_of, place_of, plan_of}
@@ -84,7 +84,7 @@ module _ (rs : Rules) (numbers : List ℕ) (p : Plans) (a b number : ℕ) (turne
   pub fits : (left right : ℕ) → slice_get p.arities a ≡ Some left → slice_get p.arities b ≡ Some right → IsPlan p.arities (left + right) plan
   fits left right first second =
       let of = rule_for-found rs.rules a b number turned found in
-      let stands = if_there (stands_turned a b turned) (slice_get rs.rules number) rule.0 rule.1 of.of_pair in
+      let stands = if_there (StandsTurned a b turned) (slice_get rs.rules number) rule.0 rule.1 of.of_pair in
       let same = so_far.arities in
       let first_too = ap (λ l. slice_get l a) (sym same) ∙ first in
       let second_too = ap (λ l. slice_get l b) (sym same) ∙ second in
@@ -163,7 +163,7 @@ known_symbol rs p s n same known = subst (λ l. s < length l) (sym same) (slice_
 pub are_plans_of : (rs : Rules) (numbers : List ℕ) (p : Plans) → ArePlanned rs numbers p → AllByRecursion (HasPlans p) rs.rules → ArePlansOf rs numbers p
 are_plans_of rs numbers p so_far all = record { arities = so_far.arities; each = λ a b low high. at a b (number_of p a b) refl }
   where
-    stood : (a b : ℕ) (turned : Bool) (r : Rule) → stands_turned a b turned r → HasPlans p r → IsSome (number_of p a b)
+    stood : (a b : ℕ) (turned : Bool) (r : Rule) → StandsTurned a b turned r → HasPlans p r → IsSome (number_of p a b)
     stood a b false r stands plans =
         let both = and_parts (r.left == a) (r.right == b) stands in
         let left = (unsigned_Decides r.left a).0 both.0 in
@@ -180,7 +180,7 @@ are_plans_of rs numbers p so_far all = record { arities = so_far.arities; each =
     at_none a b none (Some (n, turned)) is =
         let of = rule_for-found rs.rules a b n turned is in
         let rule = at_place rs.rules n of.there in
-        let stands = if_there (stands_turned a b turned) (slice_get rs.rules n) rule.0 rule.1 of.of_pair in
+        let stands = if_there (StandsTurned a b turned) (slice_get rs.rules n) rule.0 rule.1 of.of_pair in
         let plans = all_there (HasPlans p) rs.rules n rule.0 all rule.1 in
         false≢true (subst (λ o. IsSome o) none (stood a b turned rule.0 stands plans))
 

@@ -13,7 +13,7 @@ use Rattle.ic_term.specs.Configuration.{occurrences}
 use Rattle.ic_term.specs.Symbol.{Symbol, has_arity, is_tree_over}
 use Rattle.ic_rules.specs.Rule.{Rule, IsRule, rule_names, rule_nodes, swapped, stands_for}
 use Rattle.ic_rules.specs.Renaming.{first_after, first_occurrences, are_paired}
-use Rattle.ic_rules.specs.RuleSet.{Rules, IsRuleSet, IsRuleOver, are_few, stands_turned}
+use Rattle.ic_rules.specs.RuleSet.{Rules, IsRuleSet, IsRuleOver, are_few, StandsTurned}
 use Rattle.ic_rules.specs.lemmas.FitLaws.{rule_over_at}
 use Rattle.ic_round.specs.lemmas.FreshNames.{rule_below}
 use Rattle.ic_settle.specs.lemmas.SubstitutionLaws.{All-append, All-front, All-back}
@@ -143,7 +143,7 @@ arity_is ss s a n left known same there =
     same_Some n left (sym (arity_there ss s n known) ∙ ap (slice_get (map (λ (s : Symbol). s.arity) ss)) same ∙ there)
 
 -- the arguments of a rule are those of the agents that meet
-pub met_arguments : (ss : List Symbol) (r : Rule) (a b left right : ℕ) (turned : Bool) → IsRuleOver ss r → stands_turned a b turned r
+pub met_arguments : (ss : List Symbol) (r : Rule) (a b left right : ℕ) (turned : Bool) → IsRuleOver ss r → StandsTurned a b turned r
     → slice_get (map (λ (s : Symbol). s.arity) ss) a ≡ Some left → slice_get (map (λ (s : Symbol). s.arity) ss) b ≡ Some right
     → length (rule_arguments (met_as turned r)) ≡ left + right
 met_arguments ss r a b left right false over stands first second =

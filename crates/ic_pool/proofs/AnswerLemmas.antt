@@ -5,7 +5,7 @@ use Rattle.ic_flights.specs.Played.{PlayedParts, round_of}
 use Rattle.ic_pool.specs.Played.{played}
 use Rattle.ic_pool.specs.PoolFault.{Answers, OfWorkers, asks_memory, is_of_workers}
 use Rattle.ic_pool.specs.Workers.{ByWorkers, played_by}
-use Rattle.ic_round.specs.Rounds.{is_small, has_names}
+use Rattle.ic_round.specs.Rounds.{is_small, names_suffice}
 use Rattle.ic_flights.specs.declared.limits.TheConstants.{MAX_ROUNDS}
 use Rattle.ic_pool.specs.declared.fault.PoolFault.{PoolFault}
 use Rattle.ic_pool.specs.declared.fault.PoolFault.TheVariants.{NoWorkers, Overgrown, NamesOut, NoThread, Memory, Lost, Stranger, RoundsOut}
@@ -24,7 +24,7 @@ asked_where false false named p = (λ e. refl, λ e. refl)
 
 pub asked : (f : FlightParts) → IsTrue (asks_memory (played f)) ↔ ¬ (f.rounds ≡ MAX_ROUNDS)
 asked f =
-    let tests = asked_where (nat_eq f.rounds MAX_ROUNDS) (is_small f.rules.rules f.config) (has_names f.rules.rules f.config) (round_of f) in
+    let tests = asked_where (nat_eq f.rounds MAX_ROUNDS) (is_small f.rules.rules f.config) (names_suffice f.rules.rules f.config) (round_of f) in
     let left = unequal_where f.rounds MAX_ROUNDS in
     (λ e. left.0 (tests.0 e), λ h. tests.1 (left.1 h))
 
@@ -39,7 +39,7 @@ answered_at false true false p = refl
 answered_at false false named p = refl
 
 answered : (f : FlightParts) → Answers (played f) (played f)
-answered f = answered_at (nat_eq f.rounds MAX_ROUNDS) (is_small f.rules.rules f.config) (has_names f.rules.rules f.config) (round_of f)
+answered f = answered_at (nat_eq f.rounds MAX_ROUNDS) (is_small f.rules.rules f.config) (names_suffice f.rules.rules f.config) (round_of f)
 
 alone_from : (f : FlightParts) (r : Answer) → (r ≡ played f) ⊎ ((r ≡ Err Memory) × ¬ (f.rounds ≡ MAX_ROUNDS)) → Answers r (played f)
 alone_from f r h = elim h [
@@ -69,7 +69,7 @@ told_at false true false p q e = let same : NamesOut ≡ q = cc in ap is_of_work
 told_at false false named p q e = let same : Overgrown ≡ q = cc in ap is_of_workers (sym same)
 
 told : (f : FlightParts) → Told (played f)
-told f = told_at (nat_eq f.rounds MAX_ROUNDS) (is_small f.rules.rules f.config) (has_names f.rules.rules f.config) (round_of f)
+told f = told_at (nat_eq f.rounds MAX_ROUNDS) (is_small f.rules.rules f.config) (names_suffice f.rules.rules f.config) (round_of f)
 
 abbrev Widens : Answer → Answer → Type 0
 Widens r a = ByWorkers r a ↔ (Answers r a ⊎ ((is_ok a ≡ true) × OfWorkers r))
@@ -101,7 +101,7 @@ ok_at false true false p = (λ e. cc, λ e. cc)
 ok_at _ _ _ p = (λ e. cc, λ e. cc)
 
 ok_where : (f : FlightParts) → (is_ok (played f) ≡ true) ↔ (is_blocked f ≡ false)
-ok_where f = ok_at (nat_eq f.rounds MAX_ROUNDS) (is_small f.rules.rules f.config) (has_names f.rules.rules f.config) (round_of f)
+ok_where f = ok_at (nat_eq f.rounds MAX_ROUNDS) (is_small f.rules.rules f.config) (names_suffice f.rules.rules f.config) (round_of f)
 
 widened : (f : FlightParts) (r : Answer) → ByWorkers r (played f) ↔ (Answers r (played f) ⊎ ((is_blocked f ≡ false) × OfWorkers r))
 widened f r =

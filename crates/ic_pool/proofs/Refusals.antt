@@ -3,7 +3,7 @@ use Rattle.std.proofs.Common.{◌≡◌, ◌≤◌, ◌<◌, ◌↔◌, ◌⊎�
 use Rattle.std.proofs.lemmas.Grind.{common_steps}
 use Rattle.std.specs.Cmp.{unsigned_Decides}
 use Rattle.std.proofs.Math.Bool.{or-true}
-use Rattle.ic_round.specs.Rounds.{is_small, has_names}
+use Rattle.ic_round.specs.Rounds.{is_small, names_suffice}
 use Rattle.ic_flights.specs.Flight.{FlightParts, is_blocked}
 use Rattle.ic_flights.specs.Played.{PlayedParts, round_of}
 use Rattle.ic_pool.specs.Played.{played}
@@ -76,7 +76,7 @@ refused_where false false named p fault e = refl
 
 refused : (f : FlightParts) (fault : PoolFault) → Err fault ≡ played f → IsTrue (is_blocked f)
 refused f fault e =
-    refused_where (nat_eq f.rounds MAX_ROUNDS) (is_small f.rules.rules f.config) (has_names f.rules.rules f.config) (round_of f) fault (sym e)
+    refused_where (nat_eq f.rounds MAX_ROUNDS) (is_small f.rules.rules f.config) (names_suffice f.rules.rules f.config) (round_of f) fault (sym e)
 
 pub refused_alone : (f : FlightParts) (fault : PoolFault) → Answers (Err fault) (played f) → IsTrue (is_of_flight fault) → IsTrue (is_blocked f)
 refused_alone f Overgrown is of = refused f Overgrown is
@@ -115,7 +115,7 @@ pub other_refusals : (workers : ℕ) (f : FlightParts) (fault : PoolFault) → 0
     → is_of_flight fault ≡ false → (fault ≡ Memory) ⊎ IsTrue (is_of_workers fault)
 other_refusals workers f NoWorkers some is apart =
     let there : nat_eq workers 0 ≡ false = (unequal_where workers 0).1 (λ e. absurd (omega (arith, e, some))) in
-    absurd (no_workers_of (nat_eq f.rounds MAX_ROUNDS) (is_small f.rules.rules f.config) (has_names f.rules.rules f.config) (round_of f)
+    absurd (no_workers_of (nat_eq f.rounds MAX_ROUNDS) (is_small f.rules.rules f.config) (names_suffice f.rules.rules f.config) (round_of f)
     (some_workers (nat_eq workers 0) (played f) there is))
 other_refusals workers f NoThread some is apart = inr refl
 other_refusals workers f Memory some is apart = inl refl

@@ -1,6 +1,6 @@
 -- What is answered where a flight is played.
 use Rattle.std.specs.Prelude.{Result, Ok, Err, nat_eq, if◌then◌else◌}
-use Rattle.ic_round.specs.Rounds.{is_small, has_names}
+use Rattle.ic_round.specs.Rounds.{is_small, names_suffice}
 use Rattle.ic_flights.specs.Flight.{FlightParts}
 use Rattle.ic_flights.specs.Played.{PlayedParts, round_of}
 use Rattle.ic_flights.specs.declared.limits.TheConstants.{MAX_ROUNDS}
@@ -13,4 +13,4 @@ abbrev pub played : FlightParts → Result PlayedParts PoolFault
 played f =
     if nat_eq f.rounds MAX_ROUNDS then Err RoundsOut else
     (if is_small f.rules.rules f.config then
-    (if has_names f.rules.rules f.config then Ok (round_of f) else Err NamesOut) else Err Overgrown)
+    (if names_suffice f.rules.rules f.config then Ok (round_of f) else Err NamesOut) else Err Overgrown)

@@ -2,7 +2,7 @@
 use Rattle.std.specs.Prelude.{◌≡◌, ℕ, List, Result, Ok, Err, IsTrue, is_ok, nat_eq, if◌then◌else◌}
 use Rattle.ic_term.specs.Configuration.{Configuration}
 use Rattle.ic_rules.specs.Rule.{Rule}
-use Rattle.ic_round.specs.Rounds.{round, is_small, has_names}
+use Rattle.ic_round.specs.Rounds.{round, is_small, names_suffice}
 use Rattle.ic_flights.specs.Flight.{FlightParts}
 use Rattle.ic_flights.specs.Played.{PlayedParts}
 use Rattle.ic_pool.specs.Played.{played}
@@ -19,7 +19,7 @@ played_by workers f = if nat_eq workers 0 then Err NoWorkers else played f
 -- the round of a configuration, or the first refusal
 abbrev pub round_or_refusal : List Rule → Configuration → Result Configuration PoolFault
 round_or_refusal rs c =
-    if is_small rs c then (if has_names rs c then Ok (round rs c) else Err NamesOut)
+    if is_small rs c then (if names_suffice rs c then Ok (round rs c) else Err NamesOut)
     else Err Overgrown
 
 -- The result of workers is this answer, unless a growth was refused. Where there is a round to

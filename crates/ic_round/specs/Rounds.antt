@@ -17,17 +17,17 @@ abbrev pub is_small : List Rule → Configuration → Bool
 is_small rs c = nat_le (configuration_nodes (fired rs c)) MAX_NODES
 
 -- the names of the fired configuration are within the limit
-abbrev pub has_names : List Rule → Configuration → Bool
-has_names rs c = nat_le (fired rs c).next MAX_NEXT
+abbrev pub names_suffice : List Rule → Configuration → Bool
+names_suffice rs c = nat_le (fired rs c).next MAX_NEXT
 
 -- A configuration fits where its fired one, before settling, is within the limits.
 abbrev pub fits : List Rule → Configuration → Bool
-fits rs c = is_small rs c && has_names rs c
+fits rs c = is_small rs c && names_suffice rs c
 
 -- the value, or the first refusal of a round
 abbrev pub unless_unfit : {T : Type 0} → List Rule → Configuration → T → Result T RoundFault
 unless_unfit rs c value =
-    if is_small rs c then (if has_names rs c then Ok value else Err NamesOut)
+    if is_small rs c then (if names_suffice rs c then Ok value else Err NamesOut)
     else Err Overgrown
 
 -- the configuration after so many rounds

@@ -120,5 +120,5 @@ taken_rules ss rs set is =
       over = (first_unfit-None ss rs).0 tests.fitting;
       counted = each_counted rs 0 tests.counted;
       single = tests.single;
-      level = none_first (λ r. is_lopsided (numbered r)) 0 rs (sym (position-numbered is_lopsided 0 rs) ∙ tests.even);
+      level = none_first (λ r. is_lopsided (numbered r)) 0 rs (sym (position-numbered is_lopsided 0 rs) ∙ tests.level);
     }

@@ -27,12 +27,12 @@ pub numbered_is_rule : (a b : ℕ) (ts us : List Tree)
     → are_paired (flat_map names ts ++ flat_map names us) ≡ true
     → (r : Rule) → r.left_args ≡ map (renamed (number_among (firsts_in ts us))) ts → r.right_args ≡ map (renamed (number_among (firsts_in ts us))) us
     → r.names ≡ length (firsts_in ts us) → is_lopsided r ≡ false → IsRule r
-numbered_is_rule a b ts us paired r lefts rights count even =
+numbered_is_rule a b ts us paired r lefts rights count level =
     let ns = flat_map names ts ++ flat_map names us in
     let same : rule_names r ≡ map (number_among (first_occurrences ns)) ns =
     (λ i. flat_map names (lefts i) ++ flat_map names (rights i)) ∙ numbered_names (number_among (first_occurrences ns)) ts us in
     record {
       paired = ap are_paired same ∙ are_paired-numbered ns ∙ paired;
       in_order = ap first_occurrences same ∙ first_occurrences-numbered ns ∙ ap (range_with_len 0) (sym count);
-      even = even;
+      level = level;
     }

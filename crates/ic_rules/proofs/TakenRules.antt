@@ -25,15 +25,15 @@ in_order : (rs : List Rule) → AllByRecursion IsRule rs → AllByRecursion IsNu
 in_order [] all = tt
 in_order (r ∷ rs) all = (all.0.in_order, in_order rs all.1)
 
-even : (rs : List Rule) → AllByRecursion IsRule rs → AllByRecursion (λ r. is_lopsided r ≡ false) rs
-even [] all = tt
-even (r ∷ rs) all = (all.0.even, even rs all.1)
+level : (rs : List Rule) → AllByRecursion IsRule rs → AllByRecursion (λ r. is_lopsided r ≡ false) rs
+level [] all = tt
+level (r ∷ rs) all = (all.0.level, level rs all.1)
 
 pub takes : (rs : Rules) → IsRuleSet rs → built rs.symbols rs.rules ≡ Ok rs
 takes rs is =
     let same = map-numbered-same rs.rules (in_order rs.rules is.each) in
     let uncounted : first_uncounted rs.rules ≡ None = none_found _ 0 rs.rules (counted rs.rules is.each) in
-    let lopsided : first_lopsided rs.rules ≡ None = ap (position_from is_lopsided 0) same ∙ none_found is_lopsided 0 rs.rules (even rs.rules is.each) in
+    let lopsided : first_lopsided rs.rules ≡ None = ap (position_from is_lopsided 0) same ∙ none_found is_lopsided 0 rs.rules (level rs.rules is.each) in
     rw (is.few, is.fitting, uncounted, is.single, lopsided) (λ i. Ok (record { symbols = rs.symbols; rules = same i }))
 
 pub none-cons : (p : Rule → Bool) (j : ℕ) (r : Rule) (rs : List Rule) → position_from p j (r ∷ rs) ≡ None → (p r ≡ false) × (position_from p (j + 1) rs ≡ None)
@@ -61,7 +61,7 @@ pub record Tests (ss : List Symbol) (rs : List Rule) (v : Rules) : Type 0 where
   pub fitting : first_unfit ss rs ≡ None
   pub counted : first_uncounted rs ≡ None
   pub single : first_repeated rs ≡ None
-  pub even : first_lopsided rs ≡ None
+  pub level : first_lopsided rs ≡ None
 
 pub tests_of : (ss : List Symbol) (rs : List Rule) (v : Rules) → built ss rs ≡ Ok v → Tests ss rs v
 tests_of ss rs v is = by_cases (are_few rs) (first_unfit ss rs) (first_uncounted rs) (first_repeated rs) (first_lopsided rs) refl refl refl refl refl is
@@ -72,7 +72,7 @@ tests_of ss rs v is = by_cases (are_few rs) (first_unfit ss rs) (first_uncounted
     by_cases : (few : Bool) (unfit uncounted repeated lopsided : Option ℕ) → are_few rs ≡ few → first_unfit ss rs ≡ unfit → first_uncounted rs ≡ uncounted
         → first_repeated rs ≡ repeated → first_lopsided rs ≡ lopsided
         → cond few (unless unfit Arity (unless uncounted NameCount (unless repeated Twice (unless lopsided Lopsided (Ok made))))) (Err Limit) ≡ Ok v → Tests ss rs v
-    by_cases true None None None None f u c r l e = record { made = ap (rules_or made) e; few = f; fitting = u; counted = c; single = r; even = l }
+    by_cases true None None None None f u c r l e = record { made = ap (rules_or made) e; few = f; fitting = u; counted = c; single = r; level = l }
     by_cases true (Some n) c r l ef eu ec er el e = cc
     by_cases true None (Some n) r l ef eu ec er el e = cc
     by_cases true None None (Some n) l ef eu ec er el e = cc
@@ -82,7 +82,7 @@ tests_of ss rs v is = by_cases (are_few rs) (first_unfit ss rs) (first_uncounted
 pub taken : (rs : Rules) → built rs.symbols rs.rules ≡ Ok rs → IsRuleSet rs
 taken rs is =
     let tests = tests_of rs.symbols rs.rules rs is in
-    subst IsRuleSet tests.made (IsRuleSet-numbered rs.symbols rs.rules (each_rule rs.rules 0 tests.counted tests.even) tests.few tests.fitting tests.single)
+    subst IsRuleSet tests.made (IsRuleSet-numbered rs.symbols rs.rules (each_rule rs.rules 0 tests.counted tests.level) tests.few tests.fitting tests.single)
 
 -- the first of rules and the others, kept by numbering
 pub each_numbered : (rs : List Rule) → map numbered rs ≡ rs → AllByRecursion IsNumbered rs

@@ -60,7 +60,7 @@ IsNumbered r = first_occurrences (rule_names r) ≡ range_with_len 0 r.names
 pub record IsRule (r : Rule) : Type 0 where
   pub paired : IsTrue (are_paired (rule_names r))
   pub in_order : IsNumbered r
-  pub even : is_lopsided r ≡ false
+  pub level : is_lopsided r ≡ false
 
 -- the rule is of this pair of symbols, as they stand
 abbrev pub stands_for : ℕ → ℕ → Rule → Bool

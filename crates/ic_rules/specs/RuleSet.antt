@@ -100,14 +100,14 @@ abbrev pub has_pair : ℕ → ℕ → Rule → Bool
 has_pair a b r = stands_for a b r || stands_for b a r
 
 -- the symbols of a rule are these two, in this order; if `turned`, in the other order alone
-abbrev pub stands_turned : ℕ → ℕ → Bool → Rule → Type 0
-stands_turned a b false r = stands_for a b r ≡ true
-stands_turned a b true r = (stands_for b a r ≡ true) × (stands_for a b r ≡ false)
+abbrev pub StandsTurned : ℕ → ℕ → Bool → Rule → Type 0
+StandsTurned a b false r = stands_for a b r ≡ true
+StandsTurned a b true r = (stands_for b a r ≡ true) × (stands_for a b r ≡ false)
 
 -- there is a rule at this place, and it is of this pair of symbols
 pub record IsRuleFor (rs : List Rule) (a b i : ℕ) (turned : Bool) : Type 0 where
   pub there : i < length rs
-  pub of_pair : IfSome (slice_get rs i) (stands_turned a b turned)
+  pub of_pair : IfSome (slice_get rs i) (StandsTurned a b turned)
 
 -- whether two rule sets are the same: the same symbols and the same rules, in the same order
 abbrev pub rules_eq : Rules → Rules → Bool

@@ -296,7 +296,7 @@ fn number_rules(alloc: Global, rules: &[(Cell, Cell)]) -> Result<Vec<Rule>, Rule
     requires counted { first_uncounted (map written rules.now) ≡ None }
     ensures rules { IfOk result (λ out. out.items ≡ map numbered (map written rules.now)) }
     ensures each { IfOk result (λ out. AllByRecursion IsRule out.items) }
-    ensures even { OnOk result (first_lopsided (map written rules.now) ≡ None) }
+    ensures level { OnOk result (first_lopsided (map written rules.now) ≡ None) }
     ensures lopsided { IfErr result (IsLopsided (map written rules.now)) }
 {
     let mut numbered = Vec::with_capacity(alloc, rules.len())?;

@@ -1,7 +1,7 @@
 -- What one thread refuses.
 use Rattle.std.proofs.Common.{◌≡◌, Bool, true, false, refl}
 use Rattle.std.specs.Prelude.{Result, Ok, Err, nat_eq, if◌then◌else◌}
-use Rattle.ic_round.specs.Rounds.{is_small, has_names}
+use Rattle.ic_round.specs.Rounds.{is_small, names_suffice}
 use Rattle.ic_flights.specs.Flight.{FlightParts}
 use Rattle.ic_flights.specs.Played.{PlayedParts, round_of}
 use Rattle.ic_flights.specs.declared.limits.TheConstants.{MAX_ROUNDS}
@@ -26,7 +26,7 @@ not_played false false c p fault is same =
 
 never : (f : FlightParts) (fault : PoolFault) → is_of_workers fault ≡ true → Err fault ≡ played f → ⊥
 never f fault is same =
-    not_played (nat_eq f.rounds MAX_ROUNDS) (is_small f.rules.rules f.config) (has_names f.rules.rules f.config) (round_of f) fault is same
+    not_played (nat_eq f.rounds MAX_ROUNDS) (is_small f.rules.rules f.config) (names_suffice f.rules.rules f.config) (round_of f) fault is same
 
 pub one_thread_refuses : (f : FlightParts) (fault : PoolFault) → Answers (Err fault) (played f) → is_of_workers fault ≡ false
 one_thread_refuses f NoWorkers answers = refl

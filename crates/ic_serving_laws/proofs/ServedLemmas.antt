@@ -13,7 +13,7 @@ use Rattle.ic_frames.specs.declared.faults.OpenCause.TheVariants.{Device, Memory
 use Rattle.ic_book.specs.declared.book.Book.{Book}
 use Rattle.ic_book.specs.Book.{table_of, log_of, kept_of, disk_of, is_broken}
 use Rattle.ic_book.specs.Moves.{Move, opens, refuses, answers, fails, rounds, keeps, stays, closes, stops}
-use Rattle.ic_book.specs.Server.{Server, down, up, Does, Opens, Refuses, IsFound, Step, Runs, Reaches}
+use Rattle.ic_book.specs.Server.{Server, down, up, IsCall, Opens, Refuses, IsFound, Step, Runs, Reaches}
 use Rattle.ic_serving.specs.declared.fault.ServeFault.{ServeFault}
 use Rattle.ic_serving.specs.Booked.{IsAllKept, last_kept}
 use Rattle.ic_serving.specs.Serving.{IsServing}
@@ -33,7 +33,7 @@ use Rattle.ic_lives.specs.lemmas.RunLemmas.{Replays, Joins, HoldsOne, IsUp, reac
 module _ {D : Type 0} {ghosts : Ghosts D} where
   -- ---- calls are moves
 
-  step_of : (move : Move) (old new : Book D ghosts) → Does move old new → Step move (up old) (up new)
+  step_of : (move : Move) (old new : Book D ghosts) → IsCall move old new → Step move (up old) (up new)
   step_of opens old new is = is
   step_of (refuses cause) old new is = is
   step_of (answers who command reply) old new is = is
@@ -82,7 +82,7 @@ module _ {D : Type 0} {ghosts : Ghosts D} where
       by_calls_then mid turns.0 new (calls_for turns.2.reading turns.1 mid turns.0 turns.2.done) (turns_calls ls turns.0 last new turns.3 done)
 
   -- a stop in the midst of one
-  stop_step : (move : Move) (before after : Book D ghosts) (found : D) → Does move before after → IsFound ghosts (disk_of before) (disk_of after) found
+  stop_step : (move : Move) (before after : Book D ghosts) (found : D) → IsCall move before after → IsFound ghosts (disk_of before) (disk_of after) found
       → Step (stops move) (up before) (down found)
   stop_step opens before after found is here = (up after, is, here)
   stop_step (refuses cause) before after found is here = (up after, is, here)
@@ -188,7 +188,7 @@ pub record StandsUnkept {D : Type 0} {ghosts : Ghosts D} (entry : Entry) (book :
 
 module _ {D : Type 0} {ghosts : Ghosts D} where
   -- so it stays
-  unkept_on : (entry : Entry) (move : Move) (old new : Book D ghosts) → Does move old new → StandsUnkept entry old → StandsUnkept entry new
+  unkept_on : (entry : Entry) (move : Move) (old new : Book D ghosts) → IsCall move old new → StandsUnkept entry old → StandsUnkept entry new
   unkept_on entry (answers who command reply) old new does is = absurd (not_both (is_broken new) (does.broken is.broken) does.page.2)
   unkept_on entry (fails who command reply) old new does is = absurd (not_both (is_broken old) is.broken does.page.2)
   unkept_on entry (rounds name reply) old new does is =
@@ -214,7 +214,7 @@ module _ {D : Type 0} {ghosts : Ghosts D} where
   unkept_on entry (stops move) old new does is = absurd does.page
 
   module _ (who : ℕ) (command : Command) (reply : Reply) where
-    failed : (old new : Book D ghosts) → Does (fails who command reply) old new → StandsUnkept (command_entry who command reply) new
+    failed : (old new : Book D ghosts) → IsCall (fails who command reply) old new → StandsUnkept (command_entry who command reply) new
     failed old new does = record {
       broken = does.page.3;
       front = log_of old;

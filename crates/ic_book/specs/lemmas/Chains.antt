@@ -9,7 +9,7 @@ use Rattle.ic_book.specs.declared.book.Book.{Book}
 use Rattle.ic_book.specs.declared.fault.BookFault.{BookFault}
 use Rattle.ic_book.specs.Book.{disk_of}
 use Rattle.ic_book.specs.Moves.{Move, answers, fails, keeps, stays, stops, round_move, keep_move}
-use Rattle.ic_book.specs.Server.{up, Does, Step}
+use Rattle.ic_book.specs.Server.{up, IsCall, Step}
 use Rattle.ic_book.specs.ByCalls.{IsOnMadeDisk, Calls, IsByCalls, IsStoppedWithin}
 
 module _ {D : Type 0} {ghosts : Ghosts D} where
@@ -84,23 +84,23 @@ module _ {D : Type 0} {ghosts : Ghosts D} where
 
   -- ---- one call
 
-  one_call : (move : Move) (old new : Book D ghosts) → Does move old new → IsByCalls old new
+  one_call : (move : Move) (old new : Book D ghosts) → IsCall move old new → IsByCalls old new
   one_call move old new does = record {
     moves = move ∷ [];
     calls = (old, refl, does);
     stopped = λ is found at. record { earlier = []; move = move; later = []; parted = refl; before = old; after = new; calls = refl; under_way = does; stop = at };
   }
 
-  does_of : (move : Move) (old new : Book D ghosts) → Step move (up old) (up new) → Does move old new
+  does_of : (move : Move) (old new : Book D ghosts) → Step move (up old) (up new) → IsCall move old new
   does_of (stops (stops move)) old new is = absurd is
   does_of _ old new is = is
 
   -- nothing is done
-  pub by_nothing : (book : Book D ghosts) → Does stays book book → IsByCalls book book
+  pub by_nothing : (book : Book D ghosts) → IsCall stays book book → IsByCalls book book
   by_nothing book does = one_call stays book book does
 
   -- a call is refused
-  pub by_refusal : (old new : Book D ghosts) → Does stays old new → IsByCalls old new
+  pub by_refusal : (old new : Book D ghosts) → IsCall stays old new → IsByCalls old new
   by_refusal old new does = one_call stays old new does
 
   -- a keep, or a new page
@@ -120,12 +120,12 @@ module _ {D : Type 0} {ghosts : Ghosts D} where
   -- ---- a command
 
   module _ (who : ℕ) (command : Command) (reply : Reply) (old new : Book D ghosts) where
-    pub by_answer : Does (answers who command reply) old new → IsByCalls old new
+    pub by_answer : IsCall (answers who command reply) old new → IsByCalls old new
     by_answer does = one_call (answers who command reply) old new does
 
-    pub answer_moves : (does : Does (answers who command reply) old new) → (by_answer does).moves ≡ answers who command reply ∷ []
+    pub answer_moves : (does : IsCall (answers who command reply) old new) → (by_answer does).moves ≡ answers who command reply ∷ []
     unfolding by_answer one_call
     answer_moves does = refl
 
-    pub by_failure : Does (fails who command reply) old new → IsByCalls old new
+    pub by_failure : IsCall (fails who command reply) old new → IsByCalls old new
     by_failure does = one_call (fails who command reply) old new does

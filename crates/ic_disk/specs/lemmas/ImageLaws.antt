@@ -48,7 +48,7 @@ torn_image synced ps r file from =
             torn_outside r from.0 file torn i (omega (arith, image.agrees.no_shorter, inside)) (IsOutside-right ps (r ∷ []) i outside)
             ∙ image.agrees.same i inside (IsOutside-left ps (r ∷ []) i outside);
       };
-      settled = λ none. absurd (not_nil ps r none);
+      nothing_pending = λ none. absurd (not_nil ps r none);
     }
   where
     not_nil : (ps : List Range) (r : Range) → ps ++ r ∷ [] ≡ [] → ⊥
@@ -57,7 +57,7 @@ torn_image synced ps r file from =
 
 -- with nothing pending there is one image
 pub settled_image : (file : List ℕ) → IsImage file [] file
-settled_image file = record { agrees = record { no_shorter = omega arith; same = λ i inside outside. refl }; settled = λ none. refl }
+settled_image file = record { agrees = record { no_shorter = omega arith; same = λ i inside outside. refl }; nothing_pending = λ none. refl }
 
 pub image_settled : (file : List ℕ) → Only file (IsImage file [])
-image_settled file = record { no_other = λ other image. image.settled refl }
+image_settled file = record { no_other = λ other image. image.nothing_pending refl }

@@ -5,7 +5,7 @@ use Rattle.ic_disk.specs.Time.{Elapses, LeavesOnly, LeftSince}
 
 -- a call that goes by at no time
 pub elapses_none : (clock : ℕ) (past : ℕ → List ℕ → Type 0) (midst : List ℕ → Type 0) → Elapses clock clock past past midst
-elapses_none clock past midst = record { later = omega arith; one_call = omega arith; nothing_else = λ t c left. inl left; keeps = λ t c left. left }
+elapses_none clock past midst = record { later = omega arith; one_call = omega arith; nothing_else = λ t c left. inl left; stays = λ t c left. left }
 
 module _ {D : Type 0} (clock : D → ℕ) (left : D → ℕ → List ℕ → Type 0) where
   -- before the first call

@@ -126,8 +126,8 @@ tracks_still move moves old new is same nothing_comes none = subst (λ (p : Past
 tracks_next : (move : Move) (moves : List Move) (old new : Past) → Tracks moves old → Next move old new → Tracks (move ∷ moves) new
 tracks_next opens moves old new is step =
     tracks_all (opens ∷ moves) new step.lasting
-    (subst (λ (l : List Entry). StandAmong (answered moves) l) (sym step.entries) (among_more (answered moves) old.entries old.lasting step.left step.holds is.answers))
-    (subst (λ (l : List Entry). StandAmong l (come moves ++ [])) (sym step.entries) (among_front step.left old.entries (come moves ++ []) (among_longer old.entries (come moves) [] is.comes)))
+    (subst (λ (l : List Entry). StandAmong (answered moves) l) (sym step.entries) (among_more (answered moves) old.entries old.lasting step.found step.spares is.answers))
+    (subst (λ (l : List Entry). StandAmong l (come moves ++ [])) (sym step.entries) (among_front step.found old.entries (come moves ++ []) (among_longer old.entries (come moves) [] is.comes)))
 tracks_next (refuses cause) moves old new is step = tracks_still (refuses cause) moves old new is step refl refl
 tracks_next (answers who command reply) moves old new is step =
     let e = command_entry who command reply in

@@ -19,7 +19,7 @@ use Rattle.ic_book.specs.Calls.{LeavesKeptOrAll}
 use Rattle.ic_book.specs.Entries.{command_entry, round_entry}
 use Rattle.ic_book.specs.Kept.{HoldsKeptOrAll}
 use Rattle.ic_book.specs.Moves.{Move, opens, refuses, answers, fails, rounds, keeps, stays, closes, stops, brings}
-use Rattle.ic_book.specs.Server.{Server, down, up, disk_in, GoesOn, StaysOnPage, TurnsPage, Turns, Does, Opens, Refuses, Closes, IsFound, Step, Runs, Reaches}
+use Rattle.ic_book.specs.Server.{Server, down, up, disk_in, GoesOn, StaysOnPage, TurnsPage, MakesOfPage, IsCall, Opens, Refuses, Closes, IsFound, Step, Runs, Reaches}
 use Rattle.ic_book.specs.lemmas.Facts.{history_of}
 use Rattle.ic_lives.specs.Past.{Past, nothing, Next, Leads, IsPast}
 use Rattle.ic_lives.specs.Headline.{TellsTable, TellsFile, IsTableAfter, HoldsPrefixAfter}
@@ -103,16 +103,16 @@ record IsMid {D : Type 0} (ghosts : Ghosts D) (move : Move) (past : Past) (befor
   each : (file : List ℕ) → LeftSince (ghosts.left after) (ghosts.clock before) file → HoldsPrefix (past.entries ++ brings move) past.lasting file
 
 -- a move that may be stopped
-abbrev IsCall : Move → Type 0
-IsCall opens = Unit {0}
-IsCall (refuses cause) = Unit {0}
-IsCall (answers who command reply) = Unit {0}
-IsCall (fails who command reply) = Unit {0}
-IsCall (rounds name reply) = Unit {0}
-IsCall keeps = Unit {0}
-IsCall stays = Unit {0}
-IsCall closes = Unit {0}
-IsCall (stops move) = ⊥
+abbrev MayBeStopped : Move → Type 0
+MayBeStopped opens = Unit {0}
+MayBeStopped (refuses cause) = Unit {0}
+MayBeStopped (answers who command reply) = Unit {0}
+MayBeStopped (fails who command reply) = Unit {0}
+MayBeStopped (rounds name reply) = Unit {0}
+MayBeStopped keeps = Unit {0}
+MayBeStopped stays = Unit {0}
+MayBeStopped closes = Unit {0}
+MayBeStopped (stops move) = ⊥
 
 -- what a refusal says can't be so of a table
 pub refuses_no_table : HoldsOne → (cause : OpenCause) (t : List JobParts) (file : List ℕ) → IsHeld (the_table t) file → Says cause file → (cause ≡ Device) ⊎ (cause ≡ Memory)
@@ -184,7 +184,7 @@ module _ {D : Type 0} {ghosts : Ghosts D} where
     legal_same : (past : Past) (old : Book D ghosts) (is : IsUp past old) → IsLegal [] (past.entries ++ [])
     legal_same past old is = subst (λ (es : List Entry). IsLegal [] es) (sym (append-nil past.entries)) (legal_page past old is)
 
-    pub legal_moved : (move : Move) (past : Past) (old new : Book D ghosts) (is : IsUp past old) → Turns move old new → IsLegal [] (past.entries ++ brings move)
+    pub legal_moved : (move : Move) (past : Past) (old new : Book D ghosts) (is : IsUp past old) → MakesOfPage move old new → IsLegal [] (past.entries ++ brings move)
     legal_moved (answers who command reply) past old new is page = legal_brought past old new is (command_entry who command reply ∷ []) page.0.start page.0.adds.entry
     legal_moved (fails who command reply) past old new is page = legal_brought past old new is (command_entry who command reply ∷ []) page.0.start page.0.adds.entry
     legal_moved (rounds name reply) past old new is page = legal_brought past old new is (round_entry name reply ∷ []) page.0.start page.0.adds.entry
@@ -250,7 +250,7 @@ module _ {D : Type 0} {ghosts : Ghosts D} where
   stays_on : (past : Past) (old new : Book D ghosts) → IsUp past old → LeavesKeptOrAll (log_of old ++ []) old new → StaysOnPage old new → kept_of new ≡ kept_of old → GoesTo stays past (up new)
   stays_on past old new is crash same kept = (past, refl, same_page past past.lasting old new is crash same (omega (arith, is.enough, kept)))
 
-  keeps_all : Replays → Joins → (past : Past) (old new : Book D ghosts) → IsUp past old → Does keeps old new → GoesTo keeps past (up new)
+  keeps_all : Replays → Joins → (past : Past) (old new : Book D ghosts) → IsUp past old → IsCall keeps old new → GoesTo keeps past (up new)
   keeps_all replays joins past old new is call = (
     record { entries = past.entries; lasting = length past.entries },
     (refl, refl),
@@ -261,7 +261,7 @@ module _ {D : Type 0} {ghosts : Ghosts D} where
         call.page.0,
   )
 
-  does : Replays → Joins → (move : Move) (past : Past) (old new : Book D ghosts) → IsUp past old → Does move old new → GoesTo move past (up new)
+  does : Replays → Joins → (move : Move) (past : Past) (old new : Book D ghosts) → IsUp past old → IsCall move old new → GoesTo move past (up new)
   does replays joins (answers who command reply) past old new is call =
       let e = command_entry who command reply in
       let long = one_more past old new is e call.page.0 in
@@ -290,7 +290,7 @@ module _ {D : Type 0} {ghosts : Ghosts D} where
         let long : length found ≡ here.prefix = length-take-le here.prefix past.entries here.within in
         let only = call.leaves.synced model (λ failed. cc) in (
           record { entries = found; lasting = length found },
-          record { left = here.prefix; entries = refl; within = here.within; holds = here.enough; lasting = refl },
+          record { found = here.prefix; entries = refl; within = here.within; spares = here.enough; lasting = refl },
           record {
             front = found;
             legal = legal_front joins past.entries here.prefix legal;
@@ -343,7 +343,7 @@ module _ {D : Type 0} {ghosts : Ghosts D} where
     -- ---- stops
 
     -- in the midst of a call of an open book
-    pub left_within : (move : Move) (past : Past) (old new : Book D ghosts) → IsUp past old → Does move old new → (file : List ℕ)
+    pub left_within : (move : Move) (past : Past) (old new : Book D ghosts) → IsUp past old → IsCall move old new → (file : List ℕ)
         → HoldsKeptOrAll (start_of old) (log_of old ++ brings move) (kept_of old) file → HoldsPrefix (past.entries ++ brings move) past.lasting file
     left_within move past old new is call file holds =
         let log = log_of old ++ brings move in
@@ -351,13 +351,13 @@ module _ {D : Type 0} {ghosts : Ghosts D} where
         let all : past.entries ++ brings move ≡ is.front ++ log = ap (λ (es : List Entry). es ++ brings move) is.entries ∙ append_assoc is.front (log_of old) (brings move) in
         kept_or_all replays is.front log (past.entries ++ brings move) (start_of old) past.lasting (kept_of old) file is.opened all is.enough (omega (arith, long, within_page old)) holds
 
-    mid_call : (move : Move) (past : Past) (old new : Book D ghosts) → IsUp past old → Does move old new → IsMid ghosts move past (disk_of old) (disk_of new)
+    mid_call : (move : Move) (past : Past) (old new : Book D ghosts) → IsUp past old → IsCall move old new → IsMid ghosts move past (disk_of old) (disk_of new)
     mid_call move past old new is call = record {
       legal = legal_moved joins move past old new is call.page;
       each = λ file there. left_within move past old new is call file ((call.crash.any_moment is.keeps is.made).each file there);
     }
 
-    mid : (move : Move) (past : Past) (before after : Server ghosts) → IsCall move → Stands past before → Step move before after → IsMid ghosts move past (disk_in before) (disk_in after)
+    mid : (move : Move) (past : Past) (before after : Server ghosts) → MayBeStopped move → Stands past before → Step move before after → IsMid ghosts move past (disk_in before) (disk_in after)
     mid (stops move) past before after may is call = absurd may
     mid opens past (down disk) (up book) may is call = record {
       legal = legal_none past.entries is.legal;
@@ -379,7 +379,7 @@ module _ {D : Type 0} {ghosts : Ghosts D} where
     mid move past (up old) (up new) may is call = mid_call move past old new is call
     mid move past before after may is call = absurd call
 
-    stopped : (move : Move) (past : Past) (before after : Server ghosts) (found : D) → IsCall move → Stands past before → Step move before after
+    stopped : (move : Move) (past : Past) (before after : Server ghosts) (found : D) → MayBeStopped move → Stands past before → Step move before after
         → IsFound ghosts (disk_in before) (disk_in after) found → GoesTo (stops move) past (down found)
     stopped move past before after found may is call here =
         let m = mid move past before after may is call in (

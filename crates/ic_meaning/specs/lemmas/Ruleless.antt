@@ -6,7 +6,7 @@ use Rattle.std.proofs.lemmas.Option.{slice_get_within}
 use Rattle.std.specs.Cmp.{unsigned_Decides}
 use Rattle.ic_term.specs.Symbol.{Symbol, has_arity}
 use Rattle.ic_rules.specs.Rule.{Rule}
-use Rattle.ic_rules.specs.RuleSet.{Rules, IsRuleSet, rule_for, stands_turned}
+use Rattle.ic_rules.specs.RuleSet.{Rules, IsRuleSet, rule_for, StandsTurned}
 use Rattle.ic_rules.specs.lemmas.FitLaws.{rule_over_at}
 use Rattle.ic_rules.specs.lemmas.FindLaws.{rule_for-found}
 use Rattle.ic_arena.specs.Word.{count}
@@ -28,7 +28,7 @@ no_rule rs numbers p a b set plans none = at (rule_for rs.rules a b) refl
     count : length p.arities ≡ length rs.symbols
     count = ap length plans.arities ∙ length-map rs.symbols (λ s. s.arity)
 
-    symbols_known : (turned : Bool) (r : Rule) → stands_turned a b turned r → (r.left < length p.arities) × (r.right < length p.arities) → (a < length p.arities) × (b < length p.arities)
+    symbols_known : (turned : Bool) (r : Rule) → StandsTurned a b turned r → (r.left < length p.arities) × (r.right < length p.arities) → (a < length p.arities) × (b < length p.arities)
     symbols_known false r stands known =
         let both = and_parts (r.left == a) (r.right == b) stands in
         let left = (unsigned_Decides r.left a).0 both.0 in
@@ -65,7 +65,7 @@ no_rule rs numbers p a b set plans none = at (rule_for rs.rules a b) refl
     with_rule j turned (Some r) e there =
         let same_count = count in
         let over = rule_over_at rs.symbols rs.rules j r set.fitting there in
-        let at_rule : IfSome (Some r) (stands_turned a b turned) = rw there at (rule_for-found rs.rules a b j turned e).of_pair in
+        let at_rule : IfSome (Some r) (StandsTurned a b turned) = rw there at (rule_for-found rs.rules a b j turned e).of_pair in
         let left = known_symbol rs.symbols r.left (length r.left_args) over.left in
         let right = known_symbol rs.symbols r.right (length r.right_args) over.right in
         let known = symbols_known turned r at_rule ((let h : r.left < length p.arities = omega arith in h), (let h : r.right < length p.arities = omega arith in h)) in

@@ -9,7 +9,7 @@ use Rattle.ic_term.specs.Tree.{Tree, name, agent, Trees, no_trees, more_trees, l
 use Rattle.ic_term.specs.Symbol.{Symbol, has_arity, is_tree_over, are_trees_over, is_pair_over}
 use Rattle.ic_rules.specs.Renaming.{renamed, renamed_trees}
 use Rattle.ic_rules.specs.Rule.{Rule, rule_nodes}
-use Rattle.ic_rules.specs.RuleSet.{first_unfit, rule_for, stands_turned}
+use Rattle.ic_rules.specs.RuleSet.{first_unfit, rule_for, StandsTurned}
 use Rattle.ic_rules.specs.lemmas.FitLaws.{rule_over_at}
 use Rattle.ic_rules.specs.lemmas.FindLaws.{rule_for-found}
 use Rattle.ic_round.specs.Instance.{inst}
@@ -43,7 +43,7 @@ pub record FitsRule (rs : List Rule) (a : Active) (r : Rule) : Type 0 where
 
 turned_fits : (ss : List Symbol) (rs : List Rule) (a b i : ℕ) (ts us : Trees) (turned : Bool) (r : Rule) → slice_get rs i ≡ Some r
     → (has_arity (length r.left_args) (slice_get ss r.left) ≡ true) × (has_arity (length r.right_args) (slice_get ss r.right) ≡ true)
-    → is_tree_over ss (agent a ts) ≡ true → is_tree_over ss (agent b us) ≡ true → stands_turned a b turned r
+    → is_tree_over ss (agent a ts) ≡ true → is_tree_over ss (agent b us) ≡ true → StandsTurned a b turned r
     → (c : Active) → oriented (agent a ts) (agent b us) (Some (i, turned)) ≡ Some c → FitsRule rs c r
 turned_fits ss rs a b i ts us false r there arities over_t over_u stands c e =
     let same : record { rule = i; left = agent a ts; right = agent b us } ≡ c = cc in
@@ -56,9 +56,9 @@ turned_fits ss rs a b i ts us true r there arities over_t over_u stands c e =
     let P : Active → Type 0 = λ d. FitsRule rs d r in
     transport P same (record { there = there; left = side_fits ss r.left _ b us arities.0 symbols.0 over_u; right = side_fits ss r.right _ a ts arities.1 symbols.1 over_t })
 
-of_pair_at : (rs : List Rule) (a b i : ℕ) (turned : Bool) (r : Rule) → rule_for rs a b ≡ Some (i, turned) → slice_get rs i ≡ Some r → stands_turned a b turned r
+of_pair_at : (rs : List Rule) (a b i : ℕ) (turned : Bool) (r : Rule) → rule_for rs a b ≡ Some (i, turned) → slice_get rs i ≡ Some r → StandsTurned a b turned r
 of_pair_at rs a b i turned r found there =
-    let at_rule : IfSome (Some r) (stands_turned a b turned) = rw there at (rule_for-found rs a b i turned found).of_pair in at_rule
+    let at_rule : IfSome (Some r) (StandsTurned a b turned) = rw there at (rule_for-found rs a b i turned found).of_pair in at_rule
 
 -- the place of a rule that is found is one
 pub rule_within : (rs : List Rule) (t u : Tree) (i : ℕ) (turned : Bool) → rule_of_sides rs t u ≡ Some (i, turned) → i < length rs

@@ -11,7 +11,7 @@ use Rattle.ic_rules.specs.Rule.{Rule}
 use Rattle.ic_rules.specs.RuleSet.{Rules, IsRuleSet}
 use Rattle.ic_round.specs.Firing.{fired}
 use Rattle.ic_settle.specs.Settling.{settled}
-use Rattle.ic_round.specs.Rounds.{round, fits, is_small, has_names, unless_unfit}
+use Rattle.ic_round.specs.Rounds.{round, fits, is_small, names_suffice, unless_unfit}
 use Rattle.ic_round.specs.Works.{PlainFired, result_of}
 use Rattle.ic_round.specs.Gathering.{gathered}
 use Rattle.ic_round.specs.Plans.{PlainPlan, planned}
@@ -48,7 +48,7 @@ at_most m n e = grind (arith, common_steps, e)
 pub fired_is_configuration : (rs : Rules) (c : Configuration) → IsRuleSet rs → IsConfiguration c → is_over rs.symbols c ≡ true
     → fits rs.rules c ≡ true → IsConfiguration (fired rs.rules c)
 fired_is_configuration rs c set valid over fit =
-    let both = and_parts (is_small rs.rules c) (has_names rs.rules c) fit in
+    let both = and_parts (is_small rs.rules c) (names_suffice rs.rules c) fit in
     fired_is rs.rules c (sound_over rs c set over) valid (at_most _ MAX_NODES both.0) (at_most _ MAX_NEXT both.1)
 
 pub fired_is_over : (rs : Rules) (c : Configuration) → IsRuleSet rs → is_over rs.symbols c ≡ true → is_over rs.symbols (fired rs.rules c) ≡ true
@@ -80,7 +80,7 @@ same_ok r a b e f = let both = sym e ∙ f in cc
 pub plan_completes : (rs : List Rule) (c : Configuration) (plan : PlainPlan) (fs : List PlainFired) → Ok plan ≡ unless_unfit rs c (planned rs c)
     → IsConfiguration (fired rs c) → IsPermutation (map (result_of rs) plan.works) fs → Completes rs c plan.rest fs
 plan_completes rs c plan fs answer valid same =
-    let fit = fits_where (is_small rs c) (has_names rs c) plan (planned rs c) answer in
+    let fit = fits_where (is_small rs c) (names_suffice rs c) plan (planned rs c) answer in
     let P : PlainPlan → Type 0 = λ q. IsPermutation (map (result_of rs) q.works) fs in
     let gathers = ap (λ (q : PlainPlan). gathered q.rest fs) fit.0 ∙ any_order rs c fs (subst P fit.0 same) in
     let Q : Configuration → Type 0 = IsConfiguration in

@@ -10,7 +10,7 @@ returns-clause-may g c s keeps is =
     let old = c.args.disk.now in
     let new = c.write_at.new.self in
     may_write disk.content disk.image w s old is new c.write_at.result
-    (written disk.content disk.image w s old is new c.write_at.result call.written call.images call.reached)
+    (written disk.content disk.image w s old is new c.write_at.result call.written call.images call.all_torn)
     (failed disk.content disk.image w s old is new c.write_at.result call.images call.stay call.failed)
     (torn_by disk.content disk.image w s old is new c.write_at.result call.torn)
 
@@ -36,4 +36,4 @@ returns-clause-settled g c keeps only =
     let w : Write = record { at = c.args.at; bytes = c.args.bytes.now } in
     let is = begins disk.content disk.image old (g.met.D.Disk.content_is_image old) only in
     agrees_exactly disk.content disk.image c.args.at c.args.bytes.now old new c.write_at.result
-    (written disk.content disk.image w (begun (disk.content old)) old is new c.write_at.result call.written call.images call.reached)
+    (written disk.content disk.image w (begun (disk.content old)) old is new c.write_at.result call.written call.images call.all_torn)
