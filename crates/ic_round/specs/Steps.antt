@@ -27,28 +27,25 @@ pub record Interaction (rs : List Rule) (c d : Configuration) (place : ℕ) : Ty
     next = c.next + count_of rs active.rule;
   }
 
--- Indirection: an equation of which one side is a name that occurs in another equation is removed,
--- and its other side put for that name.
-pub record Indirection (c d : Configuration) (place : ℕ) : Type 0 where
+-- An equation of which one side is a name is removed, and its other side put for that name, which
+-- occurs among these names of the other equations.
+pub record NameStepAt (c d : Configuration) (place : ℕ) (among : List Pair → List ℕ) : Type 0 where
   pub before : List Pair
   pub equation : Pair
   pub after : List Pair
   pub bound : Binding
   pub stands : StandsAt c.equations place before equation after
   pub side : Binds equation bound
-  pub elsewhere : occurs bound.name (flat_map pair_names (before ++ after)) ≡ true
+  pub elsewhere : occurs bound.name (among (before ++ after)) ≡ true
   pub result : d ≡ subst_in bound.name bound.term (record c { equations = before ++ after })
 
--- Collect: the same, where the name occurs in the interface.
-pub record Collect (c d : Configuration) (place : ℕ) : Type 0 where
-  pub before : List Pair
-  pub equation : Pair
-  pub after : List Pair
-  pub bound : Binding
-  pub stands : StandsAt c.equations place before equation after
-  pub side : Binds equation bound
-  pub elsewhere : occurs bound.name (flat_map names c.interface) ≡ true
-  pub result : d ≡ subst_in bound.name bound.term (record c { equations = before ++ after })
+-- Indirection: the name occurs in another equation.
+abbrev pub Indirection : (c d : Configuration) (place : ℕ) → Type 0
+Indirection c d place = NameStepAt c d place (flat_map pair_names)
+
+-- Collect: the name occurs in the interface.
+abbrev pub Collect : (c d : Configuration) (place : ℕ) → Type 0
+Collect c d place = NameStepAt c d place (λ others. flat_map names c.interface)
 
 pub data Step (rs : List Rule) : Configuration → Configuration → Type 0 where
   interaction : (c d : Configuration) (place : ℕ) → Interaction rs c d place → Step rs c d
