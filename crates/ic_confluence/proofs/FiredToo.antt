@@ -23,7 +23,7 @@ use Rattle.ic_confluence.specs.lemmas.Counts.{in_configuration, in_more, below_n
 use Rattle.ic_confluence.specs.lemmas.Equivalence.{Rearranged-refl, Same-refl, Same-sym, same_equations}
 use Rattle.ic_confluence.specs.lemmas.Replacing.{in_both}
 use Rattle.ic_confluence.proofs.Moving.{same_names}
-use Rattle.ic_confluence.specs.lemmas.Settled.{settled_steps, settled_ends}
+use Rattle.ic_settle.specs.lemmas.Reached.{settled_steps, settled_ends}
 use Rattle.ic_confluence.proofs.Strip.{Chain as Way, chain_too, good_chain}
 use Rattle.ic_confluence.proofs.NameOrder.{Labelled, name_laws, way_of, steps_of, settles_so, step_too}
 use Rattle.ic_confluence.specs.lemmas.Actives.{HasRule, has_rule, count_is, renamed_active, renamed_products, oriented_renamed, sides_renamed}

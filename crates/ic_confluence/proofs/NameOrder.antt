@@ -9,7 +9,7 @@ use Rattle.ic_confluence.specs.lemmas.Equivalence.{Same-refl, Same-sym}
 use Rattle.ic_confluence.proofs.Putting.{Putting, from_step, to_step, putting_names}
 use Rattle.ic_confluence.proofs.Moving.{same_names, taken_too}
 use Rattle.ic_confluence.proofs.Meeting.{two_puttings}
-use Rattle.ic_confluence.specs.lemmas.Settled.{settled_steps, settled_ends}
+use Rattle.ic_settle.specs.lemmas.Reached.{settled_steps, settled_ends}
 use Rattle.ic_confluence.proofs.Strip.{Meeting, Chain, Ended, same_end, goes_on}
 
 -- all these steps have one label

@@ -17,7 +17,7 @@ use Rattle.ic_confluence.specs.lemmas.Equivalence.{Same-refl, Same-sym}
 use Rattle.ic_confluence.proofs.Firings.{Sound}
 use Rattle.ic_confluence.proofs.FiringToo.{same_sound}
 use Rattle.ic_confluence.proofs.Strip.{chain_too}
-use Rattle.ic_confluence.specs.lemmas.Settled.{settled_ends}
+use Rattle.ic_settle.specs.lemmas.Reached.{settled_ends}
 use Rattle.ic_confluence.proofs.Order.{step_of, step_too, all_laws, way_of, chain_of}
 use Rattle.ic_confluence.proofs.Chains.{chain_from, steps_from}
 use Rattle.ic_confluence.proofs.Joins.{After, Among, beside}

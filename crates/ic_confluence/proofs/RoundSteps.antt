@@ -25,7 +25,7 @@ use Rattle.ic_round.specs.lemmas.StepsLemmas.{settled_reached, round_reached, it
 use Rattle.ic_confluence.specs.Kinds.{Kind, Chain}
 use Rattle.ic_confluence.proofs.Order.{kind_of, go_on, quiet_too}
 use Rattle.ic_confluence.proofs.Chains.{chain_from, first_step, steps_from}
-use Rattle.ic_confluence.specs.lemmas.Settled.{settled_in_steps, one_fewer}
+use Rattle.ic_settle.specs.lemmas.Reached.{settled_in_steps, one_fewer}
 
 -- one step at least
 abbrev SomeSteps : List Rule → Configuration → Configuration → Type 0

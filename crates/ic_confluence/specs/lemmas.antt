@@ -6,5 +6,4 @@ pub mod Equivalence
 pub mod Replacing
 pub mod Over
 pub mod Actives
-pub mod Settled
 pub mod Swaps

@@ -3,7 +3,7 @@ use Rattle.std.proofs.Common.{◌≡◌, ℕ, zero, suc, [], Option, None, Some,
 use Rattle.ic_term.specs.Configuration.{Configuration}
 use Rattle.ic_settle.specs.Settling.{Choice, first_choice, applied, settled_in, settled}
 use Rattle.ic_settle.specs.NameSteps.{NameSteps}
-use Rattle.ic_confluence.specs.lemmas.Settled.{settled_in_steps as steps_on}
+use Rattle.ic_settle.specs.lemmas.Reached.{settled_in_steps as steps_on}
 
 -- a chain goes on until all is settled
 pub settles_on : (c d : Configuration) → NameSteps c d → NameSteps c (settled d)
