@@ -6,6 +6,7 @@ import re
 import sys
 from pathlib import Path
 
+import believe
 import floors
 import helps
 
@@ -128,34 +129,10 @@ def the_floors_are_drawn():
 def what_is_believed_is_counted():
     """docs/believe.md names the files of definitions that the headline rests on, and those of the program by crates, with
     their lines and the sums of these."""
-    uses = dict(re.findall(r"(?m)^(\w+) *:(.*)", Path("crates.txt").read_text()))
-    program, lines, rests = ["icserve"], {}, [("ic_lives", "Headline"), ("ic_book", "Server"), ("ic_disk", "DiskCalls")]
-    for crate in program:
-        program += [it for it in uses[crate].split() if it in uses and it not in program]
-    for path in Path("crates").glob("*/specs/*.antt"):
-        if path.stem not in ("Lib", "inner", "lemmas"):
-            lines[path.parts[1], path.stem] = path.read_text().count("\n")
-    for crate, file in rests:
-        text = Path("crates", crate, "specs", f"{file}.antt").read_text()
-        found = [it for it in re.findall(r"(?m)^use Rattle\.(\w+)\.specs\.(\w+)", text) if it in lines]
-        rests += [it for it in dict.fromkeys(found) if it not in rests]
-    wanted = {(crate, file, str(lines[crate, file])) for crate, file in rests}
-    others = {crate: sum(lines[it] for it in lines if it[0] == crate and it not in rests) for crate in program}
-    wanted |= {(crate, "", str(count)) for crate, count in others.items() if count}
-    told, page = {}, Path("docs/believe.md")
-    for path, number, line in lines_of(str(page)):
-        cells = [it.strip() for it in line.split("|")]
-        if len(cells) == 5 and re.fullmatch(r"`\w+`", cells[1]):
-            files = re.findall(r"`(\w+)` (\d+)", cells[3])
-            told |= {(cells[1].strip("`"), *it): number for it in files or [("", cells[2])]}
-            if files and sum(int(it[1]) for it in files) != int(cells[2]):
-                yield path, number, "its lines have another sum"
-    for crate, file, count in sorted(wanted ^ set(told)):
-        yield page, told.get((crate, file, count), 1), f"{crate} {file} {count} stands in one of specs/ and this page alone"
-    sums = [sum(int(it[2]) for it in wanted if it[1]), sum(int(it[2]) for it in wanted)]
-    for it in sums:
-        if f"{it:,}" not in page.read_text():
-            yield page, 1, f"doesn't say the sum {it:,}"
+    for crate, file in believe.unnamed():
+        yield believe.PAGE, 1, f"{crate} {file} stands in one of specs/ and this page alone"
+    if believe.written() != believe.PAGE.read_text():
+        yield believe.PAGE, 1, "has other numbers, or doesn't say their sums: python3 checks/believe.py writes them"
 
 
 def calls_that_may_wait_are_told():
