@@ -50,6 +50,16 @@ WIDE = Ends("{A><B} " + WIDE_ROUNDS[0], WIDE_ROUNDS)
 WAVES_ROUNDS = tuple("<|" + ",".join(it + ["Q=R"] * 3940) + ">" for it in (["D(C)=F(C)"] * 60, ["C=C"] * 60, []))
 WAVES = Ends("{D(x)><F(x);C><C} " + WAVES_ROUNDS[0], WAVES_ROUNDS)
 
+# The words that read a text, and what each reads: a configuration, a system, either of the two, or a text that is expanded.
+TEXT_WORDS = {"settle": "configuration", "once": "system", "reduce": "system", "trace": "system", "draw": "either", "expand": "expanded"}
+CHAIN = "<r|r=S(s),s=Z>"
+TEXTS = {"configuration": CHAIN, "system": TWO.text, "either": CHAIN, "expanded": "{copy D} # twice\n<one,two|D(one,two)=S(Z)>"}
+
+
+def words_for(*kinds):
+    """The words that read texts of these kinds."""
+    return [word for word, kind in TEXT_WORDS.items() if kind in kinds]
+
 
 class Job(NamedTuple):
     name: str

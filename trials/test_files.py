@@ -3,23 +3,15 @@
 import os
 import subprocess
 
+from known import CHAIN, TEXT_WORDS, TEXTS, TWO, words_for
 from program import IN_MEMORY, PROGRAM, Trial, run
 
-ADD = "{Add(x,x)><Z;Add(S(x),y)><S(Add(x,y))} <r|Add(r,S(Z))=S(Z)>"
-CHAIN = "<r|r=S(s),s=Z>"
-
-# The words over a text with options that they may have, and a text.
-WORDS = [
-    (["settle"], CHAIN),
-    (["once"], ADD),
-    (["draw"], CHAIN),
-    (["expand"], "{copy D} # twice\n<one,two|D(one,two)=S(Z)>"),
-    (["reduce"], ADD),
-    (["reduce", "--partial", "--steps", "1000"], ADD),
-    (["reduce", "--rounds=9", "--workers", "3"], ADD),
-    (["trace"], ADD),
-    (["trace", "--format", "svg"], ADD),
-    (["trace", "--format", "json"], ADD),
+# The words over a text, and some with options that they may have, with a text.
+WORDS = [([word], TEXTS[kind]) for word, kind in TEXT_WORDS.items()] + [
+    (["reduce", "--partial", "--steps", "1000"], TWO.text),
+    (["reduce", "--rounds=9", "--workers", "3"], TWO.text),
+    (["trace", "--format", "svg"], TWO.text),
+    (["trace", "--format", "json"], TWO.text),
 ]
 
 
@@ -63,13 +55,13 @@ class Files(Trial):
 
     def test_of_a_refused_text_the_file_is_named_before_its_place(self):
         path = self.text("\n <x|x=A(x)>")
-        for word in ("settle", "draw"):
+        for word in words_for("configuration", "either"):
             alone = run(word, given=path.read_text())
             ran = run(word, path)
             self.equals(ran.command, "status", (1, b""), (ran.status, ran.out))
             self.agrees(ran.command, "standard error", alone.err + f"{path}, ".encode() + alone.after, ran.err)
         path = self.text("{A><B} <|A=")
-        for words in (["once"], ["reduce"], ["reduce", "--rounds", "1"], ["trace"]):
+        for words in (["reduce", "--rounds", "1"], *([word] for word in words_for("system"))):
             alone = run(*words, given=path.read_text())
             ran = run(*words, path)
             self.equals(ran.command, "status", (1, b""), (ran.status, ran.out))

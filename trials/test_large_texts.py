@@ -5,7 +5,7 @@ sentence of the limit."""
 import re
 
 import model
-from known import ADD
+from known import ADD, TEXT_WORDS, words_for
 from program import IN_MEMORY, Trial, run
 
 # The limits of what is served.
@@ -121,8 +121,9 @@ class Large(Trial):
         for nodes in (NODES, NODES + 1):
             config = f"<{numeral(nodes - 1)}|>"
             self.reduces(f"{{A><B}} {config}", config, 0)
-            for words in (["reduce", "--limits", "served"], ["reduce", "--rounds", 1], ["once"], ["trace"], ["settle"], ["draw"]):
-                text = config if words in (["settle"], ["draw"]) else f"{{A><B}} {config}"
+            served = [[word] for word in words_for("configuration", "system", "either") if word != "reduce"]
+            for words in (["reduce", "--limits", "served"], ["reduce", "--rounds", 1], *served):
+                text = f"{{A><B}} {config}" if TEXT_WORDS[words[0]] == "system" else config
                 if nodes == NODES:
                     self.equals(words, "status", 0, run(*words, given=text).status)
                 else:

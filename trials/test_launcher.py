@@ -9,6 +9,7 @@ import signal
 import subprocess
 import time
 
+from known import TEXT_WORDS
 from program import PATIENCE, PROGRAM, TOP, Trial, heeds_signals, run
 from test_pages import blocks_of, typed_in
 
@@ -382,6 +383,6 @@ class FirstCommands(Trial):
             told = ""
         self.equals("./icserve", "whether something was proved", False, (copy / "crates/icserve/out").exists())
         for text in sorted(TOP.glob("examples/*.ic")):
-            for word in ("settle", "once", "reduce", "draw"):
+            for word in TEXT_WORDS:
                 ran, wanted = (run(word, given=text.read_bytes(), program=it) for it in (copy / "out/icserve", PROGRAM))
                 self.ended(ran, wanted.out, wanted.err, wanted.status)

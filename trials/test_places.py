@@ -7,12 +7,12 @@ import re
 import draws
 import model
 import places
+from known import TEXT_WORDS, words_for
 from program import Trial, run
 from worked_rows import expanded, rows, short_texts
 
 # Which word of the program reads which kind of text, and the kinds of rows with such texts.
-WORDS = {"settle": "configuration", "once": "system", "reduce": "system", "trace": "system"}
-SYSTEM_WORDS = [word for word, kind in WORDS.items() if kind == "system"]
+SYSTEM_WORDS, WORDS = words_for("system"), words_for("configuration", "system", "either")
 CONFIGS = ("config", "settle", "config_place", "settle_told")
 SYSTEMS = ("system", "once", "system_place", "once_told")
 
@@ -40,7 +40,8 @@ class Places(Trial):
 
     def tells(self, word, text):
         """Fails unless a text that this word refuses has the place of the model told, and another nothing."""
-        kind = WORDS.get(word) or ("system" if text.lstrip(b" \t\r\n").startswith(b"{") else "configuration")
+        found = "system" if text.lstrip(b" \t\r\n").startswith(b"{") else "configuration"
+        kind = found if TEXT_WORDS[word] == "either" else TEXT_WORDS[word]
         ran = run(word, *(["--limits", "served"] if word == "reduce" else []), given=text)
         self.agrees(ran.command, "what stands after the first line", places.told(text, kind), ran.after)
         if ran.after:
@@ -68,7 +69,7 @@ class Places(Trial):
             rule_set, config = draws.system(drawn, drawn.choice([1, 2, 5]), drawn.choice([2, 3, 6]))
             system, configuration = draws.system_text(rule_set, config), model.printed(rule_set, config)
             word = drawn.choice(SYSTEM_WORDS)
-            for word, text in ((word, system), ("settle", configuration), ("draw", drawn.choice([system, configuration]))):
+            for word, text in ((word, system), ("settle", configuration), (drawn.choice(words_for("either")), drawn.choice([system, configuration]))):
                 text = draws.spaced(drawn, text) if drawn.random() < 0.5 else text
                 text = text.encode() if isinstance(text, str) else text
                 for _ in range(drawn.choice([1, 1, 2])):
@@ -80,8 +81,9 @@ class Places(Trial):
         for word in SYSTEM_WORDS:
             self.tells(word, b"<|>")
         for text in (b"{} <|> <|>", b" \n{}", b"{", b"<|>{}", b"", b"\0{} <|>"):
-            self.tells("draw", text)
-        for word in [*WORDS, "draw"]:
+            for word in words_for("either"):
+                self.tells(word, text)
+        for word in WORDS:
             self.tells(word, b"submit two {} <|>\n")
             self.tells(word, b"# a comment\n<|>")
 
@@ -126,7 +128,7 @@ class Places(Trial):
             self.tells("settle", rest.encode())
 
     def test_texts_of_the_greatest_length(self):
-        for word in [*WORDS, "draw"]:
+        for word in WORDS:
             pieces = (b"<", b" ", b"\xc3\xa9", b"\t\xff", b"x\n", b"\r\n", b"\n") if word in ("settle", "once") else (b"x\n",)
             for text in pieces:
                 long = text * places.MOST_BYTES

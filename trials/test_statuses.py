@@ -5,6 +5,7 @@ import os
 import subprocess
 
 from disks import EMPTY, HEAD, OLD_EMPTY, SECOND, disk_of, old_form, slot, table_by_hand
+from known import TEXT_WORDS
 from program import PROGRAM, Server, Trial, grows_to, run
 
 NOT_EMPTY = "the file holds something; `--overwrite` makes it an empty disk all the same"
@@ -311,7 +312,7 @@ class Servings(Trial):
         disk = self.disk()
         folder = os.open(self.room, os.O_RDONLY)
         self.addCleanup(os.close, folder)
-        for words in (["settle"], ["once"], ["reduce"], ["trace"], ["draw"], ["expand"], ["serve", "--disk", disk]):
+        for words in (["serve", "--disk", disk], *([word] for word in TEXT_WORDS)):
             self.isnt_read(run(*words, stdin=folder), "is a folder")
             shell = ["-c", 'exec "$0" "$@" <&-', PROGRAM, *words]
             self.isnt_read(run(*shell, program="/bin/sh"), "error 9 of the system")
@@ -320,7 +321,7 @@ class Servings(Trial):
         """What came before is answered."""
         disk, wanted = self.disk(), "nothing is there yet, and it is set not to wait"
         cases = [(["serve", "--disk", disk], b"list\nlist\n", b"jobs\njobs\n"), (["serve", "--disk", disk], b"list", b"")]
-        cases += [([word], b"<|", b"") for word in ("settle", "once", "reduce", "trace", "draw", "expand")]
+        cases += [([word], b"<|", b"") for word in TEXT_WORDS]
         for words, given, out in cases:
             read, write = os.pipe2(os.O_NONBLOCK)
             try:
