@@ -9,6 +9,7 @@ CRATE = Path(__file__).resolve().parent.parent / "crates/ic_args"
 LAWS = CRATE / "src/laws.rt"
 PROOF = CRATE / "proofs/laws/each_command_has_its_help/Answers.antt"
 NAMED = CRATE / "proofs/help/named_help/Answers.antt"
+WORDS = CRATE / "specs/Words.antt"
 
 
 def plain(text):
@@ -25,6 +26,27 @@ def helps():
 def names():
     """The names of commands, each with the name of its help in the source, as `named_help` has them."""
     return re.findall(r'"(\w+)" => Some\((\w+)\),', (CRATE / "src/help.rt").read_text())
+
+
+def listed(name, pattern):
+    """What a pattern finds in a list of the definitions of words, in its order."""
+    return [it.lower() for it in re.findall(pattern, WORDS.read_text().split(f"\n{name} = ", 1)[1].split("\n\n", 1)[0])]
+
+
+def nested(proofs):
+    """The proof of a clause over a list, from those of its items."""
+    return "".join(f"({it}, " for it in proofs) + "tt" + ")" * len(proofs)
+
+
+def by_lists():
+    """The proofs of the clauses that go over lists: the help of each name, and what helps say of their names."""
+    text_words = listed("text_words", r"(\w+) ∷")
+    commands = listed("entries", r"(\w+)_entry") + text_words
+    return {
+        "named": "λ words. " + nested(["refl"] * len(names())),
+        "commands": nested([f"({helps()['program'].index(f'  {it}  ')}, refl)" for it in commands]),
+        "streams": nested([f"({helps()[it].index(f'icserve {it} [FILE]')}, refl)" for it in text_words]),
+    }
 
 
 def named():
@@ -45,7 +67,7 @@ def places(clause):
     if of_one:
         parts = re.findall(r'codes "((?:[^"\\]|\\.)*)"', clause)
         found = [f"({helps()[of_one[1]].index(plain(it))}, refl)" for it in parts]
-        return "".join(f"({it}, " for it in found) + "tt" + ")" * len(found)
+        return nested(found)
     found = re.findall(r'Says (\w+)_help \(codes "([^"]*)"\)', clause)
     return f"({', '.join(f'({helps()[name].index(part)}, refl)' for name, part in found)})" if found else None
 
@@ -55,7 +77,7 @@ def proof():
     law = LAWS.read_text().split("pub fn each_command_has_its_help", 1)[1].split("\n{}", 1)[0]
     text = PROOF.read_text()
     for clause in law.split("\n    ensures ")[1:]:
-        found = places(clause)
+        found = by_lists().get(clause.split()[0]) or places(clause)
         if found:
             name = re.escape(clause.split()[0])
             text = re.sub(rf"(?m)^(returns-clause-{name} c =) .*$", rf"\1 {found}", text)
@@ -72,10 +94,10 @@ def digest(text):
 
 def law():
     """The laws, with the digest of each help."""
-    text = LAWS.read_text()
-    for name, help_text in helps().items():
-        text = re.sub(rf"(?m)^(    ensures {name} \{{ digest {name}_help ≡) \d+ \}}$", rf"\1 {digest(help_text)} }}", text)
-    return text
+    digests = [f'(codes "{name}", {digest(helps()[text.lower()])})' for name, text in names()]
+    pairs = "\n        ∷ ".join([*digests, "[]"])
+    text = re.sub(r"(digest program_help ≡) \d+", rf"\1 {digest(helps()['program'])}", LAWS.read_text())
+    return re.sub(r"(digest p\.1\)\) helps)\s+≡[^}]*\}", lambda it: f"{it[1]}\n        ≡ {pairs} }}", text)
 
 
 def written():

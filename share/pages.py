@@ -51,11 +51,19 @@ class Help:
         return any(name.strip("[]<>.") in FILES for name, _ in self.arguments)
 
 
+# What else `help` tells of, beside the words.
+TOLD_OF = "language"
+
+
+def said(program, *words):
+    return subprocess.run([program, *words], check=True, capture_output=True, text=True).stdout
+
+
 def helps_of(program):
     """The program's help, and those of its words."""
 
     def asked(*words):
-        return Help(subprocess.run([program, *words, "--help"], check=True, capture_output=True, text=True).stdout)
+        return Help(said(program, *words, "--help"))
 
     top = asked()
     return top, {word: asked(word) for word in top.words()}
@@ -86,13 +94,14 @@ def shown(text):
     return [f".PP\n.nf\n{roff(text)}\n.fi"] if text else []
 
 
-def manual(version, top, words):
+def manual(version, top, words, told):
     page = [f'.TH ICSERVE 1 "" "{roff(version)}" "User Commands"', ".SH NAME", f"icserve \\- {roff(top.about[0].lower() + top.about[1:])}"]
     page += [".SH SYNOPSIS", f".B {roff(top.usage)}", ".SH COMMANDS", *items(top.words().items()), ".SH OPTIONS", *options_of(top)]
     for word, one in words.items():
         page += [f'.SH "ICSERVE {word.upper()}"', f".B {roff(one.usage)}", ".PP", roff(one.about) + "."]
         page += items((re.sub(r"[\[\]<>]", "", name), says) for name, says in one.arguments)
         page += options_of(one) + shown(one.more)
+    page += [f".SH {TOLD_OF.upper()}", *shown(told.rstrip("\n"))]
     return "\n".join(page + [".SH EXAMPLE"] + shown(top.more)) + "\n"
 
 
@@ -103,7 +112,7 @@ def bash(top, words):
     cases = []
     for word, one in words.items():
         flags = " ".join(it for option in one.options for it in (option.short, option.long) if it)
-        files, others = ("yes" if one.takes_files() else ""), ("$words" if word == "help" else "")
+        files, others = ("yes" if one.takes_files() else ""), (f'"$words {TOLD_OF}"' if word == "help" else "")
         cases.append(f'    {word}) flags="{flags}" files={files} others={others} ;;')
     before = []
     for word, option in ((word, it) for word, one in words.items() for it in one.options if it.value):
@@ -163,7 +172,7 @@ def zsh(top, words):
     lines += ["        _arguments " + " ".join(spec(it) for it in top.options), "        return", "    fi", "    local word=$words[2]"]
     lines += ["    shift words", "    (( CURRENT-- ))", "    case $word in"]
     for word, one in words.items():
-        rest = ["'*:file:_files'"] if one.takes_files() else ["'1:word:(" + " ".join(words) + ")'"] if word == "help" else []
+        rest = ["'*:file:_files'"] if one.takes_files() else ["'1:word:(" + " ".join([*words, TOLD_OF]) + ")'"] if word == "help" else []
         lines += [f"        {word})", "            _arguments " + " \\\n                ".join([spec(it) for it in one.options] + rest), "            ;;"]
     return "\n".join(lines + ["    esac", "}", "", '_icserve "$@"', ""])
 
@@ -188,7 +197,7 @@ def fish(top, words):
         if one.takes_files():
             lines.append(f"complete -c icserve -n '{condition}' -F")
         if word == "help":
-            lines.append(f"complete -c icserve -n '{condition}' -a '{' '.join(words)}'")
+            lines.append(f"complete -c icserve -n '{condition}' -a '{' '.join([*words, TOLD_OF])}'")
     return "\n".join(lines) + "\n"
 
 
@@ -198,9 +207,9 @@ def quoted_in_fish(text):
 
 def main(program, prefix):
     top, words = helps_of(program)
-    version = subprocess.run([program, "--version"], check=True, capture_output=True, text=True).stdout.strip()
+    version = said(program, "--version").strip()
     made = {
-        "man/man1/icserve.1": manual(version, top, words),
+        "man/man1/icserve.1": manual(version, top, words, said(program, "help", TOLD_OF)),
         "bash-completion/completions/icserve": bash(top, words),
         "zsh/site-functions/_icserve": zsh(top, words),
         "fish/vendor_completions.d/icserve.fish": fish(top, words),

@@ -201,23 +201,39 @@ Exit statuses:
   5  a step is still possible after the last interaction or round
   6  another process has the files of --keep or --resume
 
-The language:
-  {Add(x,x)><Z; Add(S(x),y)><S(Add(x,y))}  rules, separated by ;
-  <r|Add(r,S(Z))=S(Z)>      a configuration: its interface | its equations, separated by ,
-  x, y, r, a1               names: a small letter, maybe a number; in a rule each stands twice
-  Add, S, Z, 0              symbols: A to Z or 0 to 9 first; each has one number of arguments
-  Add(x,x)><Z               where Add meets Z, the two arguments of Add are joined
-  Add(S(x),y)><S(Add(x,y))  what stands at the argument of S is Add(x,y)
-  Add(r,n)=m                two agents fire where a rule has their symbols; r is the result
-  x=t                       t takes the place of the other x; a name that stands once is free
-A text has at most 65536 symbols, 2147483648 rules and nodes, 8589934592 bytes, and no
-comments, which icserve expand takes out.
+icserve help language tells how a text is written. It has at most 65536 symbols, 2147483648 rules
+and nodes, and 8589934592 bytes.
 With --rounds, as in jobs and other commands, it has at most 64 symbols, 256 rules, 8192 nodes,
 262144 bytes, and 64 terms before |.
 
 Example:
   $ echo '{Add(x,x)><Z; Add(S(x),y)><S(Add(x,y))} <r|Add(r,S(Z))=S(Z)>' > sum.ic
   $ icserve reduce sum.ic
+  <S(S(Z))|>
+";
+
+/// What `help language` shows.
+pub(crate) const LANGUAGE: &str = "\
+Tells how systems and configurations are written
+
+The language:
+  {Add(x,x)><Z; Add(S(x),y)><S(Add(x,y))}  rules, separated by ;
+  <r|Add(r,S(Z))=S(Z)>      a configuration: its interface | its equations, separated by ,
+  {..} <..|..>              a system: rules, or {}, and a configuration
+  x, y, r, a1               names: a small letter, maybe a number; in a rule each stands twice
+  Add, S, Z, 0              symbols: A to Z or 0 to 9 first; each has a fixed number of arguments
+  Add(x,x)><Z               where Add meets Z, the two arguments of Add are joined
+  Add(S(x),y)><S(Add(x,y))  what stands at the argument of S is Add(x,y)
+  Add(r,n)=S(m)             two agents meet: they fire where a rule has their symbols
+  x=t                       t takes the place of the other x; a name that stands once is free
+
+An agent meets what stands on the other side of an equation. So the sum of m and n is Add(r,n)=m,
+and comes out at r. In r=Add(m,n), or in another term, Add(m,n) only names a term: nothing fires.
+A text has no comments. icserve expand takes out those that begin with #, takes long names, and
+writes rules that copy and erase. icserve help reduce tells how large a text may be.
+
+Example:
+  $ echo '{Add(x,x)><Z; Add(S(x),y)><S(Add(x,y))} <r|Add(r,S(Z))=S(Z)>' | icserve reduce
   <S(S(Z))|>
 ";
 
@@ -236,7 +252,7 @@ Options:
   -h, --help             Print help
 
 A round fires all active pairs at once, and then removes names that only join two terms.
-Only reduce tells which pair is stuck, and whether a step is possible after the last round.
+icserve reduce tells which pair is stuck, and whether a step is possible after the last round.
 
 Example:
   $ echo '{Add(x,x)><Z; Add(S(x),y)><S(Add(x,y))} <r|Add(r,S(Z))=S(Z)>' | icserve trace | /usr/bin/expand
@@ -431,7 +447,7 @@ pub(crate) fn has_help(word: Option<&str>) -> bool
     }
 }
 
-/// The help of the command of this name, none where it names none. That of `reduce` tells the language.
+/// The help of the command of this name, none where it names none. The word `language` has one, too.
 fn named_help(word: &str) -> Option<&'static str>
     ensures { option_map (λ text. text.now) result ≡ named_help word.now }
 {
@@ -450,7 +466,7 @@ fn named_help(word: &str) -> Option<&'static str>
         "batch" => Some(BATCH),
         "expand" => Some(EXPAND),
         "help" => Some(HELP),
-        "language" => Some(REDUCE),
+        "language" => Some(LANGUAGE),
         _ => None,
     }
 }

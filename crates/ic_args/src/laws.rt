@@ -16,8 +16,8 @@ ghost use Rattle.ic_args.specs.declared.words.TextLimits.{TextLimits};
 ghost use Rattle.ic_args.specs.declared.words.FiguresFormat.{FiguresFormat};
 ghost use Rattle.ic_args.specs.declared.words.WordsFault.TheVariants.{Words, Memory};
 ghost use Rattle.ic_args.specs.Words.{AnswersWords, figures_word, format_word, limits_word, help_asked, mistakes_of, words_fault_number, IsDecimal, Names, report_word, commands, text_word, text_words};
-ghost use Rattle.ic_args.specs.Help.{help_by, help_of, Says, digest, program_help, help_help, settle_help, once_help, create_help, serve_help, attend_help};
-ghost use Rattle.ic_args.specs.Help.{batch_help, check_help, draw_help, dump_help, expand_help, inspect_help, reduce_help, trace_help};
+ghost use Rattle.ic_args.specs.Help.{help_by, help_of, helps, Says, digest, program_help, help_help, create_help, serve_help, attend_help};
+ghost use Rattle.ic_args.specs.Help.{batch_help, check_help, dump_help, inspect_help, reduce_help, trace_help};
 ghost use Rattle.ic_args.specs.Lines.{AreInPlace, AreOfRounds, Given, HasNoHyphen, IsAttendLine, IsBatchLine, IsCheckLine, IsCreateLine, IsDumpLine};
 ghost use Rattle.ic_args.specs.Lines.{IsInspectLine, IsReduceLine, IsServeLine, IsTextLine, IsTraceLine};
 
@@ -89,35 +89,14 @@ pub fn help_and_version_are_asked()
 /// It says how the command is called, with each option, its range and its default; the program's
 /// names the commands.
 pub fn each_command_has_its_help()
-    ensures settle { (words : List Text) → help_of (codes "settle" ∷ words) ≡ settle_help }
-    ensures once { (words : List Text) → help_of (codes "once" ∷ words) ≡ once_help }
-    ensures create { (words : List Text) → help_of (codes "create" ∷ words) ≡ create_help }
-    ensures serve { (words : List Text) → help_of (codes "serve" ∷ words) ≡ serve_help }
-    ensures attend { (words : List Text) → help_of (codes "attend" ∷ words) ≡ attend_help }
-    ensures reduce { (words : List Text) → help_of (codes "reduce" ∷ words) ≡ reduce_help }
-    ensures trace { (words : List Text) → help_of (codes "trace" ∷ words) ≡ trace_help }
-    ensures draw { (words : List Text) → help_of (codes "draw" ∷ words) ≡ draw_help }
-    ensures dump { (words : List Text) → help_of (codes "dump" ∷ words) ≡ dump_help }
-    ensures inspect { (words : List Text) → help_of (codes "inspect" ∷ words) ≡ inspect_help }
-    ensures check { (words : List Text) → help_of (codes "check" ∷ words) ≡ check_help }
-    ensures batch { (words : List Text) → help_of (codes "batch" ∷ words) ≡ batch_help }
-    ensures expand { (words : List Text) → help_of (codes "expand" ∷ words) ≡ expand_help }
-    ensures help { (words : List Text) → help_of (codes "help" ∷ words) ≡ help_help }
-    ensures language { (words : List Text) → help_of (codes "language" ∷ words) ≡ reduce_help }
+    ensures named { (words : List Text) → AllByRecursion (λ p. help_of (p.0 ∷ words) ≡ p.1) helps }
     ensures program { (word : Text) (words : List Text) → AllByRecursion (λ name. word ≢ name)
-        (codes "settle" ∷ codes "once" ∷ codes "create" ∷ codes "serve" ∷ codes "attend"
-        ∷ codes "reduce" ∷ codes "trace" ∷ codes "draw" ∷ codes "dump"
-        ∷ codes "inspect" ∷ codes "check" ∷ codes "batch" ∷ codes "expand" ∷ codes "help"
-        ∷ codes "language" ∷ []) → help_of (word ∷ words) ≡ program_help }
-    ensures commands { AllByRecursion (Says program_help) (codes "  settle  " ∷ codes "  once  "
-        ∷ codes "  create  " ∷ codes "  serve  " ∷ codes "  attend  "
-        ∷ codes "  reduce  " ∷ codes "  trace  " ∷ codes "  draw  " ∷ codes "  dump  "
-        ∷ codes "  inspect  " ∷ codes "  check  " ∷ codes "  batch  " ∷ codes "  expand  " ∷ codes "  help  "
-        ∷ codes "-h, --help" ∷ codes "-V, --version" ∷ []) }
-    ensures streams { Says settle_help (codes "icserve settle [FILE]")
-        × Says once_help (codes "icserve once [FILE]") × Says draw_help (codes "icserve draw [FILE]")
-        × Says expand_help (codes "icserve expand [FILE]")
-        × Says reduce_help (codes "[FILE]") × Says trace_help (codes "[FILE]")
+        (map (λ p. p.0) helps) → help_of (word ∷ words) ≡ program_help }
+    ensures commands { AllByRecursion (λ name. Says program_help (codes "  " ++ name ++ codes "  ")) commands }
+    ensures options { AllByRecursion (Says program_help) (codes "-h, --help" ∷ codes "-V, --version" ∷ []) }
+    ensures streams { AllByRecursion (λ word. Says (help_of (text_word word ∷ []))
+        (codes "icserve " ++ text_word word ++ codes " [FILE]")) text_words }
+    ensures words { Says reduce_help (codes "[FILE]") × Says trace_help (codes "[FILE]")
         × Says help_help (codes "icserve help [WORD]") }
     ensures rounds { AllByRecursion (Says reduce_help) (codes "icserve reduce" ∷ codes "--rounds <N>"
         ∷ codes "from 0 to 4611686018427387904"
@@ -162,20 +141,23 @@ pub fn each_command_has_its_help()
 /// here is another one too.
 pub fn each_help_has_its_digest()
     ensures program { digest program_help ≡ 2193908877286253835 }
-    ensures settle { digest settle_help ≡ 931219200271934001 }
-    ensures once { digest once_help ≡ 1394801555228910466 }
-    ensures create { digest create_help ≡ 1291611657193787632 }
-    ensures serve { digest serve_help ≡ 929575633331203873 }
-    ensures attend { digest attend_help ≡ 1668646222601145556 }
-    ensures reduce { digest reduce_help ≡ 1495628207130733388 }
-    ensures trace { digest trace_help ≡ 749994876165703132 }
-    ensures draw { digest draw_help ≡ 2041493995027470377 }
-    ensures dump { digest dump_help ≡ 932412384161095633 }
-    ensures inspect { digest inspect_help ≡ 701881722799012749 }
-    ensures check { digest check_help ≡ 1077786187809080752 }
-    ensures batch { digest batch_help ≡ 2076966897777228702 }
-    ensures expand { digest expand_help ≡ 1377817142407763554 }
-    ensures help { digest help_help ≡ 1627113604630027952 }
+    ensures commands { map {B = Text × ℕ} (λ p. (p.0, digest p.1)) helps
+        ≡ (codes "settle", 931219200271934001)
+        ∷ (codes "once", 1394801555228910466)
+        ∷ (codes "create", 1291611657193787632)
+        ∷ (codes "serve", 929575633331203873)
+        ∷ (codes "attend", 1668646222601145556)
+        ∷ (codes "reduce", 210551545449908613)
+        ∷ (codes "trace", 799278808976956339)
+        ∷ (codes "draw", 2041493995027470377)
+        ∷ (codes "dump", 932412384161095633)
+        ∷ (codes "inspect", 701881722799012749)
+        ∷ (codes "check", 1077786187809080752)
+        ∷ (codes "batch", 2076966897777228702)
+        ∷ (codes "expand", 1377817142407763554)
+        ∷ (codes "help", 1627113604630027952)
+        ∷ (codes "language", 2291029144940344194)
+        ∷ [] }
 {}
 
 /// A well-formed line of a command that reads a text and has no option is taken, and names the command, and the FILE that

@@ -6,11 +6,20 @@ use Rattle.ic_args.proofs.laws.each_command_has_its_help.Goals as goal
 pub returns-clause-program : goal.returns-clause-program
 returns-clause-program c = λ word words others. ap (λ o. unwrap_or o program_help) (no_help_named word others)
 
+pub returns-clause-named : goal.returns-clause-named
+returns-clause-named c = λ words. (refl, (refl, (refl, (refl, (refl, (refl, (refl, (refl, (refl, (refl, (refl, (refl, (refl, (refl, (refl, tt)))))))))))))))
+
 pub returns-clause-commands : goal.returns-clause-commands
-returns-clause-commands c = ((430, refl), ((373, refl), ((703, refl), ((745, refl), ((819, refl), ((140, refl), ((218, refl), ((287, refl), ((1002, refl), ((1078, refl), ((498, refl), ((910, refl), ((584, refl), ((1160, refl), ((1337, refl), ((1365, refl), tt))))))))))))))))
+returns-clause-commands c = ((703, refl), ((745, refl), ((819, refl), ((140, refl), ((218, refl), ((1002, refl), ((1078, refl), ((498, refl), ((910, refl), ((1160, refl), ((430, refl), ((373, refl), ((287, refl), ((584, refl), tt))))))))))))))
 
 pub returns-clause-streams : goal.returns-clause-streams
-returns-clause-streams c = ((90, refl), (65, refl), (70, refl), (100, refl), (106, refl), (96, refl), (55, refl))
+returns-clause-streams c = ((90, refl), ((65, refl), ((70, refl), ((100, refl), tt))))
+
+pub returns-clause-options : goal.returns-clause-options
+returns-clause-options c = ((1337, refl), ((1365, refl), tt))
+
+pub returns-clause-words : goal.returns-clause-words
+returns-clause-words c = ((106, refl), (96, refl), (55, refl))
 
 pub returns-clause-rounds : goal.returns-clause-rounds
 returns-clause-rounds c = ((81, refl), ((1261, refl), ((1314, refl), ((1350, refl), ((1378, refl), tt)))))
