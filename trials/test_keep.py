@@ -59,6 +59,11 @@ def torn(draw, old, new):
     return draw.choice([*drawn, draw.randbytes(len(new))])
 
 
+def second_missing(path):
+    """What is told of a file of a reduction whose second file isn't there."""
+    return f"{path}: it can't be resumed without its second file, {path}.2: bring that back, or name the first file if this is the second one"
+
+
 def turned(state):
     """A state whose numbers have their lowest byte first, as another machine might write it. Its letters and its text stay."""
     rules, words = struct.unpack(">2Q", state[32:48])
@@ -148,11 +153,23 @@ class Keep(Stops):
             told = self.inspected()
             self.equals(self.file, "what is told", (most, most == total), (told["interactions"], told["ended"]))
         # A file whose second one isn't there, as F.2 itself.
-        alone = "it is one of the two files of a reduction, and no disk: `icserve reduce --resume F` goes on with F, without .2"
         for path in (self.second, self.file):
             lines = [seen(1, path.read_bytes())[0], "file 2: missing", "held: file 1"]
-            self.runs("inspect", "--disk", path, out=lines, err=[f"{path}: {alone}"])
+            self.runs("inspect", "--disk", path, out=lines, err=[second_missing(path)])
+            ran = run("reduce", "--resume", path)
+            told = f"{path}.2: open: no such file or folder\n{second_missing(path)}\n"
+            self.equals(ran.command, "the end", (3, b"icserve: device\n", told), (ran.status, ran.err, ran.after.decode()))
             self.second.unlink(missing_ok=True)
+
+    def test_a_file_that_is_lost_is_made_anew(self):
+        run("reduce", "--keep", self.file, "--steps", 9, given=ackermann(2))
+        run("reduce", "--resume", self.file, "--steps", 30)
+        whole = self.contents()
+        # What the other file has is at most one keep older.
+        for place, kept in ((0, {9, 30}), (1, {9, 30})):
+            self.put(bytes(HEAD) if it == place else whole[it] for it in (0, 1))
+            self.equals(self.file, "interactions that are kept", True, self.kept() in kept)
+            self.agree(run("reduce", "--resume", self.file, *FIGURES), self.whole(ackermann(2)))
 
     def test_what_is_not_asked_for_is_not_printed(self):
         self.runs("reduce", "--keep", self.file, "--quiet-answer", given=ackermann(2))
@@ -160,8 +177,8 @@ class Keep(Stops):
             self.clear()
             ran = run("reduce", "--keep", self.file, *words, given=church(14))
             self.equals(ran.command, "the end", (1, b"icserve: overgrown\n"), (ran.status, ran.err))
-            told = b"the net is kept: `icserve reduce --resume F` goes on with it, given a greater --nodes\n"
-            self.equals(ran.command, "whether it is told that the net is kept", True, ran.after.endswith(b"\n" + told))
+            told = f"the net is kept: `icserve reduce --resume {self.file}` goes on with it, given a greater --nodes\n"
+            self.equals(ran.command, "whether it is told that the net is kept", True, ran.after.decode().endswith(f"\n{told}"))
             self.equals(ran.command, "whether a line is printed", "--partial" in words, ran.out.count(b"\n") == 1)
         self.agree(run("reduce", "--resume", self.file, *FIGURES), self.whole(church(14)))
 
@@ -190,7 +207,8 @@ class Keep(Stops):
         before = self.contents()
         ran = run("reduce", "--keep", self.file, given=ackermann(2))
         self.equals(ran.command, "the end", (3, b"icserve: not empty\n"), (ran.status, ran.err))
-        self.equals(ran.command, "whether --resume is told of", True, b"`--resume F`" in ran.after)
+        told = f"{self.file}: it or its second file, {self.second}, holds something; `reduce --resume` goes on if a reduction is kept there\n"
+        self.equals(ran.command, "what is told", told, ran.after.decode())
         self.equals(ran.command, "what the files hold", before, self.contents())
 
     def test_a_refused_text_makes_no_file(self):
@@ -205,13 +223,14 @@ class Keep(Stops):
         disk = self.disk("net.keep")
         ran = run("reduce", "--resume", disk)
         self.equals(ran.command, "the end", (3, b"icserve: device\n"), (ran.status, ran.err))
-        told = f"{disk}.2: open: no such file or folder\n{disk}: no reduction is kept in it, since its second file isn't there; "
-        self.equals(ran.command, "what is told of the second file", f"{told}--resume takes F, and not F.2\n", ran.after.decode())
+        told = f"{disk}.2: open: no such file or folder\n{second_missing(disk)}\n"
+        self.equals(ran.command, "what is told of the second file", told, ran.after.decode())
         for contents in ((b"", b""), (bytes(HEAD), bytes(HEAD)), (b"\1" * 40, b""), (b"\1" * 40, bytes(HEAD)), (b"text", b"text")):
             self.put(contents)
             ran = run("reduce", "--resume", self.file)
             self.equals(ran.command, f"status of {contents}; it said {ran.err}", 3, ran.status)
             self.equals(ran.command, "whether it is told to begin again", True, ran.after.endswith(b"begin again\n"))
+            self.equals(ran.command, "whether the second file is named", True, f"its second file, {self.second}, " in ran.after.decode())
             self.equals(ran.command, "what the files hold", list(contents), self.contents())
         # What is kept is read whole: a file that was cut, or whose state is another.
         self.clear()

@@ -50,21 +50,29 @@ not_empty = codes "the file holds something; `--overwrite` makes it an empty dis
 abbrev pub not_as_left : List ℕ
 not_as_left = codes "something else has changed the file, or it was copied in part"
 
+-- this, then the path of a reduction's second file, and then this
+abbrev pub around_second : (path before after : List ℕ) → List ℕ
+around_second path before after = before ++ (shown_path path ++ (codes ".2" ++ after))
+
 -- of files of which one isn't empty
-abbrev pub not_both_empty : List ℕ
-not_both_empty =
-    codes "it or its second file, F.2, holds something; `--resume F` goes on if a reduction is kept there"
+abbrev pub not_both_empty : (path : List ℕ) → List ℕ
+not_both_empty path = around_second path (codes "it or its second file, ")
+    (codes ", holds something; `reduce --resume` goes on if a reduction is kept there")
 
 -- of files in which no reduction is kept
-abbrev pub nothing_kept : List ℕ
-nothing_kept =
-    codes "no reduction is kept in it and in its second file, F.2, as after a stop in the first keep: "
-    ++ codes "remove both, and begin again"
+abbrev pub nothing_kept : (path : List ℕ) → List ℕ
+nothing_kept path = around_second path (codes "no reduction is kept in it and in its second file, ")
+    (codes ", as after a stop in the first keep: remove both, and begin again")
 
 -- of files that no reduction has left so which goes on
-abbrev pub not_as_kept : List ℕ
-not_as_kept = codes "something else has changed it or its second file, F.2, or they were copied in part; "
-    ++ codes "after a stop in the first keep, remove both, and begin again"
+abbrev pub not_as_kept : (path : List ℕ) → List ℕ
+not_as_kept path = around_second path (codes "something else has changed it or its second file, ")
+    (codes ", or they were copied in part; after a stop in the first keep, remove both, and begin again")
+
+-- of a file without the second one
+abbrev pub no_second : (path : List ℕ) → List ℕ
+no_second path = around_second path (codes "it can't be resumed without its second file, ")
+    (codes ": bring that back, or name the first file if this is the second one")
 
 -- the line that says this of the file of a path
 abbrev pub shown_of : (path words : List ℕ) → List ℕ
@@ -192,25 +200,20 @@ keep_lines keep.Device path cause = cause_line path cause
 -- where no state is found in two files
 abbrev pub found_lines : OpenCause → List ℕ → Option Cause → List ℕ
 found_lines opening.Device path cause = cause_line path cause
-found_lines opening.NoSlot path cause = shown_of path nothing_kept
-found_lines opening.TwoAlike path cause = shown_of path not_as_kept
-found_lines opening.Damaged path cause = shown_of path not_as_kept
+found_lines opening.NoSlot path cause = shown_of path (nothing_kept path)
+found_lines opening.TwoAlike path cause = shown_of path (not_as_kept path)
+found_lines opening.Damaged path cause = shown_of path (not_as_kept path)
 found_lines opening.Memory path cause = []
 
 -- where a reduction that is kept doesn't go on
 abbrev pub kept_lines : KeepingFault → List ℕ → Option Cause → List ℕ
-kept_lines keeping.NotEmpty path cause = shown_of path not_both_empty
+kept_lines keeping.NotEmpty path cause = shown_of path (not_both_empty path)
 kept_lines keeping.Device path cause = cause_line path cause
 kept_lines (keeping.Open fault) path cause = found_lines fault path cause
-kept_lines keeping.Unsound path cause = shown_of path not_as_kept
+kept_lines keeping.Unsound path cause = shown_of path (not_as_kept path)
 kept_lines keeping.Limit path cause = []
 kept_lines keeping.Memory path cause = []
 kept_lines (keeping.Keep fault) path cause = keep_lines fault path cause
-
--- of a file without the second one
-abbrev pub no_second : List ℕ
-no_second = codes "no reduction is kept in it, since its second file isn't there; "
-    ++ codes "--resume takes F, and not F.2"
 
 -- whether a call found no second file
 abbrev pub is_no_second : Target → Reason → Bool
@@ -225,7 +228,7 @@ finds_no_second (Some cause) = is_no_second cause.target cause.reason
 -- where a file can't be opened
 abbrev pub disk_lines : List ℕ → Option Cause → List ℕ
 disk_lines path cause = if finds_no_second cause
-    then cause_line path cause ++ shown_of path no_second
+    then cause_line path cause ++ shown_of path (no_second path)
     else cause_line path cause
 
 -- how far a net has come that is reduced in place

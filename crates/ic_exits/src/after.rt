@@ -4,7 +4,8 @@
 ghost use Rattle.std.specs.Prelude.{◌≡◌, IfOk};
 ghost use Rattle.ic_exits.specs.After.{book_lines, create_lines, ends_without_reader, is_of_writing, is_silent, lines_after, open_lines, scripts_lines};
 ghost use Rattle.ic_exits.specs.After.{batch_lines, input_lines, inspect_lines, nodes_words, overgrown_lines, reached_lines, reached_text, round_lines};
-ghost use Rattle.ic_exits.specs.After.{disk_lines, finds_no_second, found_lines, keep_lines, kept_lines};
+ghost use Rattle.ic_exits.specs.After.{around_second, disk_lines, finds_no_second, found_lines, keep_lines, kept_lines};
+ghost use Rattle.ic_exits.specs.After.{no_second, not_as_kept};
 ghost use Rattle.ic_exits.specs.After.{serve_lines, shown_of, stream_lines, taken_words};
 
 use crate::{Failure, Reached};
@@ -35,24 +36,6 @@ const NOT_AS_LEFT: &[u8] = b"something else has changed the file, or it was copi
 
 /// What is said of a disk that has no room.
 const NO_ROOM: &[u8] = b"it has jobs of other names, and no disk has more than 32";
-
-/// What is said of files of which one isn't empty.
-const NOT_BOTH_EMPTY: &[u8] =
-    b"it or its second file, F.2, holds something; `--resume F` goes on if a reduction is kept there";
-
-/// What is said of files in which no reduction is kept.
-const NOTHING_KEPT: &[u8] =
-    b"no reduction is kept in it and in its second file, F.2, as after a stop in the first keep: \
-remove both, and begin again";
-
-/// What is said of a file without the second one.
-const NO_SECOND: &[u8] =
-    b"no reduction is kept in it, since its second file isn't there; --resume takes F, and not F.2";
-
-/// What is said of files that no reduction has left so which goes on.
-const NOT_AS_KEPT: &[u8] =
-    b"something else has changed it or its second file, F.2, or they were copied in part; \
-after a stop in the first keep, remove both, and begin again";
 
 impl Failure {
     /// Whether nothing is told of the failure, where this call has failed last: nobody reads the answers
@@ -225,7 +208,7 @@ fn disk_lines(alloc: Global, path: &[u8], cause: Option<Cause>) -> Result<Vec<u8
 {
     let mut lines = cause_line(alloc, path, cause)?;
     if finds_no_second(cause) {
-        let more = said_of(alloc, path, NO_SECOND)?;
+        let more = second_missing(alloc, path)?;
         lines.extend_from_slice(&more)?;
     }
     Ok(lines)
@@ -250,10 +233,15 @@ fn kept_lines(
     ensures { IfOk result (λ lines. lines.items ≡ kept_lines fault path.now cause) }
 {
     match fault {
-        KeepingFault::NotEmpty => said_of(alloc, path, NOT_BOTH_EMPTY),
+        KeepingFault::NotEmpty => said_of_both(
+            alloc,
+            path,
+            b"it or its second file, ",
+            b", holds something; `reduce --resume` goes on if a reduction is kept there",
+        ),
         KeepingFault::Device => cause_line(alloc, path, cause),
         KeepingFault::Open(refused) => found_lines(alloc, refused, path, cause),
-        KeepingFault::Unsound => said_of(alloc, path, NOT_AS_KEPT),
+        KeepingFault::Unsound => not_as_kept(alloc, path),
         KeepingFault::Limit | KeepingFault::Memory => Ok(Vec::new(alloc)),
         KeepingFault::Keep(refused) => keep_lines(alloc, refused, path, cause),
     }
@@ -269,10 +257,27 @@ fn found_lines(
 {
     match fault {
         OpenCause::Device => cause_line(alloc, path, cause),
-        OpenCause::NoSlot => said_of(alloc, path, NOTHING_KEPT),
-        OpenCause::TwoAlike | OpenCause::Damaged => said_of(alloc, path, NOT_AS_KEPT),
+        OpenCause::NoSlot => said_of_both(
+            alloc,
+            path,
+            b"no reduction is kept in it and in its second file, ",
+            b", as after a stop in the first keep: remove both, and begin again",
+        ),
+        OpenCause::TwoAlike | OpenCause::Damaged => not_as_kept(alloc, path),
         OpenCause::Memory => Ok(Vec::new(alloc)),
     }
+}
+
+/// What is said of files that no reduction has left so which goes on.
+fn not_as_kept(alloc: Global, path: &[u8]) -> Result<Vec<u8>, AllocError>
+    ensures { IfOk result (λ line. line.items ≡ shown_of path.now (not_as_kept path.now)) }
+{
+    said_of_both(
+        alloc,
+        path,
+        b"something else has changed it or its second file, ",
+        b", or they were copied in part; after a stop in the first keep, remove both, and begin again",
+    )
 }
 
 fn keep_lines(
@@ -391,6 +396,35 @@ fn taken_words(difference: Difference) -> &'static [u8]
         Difference::Budget => b"its job of this name has another budget",
         Difference::Start => b"its job of this name begins with another configuration",
     }
+}
+
+/// The line that says of the file of this path that no reduction goes on with it, since its second file is missing.
+pub fn second_missing(alloc: Global, path: &[u8]) -> Result<Vec<u8>, AllocError>
+    ensures { IfOk result (λ line. line.items ≡ shown_of path.now (no_second path.now)) }
+{
+    said_of_both(
+        alloc,
+        path,
+        b"it can't be resumed without its second file, ",
+        b": bring that back, or name the first file if this is the second one",
+    )
+}
+
+/// The line that says this of the file of a path, with the path of its second file between.
+fn said_of_both(
+    alloc: Global,
+    path: &[u8],
+    before: &[u8],
+    after: &[u8],
+) -> Result<Vec<u8>, AllocError>
+    ensures { IfOk result
+        (λ line. line.items ≡ shown_of path.now (around_second path.now before.now after.now)) }
+{
+    let mut words = before.to_vec(alloc)?;
+    words.extend_from_slice(&shown_path(alloc, path)?)?;
+    words.extend_from_slice(b".2")?;
+    words.extend_from_slice(after)?;
+    said_of(alloc, path, &words)
 }
 
 /// The line that says this of the file of a path.

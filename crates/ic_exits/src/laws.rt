@@ -284,17 +284,18 @@ pub fn endings_of_kept_reductions_are()
         ∷ codes "no slot" ∷ codes "damaged" ∷ codes "limit" ∷ codes "memory" ∷ codes "device" ∷ []) }
     ensures not_empty { (path : List ℕ) (cause : Option Cause)
         → lines_after (Kept keeping.NotEmpty) path cause ≡ shown_path path ++ codes ": "
-        ++ codes "it or its second file, F.2, holds something; `--resume F` goes on if a reduction is kept there"
-        ++ 10 ∷ [] }
+        ++ codes "it or its second file, " ++ shown_path path ++ codes ".2, holds something; "
+        ++ codes "`reduce --resume` goes on if a reduction is kept there" ++ 10 ∷ [] }
     ensures nothing_kept { (path : List ℕ) (cause : Option Cause)
         → lines_after (Kept (keeping.Open opening.NoSlot)) path cause ≡ shown_path path
         ++ codes ": "
-        ++ codes "no reduction is kept in it and in its second file, F.2, "
-        ++ codes "as after a stop in the first keep: remove both, and begin again"
+        ++ codes "no reduction is kept in it and in its second file, " ++ shown_path path
+        ++ codes ".2, as after a stop in the first keep: remove both, and begin again"
         ++ 10 ∷ [] }
     ensures unsound { (path : List ℕ) (cause : Option Cause)
         → lines_after (Kept keeping.Unsound) path cause ≡ shown_path path ++ codes ": "
-        ++ codes "something else has changed it or its second file, F.2, or they were copied in part; "
+        ++ codes "something else has changed it or its second file, " ++ shown_path path
+        ++ codes ".2, or they were copied in part; "
         ++ codes "after a stop in the first keep, remove both, and begin again"
         ++ 10 ∷ [] }
     ensures damaged { (path : List ℕ) (cause : Option Cause)
@@ -319,8 +320,8 @@ pub fn endings_of_kept_reductions_are()
           call = c;
           reason = reason.Missing;
         })) ++ shown_path path ++ codes ": "
-        ++ codes "no reduction is kept in it, since its second file isn't there; "
-        ++ codes "--resume takes F, and not F.2"
+        ++ codes "it can't be resumed without its second file, " ++ shown_path path
+        ++ codes ".2: bring that back, or name the first file if this is the second one"
         ++ 10 ∷ [] }
 {}
 

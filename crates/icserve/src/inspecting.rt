@@ -6,7 +6,7 @@ use crate::standing::stand_ins;
 use ic_args::ReportFormat;
 use ic_causes::{NotedFile, NotedFiles, NotedOutput, Notes, Target};
 use ic_disk::{DiskFault, open_plain};
-use ic_exits::Failure;
+use ic_exits::{Failure, second_missing};
 use ic_frames::{HEAD, SECOND_AT};
 use ic_inspect::{InspectFault, Layout, read_slots};
 use std::fs::OpenOptions;
@@ -55,7 +55,7 @@ fn inspect_kept(
         if kept::are_same(&seen, &again) {
             kept::tell(rt, &again, format, notes)?;
             if again.is_alone() {
-                tell_other(rt, path);
+                tell_alone(rt, path);
             }
             return Ok(());
         }
@@ -88,6 +88,13 @@ fn look(rt: &HostRuntime, path: &str, layout: Layout, notes: &Notes) -> Result<b
         }
         Err(InspectFault::Changed) => Ok(false),
         Err(fault) => Err(Failure::Inspect(fault)),
+    }
+}
+
+/// Tells on standard error that no reduction goes on with the file of this path alone.
+fn tell_alone(rt: &HostRuntime, path: &str) {
+    if let Ok(line) = second_missing(rt.alloc(), path.as_bytes()) {
+        let _ = rt.stderr().write_all(&line);
     }
 }
 

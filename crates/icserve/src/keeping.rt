@@ -2,7 +2,7 @@
 
 use crate::reducing::{Wanted, tell_end, time_since};
 use crate::{NotedDisk, open_disk, open_disk_as};
-use ic_causes::{Cause, NotedOutput, Notes, Reason, Target};
+use ic_causes::{Cause, NotedOutput, Notes, Reason, Target, shown_path};
 use ic_diagnostics::{Kind, refused_within};
 use ic_disk::Disk;
 use ic_exits::Failure;
@@ -13,12 +13,9 @@ use ic_progress::Watching;
 use ic_state::State;
 use ic_streams::{StreamFault, read_text_within, write_line};
 use ic_text::Limits;
+use std::alloc::AllocError;
 use std::io::{self, Read};
 use std::time::{Duration, Instant};
-
-/// What is told of a net that is kept and has too many places.
-const KEPT: &[u8] =
-    b"the net is kept: `icserve reduce --resume F` goes on with it, given a greater --nodes\n";
 
 /// Where a reduction is kept, and how often.
 #[derive(Clone, Copy, Debug)]
@@ -65,9 +62,17 @@ pub(crate) fn reduce<R: Read>(
     let (ended, _keeper) = live_over(rt, first, second, bounds, pace, wanted.asked)?;
     let done = tell(rt, ended, bounds, wanted, notes);
     if matches!(done, Err(Failure::Overgrown(_, _))) {
-        let _ = told.extend_from_slice(KEPT);
+        let _ = tell_kept(rt, kept.path, told);
     }
     done
+}
+
+/// Tells of a net that is kept in the file of this path and has too many places.
+fn tell_kept(rt: &HostRuntime, path: &str, told: &mut Vec<u8>) -> Result<(), AllocError> {
+    let path = shown_path(rt.alloc(), path.as_bytes())?;
+    told.extend_from_slice(b"the net is kept: `icserve reduce --resume ")?;
+    told.extend_from_slice(&path)?;
+    told.extend_from_slice(b"` goes on with it, given a greater --nodes\n")
 }
 
 /// Lives with the reduction that is kept on two disks, however it began, until it ends. How far it has come is told on
