@@ -161,10 +161,15 @@ class Session(Trial):
         return ran.command, ran.out, bytes(shown.came) if err else ran.err
 
     def test_with_a_terminal_on_both_sides_there_is_a_prompt_for_each_line(self):
-        command, out, shown = self.typed(["help", "list", "", "fetch two"])
-        self.agrees(command, "standard output", as_lines(["bad syntax", "jobs", "refused nojob"]), out)
-        prompted = f"> line 1, column 1: bad syntax: {LINES}\n> > > > \n"
-        self.agrees(command, "the terminal", prompted, shown)
+        # Help is told, and no answer is printed.
+        for word in ("help", "?"):
+            command, out, shown = self.typed(["list", word, "", "fetch two"])
+            self.agrees(command, "standard output", as_lines(["jobs", "refused nojob"]), out)
+            self.agrees(command, "the terminal", f"> > line 2, column 1: bad syntax: {LINES}\n> > > \n", shown)
+        command, out, shown = self.typed(["help me", "helps"])
+        self.agrees(command, "standard output", as_lines(["bad syntax", "bad syntax"]), out)
+        told = TOLD[0].replace("line 1", "line 2")
+        self.agrees(command, "the terminal", f"> line 1, column 1: bad syntax: {LINES}\n> {told}\n> \n", shown)
 
     def test_a_terminal_from_which_a_text_is_read_is_told_so(self):
         told = "icserve: a text is read from here; Ctrl-D on an empty line ends it\n"

@@ -9,9 +9,15 @@ use std::io::{self, IsTerminal, Read, Write};
 /// What a terminal is shown where a line is awaited.
 const PROMPT: &[u8] = b"> ";
 
+/// The lines that ask for help.
+const HELP: &[u8] = b"help\n";
+
+const MARK: &[u8] = b"?\n";
+
 /// The lines of a session, as they are read. Before it reads on, and at its end, standard error is told of those that
 /// are refused, where that is asked for or standard error is a terminal. Whoever serves the lines has answered them and
-/// flushed the answers by then. Where standard input is a terminal too, it shows a prompt.
+/// flushed the answers by then. Where standard input is a terminal too, it shows a prompt, and a line that asks for help
+/// is served as a blank one, which isn't answered.
 #[derive(Drop)]
 pub(crate) struct Session<'a, R> {
     rt: &'a HostRuntime,
@@ -73,6 +79,11 @@ impl<'a, R> Session<'a, R> {
         }
     }
 
+    /// Whether these bytes are a line at a prompt that asks for help.
+    fn asks_help(&self, bytes: &[u8]) -> bool {
+        self.is_prompted && (bytes == HELP || bytes == MARK)
+    }
+
     /// Keeps what was read. At the end of the input the line of the prompt ends, too.
     fn keep(&mut self, bytes: &[u8]) {
         if bytes.is_empty() && self.is_prompted {
@@ -85,13 +96,26 @@ impl<'a, R> Session<'a, R> {
     }
 }
 
+/// Makes a line a blank one.
+fn blank(line: &mut [u8]) {
+    for byte in line {
+        if *byte != b'\n' {
+            *byte = b' ';
+        }
+    }
+}
+
 impl<R: Read> Read for Session<'_, R> {
     fn read(&mut self, buf: &mut [u8]) -> io::Result<usize> {
         let whole = self.kept.len().saturating_sub(last_line(&self.kept).len());
         self.tell(whole);
         self.prompt();
         let count = self.input.read(buf)?;
+        let asks_help = self.asks_help(&buf[..count]);
         self.keep(&buf[..count]);
+        if asks_help {
+            blank(&mut buf[..count]);
+        }
         Ok(count)
     }
 }
