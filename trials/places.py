@@ -172,8 +172,10 @@ def fault_of_names_and_rules(reader):
         at = miscounted(left + right)
         if at is not None:
             text = next(text for place, text, *_ in left + right if place == at).decode()
-            often = "stands once" if [it[1].decode() for it in left + right].count(text) == 1 else "stands here for the third time"
-            return "namecount", at, f"rule {number}: in a rule each name stands exactly twice: {text} {often}"
+            is_once = [it[1].decode() for it in left + right].count(text) == 1
+            often, does = ("stands once", "erase") if is_once else ("stands here for the third time", "copy")
+            told = f"{text} {often}; `icserve expand` writes rules that {does}"
+            return "namecount", at, f"rule {number}: in a rule each name stands exactly twice: {told}"
     seen = {}
     for at, text, form, _ in reader.words[reader.before :]:
         seen[text] = seen.get(text, 0) + (form is NAME)

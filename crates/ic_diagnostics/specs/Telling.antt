@@ -218,10 +218,10 @@ IsOfArities {P} IsOne words written text at symbol before here =
     × (slice_get (all_words (written phrase)) word
     ≡ Some (record { text = symbol; arity = here }))
 
--- how often a name that is told stands in a rule
+-- how often a name that is told stands in a rule, and what makes it stand twice
 abbrev pub count_words : Bool → List ℕ
-count_words false = codes " stands once"
-count_words true = codes " stands here for the third time"
+count_words false = codes " stands once; `icserve expand` writes rules that erase"
+count_words true = codes " stands here for the third time; `icserve expand` writes rules that copy"
 
 -- what is amiss where a name stands in a rule for the only time, or again and for the third time
 abbrev pub namecount_sentence : (name : List ℕ) → (again : Bool) → List ℕ

@@ -265,10 +265,12 @@ pub fn comments_are_told()
 pub fn miscounts_are_told()
     ensures once { sentence System (codes "{A(x)><B} <x|>") (NameCount 0) 3 Nothing
         ≡ codes "rule " ++ decimal 1
-        ++ codes ": in a rule each name stands exactly twice: x stands once" }
+        ++ codes ": in a rule each name stands exactly twice: x stands once; "
+        ++ codes "`icserve expand` writes rules that erase" }
     ensures third { sentence System (codes "{A(x)><B(x);C(x1,x)><D(x1,S(x),x)} <|>") (NameCount 1) 31 Nothing
         ≡ codes "rule " ++ decimal 2
-        ++ codes ": in a rule each name stands exactly twice: x stands here for the third time" }
+        ++ codes ": in a rule each name stands exactly twice: x stands here for the third time; "
+        ++ codes "`icserve expand` writes rules that copy" }
     ensures again { (text : List ℕ) (at i : ℕ) → sentence System text (NameCount i) at Nothing
         ≡ of_rule i (namecount_sentence (first_word (drop at text)) (is_again text at)) }
     ensures twice { (text : List ℕ) (at i : ℕ) → sentence System text (Twice i) at Nothing

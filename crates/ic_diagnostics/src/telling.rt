@@ -312,14 +312,14 @@ fn namecount_sentence(alloc: Global, name: &[u8], again: bool) -> Result<Vec<u8>
     Ok(sentence)
 }
 
-/// How often a name that is told stands in a rule.
+/// How often a name that is told stands in a rule, and what makes it stand twice.
 fn count_words(again: bool) -> &'static [u8]
     ensures { result.now ≡ count_words again }
 {
     if again {
-        b" stands here for the third time"
+        b" stands here for the third time; `icserve expand` writes rules that copy"
     } else {
-        b" stands once"
+        b" stands once; `icserve expand` writes rules that erase"
     }
 }
 
