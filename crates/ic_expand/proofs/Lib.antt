@@ -7,3 +7,4 @@ pub mod Plain
 pub mod GenericLemmas
 pub mod Within
 pub mod Streaming
+pub mod RuleLemmas

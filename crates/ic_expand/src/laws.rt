@@ -1,20 +1,29 @@
 //! What is proved of the definitions alone: each law is the contract of a function that does nothing.
 
-ghost use Rattle.std.specs.Prelude.{◌≡◌, ◌≤◌, ◌==◌, ℕ, List, [], ◌∷◌, ◌++◌, Ok, Err, false, true, codes, length};
+ghost use Rattle.std.specs.Prelude.{◌≡◌, ◌≢◌, ◌≤◌, ◌+◌, ◌==◌, ℕ, List, [], ◌∷◌, ◌++◌, Contains, Option, Result, Ok, Err, false, true, codes, length};
+ghost use Rattle.std.specs.Io.KnownBytes.{Consumes, IsAtEnd};
 ghost use Rattle.std.specs.List.{concat, list_any, AllByRecursion};
+ghost use Rattle.ic_diagnostics.specs.Lines.{place_lines};
+ghost use Rattle.ic_streams.specs.declared.fault.StreamFault.{StreamFault};
+ghost use Rattle.ic_streams.specs.declared.fault.StreamFault.TheVariants.{Read, Text, Memory, Write};
+ghost use Rattle.ic_text.specs.declared.fault.TextFault.{TextFault};
+ghost use Rattle.ic_text.specs.declared.fault.TextFault.TheVariants.{Limit, Syntax};
 ghost use Rattle.ic_expand.specs.declared.limits.TheConstants.{MAX_RICH_TEXT};
 ghost use Rattle.ic_expand.specs.declared.names.Spelling.{Spelling};
 ghost use Rattle.ic_expand.specs.declared.names.Spelling.TheVariants.{Short, Long};
 ghost use Rattle.ic_expand.specs.declared.fault.ExpandFault.TheVariants.{Refused};
-ghost use Rattle.ic_expand.specs.declared.fault.Reason.TheVariants.{NoSymbol, NotSymbol};
+ghost use Rattle.ic_expand.specs.declared.fault.Reason.{Reason};
+ghost use Rattle.ic_expand.specs.declared.fault.Reason.TheVariants.{NoCopier, NoEraser, NoSymbol, NotSymbol, TextBytes};
+ghost use Rattle.ic_expand.specs.declared.spot.Kind.{Kind};
 ghost use Rattle.ic_expand.specs.declared.spot.Spot.TheVariants.{Elsewhere};
 ghost use Rattle.ic_expand.specs.Begins.{is_begun};
 ghost use Rattle.ic_expand.specs.Comments.{uncommented};
 ghost use Rattle.ic_expand.specs.Pieces.{pieces};
 ghost use Rattle.ic_expand.specs.Names.{IsRenaming, is_among, is_spelt, names, names_of, spare_of, told_word};
-ghost use Rattle.ic_term.specs.Symbol.{Symbol};
-ghost use Rattle.ic_expand.specs.Generic.{agent_text, annihilated, copied, erased, rule_text};
-ghost use Rattle.ic_expand.specs.Expanding.{expanded};
+ghost use Rattle.ic_term.specs.Symbol.{Symbol, fits_limits};
+ghost use Rattle.ic_expand.specs.Generic.{agent_text, annihilated, copied, erased, generic_rule, is_of, rule_text};
+ghost use Rattle.ic_expand.specs.Expanding.{Sheet, expanded, rules_of};
+ghost use Rattle.ic_expand.specs.Streams.{Expands, TakesAt, TakesWhole, Told, ToldAt, reason_sentence, refusal_lines, text_fault};
 
 /// A comment is `#` and what follows it in its line. The end of the line stays, so that a text has its lines, and texts
 /// that differ in their comments alone mean the same.
@@ -73,4 +82,82 @@ pub fn words_and_unknown_symbols_are_told_apart()
 pub fn one_text_is_written_so()
     ensures written { expanded (codes "{ copy D; erase E } < one, 2 | D(one,E) = 2 > # once")
         ≡ Ok (codes "{  D(2,2)><2;D(a,b)><D(a,b);D(E,E)><E;  E><2;E><E } < a, 2 | D(a,E) = 2 > ") }
+{}
+
+/// Texts with symbols of several arguments. A copier copies the arguments in their order, by the names of the first and of
+/// the second copy. A rule that is given isn't written again, whichever of its symbols stands first, and nor is one of a
+/// copier and an eraser.
+pub fn arguments_are_copied_in_their_order()
+    ensures copied { expanded (codes "{ copy D } <|P(a,b)=D(a,b)>")
+        ≡ Ok (codes "{  D(P(a,b),P(a1,b1))><P(D(a,a1),D(b,b1));D(a,b)><D(a,b) } <|P(a,b)=D(a,b)>") }
+    ensures given { expanded (codes "{ R><D(R,R); copy D; erase E } <|P(a,b)=D(a,b),E=Q(c),c=R>")
+        ≡ Ok (codes "{ R><D(R,R);  D(a,b)><D(a,b);D(P(a,b),P(a1,b1))><P(D(a,a1),D(b,b1));D(E,E)><E;"
+        ++ codes "D(Q(a),Q(a1))><Q(D(a,a1));  E><R;E><P(E,E);E><E;E><Q(E) } <|P(a,b)=D(a,b),E=Q(c),c=R>") }
+{}
+
+/// Each symbol that stands in a term, within the limits of text and arguments, has its rule with a copier or an eraser, unless
+/// that rule is given, or an earlier line is of one of the two.
+pub fn each_symbol_has_its_rule()
+    ensures { (sheet : Sheet) (earlier : List (List ℕ)) (kind : Kind) (s : List ℕ) (t : Symbol)
+        → Contains sheet.symbols t → fits_limits t.text t.arity ≡ true
+        → list_any (is_of s t.text) sheet.pairs ≡ false → is_among s earlier ≡ false
+        → is_among t.text earlier ≡ false
+        → Contains (rules_of sheet earlier kind s) (generic_rule kind s t) }
+{}
+
+/// A stream is answered the text for which its text stands, or its refusal, by which only a text that is too long is at a limit.
+/// So a text has one answer.
+pub fn what_is_answered_is_what_is_expanded()
+    ensures written { (text output : List ℕ) → Expands text (Ok output) → expanded text ≡ Ok output }
+    ensures refused { (text : List ℕ) (fault : TextFault) → Expands text (Err (Text fault))
+        → (reason : Reason) × (at : ℕ) × (expanded text ≡ Err (Refused reason at))
+        × (fault ≡ text_fault reason) }
+    ensures one { (text : List ℕ) (one other : Result (List ℕ) StreamFault)
+        → Expands text one → Expands text other → one ≡ other }
+    ensures limit { text_fault TextBytes ≡ Limit }
+    ensures syntax { (reason : Reason) → reason ≢ TextBytes → text_fault reason ≡ Syntax }
+{}
+
+/// A text that is answered or refused was taken from its reader: all that it had, or one byte more than a text may have. At any
+/// other fault no more was taken.
+pub fn what_is_taken_is_the_text()
+    ensures refused { (fault : TextFault) (old new : Option (List ℕ)) → TakesAt (Text fault) old new
+        → (text : List ℕ) × TakesWhole text old new }
+    ensures unwritten { (old new : Option (List ℕ)) → TakesAt Write old new
+        → (text : List ℕ) × TakesWhole text old new }
+    ensures whole { (text : List ℕ) (old new : Option (List ℕ)) → TakesWhole text old new
+        → Consumes old new text × (length text ≤ MAX_RICH_TEXT + 1)
+        × (length text ≤ MAX_RICH_TEXT → IsAtEnd new) }
+    ensures unread { (old new : Option (List ℕ)) → TakesAt Read old new
+        → (text : List ℕ) × Consumes old new text × (length text ≤ MAX_RICH_TEXT + 1) }
+    ensures memory { (old new : Option (List ℕ)) → TakesAt Memory old new
+        → (text : List ℕ) × Consumes old new text × (length text ≤ MAX_RICH_TEXT + 1) }
+{}
+
+/// Of a text that is refused the lines of the place are told, in the text without its comments, or as it is if it is too long.
+/// Of no other fault anything is told.
+pub fn refusals_are_told_with_their_place()
+    ensures told { (text : List ℕ) (fault : TextFault) (before after : List ℕ)
+        → ToldAt text (Text fault) before after
+        → (reason : Reason) × (at : ℕ) × (expanded text ≡ Err (Refused reason at))
+        × (fault ≡ text_fault reason) × (after ≡ before ++ refusal_lines text reason at) }
+    ensures taken { (old new : Option (List ℕ)) (fault : TextFault) (before after : List ℕ)
+        → Told old new (Text fault) before after
+        → (text : List ℕ) × TakesWhole text old new × ToldAt text (Text fault) before after }
+    ensures silent { (old new : Option (List ℕ)) (text : List ℕ) (fault : StreamFault)
+        (before after : List ℕ) → ((refused : TextFault) → fault ≢ Text refused)
+        → (Told old new fault before after → after ≡ before)
+        × (ToldAt text fault before after → after ≡ before) }
+    ensures long { (text : List ℕ) (at : ℕ) → refusal_lines text TextBytes at
+        ≡ place_lines text at (codes "a text has at most 16777216 bytes") }
+    ensures uncommented { (text : List ℕ) (reason : Reason) (at : ℕ) → reason ≢ TextBytes
+        → refusal_lines text reason at ≡ place_lines (uncommented text) at (reason_sentence reason) }
+    ensures copier { reason_sentence (NoCopier 3)
+        ≡ codes "copy needs a symbol with two arguments, and this one has 3 where it stands first" }
+    ensures eraser { reason_sentence (NoEraser 2)
+        ≡ codes "erase needs a symbol without arguments, and this one has 2 where it stands first" }
+    ensures one { expanded (codes "{ # two\n copy Dup }") ≡ Err (Refused NoSymbol 9) }
+    ensures lines { refusal_lines (codes "{ # two\n copy Dup }") NoSymbol 9
+        ≡ codes "line 2, column 7\n     copy Dup }\n          ^\n"
+        ++ codes "copy and erase need a symbol that stands in a term, and this one stands in none\n" }
 {}
