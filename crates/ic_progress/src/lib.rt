@@ -2,6 +2,7 @@
 #![tactic(auto)]
 
 mod figures;
+pub mod laws;
 mod line;
 mod progress;
 
