@@ -34,3 +34,4 @@ pub mod OneLine
 pub mod ToldLines
 pub mod CommandWords
 pub mod ObjectLemmas
+pub mod EachRefusal

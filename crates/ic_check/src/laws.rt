@@ -63,7 +63,7 @@ ghost use Rattle.ic_check.specs.Letters.{looks_like_name};
 ghost use Rattle.ic_check.specs.Meeting.{are_apart, has_use};
 ghost use Rattle.ic_check.specs.Reach.{AllAmong, IsReach, IsTakenBy};
 ghost use Rattle.ic_check.specs.Scripts.{TellsScript, TellsScriptLine, run_sentence};
-ghost use Rattle.ic_check.specs.Sessions.{TellsRefusal, lines_sentence, refusal_line};
+ghost use Rattle.ic_check.specs.Sessions.{TellsRefusal, TellsRefusals, lines_sentence, refusal_line};
 ghost use Rattle.ic_check.specs.Symbols.{config_symbols, text_symbols};
 ghost use Rattle.ic_check.specs.Objects.{fault_fields, finding_fields, object_of, objects_of};
 ghost use Rattle.ic_check.specs.Telling.{fault_line, line_limit_sentence, line_sentence, place_text, placed_line, sought_sentence, spot_text};
@@ -587,4 +587,17 @@ pub fn texts_are_told_by_their_readings()
 {
     ic_text::laws::one_reading();
     ic_text::laws::one_system_reading();
+}
+
+/// Of the lines of a session each one is told of once, in their order, by its own number: the first has the number that is
+/// given, and each other one more than the line before it. So where no line is refused, nothing is told.
+pub fn each_line_is_told_by_its_number()
+    ensures each { (number : ℕ) (ls : List (List ℕ)) (told : List ℕ) → TellsRefusals number ls told
+        → (each : List (List ℕ)) × (told ≡ concat each) × (length each ≡ length ls)
+        × ((k : ℕ) (line : List ℕ) → slice_get ls k ≡ Some line
+        → TellsRefusal (number + k) line (get_or each k [])) }
+    ensures none { (number : ℕ) (ls : List (List ℕ)) (told : List ℕ) → TellsRefusals number ls told
+        → AllByRecursion (λ line. (asked : Line) × ReadsLine line (Ok asked)) ls → told ≡ [] }
+{
+    ic_commands::laws::one_line_reading();
 }
