@@ -20,7 +20,7 @@ from worked_rows import expanded, rows
 MOST = 2**62 - 1
 
 STATS = re.compile(
-    rb"icserve: interactions (\d+)(?:, name steps (\d+))?, places (\d+), equations (\d+), threads (\d+), seconds (?:0\.000|\d+\.\d{3}, interactions a second \d+)\n"
+    rb"icserve: interactions (\d+)(?:, name steps (\d+))?, places (\d+), equations (\d+), threads (\d+), shared (\d+), seconds (?:0\.000|\d+\.\d{3}, interactions a second \d+)\n"
     rb"icserve: (no interactions|rule \d+ \S+><\S+: \d+ interactions?(?:, rule \d+ \S+><\S+: \d+ interactions?)*)\n"
 )
 REACHED = re.compile(rb"interactions (\d+), places (\d+), equations (\d+)(?:, --nodes (\d+))?\n")
@@ -49,7 +49,7 @@ def stats_of(err):
     """How many interactions and places a run with `--stats` tells, and what else it says on standard error. The interactions
     of all rules are those in all, else none are told."""
     told = STATS.match(err)
-    if not told or sum(map(int, re.findall(rb": (\d+)", told[6]))) != int(told[1]):
+    if not told or sum(map(int, re.findall(rb": (\d+)", told[7]))) != int(told[1]):
         return None, None, err
     return int(told[1]), int(told[3]), err[told.end() :]
 
@@ -66,9 +66,9 @@ def figures_of(err):
     told = STATS.match(err)
     if not told:
         return None, err
-    names = ("interactions", "name_steps", "places", "equations", "threads")
+    names = ("interactions", "name_steps", "places", "equations", "threads", "shared")
     figures = {name: it and int(it) for name, it in zip(names, told.groups())}
-    fired = re.findall(rb"rule (\d+) (\S+): (\d+)", told[6])
+    fired = re.findall(rb"rule (\d+) (\S+): (\d+)", told[7])
     figures["fired"] = {int(rule): (pair.decode(), int(count)) for rule, pair, count in fired}
     return {name: it for name, it in figures.items() if it is not None}, err[told.end() :]
 
@@ -331,7 +331,7 @@ class HardNets(InPlace):
         self.reduces(given=text, out=["<Delta(a,b),Delta(c,d),Gamma(a,c),Gamma(b,d)|>"], interactions=1)
 
     def test_name_steps_and_each_rule_are_told_at_a_quiet_end(self):
-        pace = rb", places %d, equations %d, threads 1, seconds (?:0\.000|[.\d]+, interactions a second \d+)\n"
+        pace = rb", places %d, equations %d, threads 1, shared 0, seconds (?:0\.000|[.\d]+, interactions a second \d+)\n"
         two = f"{ADD} <r|Add(r,S(Z))=S(Z)>"
         for words, told in (
             ([], b"icserve: interactions 2, name steps 4" + pace % (5, 0) + b"icserve: rule 1 Add><Z: 1 interaction, rule 2 Add><S: 1 interaction\n"),
@@ -352,15 +352,18 @@ class HardNets(InPlace):
         yield DOUBLES, ["--nodes", drawn.randint(100, 9_999), "--workers", 1], "places", 1
 
     def test_figures_as_an_object_are_those_as_lines(self):
-        fields = ["end", "stuck", "interactions", "name_steps", "places", "equations", "threads", "milliseconds", "interactions_a_second", "by_rule"]
+        fields = ["end", "stuck", "interactions", "name_steps", "places", "equations", "threads", "shared", "milliseconds", "interactions_a_second", "by_rule"]
         for text, words, end, status in self.shown():
             lines = run("reduce", "--stats", *words, given=text)
             told, rest = figures_of(lines.err)
+            most = 0 if words else told["interactions"]
+            self.equals(lines.command, "whether no more are shared than may be", True, told.pop("shared") <= most)
             for more in ([], ["--partial"], ["--quiet-answer"]):
                 ran = run("reduce", *more, "--format", "json", "--stats", *words, given=text)
                 came, after = object_of(ran.err)
                 self.equals(ran.command, "status, end and what else is said", (status, end, rest), (ran.status, came["end"], after))
                 self.equals(ran.command, "figures", told, {name: came[name] for name in told})
+                self.equals(ran.command, "whether no more are shared than may be", True, came["shared"] <= most)
                 self.equals(ran.command, "fields", [it for it in fields if it in came], list(came)[:-1])
                 self.equals(ran.command, "whether name steps are told", end == "quiet", "name_steps" in came)
                 rules = [it.split("><") for it in text[1:].partition("}")[0].split(";") if it]

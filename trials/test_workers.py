@@ -27,6 +27,10 @@ FIB = (
 )
 
 
+# A tree of turns is walked through, each of which opens names, and nothing of it is kept.
+TURNS = "{T(Z)><Z;T(r)><S(Dup(T(And(r,u)),T(u)));And(x,x)><Z;Dup(Z,Z)><Z;Dup(S(x),S(y))><S(Dup(x,y))}"
+
+
 def rules_of(text):
     return model.read_system(text.encode())[0]
 
@@ -245,6 +249,31 @@ class Sizes(Trial):
                     held = int(reached[2]) + int(reached[3])
                     within = most < held < 2 * most + workers * PIECE * GROWS
                     self.equals(ran.command, f"whether {held} places and equations are near the bound", True, within)
+
+    def test_a_small_net_that_opens_many_names_is_not_overgrown(self):
+        """Each turn opens names, some 17 million in all. Few are there at once."""
+        text = f"{TURNS} <r|T(r)={numeral(21)}>"
+        for workers in (1, 2, 4):
+            ran = run("reduce", "--stats", "--workers", workers, "--nodes", 100_000, given=text, seconds=60)
+            made, places, rest = stats_of(ran.err)
+            self.equals(ran.command, "status, answer and interactions", (0, b"<Z|>\n", TURNS_MADE, b""), (ran.status, ran.out, made, rest))
+            self.equals(ran.command, f"whether {places} places are within the bound", True, places <= 100_000)
+
+    def test_how_many_interactions_are_shared_is_told(self):
+        """None by one thread. By several, what is made after them is looked at after each 4,096."""
+        text = f"{FIB}<r|F(r)={numeral(22)}>"
+        for words in (["--workers", 1], ["--steps", 10**9], ["--workers", 1, "--steps", 5_000]):
+            ran = run("reduce", "--stats", *words, given=text)
+            self.equals(ran.command, "shared", 0, figures_of(ran.err)[0]["shared"])
+        for workers in (2, 4):
+            ran = run("reduce", "--stats", "--workers", workers, given=text)
+            told = figures_of(ran.err)[0]
+            self.equals(ran.command, f"whether some of {told} are shared", True, 0 < told["shared"] <= told["interactions"])
+            for grows in (PILES, DOUBLES):
+                ran = run("reduce", "--stats", "--workers", workers, "--nodes", 100_000, given=grows, seconds=30)
+                told = figures_of(ran.err)[0]
+                alone = told["interactions"] - told["shared"]
+                self.equals(ran.command, f"whether {told} end at a look", True, alone > 0 and alone % PIECE == 0)
 
     def test_a_net_with_one_pair_at_a_time_is_left_to_one_thread(self):
         text = f"{ADD} <r|Add(r,S(Z))={numeral(3_000_000)}>"

@@ -1,10 +1,12 @@
 -- Lemmas: what is told of one thread is what is told of any number of threads, with how places were watched on the way.
-use Rattle.std.proofs.Common.{◌≡◌, ℕ, suc, ◌+◌, ◌*◌, ◌≤◌, List, [], ◌++◌, length, map, ap, arith}
+use Rattle.std.proofs.Common.{◌≡◌, ℕ, suc, ◌+◌, ◌*◌, ◌≤◌, List, [], ◌++◌, length, map, sym, ap, ◌∙◌, arith, subst as transport}
+use Rattle.std.specs.List.{AllByRecursion}
 use Rattle.std.proofs.lemmas.List.{length-map}
 use Rattle.ic_term.specs.Configuration.{Configuration}
 use Rattle.ic_rules.specs.Rule.{Rule}
 use Rattle.ic_rules.specs.System.{SystemParts}
-use Rattle.ic_machine.specs.Net.{Net, in_use, pieces, places_of}
+use Rattle.ic_machine.specs.declared.equation.Equation.{Equation}
+use Rattle.ic_machine.specs.Net.{Net, in_use, pieces, places_of, IsStuck}
 use Rattle.ic_machine.specs.Plan.{Planned, Plans}
 use Rattle.ic_machine.specs.Runs.{Starts}
 use Rattle.ic_meaning.specs.Plans.{rule_number}
@@ -58,10 +60,10 @@ pub record BegunLaws : Type 0 where
       → in_use kind (pieces n) ≤ places_of kind n
   pub names : (p : Plans) (given : ℕ) (plan : Planned) (operands : List ℕ) (n : Net) → Starts p given plan operands n → n.names ≡ plan.names
 
-pub come_of_reached : BegunLaws → (s : SystemParts) (bounds : Bounds) (answer : Configuration) (end : End) (interactions places left : ℕ) (by_rule : List ℕ)
-    → IsReachedBy s bounds answer end interactions places left by_rule
-    → (is : IsComeTo s bounds answer end interactions left by_rule) × HasPlaces s bounds answer end places left is.fired
-come_of_reached begun s bounds answer end interactions places left by_rule told =
+pub come_of_reached : BegunLaws → (s : SystemParts) (bounds : Bounds) (answer : Configuration) (end : End) (interactions places left shared : ℕ) (by_rule : List ℕ)
+    → shared ≡ 0 → IsReachedBy s bounds answer end interactions places left by_rule
+    → (is : IsComeTo s bounds answer end interactions left by_rule) × HasPlaces s bounds answer end places left shared is.fired
+come_of_reached begun s bounds answer end interactions places left shared by_rule none told =
     let r = told.reached in
     let h = r.held in (
       record {
@@ -87,10 +89,13 @@ come_of_reached begun s bounds answer end interactions places left by_rule told 
         enough = h.enough;
         tables = h.tables;
         pairs = h.pairs;
+        aside = (let ran = (watched_ran h.plans bounds.nodes h.first h.machine h.watched).0 in
+            transport (AllByRecursion (IsStuck h.plans)) (sym (ran.aside ∙ ap (λ (es : List Equation). es ++ ran.more) h.no_aside)) ran.stuck);
         equations = told.equations;
         used = h.used;
         together = h.first;
         before = [];
+        made = sym none;
         was = h.begun;
         room = λ kind. begun.room h.plans (length h.given) h.plan h.operands h.first kind h.starts;
         names = (let same = begun.names h.plans (length h.given) h.plan h.operands h.first h.starts in omega (arith, same));
@@ -108,7 +113,7 @@ come_of_reached begun s bounds answer end interactions places left by_rule told 
 pub ends_alike_told : BegunLaws → (s : SystemParts) (bounds : Bounds) (asked : Asked) (outcome : Outcome) (line : List ℕ)
     → EndsWatched s bounds asked outcome line → EndsOf s bounds asked outcome line
 ends_alike_told begun s bounds asked outcome line is =
-    let both = come_of_reached begun s bounds is.answer outcome.end outcome.interactions outcome.places outcome.left outcome.by_rule.items is.reached in
+    let both = come_of_reached begun s bounds is.answer outcome.end outcome.interactions outcome.places outcome.left outcome.shared outcome.by_rule.items is.alone is.reached in
     record {
       answer = is.answer;
       rule_set = is.rule_set;

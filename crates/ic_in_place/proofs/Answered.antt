@@ -16,7 +16,7 @@ use Rattle.ic_in_place.specs.declared.stream.Outcome.{Outcome}
 module _ (limits : Limits) (bounds : Bounds) (asked : Asked) where
   ends_carried : (outcome : Outcome) (line : List ℕ) → OfFrontsWithin limits (λ text. EndsAs limits bounds asked text outcome line)
   ends_carried outcome line front rest end s =
-      record { system = s.system; answer = s.answer; reads = read_as_within limits _ _ front rest end _ s.reads; rule_set = s.rule_set; over = s.over; names = s.names; reached = s.reached; name_steps = s.name_steps; together = s.together; prints = s.prints; stuck = s.stuck; rules = s.rules }
+      record { system = s.system; answer = s.answer; reads = read_as_within limits _ _ front rest end _ s.reads; rule_set = s.rule_set; over = s.over; names = s.names; reached = s.reached; alone = s.alone; name_steps = s.name_steps; together = s.together; prints = s.prints; stuck = s.stuck; rules = s.rules }
 
   in_place_carried : CarriedWithin limits (ReducesInPlace limits bounds asked)
   in_place_carried front rest end (Ok line) s = (s.0, ends_carried s.0 line front rest end s.1)

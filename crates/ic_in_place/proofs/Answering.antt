@@ -149,9 +149,9 @@ numbered_names given (Name w ∷ ts) all = (all.0, numbered_names given ts all.1
 numbered_names given (Agent s ∷ ts) all = numbered_names given ts all.1
 
 -- a machine that has stopped holds one net with what was read back
-abbrev held_at : (s : SystemParts) (bounds : Bounds) (given : List ℕ) (m : Net) (end : End) (places : ℕ) (by_rule : List ℕ) (answer : Configuration) (stopped : HasStopped s bounds given by_rule m end places)
+abbrev held_at : (s : SystemParts) (bounds : Bounds) (given : List ℕ) (m : Net) (end : End) (places shared : ℕ) (by_rule : List ℕ) (answer : Configuration) (stopped : HasStopped s bounds given by_rule m end places shared)
     → OneNet (net_of stopped.come.held.numbers m.interface (pieces m)) answer → IsHeldAt s.rules s.config answer stopped.come.fired places bounds.nodes
-held_at s bounds given m end places by_rule answer stopped net = record {
+held_at s bounds given m end places shared by_rule answer stopped net = record {
   machine = m;
   first = stopped.come.together;
   plans = stopped.come.plans;
@@ -177,9 +177,9 @@ held_at s bounds given m end places by_rule answer stopped net = record {
 }
 
 -- the places of a machine that holds one net with what was read back
-abbrev placed_at : (s : SystemParts) (bounds : Bounds) (given : List ℕ) (m : Net) (end : End) (places : ℕ) (by_rule : List ℕ) (answer : Configuration) (come : HasCome s bounds given by_rule m end places)
-    → OneNet (net_of come.held.numbers m.interface (pieces m)) answer → HasPlaces s bounds answer end places (equations_left m) come.fired
-placed_at s bounds given m end places by_rule answer come net = record {
+abbrev placed_at : (s : SystemParts) (bounds : Bounds) (given : List ℕ) (m : Net) (end : End) (places shared : ℕ) (by_rule : List ℕ) (answer : Configuration) (come : HasCome s bounds given by_rule m end places shared)
+    → OneNet (net_of come.held.numbers m.interface (pieces m)) answer → HasPlaces s bounds answer end places (equations_left m) shared come.fired
+placed_at s bounds given m end places shared by_rule answer come net = record {
   machine = m;
   plans = come.plans;
   rule_numbers = come.rule_numbers;
@@ -193,10 +193,12 @@ placed_at s bounds given m end places by_rule answer come net = record {
   enough = come.enough;
   tables = come.tables;
   pairs = come.pairs;
+  aside = come.aside;
   equations = refl;
   used = come.used;
   together = come.together;
   before = come.before;
+  made = come.made;
   was = come.was;
   room = come.room;
   names = come.names;
@@ -210,19 +212,24 @@ placed_at s bounds given m end places by_rule answer come net = record {
   left_pairs = left_at bounds come.plans m end come.pairs come.ended;
 }
 
+-- a machine that made all steps made none before
+pub none_shared : (s : SystemParts) (bounds : Bounds) (given : List ℕ) (m : Net) (end : End) (places shared : ℕ) (by_rule : List ℕ)
+    → HasStopped s bounds given by_rule m end places shared → shared ≡ 0
+none_shared s bounds given m end places shared by_rule stopped = sym stopped.come.made ∙ ap (length {A = ℕ}) stopped.first
+
 -- What is reached by however many threads, where one machine made all steps, is what that has reached.
-pub watched_so : (s : SystemParts) (bounds : Bounds) (given : List ℕ) (m : Net) (end : End) (places : ℕ) (by_rule : List ℕ) (answer : Configuration) (stopped : HasStopped s bounds given by_rule m end places)
+pub watched_so : (s : SystemParts) (bounds : Bounds) (given : List ℕ) (m : Net) (end : End) (places shared : ℕ) (by_rule : List ℕ) (answer : Configuration) (stopped : HasStopped s bounds given by_rule m end places shared)
     → OneNet (net_of stopped.come.held.numbers m.interface (pieces m)) answer
     → Reaches s.rules.rules s.config answer stopped.come.fired → StopsAt s.rules.rules bounds answer m.interactions end
     → ((end ≡ Quiet) ⊎ (end ≡ Steps) → HasEnds answer (equations_left m))
     → IsReachedBy s bounds answer end m.interactions places (equations_left m) by_rule
-watched_so s bounds given m end places by_rule answer stopped net reached ended ends = record {
+watched_so s bounds given m end places shared by_rule answer stopped net reached ended ends = record {
   reached = record {
     fired = stopped.come.fired;
     reached = reached;
     counted = stopped.come.counted;
     within = stopped.come.within;
-    held = held_at s bounds given m end places by_rule answer stopped net;
+    held = held_at s bounds given m end places shared by_rule answer stopped net;
     ended = watched_end s.rules.rules bounds answer m.interactions end
         (λ at. let is = stopped.come.looked at in let none = stopped.none in let whole = is.whole in (is.looks, omega (arith, whole, none))) ended;
     done = done_at bounds stopped.come.plans m end stopped.come.ended;
@@ -237,7 +244,7 @@ watched_so s bounds given m end places by_rule answer stopped net reached ended 
 }
 
 -- What was read back is what was reached, and its words are written.
-pub answered_so : AnswerLaws → (s : SystemParts) (bounds : Bounds) (given : List ℕ) (m : Net) (end : End) (places : ℕ) (by_rule : List ℕ) (stopped : HasCome s bounds given by_rule m end places)
+pub answered_so : AnswerLaws → (s : SystemParts) (bounds : Bounds) (given : List ℕ) (m : Net) (end : End) (places shared : ℕ) (by_rule : List ℕ) (stopped : HasCome s bounds given by_rule m end places shared)
     (ts : List Token) (terms equations : ℕ) (words : List FlatWord)
     → OneNet (net_of stopped.held.numbers m.interface (pieces m)) (configuration_read stopped.held.numbers ts terms)
     → (HasNext stopped.plans m.pending → CanInteract s.rules.rules (configuration_read stopped.held.numbers ts terms))
@@ -250,7 +257,7 @@ pub answered_so : AnswerLaws → (s : SystemParts) (bounds : Bounds) (given : Li
     Reaches s.rules.rules s.config answer stopped.fired × StopsAt s.rules.rules bounds answer m.interactions end
     × ((end ≡ Quiet) ⊎ (end ≡ Steps) → HasEnds answer (equations_left m)) × IsPutTogether answer
     × (length answer.equations ≡ equations) × WritesAlike s.rules.symbols words terms equations answer
-answered_so laws s bounds given m end places by_rule stopped ts terms equations words net next quiet whole counted numbered written =
+answered_so laws s bounds given m end places shared by_rule stopped ts terms equations words net next quiet whole counted numbered written =
     let held = stopped.held in
     let n : Numbers = held.numbers in
     let here : Configuration = net_of n m.interface (pieces m) in
@@ -303,23 +310,23 @@ no_ends c left Limit none (inr e) = cc
 no_ends c left end.Memory none (inl e) = cc
 no_ends c left end.Memory none (inr e) = cc
 
-pub unread_so : (s : SystemParts) (bounds : Bounds) (given : List ℕ) (m : Net) (end : End) (places : ℕ) (by_rule : List ℕ) (come : HasCome s bounds given by_rule m end places)
+pub unread_so : (s : SystemParts) (bounds : Bounds) (given : List ℕ) (m : Net) (end : End) (places shared : ℕ) (by_rule : List ℕ) (come : HasCome s bounds given by_rule m end places shared)
     → is_written asked.Answer end ≡ false → IsUnread s bounds end (net_of come.held.numbers m.interface (pieces m)) m
-unread_so s bounds given m Quiet places by_rule come none = absurd (false≢true (sym none))
-unread_so s bounds given m Steps places by_rule come none = absurd (false≢true (sym none))
-unread_so s bounds given m Nodes places by_rule come none = record { ended = come.ended.1; ends = no_ends _ _ Nodes none; name_steps = refl; stuck = refl }
-unread_so s bounds given m Limit places by_rule come none = record { ended = come.ended.0; ends = no_ends _ _ Limit none; name_steps = refl; stuck = refl }
-unread_so s bounds given m end.Memory places by_rule come none = record { ended = tt; ends = no_ends _ _ end.Memory none; name_steps = refl; stuck = refl }
+unread_so s bounds given m Quiet places shared by_rule come none = absurd (false≢true (sym none))
+unread_so s bounds given m Steps places shared by_rule come none = absurd (false≢true (sym none))
+unread_so s bounds given m Nodes places shared by_rule come none = record { ended = come.ended.1; ends = no_ends _ _ Nodes none; name_steps = refl; stuck = refl }
+unread_so s bounds given m Limit places shared by_rule come none = record { ended = come.ended.0; ends = no_ends _ _ Limit none; name_steps = refl; stuck = refl }
+unread_so s bounds given m end.Memory places shared by_rule come none = record { ended = tt; ends = no_ends _ _ end.Memory none; name_steps = refl; stuck = refl }
 
 -- What is read of a machine that has stopped is reached, and the machine has its places.
-pub come_so : (s : SystemParts) (bounds : Bounds) (given : List ℕ) (m : Net) (end : End) (places : ℕ) (by_rule : List ℕ) (answer : Configuration) (come : HasCome s bounds given by_rule m end places)
+pub come_so : (s : SystemParts) (bounds : Bounds) (given : List ℕ) (m : Net) (end : End) (places shared : ℕ) (by_rule : List ℕ) (answer : Configuration) (come : HasCome s bounds given by_rule m end places shared)
     → Reaches s.rules.rules s.config answer come.fired → StopsAt s.rules.rules bounds answer m.interactions end
     → ((end ≡ Quiet) ⊎ (end ≡ Steps) → HasEnds answer (equations_left m))
     → OneNet (net_of come.held.numbers m.interface (pieces m)) answer
-    → (is : IsComeTo s bounds answer end m.interactions (equations_left m) by_rule) × HasPlaces s bounds answer end places (equations_left m) is.fired
-come_so s bounds given m end places by_rule answer come reached ended ends net = (
+    → (is : IsComeTo s bounds answer end m.interactions (equations_left m) by_rule) × HasPlaces s bounds answer end places (equations_left m) shared is.fired
+come_so s bounds given m end places shared by_rule answer come reached ended ends net = (
   record { fired = come.fired; reached = reached; counted = come.counted; within = come.within; ended = ended; ends = ends; counts = come.counts },
-  placed_at s bounds given m end places by_rule answer come net,
+  placed_at s bounds given m end places shared by_rule answer come net,
 )
 
 -- ---- the same, as it is told
@@ -333,13 +340,13 @@ retold s bounds answer e f i j p q l k a b ends interactions places left by_rule
     (transport (λ (x : ℕ). IsReachedBy s bounds answer f j q x a) (sym left)
     (transport (λ (x : List ℕ). IsReachedBy s bounds answer f j q k x) (sym by_rule) is))))
 
-pub retold_of : (s : SystemParts) (bounds : Bounds) (answer : Configuration) (e f : End) (i j p q l k : ℕ) (a b : List ℕ)
+pub retold_of : (s : SystemParts) (bounds : Bounds) (answer : Configuration) (e f : End) (i j p q l k shared : ℕ) (a b : List ℕ)
     → e ≡ f → i ≡ j → p ≡ q → l ≡ k → a ≡ b
-    → ((is : IsComeTo s bounds answer f j k b) × HasPlaces s bounds answer f q k is.fired)
-    → ((is : IsComeTo s bounds answer e i l a) × HasPlaces s bounds answer e p l is.fired)
-retold_of s bounds answer e f i j p q l k a b ends interactions places left by_rule both =
-    transport (λ (x : End). (is : IsComeTo s bounds answer x i l a) × HasPlaces s bounds answer x p l is.fired) (sym ends)
-    (transport (λ (x : ℕ). (is : IsComeTo s bounds answer f x l a) × HasPlaces s bounds answer f p l is.fired) (sym interactions)
-    (transport (λ (x : ℕ). (is : IsComeTo s bounds answer f j l a) × HasPlaces s bounds answer f x l is.fired) (sym places)
-    (transport (λ (x : ℕ). (is : IsComeTo s bounds answer f j x a) × HasPlaces s bounds answer f q x is.fired) (sym left)
-    (transport (λ (x : List ℕ). (is : IsComeTo s bounds answer f j k x) × HasPlaces s bounds answer f q k is.fired) (sym by_rule) both))))
+    → ((is : IsComeTo s bounds answer f j k b) × HasPlaces s bounds answer f q k shared is.fired)
+    → ((is : IsComeTo s bounds answer e i l a) × HasPlaces s bounds answer e p l shared is.fired)
+retold_of s bounds answer e f i j p q l k shared a b ends interactions places left by_rule both =
+    transport (λ (x : End). (is : IsComeTo s bounds answer x i l a) × HasPlaces s bounds answer x p l shared is.fired) (sym ends)
+    (transport (λ (x : ℕ). (is : IsComeTo s bounds answer f x l a) × HasPlaces s bounds answer f p l shared is.fired) (sym interactions)
+    (transport (λ (x : ℕ). (is : IsComeTo s bounds answer f j l a) × HasPlaces s bounds answer f x l shared is.fired) (sym places)
+    (transport (λ (x : ℕ). (is : IsComeTo s bounds answer f j x a) × HasPlaces s bounds answer f q x shared is.fired) (sym left)
+    (transport (λ (x : List ℕ). (is : IsComeTo s bounds answer f j k x) × HasPlaces s bounds answer f q k shared is.fired) (sym by_rule) both))))

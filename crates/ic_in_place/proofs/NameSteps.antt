@@ -1,5 +1,5 @@
 -- Lemmas: how many steps put a term for a name, by the equations that there are.
-use Rattle.std.proofs.Common.{◌≡◌, ◌≢◌, ℕ, zero, suc, ◌+◌, ◌*◌, ◌^◌, ◌<◌, ◌≤◌, ◌==◌, List, [], ◌∷◌, ◌++◌, Bool, true, cond, Option, None, Some, IsTrue, drop, length, map, sum_by, count_by, slice_get, slice_index_or, refl, sym, ap, ◌∙◌, arith, zero-add, subst as transport}
+use Rattle.std.proofs.Common.{◌≡◌, ◌≢◌, ℕ, zero, suc, ◌+◌, ◌*◌, ◌-◌, ◌^◌, ◌<◌, ◌≤◌, ◌==◌, List, [], ◌∷◌, ◌++◌, Bool, true, cond, Option, None, Some, IsTrue, drop, length, map, sum_by, count_by, slice_get, slice_index_or, refl, sym, ap, ◌∙◌, arith, zero-add, subst as transport}
 use Rattle.std.specs.Prelude.{IsPermutation, SomeIff}
 use Rattle.std.specs.List.{AllByRecursion, list_all}
 use Rattle.std.specs.Option.{option_map_or}
@@ -279,6 +279,10 @@ names_of r = r.names
 names_weighted : (rs : List Rule) (counts : List ℕ) (k : ℕ) → names_from rs counts k ≡ weighted (map names_of rs) (λ i. slice_index_or counts i 0) k
 names_weighted [] counts k = refl
 names_weighted (r ∷ rs) counts k = let there = names_weighted rs counts (k + 1) in omega (arith, there)
+
+-- as many as 64 bits count
+abbrev pub most : ℕ
+most = 2 ^ 64 - 1
 
 -- the names of the rules that fired, by how often each fired
 pub names_so : (rs : List Rule) (fired by_rule : List ℕ) → AreCounts (length rs) fired by_rule → names_from rs by_rule 0 ≡ sum_by (names_at rs) fired

@@ -106,7 +106,7 @@ pub stopped_so : StopLaws → (s : SystemParts) (bounds : Bounds) (numbers : Lis
     → (end ≡ Nodes → bounds.nodes < all_entries m) → (end ≡ Nodes → IsLookedAt p old m) → places ≡ m.names + sum m.agents
     → length m.places ≤ places → AllByRecursion IsAtPlace m.places → AllByRecursion IsPair m.pending → IsWatched p bounds.nodes old m
     → (by_rule : List ℕ) → IsSummed (length s.rules.rules) numbers m.counts by_rule → length numbers ≡ length p.plans → m.interactions < 2 ^ 64
-    → HasStopped s bounds given by_rule m end places
+    → HasStopped s bounds given by_rule m end places 0
 stopped_so laws s bounds numbers p given plan operands old m end places sound arities plans of_rules start stands are begun runs nodes looked all enough tables pairs watched by_rule summed numbered low =
     let run_of = watched_ran p bounds.nodes old m watched in
     let ran : Ran p old m = run_of.0 in
@@ -135,7 +135,7 @@ stopped_so laws s bounds numbers p given plan operands old m end places sound ar
     let by_rules = (λ (i : ℕ). summed_told i numbers m.counts ran.fired (transport (λ (n : ℕ). AllByRecursion (λ k. k < n) ran.fired) (sym numbered) known)
     (λ k there. let before = zeros k in let each = ran.counts.each k (omega (arith, there, numbered, plans_count)) in omega (arith, before, each))) in
     let few = (λ (i : ℕ). count_by-le-length (λ j. j == i) (map (rule_number numbers) ran.fired)) in
-    let come : HasCome s bounds given by_rule m end places = record {
+    let come : HasCome s bounds given by_rule m end places 0 = record {
       sound = sound;
       below = all_low given stands.names s.config.next (2 ^ 62) sound.next stands.below;
       plans = p;
@@ -162,6 +162,7 @@ stopped_so laws s bounds numbers p given plan operands old m end places sound ar
       used = laws.used s.rules numbers p s.config given plan operands m sound.rules sound.over sound.names compiled run;
       together = old;
       before = [];
+      made = refl;
       was = transport (λ (f : List ℕ). Holds s.rules p s.config given f old) (ap (map (rule_number numbers)) (ran_nothing-fired p old))
           (laws.reached s.rules numbers p s.config given plan operands old sound.rules sound.over sound.names compiled
           (record { first = old; starts = begun.starts; separate = begun.separate; aside = begun.aside; ran = ran_nothing p old }));

@@ -15,7 +15,7 @@ use Rattle.ic_round.specs.Steps.{Interaction}
 use Rattle.ic_reaching.specs.Reaching.{Reaches}
 use Rattle.ic_text.specs.declared.limits.TheConstants.{MAX_NAME}
 use Rattle.ic_reaching.specs.OneNet.{OneNet}
-use Rattle.ic_machine.specs.Net.{Net, all_entries, equations_left, in_use, pieces, places_of, HasNext, IsAtPlace, IsPair}
+use Rattle.ic_machine.specs.Net.{Net, all_entries, equations_left, in_use, pieces, places_of, HasNext, IsAtPlace, IsPair, IsStuck}
 use Rattle.ic_machine.specs.Plan.{Planned, Plans}
 use Rattle.ic_meaning.specs.Nets.{net_of}
 use Rattle.ic_in_place.specs.declared.running.TheConstants.{PIECE}
@@ -116,14 +116,14 @@ pub record IsComeTo (s : SystemParts) (bounds : Bounds) (answer : Configuration)
 
 -- The machine that held all in the end had so many places, of names and for agents, the free ones too, and so many equations
 -- left. It holds one net with the answer, which is reached by these rules. Of each symbol it has no more places than there were
--- agents at once. It has run on from what was reached before, and its places were watched since. Before, it had no more names
--- than the plan of the configuration makes and the rules that had fired have.
+-- agents at once. It has run on from what was reached before, by so many interactions, and its places were watched since. Then
+-- it had no more names than the plan of the configuration makes and the rules that had fired have. What is aside is stuck.
 --
 -- At a quiet end no equation is pending. Where it stopped for what it held, that was at a look: places and equations that are
 -- left were together more than the bound, and a pair that can fire was left. Where it stopped at a limit, a table would be
 -- full. Where memory ran out, equations were left, and no side of one is a name of the net.
 pub record HasPlaces (s : SystemParts) (bounds : Bounds) (answer : Configuration) (end : End)
-    (places left : ℕ) (fired : List ℕ) : Type 0 where
+    (places left shared : ℕ) (fired : List ℕ) : Type 0 where
   pub machine : Net
   pub plans : Plans
   pub rule_numbers : List ℕ
@@ -137,10 +137,12 @@ pub record HasPlaces (s : SystemParts) (bounds : Bounds) (answer : Configuration
   pub enough : length machine.places ≤ places
   pub tables : AllByRecursion IsAtPlace machine.places
   pub pairs : AllByRecursion IsPair machine.pending
+  pub aside : AllByRecursion (IsStuck plans) machine.aside
   pub equations : left ≡ equations_left machine
   pub used : (symbol : ℕ) → WereThere s.rules s.config fired symbol (slice_index_or machine.agents symbol 0)
   pub together : Net
   pub before : List ℕ
+  pub made : length before ≡ shared
   pub was : Holds s.rules plans s.config given before together
   pub room : (kind : ℕ) → in_use kind (pieces together) ≤ places_of kind together
   pub names : together.names ≤ plan.names + sum_by (names_at s.rules.rules) before

@@ -48,8 +48,8 @@ stuck_at end.Nodes symbols c = None
 stuck_at end.Limit symbols c = None
 stuck_at end.Memory symbols c = None
 
--- A text is read as a system with these limits, of which a configuration is reached. This is its line, and this tells of it.
--- The system keeps what the laws of every order ask for.
+-- A text is read as a system with these limits, of which a configuration is reached, by one thread. This is its line, and this
+-- tells of it. The system keeps what the laws of every order ask for.
 pub record EndsAs (limits : Limits) (bounds : Bounds) (asked : Asked) (input : List ℕ)
     (outcome : Outcome) (line : List ℕ) : Type 0 where
   pub system : SystemParts
@@ -60,6 +60,7 @@ pub record EndsAs (limits : Limits) (bounds : Bounds) (asked : Asked) (input : L
   pub names : HasNames system.config
   pub reached : IsReachedBy system bounds answer outcome.end outcome.interactions outcome.places
       outcome.left outcome.by_rule.items
+  pub alone : outcome.shared ≡ 0
   pub name_steps : TellsNameSteps system.rules.rules system.config outcome.interactions
       (length answer.equations) outcome.end outcome.name_steps
   pub together : is_written asked outcome.end ≡ true → IsPutTogether answer
@@ -77,6 +78,7 @@ pub record EndsWatched (s : SystemParts) (bounds : Bounds) (asked : Asked) (outc
   pub names : HasNames s.config
   pub reached : IsReachedBy s bounds answer outcome.end outcome.interactions outcome.places
       outcome.left outcome.by_rule.items
+  pub alone : outcome.shared ≡ 0
   pub name_steps : TellsNameSteps s.rules.rules s.config outcome.interactions
       (length answer.equations) outcome.end outcome.name_steps
   pub together : is_written asked outcome.end ≡ true → IsPutTogether answer
@@ -85,7 +87,8 @@ pub record EndsWatched (s : SystemParts) (bounds : Bounds) (asked : Asked) (outc
       ≡ stuck_at outcome.end s.rules.symbols answer
   pub rules : arc_value outcome.rules ≡ s.rules
 
--- The same, by however many threads, but for places: some machine that holds the net was watched from some moment on.
+-- The same, by however many threads, but for places: some machine that holds the net was watched from its interaction on whose
+-- number is told as `shared`.
 pub record EndsOf (s : SystemParts) (bounds : Bounds) (asked : Asked) (outcome : Outcome)
     (line : List ℕ) : Type 0 where
   pub answer : Configuration
@@ -94,7 +97,8 @@ pub record EndsOf (s : SystemParts) (bounds : Bounds) (asked : Asked) (outcome :
   pub names : HasNames s.config
   pub reached : IsComeTo s bounds answer outcome.end outcome.interactions outcome.left
       outcome.by_rule.items
-  pub places : HasPlaces s bounds answer outcome.end outcome.places outcome.left reached.fired
+  pub places : HasPlaces s bounds answer outcome.end outcome.places outcome.left outcome.shared
+      reached.fired
   pub name_steps : TellsNameSteps s.rules.rules s.config outcome.interactions
       (length answer.equations) outcome.end outcome.name_steps
   pub together : is_written asked outcome.end ≡ true → IsPutTogether answer

@@ -52,11 +52,11 @@ StopsBy bounds p m Limit = (m.interactions < bounds.steps) × IsFullNext p m
 StopsBy bounds p m Memory = m.pending ≢ []
 
 -- A machine has stopped that holds what is reached from the configuration of a system, whose names that occur once are given.
--- Of each symbol it has no more places than there were agents at once. By then it has run on from what was reached before, and
--- its places were watched since: where it stopped for what it held, at a look. Before, it had no more names than the plan of
--- the configuration makes and the rules that had fired have. Nothing is said of who made the steps before.
+-- Of each symbol it has no more places than there were agents at once. It has run on from what was reached by so many
+-- interactions before. Then it had no more names than the plan of the configuration makes and the rules that had fired have.
+-- Since then its places were watched: where it stopped for what it held, at a look. Nothing is said of who made the steps before.
 pub record HasCome (s : SystemParts) (bounds : Bounds) (given by_rule : List ℕ) (m : Net)
-    (end : End) (places : ℕ) : Type 0 where
+    (end : End) (places shared : ℕ) : Type 0 where
   pub sound : IsSound s
   pub below : AllByRecursion (λ x. x < 2 ^ 62) given
   pub plans : Plans
@@ -80,6 +80,7 @@ pub record HasCome (s : SystemParts) (bounds : Bounds) (given by_rule : List ℕ
   pub used : (symbol : ℕ) → WereThere s.rules s.config fired symbol (slice_index_or m.agents symbol 0)
   pub together : Net
   pub before : List ℕ
+  pub made : length before ≡ shared
   pub was : Holds s.rules plans s.config given before together
   pub room : (kind : ℕ) → in_use kind (pieces together) ≤ places_of kind together
   pub names : together.names ≤ plan.names + sum_by (names_at s.rules.rules) before
@@ -89,8 +90,8 @@ pub record HasCome (s : SystemParts) (bounds : Bounds) (given by_rule : List ℕ
 
 -- The same of a machine that began with the configuration and made all steps, and was watched from its beginning.
 pub record HasStopped (s : SystemParts) (bounds : Bounds) (given by_rule : List ℕ) (m : Net)
-    (end : End) (places : ℕ) : Type 0 where
-  pub come : HasCome s bounds given by_rule m end places
+    (end : End) (places shared : ℕ) : Type 0 where
+  pub come : HasCome s bounds given by_rule m end places shared
   pub starts : Starts come.plans (length given) come.plan come.operands come.together
   pub first : come.before ≡ []
   pub none : come.together.interactions ≡ 0

@@ -56,7 +56,7 @@ fn count_of(counts: &[u64], plan: usize) -> u64
 /// So many names, and those that rules have that fired so often, each time: 2^64 - 1 if there are more.
 pub fn names_made(names: u32, rules: &[Rule], by_rule: &[u64]) -> u64
     ensures { (fired : List ℕ) → AreCounts (length rules.now) fired by_rule.now
-        → result ≤ names + sum_by (names_at rules.now) fired }
+        → result ≡ min (names + sum_by (names_at rules.now) fired) u64.MAX }
 {
     let mut made = u64::from(names);
     for (place, rule) in rules.iter().enumerate() {

@@ -55,6 +55,8 @@ pub struct Stopped {
     pub by_rule: Vec<u64>,
     /// How many places the machine has, the free ones too.
     pub places: u64,
+    /// How many interactions were made before it got all that several threads had: none by one thread.
+    pub shared: u64,
     /// Why it stopped.
     pub end: End,
 }
@@ -88,10 +90,10 @@ pub(crate) fn read_stopped(
 ) -> Result<Reduced, AllocError>
     ensures read { IfOk result (λ reduced. (bounds : AnyBounds)
         (come : HasCome system.now bounds stopped.given.items stopped.by_rule.items
-        stopped.machine stopped.end stopped.places)
+        stopped.machine stopped.end stopped.places stopped.shared)
         → (answer : Configuration)
         × ReadsAs system.now bounds stopped.given.items stopped.by_rule.items
-        stopped.machine stopped.end stopped.places come answer
+        stopped.machine stopped.end stopped.places stopped.shared come answer
         × IsPutTogether answer
         × TellsNameSteps system.now.rules.rules system.now.config reduced.interactions
         (length answer.equations) reduced.end reduced.name_steps
@@ -125,10 +127,10 @@ pub(crate) fn read_words(
 ) -> Result<Reduced, AllocError>
     ensures read { IfOk result (λ read. (bounds : AnyBounds)
         (come : HasCome system.now bounds stopped.given.items stopped.by_rule.items
-        stopped.machine stopped.end stopped.places)
+        stopped.machine stopped.end stopped.places stopped.shared)
         → (answer : Configuration)
         × ReadsAs system.now bounds stopped.given.items stopped.by_rule.items
-        stopped.machine stopped.end stopped.places come answer
+        stopped.machine stopped.end stopped.places stopped.shared come answer
         × IsPutTogether answer
         × TellsNameSteps system.now.rules.rules system.now.config read.interactions
         (length answer.equations) read.end read.name_steps
@@ -183,7 +185,7 @@ pub(crate) fn run_system<V: Watch>(
     watch: &V,
 ) -> Result<Stopped, AllocError>
     ensures { IfOk result (λ stopped. HasStopped system.now bounds stopped.given.items
-        stopped.by_rule.items stopped.machine stopped.end stopped.places) }
+        stopped.by_rule.items stopped.machine stopped.end stopped.places stopped.shared) }
 {
     crate::laws::what_a_machine_holds_is_reached();
     ic_machine::laws::places_are_those_that_were_in_use();
@@ -200,6 +202,7 @@ pub(crate) fn run_system<V: Watch>(
         given: first.given,
         by_rule,
         places,
+        shared: 0,
         end,
     })
 }

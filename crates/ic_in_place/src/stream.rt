@@ -6,6 +6,7 @@ ghost use Rattle.std.specs.Option.{option_map};
 ghost use Rattle.std.specs.Io.KnownBytes.{Keeps};
 ghost use Rattle.ic_flat.specs.Words.{forest, is_word_over, IsWhole};
 ghost use Rattle.ic_flat.specs.Flat.{configuration_of};
+ghost use Rattle.ic_machine.specs.Net.{equations_left};
 ghost use Rattle.ic_diagnostics.specs.Telling.{AppendedWithin, AppendedAtWithin};
 ghost use Rattle.ic_streams.specs.Streams.{OfText, IsAnswered, FaultOf, TakesAtWithin, TakesTextWithin, line_of};
 ghost use Rattle.ic_in_place.specs.Reductions.{EndsAs, EndsOf, EndsWatched, ReducesInPlace, Tells, is_written};
@@ -55,6 +56,8 @@ pub struct Outcome {
     pub places: u64,
     /// How many equations the machine had left then: those that were pending, and those that were set aside.
     pub left: u64,
+    /// How many interactions were made before all that several threads had was put together: none by one thread.
+    pub shared: u64,
     /// The symbols of the first equation of two agents, where the end is quiet.
     pub stuck: Option<Vec<u8>>,
 }
@@ -129,7 +132,8 @@ fn reached_line<V: Watch>(
     Ok(answer)
 }
 
-/// The line of what a machine holds that has stopped, and what is told of it. Where the line isn't to be written, it is empty.
+/// The line of what a machine holds that has stopped, and what is told of it: the figures are those of this machine. Where the
+/// line isn't to be written, it is empty.
 pub fn stopped_line(
     alloc: Global,
     system: WideSystem,
@@ -138,33 +142,42 @@ pub fn stopped_line(
 ) -> Result<(Vec<u8>, Outcome), AllocError>
     requires { (bounds : AnyBounds)
         × HasCome system bounds stopped.given.items stopped.by_rule.items
-        stopped.machine stopped.end stopped.places }
+        stopped.machine stopped.end stopped.places stopped.shared }
     ensures of { IfOk result (λ answer. (bounds : AnyBounds)
         → HasCome system bounds stopped.given.items stopped.by_rule.items
-        stopped.machine stopped.end stopped.places
+        stopped.machine stopped.end stopped.places stopped.shared
         → EndsOf system bounds asked answer.1 answer.0.items) }
     ensures watched { IfOk result (λ answer. (bounds : AnyBounds)
         → HasStopped system bounds stopped.given.items stopped.by_rule.items
-        stopped.machine stopped.end stopped.places
+        stopped.machine stopped.end stopped.places stopped.shared
         → EndsWatched system bounds asked answer.1 answer.0.items) }
+    ensures interactions { IfOk result
+        (λ answer. answer.1.interactions ≡ stopped.machine.interactions) }
+    ensures left { IfOk result (λ answer. answer.1.left ≡ equations_left stopped.machine) }
+    ensures by_rule { IfOk result (λ answer. answer.1.by_rule.items ≡ stopped.by_rule.items) }
+    ensures places { IfOk result (λ answer. answer.1.places ≡ stopped.places) }
+    ensures shared { IfOk result (λ answer. answer.1.shared ≡ stopped.shared) }
+    ensures end { IfOk result (λ answer. answer.1.end ≡ stopped.end) }
 {
     if !is_written(asked, stopped.end) {
         let outcome = unwritten(alloc, system, stopped)?;
         return Ok((Vec::new(alloc), outcome));
     }
+    let shared = stopped.shared;
     let reduced = read_stopped(alloc, &system, stopped)?;
     let symbols = system.rules().symbols();
     let line = line_reached(alloc, symbols, &reduced, asked)?;
     let stuck = stuck_at_end(alloc, symbols, &reduced)?;
-    let (shared, _) = system.into_parts();
+    let (rules, _) = system.into_parts();
     let outcome = Outcome {
         end: reduced.end,
         interactions: reduced.interactions,
-        rules: shared,
+        rules,
         by_rule: reduced.by_rule,
         name_steps: reduced.name_steps,
         places: reduced.places,
         left: reduced.left,
+        shared,
         stuck,
     };
     Ok((line, outcome))
@@ -189,15 +202,21 @@ pub fn is_written(asked: Asked, end: End) -> bool
 fn unwritten(alloc: Global, system: WideSystem, stopped: Stopped) -> Result<Outcome, AllocError>
     requires { (bounds : AnyBounds)
         × HasCome system bounds stopped.given.items stopped.by_rule.items
-        stopped.machine stopped.end stopped.places }
+        stopped.machine stopped.end stopped.places stopped.shared }
     ensures told { IfOk result (λ outcome. (bounds : AnyBounds)
         → HasStopped system bounds stopped.given.items stopped.by_rule.items
-        stopped.machine stopped.end stopped.places
+        stopped.machine stopped.end stopped.places stopped.shared
         → IsTold system bounds outcome) }
     ensures told_of { IfOk result (λ outcome. (bounds : AnyBounds)
         → HasCome system bounds stopped.given.items stopped.by_rule.items
-        stopped.machine stopped.end stopped.places
+        stopped.machine stopped.end stopped.places stopped.shared
         → IsToldOf system bounds outcome) }
+    ensures interactions { IfOk result
+        (λ outcome. outcome.interactions ≡ stopped.machine.interactions) }
+    ensures left { IfOk result (λ outcome. outcome.left ≡ equations_left stopped.machine) }
+    ensures by_rule { IfOk result (λ outcome. outcome.by_rule.items ≡ stopped.by_rule.items) }
+    ensures places { IfOk result (λ outcome. outcome.places ≡ stopped.places) }
+    ensures shared { IfOk result (λ outcome. outcome.shared ≡ stopped.shared) }
     ensures end { IfOk result (λ outcome. outcome.end ≡ stopped.end) }
 {
     ic_reaching::laws::one_net_is_an_equivalence();
@@ -205,15 +224,16 @@ fn unwritten(alloc: Global, system: WideSystem, stopped: Stopped) -> Result<Outc
         return read_unwritten(alloc, system, stopped);
     }
     let left = stopped.machine.equations_left();
-    let (shared, _) = system.into_parts();
+    let (rules, _) = system.into_parts();
     Ok(Outcome {
         end: stopped.end,
         interactions: stopped.machine.interactions(),
-        rules: shared,
+        rules,
         by_rule: stopped.by_rule,
         name_steps: None,
         places: stopped.places,
         left,
+        shared: stopped.shared,
         stuck: None,
     })
 }
@@ -226,28 +246,36 @@ fn read_unwritten(
 ) -> Result<Outcome, AllocError>
     requires { (bounds : AnyBounds)
         × HasCome system bounds stopped.given.items stopped.by_rule.items
-        stopped.machine stopped.end stopped.places }
+        stopped.machine stopped.end stopped.places stopped.shared }
     ensures told { IfOk result (λ outcome. (bounds : AnyBounds)
         → HasStopped system bounds stopped.given.items stopped.by_rule.items
-        stopped.machine stopped.end stopped.places
+        stopped.machine stopped.end stopped.places stopped.shared
         → IsTold system bounds outcome) }
     ensures told_of { IfOk result (λ outcome. (bounds : AnyBounds)
         → HasCome system bounds stopped.given.items stopped.by_rule.items
-        stopped.machine stopped.end stopped.places
+        stopped.machine stopped.end stopped.places stopped.shared
         → IsToldOf system bounds outcome) }
+    ensures interactions { IfOk result
+        (λ outcome. outcome.interactions ≡ stopped.machine.interactions) }
+    ensures left { IfOk result (λ outcome. outcome.left ≡ equations_left stopped.machine) }
+    ensures by_rule { IfOk result (λ outcome. outcome.by_rule.items ≡ stopped.by_rule.items) }
+    ensures places { IfOk result (λ outcome. outcome.places ≡ stopped.places) }
+    ensures shared { IfOk result (λ outcome. outcome.shared ≡ stopped.shared) }
     ensures end { IfOk result (λ outcome. outcome.end ≡ stopped.end) }
 {
+    let shared = stopped.shared;
     let read = read_words(alloc, &system, stopped)?;
     let stuck = stuck_at_end(alloc, system.rules().symbols(), &read)?;
-    let (shared, _) = system.into_parts();
+    let (rules, _) = system.into_parts();
     Ok(Outcome {
         end: read.end,
         interactions: read.interactions,
-        rules: shared,
+        rules,
         by_rule: read.by_rule,
         name_steps: read.name_steps,
         places: read.places,
         left: read.left,
+        shared,
         stuck,
     })
 }

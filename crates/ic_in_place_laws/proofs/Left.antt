@@ -111,6 +111,13 @@ linked_places : (ps : List Piece) → AllByRecursion IsAtPlace ps → AllByRecur
 linked_places [] all = tt
 linked_places (x ∷ xs) all = (linked_place x all.0, linked_places xs all.1)
 
+-- no side of an equation that is pending, or aside and stuck, is a name of the net
+pub left_linked : (p : Plans) (m : Net) → AllByRecursion IsPair m.pending → AllByRecursion (IsStuck p) m.aside → AllByRecursion IsAtPlace m.places
+    → AllByRecursion IsPairPiece (pieces m)
+left_linked p m pairs aside tables =
+    all_of_both IsPairPiece (map equated_of m.pending) (map equated_of m.aside ++ m.places) (linked_pending m.pending pairs)
+    (all_of_both IsPairPiece (map equated_of m.aside) m.places (linked_aside p m.aside aside) (linked_places m.places tables))
+
 pub all_linked : (s : SystemParts) (bounds : Bounds) (answer : Configuration) (end : End) (interactions places : ℕ)
     → (is : IsReached s bounds answer end interactions places) → AllByRecursion IsPairPiece (pieces is.held.machine)
 all_linked s bounds answer end interactions places is =
@@ -119,8 +126,7 @@ all_linked s bounds answer end interactions places is =
     let w = h.watched in
     let aside : AllByRecursion (IsStuck h.plans) m.aside =
     stuck_later h.plans w.mark m w.after (stuck_looked h.plans bounds.nodes w.allowed w.before h.first w.mark w.looked h.no_aside) in
-    all_of_both IsPairPiece (map equated_of m.pending) (map equated_of m.aside ++ m.places) (linked_pending m.pending h.pairs)
-    (all_of_both IsPairPiece (map equated_of m.aside) m.places (linked_aside h.plans m.aside aside) (linked_places m.places h.tables))
+    left_linked h.plans m h.pairs aside h.tables
 
 pub each_linked : (ps : List Piece) (i : ℕ) (q : Piece) → AllByRecursion IsPairPiece ps → i < length ps → slice_index_or ps i q ≡ q → IsPairPiece q
 each_linked [] i q all low is = absurd (omega (arith, low))

@@ -1,5 +1,5 @@
 -- Lemmas: one interaction more, and how many were made.
-use Rattle.std.proofs.Common.{◌≡◌, ℕ, ◌+◌, ◌*◌, List, [], ◌∷◌, ◌++◌, length, map, sym, ap, ◌∙◌, arith, IsTrue, suc, subst as transport}
+use Rattle.std.proofs.Common.{◌≡◌, ◌⊎◌, inl, inr, ℕ, ◌+◌, ◌*◌, ◌≤◌, refl, List, [], ◌∷◌, ◌++◌, length, map, sym, ap, ◌∙◌, arith, IsTrue, suc, subst as transport}
 use Rattle.std.proofs.lemmas.List.{length-append, length-map}
 use Rattle.ic_term.specs.Configuration.{Configuration}
 use Rattle.ic_term.specs.Symbol.{is_over}
@@ -9,7 +9,7 @@ use Rattle.ic_round.specs.Naming.{HasNames}
 use Rattle.ic_reaching.specs.Reaching.{Reaches}
 use Rattle.ic_arena.specs.declared.word.Word.{Word}
 use Rattle.ic_arena.specs.Piece.{Piece}
-use Rattle.ic_machine.specs.Net.{Net, HasNext, pieces}
+use Rattle.ic_machine.specs.Net.{Net, all_entries, HasNext, pieces}
 use Rattle.ic_machine.specs.Plan.{Planned, Plans, ArePlans}
 use Rattle.ic_machine.specs.Steps.{Steps, fires}
 use Rattle.ic_machine.specs.lemmas.StepsOn.{one_step}
@@ -97,6 +97,15 @@ looked_whole p nodes allowed fired first last (one_more_look low high before a m
     let then = looked_whole p nodes low before a m looked in
     let whole = next.whole in
     (suc then.0, omega (arith, then.1, whole))
+
+-- and each look finds no more than the bound
+pub looked_within : (p : Plans) (nodes allowed : ℕ) (fired : List ℕ) (first last : Net) → Looked p nodes allowed fired first last
+    → (looks : ℕ) × (last.interactions ≡ first.interactions + looks * 4096) × ((looks ≡ 0) ⊎ (all_entries last ≤ nodes))
+looked_within p nodes allowed fired first last (no_look m) = (0, omega arith, inl refl)
+looked_within p nodes allowed fired first last (one_more_look low high before a m b looked next) =
+    let then = looked_whole p nodes low before a m looked in
+    let whole = next.whole in
+    (suc then.0, omega (arith, then.1, whole), inr next.within)
 
 pub mark_whole : (s : SystemParts) (bounds : Bounds) (answer : Configuration) (end : End) (interactions places : ℕ)
     → (is : IsReached s bounds answer end interactions places) → (looks : ℕ) × (is.held.watched.mark.interactions ≡ looks * 4096)

@@ -154,10 +154,10 @@ module _ (laws : PlaceLaws) (s : SystemParts) (bounds : Bounds) (answer : Config
       omega (arith, is.held.all, few, later, most, linked, links_most, least, counted, near)
 
 -- the same of the last machine of several threads, since all was put together
-pub several_near : PlaceLaws → (s : SystemParts) (bounds : Bounds) (answer : Configuration) (end : End) (places left : ℕ) (fired : List ℕ)
-    → IsRuleSet s.rules → (h : HasPlaces s bounds answer end places left fired)
+pub several_near : PlaceLaws → (s : SystemParts) (bounds : Bounds) (answer : Configuration) (end : End) (places left shared : ℕ) (fired : List ℕ)
+    → IsRuleSet s.rules → (h : HasPlaces s bounds answer end places left shared fired)
     → places + left ≤ max bounds.nodes (all_places h.together + equations_in (pieces h.together)) + 4096 * 4096
-several_near laws s bounds answer end places left fired set h =
+several_near laws s bounds answer end places left shared fired set h =
     let p : Plans = h.plans in
     let w = h.watched in
     let marked = looked_grown laws p bounds.nodes w.allowed w.before h.together w.mark w.looked h.room in

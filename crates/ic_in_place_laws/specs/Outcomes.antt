@@ -24,6 +24,7 @@ pub record AreOf (s : SystemParts) (bounds : Bounds) (asked : Asked) (outcome : 
   pub answer : Configuration
   pub reached : IsReachedBy s bounds answer outcome.end outcome.interactions outcome.places
       outcome.left outcome.by_rule.items
+  pub alone : outcome.shared ≡ 0
   pub name_steps : TellsNameSteps s.rules.rules s.config outcome.interactions
       (length answer.equations) outcome.end outcome.name_steps
   pub together : is_written asked outcome.end ≡ true → IsPutTogether answer

@@ -44,7 +44,7 @@ pub fn a_quiet_outcome_is_that_of_every_order()
 }
 
 /// At any end the line is of a configuration that as many interactions reach as are told. Where it is written, no name of that
-/// is left to replace; else there is no line. The rules are those of the system.
+/// is left to replace; else there is no line. The rules are those of the system. No interaction was shared by threads.
 pub fn an_outcome_says_what_was_reached()
     ensures reached { (s : SystemParts) (bounds : Bounds) (asked : Asked) (outcome : Outcome)
         (line : List ℕ) → (is : AreOf s bounds asked outcome line)
@@ -59,4 +59,6 @@ pub fn an_outcome_says_what_was_reached()
         → is_written asked outcome.end ≡ false → line ≡ [] }
     ensures rules { (s : SystemParts) (bounds : Bounds) (asked : Asked) (outcome : Outcome)
         (line : List ℕ) → AreOf s bounds asked outcome line → arc_value outcome.rules ≡ s.rules }
+    ensures alone { (s : SystemParts) (bounds : Bounds) (asked : Asked) (outcome : Outcome)
+        (line : List ℕ) → AreOf s bounds asked outcome line → outcome.shared ≡ 0 }
 {}

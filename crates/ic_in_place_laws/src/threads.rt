@@ -1,6 +1,6 @@
 //! Laws of what a reduction tells, by however many threads it was made.
 
-ghost use Rattle.std.specs.Prelude.{◌≡◌, ◌≢◌, ◌⊎◌, ℕ, suc, ◌+◌, ◌*◌, ◌^◌, ◌<◌, ◌≤◌, ◌++◌, List, [], ◌∷◌, true, false, Option, None, SomeIff, length, max, slice_index_or, sum_by};
+ghost use Rattle.std.specs.Prelude.{◌≡◌, ◌≢◌, ◌⊎◌, ℕ, suc, ◌+◌, ◌*◌, ◌^◌, ◌<◌, ◌≤◌, ◌++◌, List, [], ◌∷◌, true, false, Contains, Option, None, SomeIff, length, max, slice_index_or, sum_by};
 ghost use Rattle.std.specs.List.{AllByRecursion};
 ghost use Rattle.std.specs.Arc.{arc_value};
 ghost use Rattle.std.specs.Option.{option_map};
@@ -10,7 +10,10 @@ ghost use Rattle.ic_rules.specs.Rule.{Rule};
 ghost use Rattle.ic_rules.specs.System.{SystemParts};
 ghost use Rattle.ic_round.specs.Rounds.{iterate};
 ghost use Rattle.ic_round.specs.Quiet.{IsQuiet};
-ghost use Rattle.ic_machine.specs.Net.{all_places, equations_in, pieces, IsPair};
+ghost use Rattle.ic_arena.specs.declared.word.Word.{Word};
+ghost use Rattle.ic_arena.specs.declared.word.TheConstants.{NAME};
+ghost use Rattle.ic_arena.specs.Piece.{equated};
+ghost use Rattle.ic_machine.specs.Net.{all_entries, all_places, equations_in, pieces, IsPair};
 ghost use Rattle.ic_meaning.specs.Nets.{net_of};
 ghost use Rattle.ic_confluence.specs.Kinds.{Kind, Chain};
 ghost use Rattle.ic_reaching.specs.OneNet.{OneNet, SameButNext};
@@ -27,7 +30,7 @@ ghost use Rattle.ic_in_place.specs.declared.stream.Outcome.{Outcome};
 ghost use Rattle.ic_in_place.specs.Agents.{agents_of_symbol};
 ghost use Rattle.ic_in_place.specs.Counting.{name_steps, names_at};
 ghost use Rattle.ic_in_place.specs.Reducing.{HasEnds, IsPutTogether, IsReached};
-ghost use Rattle.ic_in_place.specs.Reductions.{EndsOf, is_written};
+ghost use Rattle.ic_in_place.specs.Reductions.{EndsOf, EndsWatched, is_written};
 
 /// What the line says. It is of a configuration that is reached by as many interactions as are told. Where it is written, that
 /// configuration has no name left to replace; else there is no line.
@@ -69,7 +72,7 @@ pub fn what_is_told_beside_the_line()
 }
 
 /// Which equations are left. They are those of the machine that has all in the end, pending or set aside, and its pieces have
-/// no other one; at a quiet end none is pending. There, and where as many interactions were made as may be, they are those of
+/// no other one; no side of one is a name of the net. At a quiet end none is pending. There, and where as many interactions were made as may be, they are those of
 /// the answer that are no circles, however its equations are parted. Where memory ran out some are pending, each between agents
 /// or free names.
 pub fn equations_are_those_of_the_last_machine()
@@ -79,6 +82,10 @@ pub fn equations_are_those_of_the_last_machine()
     ensures all { (s : SystemParts) (bounds : Bounds) (asked : Asked) (outcome : Outcome)
         (line : List ℕ) → (is : EndsOf s bounds asked outcome line)
         → outcome.left ≡ equations_in (pieces is.places.machine) }
+    ensures linked { (s : SystemParts) (bounds : Bounds) (asked : Asked) (outcome : Outcome)
+        (line : List ℕ) → (is : EndsOf s bounds asked outcome line) → (l r : Word)
+        → Contains (pieces is.places.machine) (equated l r)
+        → (¬ (l.tag ≡ NAME)) × (¬ (r.tag ≡ NAME)) }
     ensures quiet { (s : SystemParts) (bounds : Bounds) (asked : Asked) (outcome : Outcome)
         (line : List ℕ) → (is : EndsOf s bounds asked outcome line) → outcome.end ≡ Quiet
         → is.places.machine.pending ≡ [] }
@@ -152,7 +159,7 @@ pub fn rounds_fire_as_many_pairs_as_several()
 
 /// Of each symbol a machine that holds the net of several threads, or the machine of one, has no more places than there were
 /// agents at once: in some configuration that the first of the interactions lead to. At some moment it had no more names than the
-/// configuration and the rules that had fired.
+/// configuration and the rules that had fired: when so many interactions were made as are told to be shared.
 pub fn places_of_several_were_in_use()
     ensures agents { (s : SystemParts) (bounds : Bounds) (asked : Asked) (outcome : Outcome)
         (line : List ℕ) → (is : EndsOf s bounds asked outcome line) → (symbol : ℕ)
@@ -187,22 +194,33 @@ pub fn agents_and_names_are_counted_so()
     ensures none { (i : ℕ) → names_at [] i ≡ 0 }
 {}
 
-/// This machine runs on from what was reached at that moment, and is looked at as that of one thread is. It is told that
-/// there were too many places and equations only at a look, after each 4,096 interactions. They pass the bound, or what there
-/// was before, by no more than so many interactions may make.
+/// What several threads had reached was reached by as many interactions as are told to be shared. From there on one machine runs
+/// on, and is looked at as that of one thread is. It is told that there were too many places and equations only at a look, after
+/// each 4,096 of its interactions. They pass the bound, or what there was before, by no more than so many interactions may make.
+/// Where none is told to be shared, nothing was reached before.
 pub fn the_last_machine_is_looked_at()
     ensures before { (s : SystemParts) (bounds : Bounds) (asked : Asked) (outcome : Outcome)
         (line : List ℕ) → (is : EndsOf s bounds asked outcome line)
         → Reaches s.rules.rules s.config (net_of is.places.was.numbers
-        is.places.together.interface (pieces is.places.together)) is.places.before }
+        is.places.together.interface (pieces is.places.together)) is.places.before
+        × (length is.places.before ≡ outcome.shared) }
     ensures onward { (s : SystemParts) (bounds : Bounds) (asked : Asked) (outcome : Outcome)
         (line : List ℕ) → (is : EndsOf s bounds asked outcome line)
         → (since : List ℕ) × (is.reached.fired ≡ is.places.before ++ since)
-        × (is.places.machine.interactions ≡ is.places.together.interactions + length since) }
+        × (is.places.machine.interactions ≡ is.places.together.interactions + length since)
+        × (outcome.interactions ≡ outcome.shared + length since) }
     ensures looked { (s : SystemParts) (bounds : Bounds) (asked : Asked) (outcome : Outcome)
-        (line : List ℕ) → (is : EndsOf s bounds asked outcome line) → outcome.end ≡ Nodes
-        → (looks : ℕ) × (is.places.machine.interactions
-        ≡ is.places.together.interactions + suc looks * 4096) }
+        (line : List ℕ) → EndsOf s bounds asked outcome line → outcome.end ≡ Nodes
+        → (looks : ℕ) × (outcome.interactions ≡ outcome.shared + suc looks * 4096) }
+    ensures marked { (s : SystemParts) (bounds : Bounds) (asked : Asked) (outcome : Outcome)
+        (line : List ℕ) → (is : EndsOf s bounds asked outcome line)
+        → (looks since : ℕ) × (outcome.interactions ≡ outcome.shared + looks * 4096 + since)
+        × (since ≤ 4096) × ((looks ≡ 0) ⊎ (all_entries is.places.watched.mark ≤ bounds.nodes)) }
+    ensures from_the_first { (s : SystemParts) (bounds : Bounds) (asked : Asked) (outcome : Outcome)
+        (line : List ℕ) → (is : EndsOf s bounds asked outcome line) → outcome.shared ≡ 0
+        → is.places.before ≡ [] }
+    ensures of_one { (s : SystemParts) (bounds : Bounds) (asked : Asked) (outcome : Outcome)
+        (line : List ℕ) → EndsWatched s bounds asked outcome line → outcome.shared ≡ 0 }
     ensures near { (s : SystemParts) (bounds : Bounds) (asked : Asked) (outcome : Outcome)
         (line : List ℕ) → (is : EndsOf s bounds asked outcome line)
         → outcome.places + outcome.left

@@ -34,6 +34,10 @@ places_figure o = codes ", places " ++ decimal o.places ++ codes ", equations " 
 abbrev pub threads_figure : ℕ → List ℕ
 threads_figure threads = codes ", threads " ++ decimal threads
 
+-- how many interactions were made before all was put together
+abbrev pub shared_figure : Outcome → List ℕ
+shared_figure o = codes ", shared " ++ decimal o.shared
+
 abbrev pub seconds_figure : (millis : ℕ) → List ℕ
 seconds_figure millis = codes ", seconds " ++ seconds_text millis
 
@@ -42,10 +46,10 @@ abbrev pub pace_figure : (interactions millis : ℕ) → List ℕ
 pace_figure n zero = []
 pace_figure n (suc m) = codes ", interactions a second " ++ decimal (a_second n (suc m))
 
--- the line of how many steps were made, of places, equations and threads, and how fast it was
+-- the line of how many steps were made, of places, equations and threads, how many steps they shared, and how fast it was
 abbrev pub figures_line : Outcome → (threads millis : ℕ) → List ℕ
 figures_line o threads millis = concat (steps_figure o ∷ places_figure o
-    ∷ threads_figure threads ∷ seconds_figure millis ∷ pace_figure o.interactions millis
+    ∷ threads_figure threads ∷ shared_figure o ∷ seconds_figure millis ∷ pace_figure o.interactions millis
     ∷ (10 ∷ []) ∷ [])
 
 -- the text of a symbol
@@ -147,6 +151,9 @@ places_field o =
 abbrev pub threads_field : ℕ → List ℕ
 threads_field threads = codes ",\"threads\":" ++ decimal threads
 
+abbrev pub shared_field : Outcome → List ℕ
+shared_field o = codes ",\"shared\":" ++ decimal o.shared
+
 abbrev pub millis_field : ℕ → List ℕ
 millis_field millis = codes ",\"milliseconds\":" ++ decimal millis
 
@@ -158,10 +165,10 @@ pace_text n (suc m) = decimal (a_second n (suc m))
 abbrev pub pace_field : (interactions millis : ℕ) → List ℕ
 pace_field n millis = codes ",\"interactions_a_second\":" ++ pace_text n millis
 
--- how many steps were made, of places, equations and threads, how long it took, and how fast it was
+-- how many steps were made, of places, equations and threads, how many steps they shared, how long it took, and how fast
 abbrev pub count_fields : Outcome → (threads millis : ℕ) → List ℕ
 count_fields o threads millis = concat (step_fields o ∷ places_field o ∷ threads_field threads
-    ∷ millis_field millis ∷ pace_field o.interactions millis ∷ [])
+    ∷ shared_field o ∷ millis_field millis ∷ pace_field o.interactions millis ∷ [])
 
 -- the figures as an object of JSON (RFC 8259) on a line
 abbrev pub figures_object : Outcome → (threads millis : ℕ) → List ℕ

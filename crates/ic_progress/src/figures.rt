@@ -4,7 +4,7 @@ ghost use Rattle.std.specs.Prelude.{◌≡◌, ◌++◌, ◌<◌, ◌-◌, ◌^�
 ghost use Rattle.ic_progress.specs.Figures.{count_fields, end_word, figures_line, figures_lines, figures_object, firings_count, firings_figure, interactions_word, millis_field};
 ghost use Rattle.ic_progress.specs.Figures.{name_steps_field, name_steps_figure, pace_field, pace_figure, pace_text, pair_text, places_field, places_figure};
 ghost use Rattle.ic_progress.specs.Figures.{rule_figure, rule_figures, rule_name, rule_object, rule_objects, rule_text, rules_line, rules_text, seconds_figure};
-ghost use Rattle.ic_progress.specs.Figures.{seconds_text, step_fields, steps_figure, stuck_field, stuck_fields, symbol_text, threads_field, threads_figure};
+ghost use Rattle.ic_progress.specs.Figures.{seconds_text, shared_field, shared_figure, step_fields, steps_figure, stuck_field, stuck_fields, symbol_text, threads_field, threads_figure};
 
 use crate::line::a_second;
 use ic_in_place::{End, Outcome};
@@ -48,7 +48,7 @@ pub fn figures_object(
     Ok(out)
 }
 
-/// Appends the line of steps, places, equations, threads and pace.
+/// Appends the line of steps, places, equations, threads, what they shared, and pace.
 fn put_figures_line(
     outcome: &Outcome,
     threads: usize,
@@ -61,6 +61,7 @@ fn put_figures_line(
     put_steps(outcome, out)?;
     put_places(outcome, out)?;
     put_threads(threads, out)?;
+    put_shared(outcome, out)?;
     put_seconds_figure(millis, out)?;
     put_pace(outcome.interactions, millis, out)?;
     out.push(b'\n')?;
@@ -94,6 +95,15 @@ fn put_threads(threads: usize, out: &mut Vec<u8>) -> Result<(), AllocError>
 {
     out.extend_from_slice(b", threads ")?;
     put_decimal(threads as u64, out)?;
+    Ok(())
+}
+
+/// Appends how many interactions were made before all was put together.
+fn put_shared(outcome: &Outcome, out: &mut Vec<u8>) -> Result<(), AllocError>
+    ensures { OnOk result (out.new.items ≡ out.old.items ++ shared_figure outcome.now) }
+{
+    out.extend_from_slice(b", shared ")?;
+    put_decimal(outcome.shared, out)?;
     Ok(())
 }
 
@@ -305,7 +315,7 @@ fn put_stuck_field(stuck: &Option<Vec<u8>>, out: &mut Vec<u8>) -> Result<(), All
     }
 }
 
-/// Appends the fields of steps, places, equations, threads, time and pace.
+/// Appends the fields of steps, places, equations, threads, what they shared, time and pace.
 fn put_counts(
     outcome: &Outcome,
     threads: usize,
@@ -318,6 +328,7 @@ fn put_counts(
     put_step_fields(outcome, out)?;
     put_places_field(outcome, out)?;
     put_threads_field(threads, out)?;
+    put_shared_field(outcome, out)?;
     put_millis_field(millis, out)?;
     put_pace_field(outcome.interactions, millis, out)?;
     Ok(())
@@ -350,6 +361,15 @@ fn put_threads_field(threads: usize, out: &mut Vec<u8>) -> Result<(), AllocError
 {
     out.extend_from_slice(b",\"threads\":")?;
     put_decimal(threads as u64, out)?;
+    Ok(())
+}
+
+/// Appends the field of how many interactions were made before all was put together.
+fn put_shared_field(outcome: &Outcome, out: &mut Vec<u8>) -> Result<(), AllocError>
+    ensures { OnOk result (out.new.items ≡ out.old.items ++ shared_field outcome.now) }
+{
+    out.extend_from_slice(b",\"shared\":")?;
+    put_decimal(outcome.shared, out)?;
     Ok(())
 }
 

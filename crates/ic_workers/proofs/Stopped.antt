@@ -1,7 +1,8 @@
 -- Lemmas: where a machine stops that has all that parts had.
-use Rattle.std.proofs.Common.{◌≡◌, ◌⊎◌, inl, inr, ℕ, zero, suc, ◌+◌, ◌<◌, ◌≤◌, ◌==◌, ◌^◌, List, [], ◌∷◌, ◌++◌, Some, cond, count_by, length, map, slice_get, slice_index_or, sum_by, refl, sym, ap, ◌∙◌, arith, subst as transport}
+use Rattle.std.proofs.Common.{◌≡◌, ◌⊎◌, inl, inr, ℕ, zero, suc, ◌+◌, ◌<◌, ◌≤◌, ◌==◌, ◌^◌, List, [], ◌∷◌, ◌++◌, Some, true, cond, count_by, length, map, nat_le, slice_get, slice_index_or, sum_by, refl, sym, ap, ◌∙◌, arith, subst as transport}
 use Rattle.std.specs.List.{flat_map, AllByRecursion}
 use Rattle.std.specs.Prelude.{◌↔◌, Contains, sum}
+use Rattle.std.proofs.lemmas.Bool.{leb-true}
 use Rattle.std.proofs.lemmas.List.{length-map, map-append}
 use Rattle.std.proofs.lemmas.List.Sums.{count_by-le-length, sum_by-append, sum_by-cons}
 use Rattle.ic_term.specs.Configuration.{Configuration, configuration_names, occurrences}
@@ -156,24 +157,25 @@ pub few_named : (rs : List Rule) (names own : ℕ) (numbers others counts fired 
     → ((i : ℕ) → i < length numbers → slice_index_or counts i 0 ≡ count_by (λ j. j == i) fired) → length fired < 2 ^ 64
     → ((is : List ℕ) → AllByRecursion (λ i. i < length others) is
     → ((i : ℕ) → i < length others → slice_index_or counts i 0 ≡ count_by (λ j. j == i) is) → length is < 2 ^ 64
-    → names ≤ own + sum_by (names_at rs) (map (rule_number others) is))
+    → true ≡ nat_le names (own + sum_by (names_at rs) (map (rule_number others) is)))
     → names ≤ own + sum_by (names_at rs) (map (rule_number numbers) fired)
 few_named rs names own numbers others counts fired same known each low law =
-    transport (λ (ns : List ℕ). (is : List ℕ) → AllByRecursion (λ i. i < length ns) is
+    leb-true names (own + sum_by (names_at rs) (map (rule_number numbers) fired))
+    (sym (transport (λ (ns : List ℕ). (is : List ℕ) → AllByRecursion (λ i. i < length ns) is
     → ((i : ℕ) → i < length ns → slice_index_or counts i 0 ≡ count_by (λ j. j == i) is) → length is < 2 ^ 64
-    → names ≤ own + sum_by (names_at rs) (map (rule_number ns) is)) same law fired known each low
+    → true ≡ nat_le names (own + sum_by (names_at rs) (map (rule_number ns) is))) same law fired known each low))
 
 -- A machine has all that parts had, and has run on from there until it stopped.
 pub come_so : (s : SystemParts) (bounds : Bounds) (numbers : List ℕ) (p : Plans) (given : List ℕ) (plan : Planned) (operands : List ℕ) (m n : Net) (end : End) (places : ℕ)
     → IsSound s → p.arities ≡ arities_of s → AreCompiled s.rules numbers p s.config given plan operands → (has : HasAll s.rules numbers p s.config given m)
-    → m.arities ≡ p.arities → AllByRecursion (IsStuck p) m.aside → ((kind : ℕ) → in_use kind m.places ≤ places_of kind m)
+    → (shared : ℕ) → shared ≡ m.interactions → m.arities ≡ p.arities → AllByRecursion (IsStuck p) m.aside → ((kind : ℕ) → in_use kind m.places ≤ places_of kind m)
     → m.names ≤ plan.names + sum_by (names_at s.rules.rules) (map (rule_number numbers) has.fired) → (now : HasAll s.rules numbers p s.config given n)
     → (watched : IsWatched p bounds.nodes m n) → now.fired ≡ has.fired ++ (watched.before ++ watched.after.fired) → (end ≡ Nodes → IsLookedAt p m n)
     → n.interactions ≤ bounds.steps → places ≡ n.names + sum n.agents
     → length n.places ≤ places → AllByRecursion IsAtPlace n.places → AllByRecursion IsPair n.pending → StopsBy bounds p n end
     → (by_rule : List ℕ) → IsSummed (length s.rules.rules) numbers n.counts by_rule → length numbers ≡ length p.plans → n.interactions < 2 ^ 64
-    → HasCome s bounds given by_rule n end places
-come_so s bounds numbers p given plan operands m n end places sound arities compiled has own stuck room few_names now watched since looked within all enough tables pairs ended by_rule summed numbered low =
+    → HasCome s bounds given by_rule n end places shared
+come_so s bounds numbers p given plan operands m n end places sound arities compiled has shared since_then own stuck room few_names now watched since looked within all enough tables pairs ended by_rule summed numbered low =
     let ran : Ran p m n = (watched_ran p bounds.nodes m n watched).0 in
     let f : List ℕ → List ℕ = map (rule_number numbers) in
     let many = length-map now.fired (rule_number numbers) in
@@ -205,6 +207,7 @@ come_so s bounds numbers p given plan operands m n end places sound arities comp
       used = now.used;
       together = m;
       before = f has.fired;
+      made = (let so_far = has.made in omega (arith, so_far, since_then, length-map has.fired (rule_number numbers)));
       was = has.holds;
       room = λ kind. let few = room kind in let same = pieces_use kind m in omega (arith, few, same);
       names = few_names;

@@ -12,8 +12,8 @@ use Rattle.ic_in_place.specs.declared.running.Bounds.{Bounds}
 use Rattle.ic_in_place.specs.declared.stream.Asked.{Asked}
 use Rattle.ic_in_place.specs.declared.stream.Outcome.{Outcome}
 
--- What is told of a system that several threads reduce: what one thread tells, but for places. No clause names the threads, or
--- how they share.
+-- What is told of a system that several threads reduce: clauses of the same kind as of one thread, but for places. Nothing is
+-- claimed of the threads, or of how they share.
 abbrev pub EndsByWorkers : SystemParts → Bounds → Asked → Outcome → List ℕ → Type 0
 EndsByWorkers s bounds asked outcome line = EndsOf s bounds asked outcome line
 

@@ -1,6 +1,6 @@
 //! Reducing by several threads what a reader gives.
 
-ghost use Rattle.std.specs.Prelude.{◌≡◌, ◌≢◌, ◌<◌, IfOk, IfErr, OnOk};
+ghost use Rattle.std.specs.Prelude.{◌≡◌, ◌≢◌, ◌<◌, ◌≤◌, IfOk, IfErr, OnOk};
 ghost use Rattle.std.specs.Io.KnownBytes.{Keeps};
 ghost use Rattle.ic_diagnostics.specs.Telling.{AppendedWithin, AppendedAtWithin};
 ghost use Rattle.ic_in_place.specs.Stopping.{HasCome};
@@ -52,6 +52,7 @@ pub fn reduce_by_workers_stream<T: Threads + Sync, C: Clock + Sync, V: Watch, R:
         (R.remaining reader.old) (R.remaining reader.new) fault
         told.old.items told.new.items) }
     ensures quiet { OnOk result (told.new.items ≡ told.old.items) }
+    ensures alone { policy.workers ≤ 1 → IfOk result (λ outcome. outcome.shared ≡ 0) }
 {
     let text = read_text_within(alloc, limits, reader)?;
     let (line, outcome) = reached_line(
@@ -82,6 +83,7 @@ fn reached_line<T: Threads + Sync, C: Clock + Sync, V: Watch>(
         (ReducesByWorkers limits bounds asked) Kind.System
         text.now fault told.old.items told.new.items) }
     ensures quiet { OnOk result (told.new.items ≡ told.old.items) }
+    ensures alone { policy.workers ≤ 1 → IfOk result (λ answer. answer.1.shared ≡ 0) }
     ensures sort { IfErr result
         (λ fault. (fault ≢ StreamFault.Write) × (fault ≢ StreamFault.Read)) }
 {
@@ -106,8 +108,9 @@ pub fn line_by_workers<T: Threads + Sync, C: Clock + Sync, V: Watch>(
     asked: Asked,
     watch: &V,
 ) -> Result<(Vec<u8>, Outcome), AllocError>
-    ensures { IfOk result
+    ensures ends { IfOk result
         (λ answer. EndsByWorkers system bounds asked answer.1 answer.0.items) }
+    ensures alone { policy.workers ≤ 1 → IfOk result (λ answer. answer.1.shared ≡ 0) }
 {
     let stopped = run_or_run_anew(rt, clock, alloc, &system, policy, bounds, watch)?;
     let answer = stopped_line(alloc, system, stopped, asked)?;
@@ -125,8 +128,9 @@ fn run_or_run_anew<T: Threads + Sync, C: Clock + Sync, V: Watch>(
     bounds: Bounds,
     watch: &V,
 ) -> Result<Stopped, AllocError>
-    ensures { IfOk result (λ stopped. HasCome system.now bounds stopped.given.items
-        stopped.by_rule.items stopped.machine stopped.end stopped.places) }
+    ensures come { IfOk result (λ stopped. HasCome system.now bounds stopped.given.items
+        stopped.by_rule.items stopped.machine stopped.end stopped.places stopped.shared) }
+    ensures alone { policy.workers ≤ 1 → IfOk result (λ stopped. stopped.shared ≡ 0) }
 {
     match run_by_workers(rt, clock, alloc, system, policy, bounds, watch) {
         Ok(stopped) => Ok(stopped),

@@ -219,6 +219,7 @@ fn tell(
         name_steps: None,
         places,
         left,
+        shared: 0,
         stuck,
     };
     tell_end(rt, &outcome, time, wanted, bounds.nodes)

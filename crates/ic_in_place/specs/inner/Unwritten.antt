@@ -37,6 +37,7 @@ pub record IsTold (s : SystemParts) (bounds : Bounds) (outcome : Outcome) : Type
   pub answer : Configuration
   pub reached : IsReachedBy s bounds answer outcome.end outcome.interactions outcome.places
       outcome.left outcome.by_rule.items
+  pub alone : outcome.shared ≡ 0
   pub name_steps : TellsNameSteps s.rules.rules s.config outcome.interactions
       (length answer.equations) outcome.end outcome.name_steps
   pub stuck : option_map (λ text. text.items) outcome.stuck
@@ -48,7 +49,7 @@ pub record IsToldOf (s : SystemParts) (bounds : Bounds) (outcome : Outcome) : Ty
   pub answer : Configuration
   pub reached : IsComeTo s bounds answer outcome.end outcome.interactions outcome.left
       outcome.by_rule.items
-  pub places : HasPlaces s bounds answer outcome.end outcome.places outcome.left reached.fired
+  pub places : HasPlaces s bounds answer outcome.end outcome.places outcome.left outcome.shared reached.fired
   pub name_steps : TellsNameSteps s.rules.rules s.config outcome.interactions
       (length answer.equations) outcome.end outcome.name_steps
   pub stuck : option_map (λ text. text.items) outcome.stuck
@@ -56,8 +57,8 @@ pub record IsToldOf (s : SystemParts) (bounds : Bounds) (outcome : Outcome) : Ty
   pub rules : arc_value outcome.rules ≡ s.rules
 
 -- A machine that has stopped was read back: it holds one net with an answer, which is reached by the same rules.
-pub record ReadsAs (s : SystemParts) (bounds : Bounds) (given by_rule : List ℕ) (m : Net) (end : End) (places : ℕ)
-    (come : HasCome s bounds given by_rule m end places) (answer : Configuration) : Type 0 where
+pub record ReadsAs (s : SystemParts) (bounds : Bounds) (given by_rule : List ℕ) (m : Net) (end : End) (places shared : ℕ)
+    (come : HasCome s bounds given by_rule m end places shared) (answer : Configuration) : Type 0 where
   pub net : OneNet (net_of come.held.numbers m.interface (pieces m)) answer
   pub reached : Reaches s.rules.rules s.config answer come.fired
   pub ended : StopsAt s.rules.rules bounds answer m.interactions end

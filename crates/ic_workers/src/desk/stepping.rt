@@ -1,6 +1,6 @@
 //! Steps of threads, and what is shared before them.
 
-ghost use Rattle.std.specs.Prelude.{◌≡◌, ℕ, ◌+◌, ◌*◌, ◌/◌, ◌^◌, ◌<◌, ◌≤◌, ◌==◌, ◌++◌, List, [], true, Ok, count_by, length, map, max, slice_index_or, sum_by, IfOk, OnOk, IsPermutation};
+ghost use Rattle.std.specs.Prelude.{◌≡◌, ℕ, ◌+◌, ◌*◌, ◌/◌, ◌^◌, ◌<◌, ◌≤◌, ◌==◌, ◌++◌, List, [], count_by, length, map, max, nat_le, slice_index_or, sum_by, IfOk, OnOk, IsPermutation};
 ghost use Rattle.std.specs.List.{AllByRecursion};
 ghost use Rattle.ic_meaning.specs.Plans.{rule_number};
 ghost use Rattle.ic_in_place.specs.Counting.{names_at};
@@ -34,7 +34,7 @@ const LEAST_LEFT: u64 = 1_000;
 /// Interactions that a worker may make in a step however near the bound of places is.
 const LEAST_NEAR: u64 = 4_096;
 
-/// Reduces a system by several threads until an end comes.
+/// Reduces a system by several threads until an end comes. One thread shares nothing.
 pub fn run_by_workers<R: Threads + Sync, C: Clock + Sync, V: Watch>(
     rt: &R,
     clock: &C,
@@ -44,8 +44,9 @@ pub fn run_by_workers<R: Threads + Sync, C: Clock + Sync, V: Watch>(
     bounds: Bounds,
     watch: &V,
 ) -> Result<Stopped, AllocError>
-    ensures { IfOk result (λ stopped. HasCome system.now bounds stopped.given.items
-        stopped.by_rule.items stopped.machine stopped.end stopped.places) }
+    ensures come { IfOk result (λ stopped. HasCome system.now bounds stopped.given.items
+        stopped.by_rule.items stopped.machine stopped.end stopped.places stopped.shared) }
+    ensures alone { policy.workers ≤ 1 → IfOk result (λ stopped. stopped.shared ≡ 0) }
 {
     what_parts_come_to_is_reached();
     what_a_machine_holds_is_reached();
@@ -62,8 +63,9 @@ pub fn run_by_workers<R: Threads + Sync, C: Clock + Sync, V: Watch>(
     if !few {
         return Err(AllocError);
     }
+    let shared = machine.interactions();
     let left = Bounds {
-        steps: bounds.steps.saturating_sub(machine.interactions()),
+        steps: bounds.steps.saturating_sub(shared),
         nodes: bounds.nodes,
     };
     let mut by_rule = no_counts(alloc, system.rules().rules().len())?;
@@ -74,6 +76,7 @@ pub fn run_by_workers<R: Threads + Sync, C: Clock + Sync, V: Watch>(
         given: first.given,
         by_rule,
         places,
+        shared,
         end,
     })
 }
@@ -87,11 +90,11 @@ fn has_few_names(
     numbers: &[u32],
     machine: &Machine,
 ) -> Result<bool, AllocError>
-    ensures { result ≡ Ok true → (fired : List ℕ) → AllByRecursion (λ i. i < length numbers.now) fired
+    ensures { IfOk result (λ few. (fired : List ℕ) → AllByRecursion (λ i. i < length numbers.now) fired
         → ((i : ℕ) → i < length numbers.now
         → slice_index_or machine.now.counts i 0 ≡ count_by (λ j. j == i) fired)
-        → length fired < 2 ^ 64 → machine.now.names ≤ first.now.plan.names
-        + sum_by (names_at system.now.rules.rules) (map (rule_number numbers.now) fired) }
+        → length fired < 2 ^ 64 → few ≡ nat_le machine.now.names (first.now.plan.names
+        + sum_by (names_at system.now.rules.rules) (map (rule_number numbers.now) fired))) }
 {
     let rules = system.rules().rules();
     let mut by_rule = no_counts(alloc, rules.len())?;
@@ -126,6 +129,7 @@ impl Desk {
             (Come program.now (parts_at self.old) (parts_at self.new)) }
         ensures desk { OnOk result (IsDesk program.now self.new) }
         ensures within { OnOk result (self.new.made ≤ bounds.steps) }
+        ensures alone { policy.workers ≤ 1 → self.new.made ≡ self.old.made }
     {
         if policy.workers <= 1 {
             return Ok(());

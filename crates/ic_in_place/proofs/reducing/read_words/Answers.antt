@@ -33,6 +33,7 @@ returns-clause-read c = λ bounds stopped.
     let m = c.args.stopped.machine in
     let end = c.args.stopped.end in
     let places = c.args.stopped.places in
+    let shared = c.args.stopped.shared in
     let given = c.args.stopped.given.items in
     let read = c.in_ok-read.read in
     let held = stopped.held in
@@ -73,7 +74,7 @@ returns-clause-read c = λ bounds stopped.
     let numbered : AllByRecursion (IsNumbered given) read.tokens.items =
     subst (λ (g : List ℕ). AllByRecursion (IsNumbered g) read.tokens.items) c.deref-2.ensures.value
     (subst (λ (ts : List Token). AllByRecursion (IsNumbered c.deref-2.result.now) ts) c.deref-3.ensures.value c.in_ok-words.ensures.numbered) in
-    let answer = answered_so laws s bounds given m end places c.args.stopped.by_rule.items stopped read.tokens.items read.terms read.equations c.in_ok-words.words.items
+    let answer = answered_so laws s bounds given m end places shared c.args.stopped.by_rule.items stopped read.tokens.items read.terms read.equations c.in_ok-words.words.items
     net next quiet (c.in_ok-read.ensures.whole n arities) (c.in_ok-read.ensures.counted n arities) numbered written in
     let fired : List ℕ = stopped.fired in
     let by_rule : List ℕ = c.args.stopped.by_rule.items in

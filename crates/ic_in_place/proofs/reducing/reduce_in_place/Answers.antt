@@ -11,7 +11,7 @@ returns g c =
     let read = told.read c.args.bounds stopped.come in (
       read.0,
       retold s c.args.bounds read.0 to.end _ to.interactions _ to.places _ to.left _ to.by_rule.items _ told.end told.interactions told.places told.left told.by_rule
-          (watched_so s c.args.bounds of.given.items of.machine of.end of.places of.by_rule.items read.0 stopped read.1.net read.1.reached read.1.ended read.1.ends),
+          (watched_so s c.args.bounds of.given.items of.machine of.end of.places of.shared of.by_rule.items read.0 stopped read.1.net read.1.reached read.1.ended read.1.ends),
       read.2,
       read.3,
       read.4,

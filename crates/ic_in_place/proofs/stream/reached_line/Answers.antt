@@ -20,6 +20,7 @@ returns-clause-line g c =
       over = told.over;
       names = told.names;
       reached = told.reached;
+      alone = told.alone;
       name_steps = told.name_steps;
       together = told.together;
       prints = told.prints;

@@ -2,7 +2,7 @@ use Rattle.std.proofs.Common.{IsTrue, sym, ap, ◌∙◌, subst}
 use Rattle.std.specs.List.{list_all}
 use Rattle.ic_flat.specs.Words.{is_word_over}
 use Rattle.ic_rules.specs.RuleSet.{Rules}
-use Rattle.ic_in_place.proofs.Answering.{come_so, retold, retold_of, watched_so}
+use Rattle.ic_in_place.proofs.Answering.{come_so, none_shared, retold, retold_of, watched_so}
 use Rattle.ic_in_place.proofs.Written.{stuck_alike}
 use Rattle.ic_in_place.proofs.stream.read_unwritten.Goals as goal
 
@@ -28,10 +28,11 @@ returns-clause-told c = λ bounds stopped.
     record {
       answer = read.0;
       reached = retold s bounds read.0 to.end _ to.interactions _ to.places _ to.left _ to.by_rule.items _ told.end told.interactions told.places told.left told.by_rule
-          (watched_so s bounds m.given.items m.machine m.end m.places m.by_rule.items read.0 stopped read.1.net read.1.reached read.1.ended read.1.ends);
+          (watched_so s bounds m.given.items m.machine m.end m.places m.shared m.by_rule.items read.0 stopped read.1.net read.1.reached read.1.ended read.1.ends);
+      alone = none_shared s bounds m.given.items m.machine m.end m.places m.shared m.by_rule.items stopped;
       name_steps = read.3;
       stuck = stuck_alike to.end _ _ _ _ _ read.0 _ c.in_ok-stuck.ensures same read.4;
-      rules = c.into_parts-shared.ensures.rules;
+      rules = c.into_parts-rules.ensures.rules;
     }
 
 pub returns-clause-told_of : goal.returns-clause-told_of
@@ -42,13 +43,13 @@ returns-clause-told_of c = λ bounds come.
     let told = c.in_ok-read.ensures in
     let read = told.read bounds come in
     let same = c.symbols.ensures.symbols ∙ ap (λ (r : Rules). r.symbols) (c.deref.ensures ∙ c.rules.ensures.rules) in
-    let both = retold_of s bounds read.0 to.end _ to.interactions _ to.places _ to.left _ to.by_rule.items _ told.end told.interactions told.places told.left told.by_rule
-    (come_so s bounds m.given.items m.machine m.end m.places m.by_rule.items read.0 come read.1.reached read.1.ended read.1.ends read.1.net) in
+    let both = retold_of s bounds read.0 to.end _ to.interactions _ to.places _ to.left _ m.shared to.by_rule.items _ told.end told.interactions told.places told.left told.by_rule
+    (come_so s bounds m.given.items m.machine m.end m.places m.shared m.by_rule.items read.0 come read.1.reached read.1.ended read.1.ends read.1.net) in
     record {
       answer = read.0;
       reached = both.0;
       places = both.1;
       name_steps = read.3;
       stuck = stuck_alike to.end _ _ _ _ _ read.0 _ c.in_ok-stuck.ensures same read.4;
-      rules = c.into_parts-shared.ensures.rules;
+      rules = c.into_parts-rules.ensures.rules;
     }

@@ -6,7 +6,7 @@ use Rattle.ic_flat.specs.Words.{is_word_over}
 use Rattle.ic_naming.specs.Naming.{renumbered}
 use Rattle.ic_streams.specs.Streams.{line_of}
 use Rattle.ic_in_place.specs.Reductions.{is_written}
-use Rattle.ic_in_place.proofs.Answering.{come_so, retold, retold_of, watched_so}
+use Rattle.ic_in_place.proofs.Answering.{come_so, none_shared, retold, retold_of, watched_so}
 use Rattle.ic_in_place.proofs.Written.{line_so, stuck_so}
 use Rattle.ic_in_place.proofs.stream.stopped_line.Goals as goal
 
@@ -44,9 +44,9 @@ returns-clause-of c = λ bounds come.
     let same = c.symbols-symbols.ensures.symbols ∙ ap (λ (r : Rules). r.symbols) (c.deref.ensures ∙ c.rules.ensures.rules) in
     let ss = c.symbols-symbols.result.now in
     let read = told.read bounds come in
-    let both = retold_of s bounds read.0 reduced.end _ reduced.interactions _ reduced.places _ reduced.left _ reduced.by_rule.items _
+    let both = retold_of s bounds read.0 reduced.end _ reduced.interactions _ reduced.places _ reduced.left _ of.shared reduced.by_rule.items _
     told.end told.interactions told.places told.left told.by_rule
-    (come_so s bounds of.given.items of.machine of.end of.places of.by_rule.items read.0 come read.1.reached read.1.ended read.1.ends read.1.net) in
+    (come_so s bounds of.given.items of.machine of.end of.places of.shared of.by_rule.items read.0 come read.1.reached read.1.ended read.1.ends read.1.net) in
     record {
       answer = read.0;
       rule_set = come.sound.rules;
@@ -58,7 +58,7 @@ returns-clause-of c = λ bounds come.
       together = λ written. read.2;
       prints = line_so c.args.asked reduced.end ss s.rules.symbols reduced.words.items reduced.terms read.0 _ c.in_ok-line.ensures same read.4.written;
       stuck = stuck_so reduced.end ss s.rules.symbols reduced.words.items reduced.terms read.0 _ c.in_ok-stuck.ensures same read.4.written;
-      rules = c.into_parts-shared.ensures.rules;
+      rules = c.into_parts-rules.ensures.rules;
     }
 
 pub returns-clause-watched : goal.returns-clause-watched
@@ -77,12 +77,13 @@ returns-clause-watched c = λ bounds stopped.
       names = stopped.come.sound.names;
       reached = retold s bounds read.0 reduced.end _ reduced.interactions _ reduced.places _ reduced.left _ reduced.by_rule.items _
           told.end told.interactions told.places told.left told.by_rule
-          (watched_so s bounds of.given.items of.machine of.end of.places of.by_rule.items read.0 stopped read.1.net read.1.reached read.1.ended read.1.ends);
+          (watched_so s bounds of.given.items of.machine of.end of.places of.shared of.by_rule.items read.0 stopped read.1.net read.1.reached read.1.ended read.1.ends);
+      alone = none_shared s bounds of.given.items of.machine of.end of.places of.shared of.by_rule.items stopped;
       name_steps = read.3;
       together = λ written. read.2;
       prints = line_so c.args.asked reduced.end ss s.rules.symbols reduced.words.items reduced.terms read.0 _ c.in_ok-line.ensures same read.4.written;
       stuck = stuck_so reduced.end ss s.rules.symbols reduced.words.items reduced.terms read.0 _ c.in_ok-stuck.ensures same read.4.written;
-      rules = c.into_parts-shared.ensures.rules;
+      rules = c.into_parts-rules.ensures.rules;
     }
 
 pub returns-then-not-is_written-clause-of : goal.returns-then-not-is_written-clause-of
@@ -117,6 +118,7 @@ returns-then-not-is_written-clause-watched c = λ bounds stopped.
       over = stopped.come.sound.over;
       names = stopped.come.sound.names;
       reached = told.reached;
+      alone = told.alone;
       name_steps = told.name_steps;
       together = λ written. absurd (false≢true (sym none ∙ written));
       prints = c.new.ensures.items ∙ sym (ap (λ (b : Bool). cond b (line_of s.rules.symbols (renumbered told.answer)) []) none);

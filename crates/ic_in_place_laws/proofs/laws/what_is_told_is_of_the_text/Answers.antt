@@ -37,6 +37,7 @@ of_its_own limits bounds asked input line outcome is = record {
   names = is.names;
   answer = is.answer;
   reached = is.reached;
+  alone = is.alone;
   name_steps = is.name_steps;
   together = is.together;
   prints = is.prints;

@@ -18,3 +18,6 @@ returns-clause-unwritten c = λ s bounds asked outcome line is e. is.prints ∙ 
 
 pub returns-clause-rules : goal.returns-clause-rules
 returns-clause-rules c = λ s bounds asked outcome line is. is.rules
+
+pub returns-clause-alone : goal.returns-clause-alone
+returns-clause-alone c = λ s bounds asked outcome line is. is.alone

@@ -1,4 +1,4 @@
-use Rattle.std.proofs.Common.{rules, ◌≡◌, ◌+◌, ◌<◌, ◌≤◌, ◌^◌, ◌++◌, ℕ, List, Ok, length, map, ap, sym, ◌∙◌, arith, refl, subst}
+use Rattle.std.proofs.Common.{rules, ◌≡◌, ◌+◌, ◌<◌, ◌≤◌, ◌^◌, ◌++◌, ℕ, List, length, map, ap, sym, ◌∙◌, arith, refl, subst}
 use Rattle.std.specs.List.{AllByRecursion}
 use Rattle.ic_rules.specs.RuleSet.{Rules}
 use Rattle.ic_rules.specs.System.{SystemParts}
@@ -28,8 +28,8 @@ run_in_parts-requires-clause-desk g c = λ κs outlives.
 pub put_together-requires : goal.put_together-requires
 put_together-requires g c = record { desk = (c.in_ok-program.program, c.in_ok-run_in_parts.ensures.desk) }
 
-pub returns : goal.returns
-returns g c =
+pub returns-clause-come : goal.returns-clause-come
+returns-clause-come g c =
     let s : SystemParts = c.args.system.now in
     let same : c.deref.result.now ≡ s.rules = c.deref.ensures ∙ c.rules.ensures.rules in
     let p : Plans = c.in_ok-program.program in
@@ -74,11 +74,11 @@ returns g c =
     let many = ran.0.counted in
     let few_names = few_named s.rules.rules all.names first.plan.names numbers c.deref-2.result.now all.counts has.fired c.deref-2.ensures.value
     (subst (λ (k : ℕ). AllByRecursion (λ i. i < k) has.fired) (sym numbered) has.known) (λ k there. has.counts k (omega (arith, there, numbered)))
-    (omega (arith, low, many, has.made)) (c.has_few_names.ensures (c.in_ok-few.was ∙ (λ i. Ok (c.if-not-few.false i)))) in
+    (omega (arith, low, many, has.made)) (λ is known each few. sym c.if-not-few.false ∙ c.in_ok-few.ensures is known each few) in
     let made : all.interactions ≤ c.args.bounds.steps = omega (arith, c.in_ok-machine-2.ensures.made, c.in_ok-run_in_parts.ensures.within) in
-    let left : c.args.bounds.steps ≡ all.interactions + c.saturating_sub.result = omega (arith, made, c.interactions.ensures, c.saturating_sub.ensures) in
+    let left : c.args.bounds.steps ≡ all.interactions + c.saturating_sub.result = omega (arith, made, c.interactions-shared.ensures, c.saturating_sub.ensures) in
     come_so s c.args.bounds numbers p first.given.items (planned first.plan) first.interface.items all run.new.machine run.result.0 run.result.1
-    sound arities compiled has kept.0 kept.1 c.what_a_machine_holds.ensures.room few_names now.0 watched (now.1 ∙ ap (λ (l : List ℕ). has.fired ++ l) ran.1) run.ensures.looked
+    sound arities compiled has c.interactions-shared.result c.interactions-shared.ensures kept.0 kept.1 c.what_a_machine_holds.ensures.room few_names now.0 watched (now.1 ∙ ap (λ (l : List ℕ). has.fired ++ l) ran.1) run.ensures.looked
     (omega (arith, run.ensures.ends.within, left)) run.ensures.count run.ensures.enough
     run.ensures.places run.ensures.pairs
     (c.a_run_that_goes_on_stops_by_the_bounds_of_all.ensures c.args.bounds c.saturating_sub.result p all run.new.machine run.result.0 left
