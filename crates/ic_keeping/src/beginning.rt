@@ -181,6 +181,11 @@ pub fn resume<D: Disk>(
         × (fault.cause ≡ KeepingFault.Open cause))
         ⊎ (fault.cause ≡ KeepingFault.Unsound) ⊎ (fault.cause ≡ KeepingFault.Memory)) }
 
+    ensures unsound { IsTrue (D.keeps first) → IsTrue (D.keeps second)
+        → IfErr result (λ fault. fault.cause ≡ KeepingFault.Unsound → (bytes : List ℕ)
+        × Hold bytes (D.content first) (D.content second)
+        × ((k : Kept) → IsKept k → bytes ≢ state_bytes k)) }
+
     // Whatever it answers, a crash at any moment leaves what was there.
     ensures reads { IsTrue (D.keeps first) → IsTrue (D.keeps second)
         → Relates (OnlyReads D.keeps D.content D.image D.clock D.left) result first second }

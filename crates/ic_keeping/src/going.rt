@@ -70,6 +70,8 @@ fn rules_of(alloc: Global, text: &[u8]) -> Result<Arc<RuleSet>, KeepingFault>
         → fault ≢ KeepingFault.Keep cause) }
     ensures unopened { IfErr result (λ fault. (cause : OpenCause)
         → fault ≢ KeepingFault.Open cause) }
+    ensures only { IfErr result (λ fault. (fault ≡ KeepingFault.Unsound)
+        ⊎ (fault ≡ KeepingFault.Memory)) }
 {
     ic_text::laws::one_system_reading();
     match find_wide_system(alloc, Limits::Wide, text) {
@@ -86,6 +88,7 @@ fn unread(fault: TextFault) -> KeepingFault
     ensures memory { (result ≡ KeepingFault.Memory) ⊎ (fault ≢ TextFault.Memory) }
     ensures unkept { (cause : KeepFault) → result ≢ KeepingFault.Keep cause }
     ensures unopened { (cause : OpenCause) → result ≢ KeepingFault.Open cause }
+    ensures only { (result ≡ KeepingFault.Unsound) ⊎ (result ≡ KeepingFault.Memory) }
 {
     match fault {
         TextFault::Memory => KeepingFault::Memory,
@@ -436,9 +439,11 @@ pub fn go_on<D: Disk, C: Clock, V: Watch>(
         keeper.old keeper.new }
     // Before anything was kept it may find that the state is none of a reduction, and not after.
     ensures unsound { IfErr result (λ fault. fault ≡ KeepingFault.Unsound → keeper.new ≡ keeper.old) }
-    // A state whose text is read as no system is refused, and nothing is kept.
+    // A state whose text is read as no system is refused as unsound, or if memory runs out, and nothing is kept.
     ensures none { ((s : SystemParts) → ¬ ReadsSystemWithin Limits.Wide state.text.items (Ok s))
-        → IsErr result × (keeper.new ≡ keeper.old) }
+        → IsErr result × (keeper.new ≡ keeper.old)
+        × IfErr result (λ fault. (fault ≡ KeepingFault.Unsound)
+        ⊎ (fault ≡ KeepingFault.Memory)) }
     // From a state of a reduction it fails only where memory runs out, at a limit, or where a keep is refused: a disk has
     // failed, or there were as many keeps as are counted.
     ensures refused { (s : SystemParts) → IsStateOf s (kept_by state)

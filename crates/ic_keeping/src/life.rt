@@ -1,6 +1,6 @@
 //! One life of a reduction that is kept: from the state that two files hold until it ends.
 
-ghost use Rattle.std.specs.Prelude.{◌≡◌, ◌≢◌, ◌⊎◌, ◌↔◌, ◌≤◌, ℕ, IfOk, IfErr, IsErr, IsTrue, max, true};
+ghost use Rattle.std.specs.Prelude.{◌≡◌, ◌≢◌, ◌⊎◌, ◌↔◌, ◌≤◌, ℕ, List, Ok, IfOk, IfErr, IsErr, IsTrue, max, true};
 ghost use Rattle.ic_disk.specs.Time.{OneMore};
 ghost use Rattle.ic_frames.specs.declared.faults.KeepFault.{KeepFault};
 ghost use Rattle.ic_frames.specs.declared.faults.OpenCause.{OpenCause};
@@ -10,6 +10,8 @@ ghost use Rattle.ic_kept.specs.Keeper.{Keeps, KeepsModel, newest_of, other_of};
 ghost use Rattle.ic_kept.specs.Opening.{InSomeOrder, OnlyReads};
 ghost use Rattle.ic_rules.specs.System.{SystemParts};
 ghost use Rattle.ic_state.specs.State.{IsKept, Kept, kept_by, state_bytes};
+ghost use Rattle.ic_text.specs.SystemText.{ReadsSystemWithin};
+ghost use Rattle.ic_text.specs.declared.limits.Limits.TheVariants.{Wide};
 ghost use Rattle.ic_keeping.specs.declared.fault.KeepingFault.{KeepingFault};
 ghost use Rattle.ic_keeping.specs.Life.{IsLife, IsTold, KeepFails, StopsAnOpening, StopsARun};
 ghost use Rattle.ic_keeping.specs.Way.{IsAnswer, IsAsFar, IsFormFrom, IsFormOf, IsReachedFrom};
@@ -84,12 +86,21 @@ pub fn live<D: Disk, C: Clock, V: Watch>(
         ⊎ (fault.cause ≡ KeepingFault.Unsound)
         → InSomeOrder (OnlyReads D.keeps D.content D.image D.clock D.left)
         first second fault.first fault.second) }
-    // Files that hold no state at all are refused and only read.
+    // Files from which no reduction goes on are refused and only read: they hold no state, or one whose text is read as no
+    // system. Then it says why they don't open, or that what they hold is unsound, or that memory ran out.
     ensures none { IsTrue (D.keeps first) → IsTrue (D.keeps second)
-        → ((k : Kept) → IsKept k → ¬ Hold (state_bytes k) (D.content first) (D.content second))
+        → ((k : Kept) → IsKept k → Hold (state_bytes k) (D.content first) (D.content second)
+        → (s : SystemParts) → ¬ ReadsSystemWithin Wide k.text (Ok s))
         → IsErr result × IfErr result (λ fault. InSomeOrder
         (OnlyReads D.keeps D.content D.image D.clock D.left)
-        first second fault.first fault.second) }
+        first second fault.first fault.second
+        × (((cause : OpenCause) × (fault.cause ≡ KeepingFault.Open cause))
+        ⊎ (fault.cause ≡ KeepingFault.Unsound) ⊎ (fault.cause ≡ KeepingFault.Memory))) }
+    // It is unsound only if that is no state of a reduction.
+    ensures unsound { IsTrue (D.keeps first) → IsTrue (D.keeps second)
+        → IfErr result (λ fault. fault.cause ≡ KeepingFault.Unsound → (bytes : List ℕ)
+        × Hold bytes (D.content first) (D.content second)
+        × ((s : SystemParts) → ¬ IsFormOf s bytes)) }
     ensures device { IfErr result (λ fault. fault.cause ≡ KeepingFault.Open OpenCause.Device
         → OneMore (D.failures first) (D.failures fault.first)
         ⊎ OneMore (D.failures second) (D.failures fault.second)) }

@@ -1,5 +1,7 @@
 //! How many interactions are made before what was reached is kept.
 
+ghost use Rattle.std.specs.Prelude.{◌≡◌, ◌*◌, ◌/◌, ◌^◌, max, min};
+
 use ic_in_place::Watch;
 use std::cell::Cell;
 
@@ -26,15 +28,23 @@ const MOST: u64 = 1 << 60;
 
 impl Pace {
     /// A pace of pieces that go on for so many milliseconds.
-    pub fn new(every: u64) -> Pace {
+    pub fn new(every: u64) -> Pace
+        ensures every { result.every ≡ every }
+        ensures first { result.piece ≡ 2 ^ 22 }
+    {
         Pace {
             every,
             piece: FIRST,
         }
     }
 
-    /// The pace after a piece that made interactions for so many milliseconds: at most sixteen times as many interactions, and a quarter at least.
-    pub fn after(self, took: u64) -> Pace {
+    /// The pace after a piece that made interactions for so many milliseconds: as many as take the time of a piece, if the next ones
+    /// take as long as those. There are at most sixteen times as many, and a quarter at least.
+    pub fn after(self, took: u64) -> Pace
+        ensures every { result.every ≡ self.every }
+        ensures piece { result.piece ≡ max (2 ^ 22) (min (min (self.piece * 16) (2 ^ 60))
+            (max (self.piece / 4) (self.piece / max took 1 * self.every))) }
+    {
         let least = self.piece / 4;
         let most = self.piece.saturating_mul(16);
         let even = (self.piece / took.max(1)).saturating_mul(self.every);

@@ -179,7 +179,7 @@ returns-in_err-now_ended-clause-failed g c =
 pub returns-in_err-rules-clause-none : goal.returns-in_err-rules-clause-none
 returns-in_err-rules-clause-none g c none =
     let e = err_from_is_err_and c.from_residual.result c.from_residual.ensures.1 in
-    (ap is_err e.1, refl)
+    (ap is_err e.1, refl, rw (e.1, e.2) c.in_err-rules.ensures.only)
 
 -- a text that is read is read as some system
 never_read : {A : Type 0} (g : _) (c : In_ok-rules g) → ((s : SystemParts) → ReadsSystemWithin Wide c.args.state.text.items (Ok s) → ⊥) → A

@@ -1,12 +1,11 @@
-use Rattle.std.proofs.Common.{◌≡◌, ◌∙◌, ⊎_elim, inl, inr, Bool, true, false, refl, sym}
+use Rattle.std.proofs.Common.{◌≡◌, ◌∙◌, ⊎_elim, inl, inr, true, false, refl, subst, sym}
 use Rattle.ic_frames.specs.declared.faults.KeepFault.TheVariants.{Broken}
 use Rattle.ic_kept.specs.Opening.{OnlyReads}
 use Rattle.std.proofs.lemmas.Result.{err_from_is_err_and}
-use Rattle.ic_state.specs.State.{kept_by}
-use Rattle.ic_keeping.specs.declared.fault.KeepingFault.{KeepingFault}
-use Rattle.ic_keeping.specs.declared.fault.KeepingFault.TheVariants.{Keep}
+use Rattle.ic_state.specs.State.{Kept, kept_by, state_bytes}
+use Rattle.ic_keeping.specs.Way.{IsStateOf}
 use Rattle.ic_keeping.proofs.LivesLemmas.{held_is}
-use Rattle.ic_keeping.proofs.Refusing.{as_a_life, as_read, opening_keeps_none}
+use Rattle.ic_keeping.proofs.Refusing.{as_a_life, as_read, opening_keeps_none, run_not_unsound}
 use Rattle.ic_keeping.proofs.life.live.Goals as goal
 
 pub returns-in-Ok-clause-answer : goal.returns-in-Ok-clause-answer
@@ -119,14 +118,40 @@ returns-in-Err-clause-device g c same = absurd (c.in-Err.ensures.unopened _ same
 pub returns-in-Ok-clause-none : goal.returns-in-Ok-clause-none
 returns-in-Ok-clause-none g c keeps keeps_too none =
     let found = c.in_ok-keeper.ensures in
-    absurd (none (kept_by c.in_ok-keeper.state) found.sound (found.found keeps keeps_too))
+    let never : false ≡ true = (c.in-Ok.ensures.none (none (kept_by c.in_ok-keeper.state) found.sound (found.found keeps keeps_too))).0 in
+    cc (never)
 
 pub returns-in-Err-clause-none : goal.returns-in-Err-clause-none
 returns-in-Err-clause-none g c keeps keeps_too none =
+    let disk = g.D.Disk in
     let found = c.in_ok-keeper.ensures in
-    absurd (none (kept_by c.in_ok-keeper.state) found.sound (found.found keeps keeps_too))
+    let refused = c.in-Err.ensures.none (none (kept_by c.in_ok-keeper.state) found.sound (found.found keeps keeps_too)) in (
+      refl,
+      (
+        as_read (OnlyReads disk.keeps disk.content disk.image disk.clock disk.left) c.args.first c.args.second c.close-first.result.0 c.close-first.result.1 c.in_ok-keeper.keeper c.go_on.new.keeper
+            c.close-first.ensures.newest c.close-first.ensures.other refused.1 (found.reads keeps keeps_too),
+        inr refused.2,
+      ),
+    )
 
 pub returns-in_err-keeper-clause-none : goal.returns-in_err-keeper-clause-none
 returns-in_err-keeper-clause-none g c keeps keeps_too none =
     let e = err_from_is_err_and c.from_residual.result c.from_residual.ensures.1 in
-    rw (e.1, e.2) (refl, c.in_err-keeper.ensures.reads keeps keeps_too)
+    rw (e.1, e.2) (refl, (c.in_err-keeper.ensures.reads keeps keeps_too, c.in_err-keeper.ensures.only))
+
+pub returns-in-Err-clause-unsound : goal.returns-in-Err-clause-unsound
+returns-in-Err-clause-unsound g c keeps keeps_too same =
+    let found = c.in_ok-keeper.ensures in
+    let k = kept_by c.in_ok-keeper.state in (
+      state_bytes k,
+      found.found keeps keeps_too,
+      λ s form. run_not_unsound c.in-Err.cause
+          (c.in-Err.ensures.refused s (subst (λ (x : Kept). IsStateOf s x) (c.each_state_has_its_own_bytes.ensures form.0 k form.1 found.sound (sym form.3)) form.2)) same,
+    )
+
+pub returns-in_err-keeper-clause-unsound : goal.returns-in_err-keeper-clause-unsound
+returns-in_err-keeper-clause-unsound g c keeps keeps_too =
+    let e = err_from_is_err_and c.from_residual.result c.from_residual.ensures.1 in
+    rw (e.1, e.2) (λ same.
+    let held = c.in_err-keeper.ensures.unsound keeps keeps_too same in
+    (held.0, held.1, λ s form. held.2 form.0 form.1 form.3))
