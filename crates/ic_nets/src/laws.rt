@@ -1,6 +1,6 @@
 //! Laws of the definitions that the contracts of this crate cite.
 
-ghost use Rattle.std.specs.Prelude.{◌≡◌, ◌↔◌, ◌≤◌, ◌==◌, ◌++◌, ℕ, List, [], ◌∷◌, true, false, Some, codes, if◌then◌else◌, length, count_by, is_some, Ok};
+ghost use Rattle.std.specs.Prelude.{◌≡◌, ◌≢◌, ◌↔◌, ◌≤◌, ◌==◌, ◌++◌, ℕ, List, [], ◌∷◌, true, false, Some, codes, if◌then◌else◌, length, count_by, is_some, Option, Ok, Err};
 ghost use Rattle.std.specs.Fmt.{decimal};
 ghost use Rattle.std.specs.List.{list_all};
 ghost use Rattle.ic_term.specs.Configuration.{Configuration, IsConfiguration, configuration_names, occurrences};
@@ -11,7 +11,15 @@ ghost use Rattle.ic_round.specs.Firing.{rule_of_sides};
 ghost use Rattle.ic_confluence.specs.Circle.{cut_at_x, cut_at_y, of_equations, uncut};
 ghost use Rattle.ic_confluence.specs.Sameness.{Rearranges, Renames, Same};
 ghost use Rattle.ic_text.specs.Name.{name_text};
+ghost use Rattle.ic_text.specs.SystemText.{ReadsSystem};
+ghost use Rattle.ic_text.specs.Text.{Reads};
 ghost use Rattle.ic_text.specs.Token.{is_blank};
+ghost use Rattle.ic_text.specs.declared.fault.TextFault.{TextFault};
+ghost use Rattle.ic_streams.specs.Streams.{TakesIt};
+ghost use Rattle.ic_streams.specs.declared.fault.StreamFault.{StreamFault};
+ghost use Rattle.ic_streams.specs.declared.fault.StreamFault.TheVariants.{Text};
+ghost use Rattle.ic_diagnostics.specs.Telling.{TellsOf};
+ghost use Rattle.ic_diagnostics.specs.declared.telling.Kind.TheVariants.{Config, System};
 ghost use Rattle.ic_nets.specs.Church.{alone, church_false, church_true};
 ghost use Rattle.ic_nets.specs.Dot.{dot_of, port_text, style_of};
 ghost use Rattle.ic_nets.specs.Draws.{has_rules, Draws, ReadsDrawn};
@@ -20,6 +28,7 @@ ghost use Rattle.ic_nets.specs.Links.{agents_of, links_of};
 ghost use Rattle.ic_nets.specs.Nets.{IsNet};
 ghost use Rattle.ic_nets.specs.Ports.{ends, is_bound, ports_at, ports_of, times, wire_named};
 ghost use Rattle.ic_nets.specs.ReadBack.{IsNaming, read_back};
+ghost use Rattle.ic_nets.specs.Telling.{Told, ToldAt};
 ghost use Rattle.ic_nets.specs.Wiring.{named_wires};
 ghost use Rattle.ic_nets.specs.declared.links.Standing.{Standing};
 ghost use Rattle.ic_nets.specs.declared.net.Net.{Net};
@@ -206,3 +215,23 @@ pub fn what_is_drawn_is_the_net()
     ic_text::laws::one_reading();
     ic_text::laws::one_system_reading();
 }
+
+/// Of a text that isn't drawn its refusal is told, with the lines of the place: of one with rules as of a system, and of any
+/// other as of a configuration. It is the text that was taken. Of no other fault anything is told.
+pub fn what_is_not_drawn_is_told_so()
+    ensures system { (text : List ℕ) (fault : TextFault) (before after : List ℕ)
+        → has_rules text ≡ true → ToldAt text (Text fault) before after
+        → ReadsSystem text (Err fault)
+        × (lines : List ℕ) × TellsOf System text fault lines × (after ≡ before ++ lines) }
+    ensures config { (text : List ℕ) (fault : TextFault) (before after : List ℕ)
+        → has_rules text ≡ false → ToldAt text (Text fault) before after
+        → Reads text (Err fault)
+        × (lines : List ℕ) × TellsOf Config text fault lines × (after ≡ before ++ lines) }
+    ensures taken { (old new : Option (List ℕ)) (fault : TextFault) (before after : List ℕ)
+        → Told old new (Text fault) before after
+        → (text : List ℕ) × TakesIt text old new × ToldAt text (Text fault) before after }
+    ensures silent { (old new : Option (List ℕ)) (text : List ℕ) (fault : StreamFault)
+        (before after : List ℕ) → ((refused : TextFault) → fault ≢ Text refused)
+        → (Told old new fault before after → after ≡ before)
+        × (ToldAt text fault before after → after ≡ before) }
+{}
