@@ -2,7 +2,7 @@
 
 ghost use Rattle.std.specs.Prelude.{◌≡◌, ◌≢◌, IsTrue, ◌+◌, ◌++◌, ◌<◌, ◌≤◌, ℕ, List, [], ◌∷◌, Option, None, Some, Contains, IsSome, OnOk, codes, drop, length, map, false, true};
 ghost use Rattle.std.specs.Fmt.{decimal};
-ghost use Rattle.std.specs.List.{AllByRecursion, find, flat_map};
+ghost use Rattle.std.specs.List.{AllByRecursion, concat, find, flat_map};
 ghost use Rattle.ic_term.specs.Configuration.{Configuration, configuration_nodes};
 ghost use Rattle.ic_term.specs.Tree.{Pair};
 ghost use Rattle.ic_rules.specs.Rule.{Rule};
@@ -36,7 +36,7 @@ ghost use Rattle.ic_inspect.specs.Seeing.{IsSeen};
 ghost use Rattle.ic_inspect.specs.declared.halts.Halt.TheVariants as halt;
 ghost use Rattle.ic_inspect.specs.Halts.{halt_of};
 ghost use Rattle.ic_inspect.specs.Stuck.{stuck_of};
-ghost use Rattle.ic_inspect.specs.Objects.{job_object, stuck_field};
+ghost use Rattle.ic_inspect.specs.Objects.{body_field, halt_field, held_objects, job_object, slot_object, stuck_field};
 ghost use Rattle.ic_inspect.specs.Held.{as_newest, held_of, newest_of};
 ghost use Rattle.ic_inspect.specs.Report.{active_pairs, counts_text, job_line, line, newest_text, report, slot_line, stuck_part, table_lines, told_held, halt_text, why_text};
 ghost use Rattle.ic_inspect.specs.Moments.{AreHeadsRead, AreSlotsRead, IsServed, IsServerStep, IsReadTwice, IsReadTwiceBetween, IsWholeNewest};
@@ -184,10 +184,41 @@ pub fn what_is_held_is_told_so()
         ≡ codes ", nodes " ++ decimal nodes ++ codes ", active pairs " ++ decimal pairs }
 {}
 
-/// The object of JSON of the job `two`, which adds one and one, by hand.
+/// The line and the object of JSON of the job `two`, which adds one and one, by hand: each number stands under its own name.
 pub fn a_job_by_hand()
-    ensures { job_object one_plus_one
+    ensures object { job_object one_plus_one
         ≡ codes "{\"job\":\"two\",\"state\":\"running\",\"rounds\":0,\"nodes\":7,\"active_pairs\":1}\n" }
+    ensures line { job_line one_plus_one
+        ≡ codes "two: running, rounds 0, nodes 7, active pairs 1\n" }
+{}
+
+/// The objects of JSON of a slot and of what is held, word for word. After the digit both slots have the same words.
+pub fn objects_are_told_so()
+    ensures open { (n size : ℕ) (t : List JobParts)
+        → slot_object 49 (Some (record { opened = true; number = n; size = size; body = Holds t }))
+        ≡ codes "{\"slot\":1,\"state\":\"open\",\"number\":" ++ decimal n ++ codes ",\"size\":"
+        ++ decimal size ++ codes ",\"body\":\"a table\"}\n" }
+    ensures closed { (n size : ℕ)
+        → slot_object 50 (Some (record { opened = false; number = n; size = size; body = NoTable }))
+        ≡ codes "{\"slot\":2,\"state\":\"closed\",\"number\":" ++ decimal n ++ codes ",\"size\":"
+        ++ decimal size ++ codes ",\"body\":\"no table\"}\n" }
+    ensures cut_off { slot_object 50 None ≡ codes "{\"slot\":2,\"state\":\"cut off\"}\n" }
+    ensures bodies { (t : List JobParts) → map body_field (CutShort ∷ TooLong ∷ NoTable ∷ Holds t ∷ [])
+        ≡ codes ",\"body\":\"cut short\"" ∷ codes ",\"body\":\"too long\""
+        ∷ codes ",\"body\":\"no table\"" ∷ codes ",\"body\":\"a table\"" ∷ [] }
+    ensures table { (words : List ℕ) (t : List JobParts) → held_objects words (the_table t)
+        ≡ codes "{\"held\":\"" ++ words ++ codes "\"}\n" ++ flat_map job_object t }
+    ensures others { (words : List ℕ) → map (held_objects words) (no_slot ∷ two_alike ∷ damaged ∷ [])
+        ≡ codes "{\"held\":\"no slot\"}\n" ∷ codes "{\"held\":\"two alike\"}\n"
+        ∷ codes "{\"held\":\"damaged\"}\n" ∷ [] }
+    ensures halts { map halt_field (Some halt.Rounds ∷ Some halt.Overgrown ∷ Some halt.Names ∷ None ∷ [])
+        ≡ codes ",\"halt\":\"out of rounds\"" ∷ codes ",\"halt\":\"next round overgrown\""
+        ∷ codes ",\"halt\":\"next round out of names\"" ∷ [] ∷ [] }
+    ensures job { (j : JobParts) → job_object j ≡ concat (codes "{\"job\":\"" ∷ j.name
+        ∷ codes "\",\"state\":\"" ∷ state_text j.state ∷ codes "\",\"rounds\":" ∷ decimal j.rounds
+        ∷ codes ",\"nodes\":" ∷ decimal (configuration_nodes j.config)
+        ∷ codes ",\"active_pairs\":" ∷ decimal (active_pairs j.rules.rules j.config)
+        ∷ halt_field (halt_of j) ∷ stuck_field (stuck_of j) ∷ codes "}\n" ∷ []) }
 {}
 
 /// The active pairs of a job are its equations that a rule fires, each counted once.
