@@ -251,12 +251,12 @@ class Sizes(Trial):
                     self.equals(ran.command, f"whether {held} places and equations are near the bound", True, within)
 
     def test_a_small_net_that_opens_many_names_is_not_overgrown(self):
-        """Each turn opens names, some 17 million in all. Few are there at once."""
+        """Its turns open some ten million names. Few are there at once."""
         text = f"{TURNS} <r|T(r)={numeral(21)}>"
         for workers in (1, 2, 4):
             ran = run("reduce", "--stats", "--workers", workers, "--nodes", 100_000, given=text, seconds=60)
             made, places, rest = stats_of(ran.err)
-            self.equals(ran.command, "status, answer and interactions", (0, b"<Z|>\n", TURNS_MADE, b""), (ran.status, ran.out, made, rest))
+            self.equals(ran.command, "status, answer and interactions", (0, b"<Z|>\n", 5 * 2**21 - 25, b""), (ran.status, ran.out, made, rest))
             self.equals(ran.command, f"whether {places} places are within the bound", True, places <= 100_000)
 
     def test_how_many_interactions_are_shared_is_told(self):
