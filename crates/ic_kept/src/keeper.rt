@@ -1,6 +1,6 @@
 //! A state that is kept in two files.
 
-ghost use Rattle.std.specs.Prelude.{◌≡◌, ◌↔◌, ◌⊎◌, ◌^◌, ◌-◌, ◌<◌, true, false, IsTrue, IsErrOf, IfOk, IfErr, OnOk};
+ghost use Rattle.std.specs.Prelude.{◌≡◌, ◌↔◌, ◌⊎◌, ◌^◌, ◌+◌, ◌-◌, ◌<◌, ◌≤◌, true, false, IsTrue, IsErrOf, IfOk, IfErr, OnOk};
 ghost use Rattle.ic_disk.specs.Time.{OneMore};
 ghost use Rattle.ic_frames.specs.Faults.{CountsKeep};
 ghost use Rattle.ic_kept.specs.Held.{Answers, Hold};
@@ -125,6 +125,10 @@ impl<D: Disk> Keeper<D> {
         ensures model { KeepsModel D.keeps self.old → KeepsModel D.keeps self.new }
         ensures counted { CountsKeep result (D.failures (other_of self.old))
             (D.failures (written_disk result self.new)) }
+        // It makes at most ten calls to the disk that it writes, and eight over a closed gate.
+        ensures calls { D.clock (written_disk result self.new) ≤ D.clock (other_of self.old) + 10 }
+        ensures few_calls { is_closed self.old ≡ true
+            → D.clock (written_disk result self.new) ≤ D.clock (other_of self.old) + 8 }
     {
         self.check_usable()?;
         self.broken = true;

@@ -1,6 +1,6 @@
 //! Writing a state into one file, each part on the disk for good before the next.
 
-ghost use Rattle.std.specs.Prelude.{◌≡◌, ◌⊎◌, ℕ, List, IsTrue, OnOk};
+ghost use Rattle.std.specs.Prelude.{◌≡◌, ◌⊎◌, ◌+◌, ◌≤◌, ℕ, true, List, IsTrue, OnOk};
 ghost use Rattle.ic_disk.specs.Images.{Within};
 ghost use Rattle.ic_disk.specs.Time.{CountsFailure, LeavesOnly};
 ghost use Rattle.ic_kept.specs.Sheet.{IsAfterGate, IsBelow, IsBeside, IsNewest, IsOlder, IsShut};
@@ -13,6 +13,7 @@ use ic_disk::{Disk, DiskFault};
 fn close_gate<D: Disk>(disk: &mut D) -> Result<(), DiskFault>
     ensures keeps { D.keeps disk.new ≡ D.keeps disk.old }
     ensures counted { CountsFailure result (D.failures disk.old) (D.failures disk.new) }
+    ensures calls { D.clock disk.new ≤ D.clock disk.old + 2 }
     ensures any_moment { (n : ℕ) → IsTrue (D.keeps disk.old) → Within (D.image disk.old) (IsBelow n)
         → LeavesOnly D.clock D.left disk.old disk.new (IsBelow n) }
     ensures shut { (n : ℕ) → IsTrue (D.keeps disk.old) → Within (D.image disk.old) (IsBelow n)
@@ -26,6 +27,7 @@ fn close_gate<D: Disk>(disk: &mut D) -> Result<(), DiskFault>
 pub(crate) fn write_state<D: Disk>(disk: &mut D, number: u64, state: &[u8]) -> Result<(), DiskFault>
     ensures keeps { D.keeps disk.new ≡ D.keeps disk.old }
     ensures counted { CountsFailure result (D.failures disk.old) (D.failures disk.new) }
+    ensures calls { D.clock disk.new ≤ D.clock disk.old + 6 }
     ensures any_moment { IsTrue (D.keeps disk.old) → Within (D.image disk.old) IsShut
         → LeavesOnly D.clock D.left disk.old disk.new IsShut }
     ensures shut { IsTrue (D.keeps disk.old) → Within (D.image disk.old) IsShut
@@ -43,6 +45,7 @@ pub(crate) fn write_state<D: Disk>(disk: &mut D, number: u64, state: &[u8]) -> R
 pub(crate) fn open_gate<D: Disk>(disk: &mut D) -> Result<(), DiskFault>
     ensures keeps { D.keeps disk.new ≡ D.keeps disk.old }
     ensures counted { CountsFailure result (D.failures disk.old) (D.failures disk.new) }
+    ensures calls { D.clock disk.new ≤ D.clock disk.old + 2 }
     ensures any_moment { (n : ℕ) (state : List ℕ) → IsTrue (D.keeps disk.old)
         → Within (D.image disk.old) (IsAfterGate n state)
         → LeavesOnly D.clock D.left disk.old disk.new (λ file. IsShut file ⊎ IsNewest n state file) }
@@ -58,6 +61,7 @@ pub(crate) fn open_gate<D: Disk>(disk: &mut D) -> Result<(), DiskFault>
 fn write_shut<D: Disk>(disk: &mut D, number: u64, state: &[u8]) -> Result<(), DiskFault>
     ensures keeps { D.keeps disk.new ≡ D.keeps disk.old }
     ensures counted { CountsFailure result (D.failures disk.old) (D.failures disk.new) }
+    ensures calls { D.clock disk.new ≤ D.clock disk.old + 8 }
     ensures any_moment { IsTrue (D.keeps disk.old) → Within (D.image disk.old) IsShut
         → LeavesOnly D.clock D.left disk.old disk.new
         (λ file. IsShut file ⊎ IsNewest number state.now file) }
@@ -78,6 +82,8 @@ pub(crate) fn write_beside<D: Disk>(
 ) -> Result<(), DiskFault>
     ensures keeps { D.keeps disk.new ≡ D.keeps disk.old }
     ensures counted { CountsFailure result (D.failures disk.old) (D.failures disk.new) }
+    ensures calls { D.clock disk.new ≤ D.clock disk.old + 10 }
+    ensures few_calls { closed ≡ true → D.clock disk.new ≤ D.clock disk.old + 8 }
     ensures any_moment { (n : ℕ) → IsTrue (D.keeps disk.old)
         → Within (D.image disk.old) (IsBeside closed n)
         → LeavesOnly D.clock D.left disk.old disk.new

@@ -1,4 +1,4 @@
-use Rattle.std.proofs.Common.{◌⊎◌, inl, ◌+◌, refl}
+use Rattle.std.proofs.Common.{◌⊎◌, inl, ◌+◌, refl, arith}
 use Rattle.std.proofs.lemmas.Result.{err_from_is_err_and}
 use Rattle.ic_disk.specs.lemmas.Moments.{started, leaves_weaker}
 use Rattle.ic_kept.specs.Held.{HoldEither}
@@ -51,3 +51,29 @@ returns-clause-crash g c =
         beside = rw c.swap.ensures.y_after (λ file there. newest_below old.number state file (keeps.newest file there));
       };
     }
+
+pub returns-in_err-check_usable-clause-calls : goal.returns-in_err-check_usable-clause-calls
+returns-in_err-check_usable-clause-calls g c =
+    let e = err_from_is_err_and c.from_residual.result c.from_residual.ensures.1 in
+    rw e.1 (omega arith)
+
+pub returns-in_err-check_usable-clause-few_calls : goal.returns-in_err-check_usable-clause-few_calls
+returns-in_err-check_usable-clause-few_calls g c closed =
+    let e = err_from_is_err_and c.from_residual.result c.from_residual.ensures.1 in
+    rw e.1 (omega arith)
+
+pub returns-in_err-write_beside-clause-calls : goal.returns-in_err-write_beside-clause-calls
+returns-in_err-write_beside-clause-calls g c =
+    let e = err_from_is_err_and c.from_residual-in_err-write_beside.result c.from_residual-in_err-write_beside.ensures.1 in
+    rw e.1 c.write_beside.ensures.calls
+
+pub returns-in_err-write_beside-clause-few_calls : goal.returns-in_err-write_beside-clause-few_calls
+returns-in_err-write_beside-clause-few_calls g c closed =
+    let e = err_from_is_err_and c.from_residual-in_err-write_beside.result c.from_residual-in_err-write_beside.ensures.1 in
+    rw e.1 (c.write_beside.ensures.few_calls closed)
+
+pub returns-clause-calls : goal.returns-clause-calls
+returns-clause-calls g c = rw c.swap.ensures.x_after c.write_beside.ensures.calls
+
+pub returns-clause-few_calls : goal.returns-clause-few_calls
+returns-clause-few_calls g c closed = rw c.swap.ensures.x_after (c.write_beside.ensures.few_calls closed)
