@@ -10,3 +10,4 @@ pub mod LawLemmas
 pub mod PhaseLemmas
 pub mod LayoutLemmas
 pub mod LaidLemmas
+pub mod TurnLemmas

@@ -3,6 +3,7 @@ pub mod Fields
 pub mod Held
 pub mod Staged
 pub mod Layout
+pub mod Creation
 pub mod Opening
 pub mod Faults
 pub mod Numbers

@@ -3,7 +3,8 @@
 ghost use Rattle.std.specs.Prelude.{◌≡◌, ◌+◌, ◌≤◌, length, drop, replicate, IsTrue, OnOk};
 ghost use Rattle.ic_disk.specs.Content.{laid};
 ghost use Rattle.ic_disk.specs.Images.{Within};
-ghost use Rattle.ic_disk.specs.Time.{CountsFailure};
+ghost use Rattle.ic_disk.specs.Time.{CountsFailure, LeavesOnly};
+ghost use Rattle.ic_frames.specs.Creation.{writes_of_create, IsInOneOf, IsTornBy, KeepPace};
 ghost use Rattle.ic_frames.specs.Layout.{slot_bytes};
 ghost use Rattle.ic_frames.specs.Places.{place};
 ghost use Rattle.ic_frames.specs.Held.{Holds, IsClosedIn, body_held, the_body};
@@ -26,6 +27,17 @@ pub fn create<D: Disk>(disk: &mut D, frame: &mut [u8]) -> Result<(), DiskFault>
     ensures counted { CountsFailure result (D.failures disk.old) (D.failures disk.new) }
     ensures same_body { drop 13 frame.new ≡ drop 13 frame.old }
     ensures calls { D.clock disk.new ≤ D.clock disk.old + 6 }
+
+    // Whatever the answer, a crash at any moment leaves a file that one of its three writes has torn,
+    // over what those before it have left.
+    ensures ordered { IsTrue (D.keeps disk.old) → LeavesOnly D.clock D.left disk.old disk.new
+        (IsInOneOf IsTornBy (writes_of_create (drop 13 frame.old))
+        (D.content disk.old) (D.image disk.old)) }
+
+    // At Ok each write was there to stay after two calls.
+    ensures paced { IsTrue (D.keeps disk.old) → OnOk result (KeepPace (D.left disk.new)
+        (D.clock disk.old) (writes_of_create (drop 13 frame.old))
+        (D.content disk.old) (D.image disk.old)) }
 
     // At Ok the slot's bytes are at the beginning of the disk, and thirteen zeros are written at the
     // second slot; all else stays.

@@ -2,6 +2,8 @@
 
 ghost use Rattle.std.specs.Prelude.{◌≡◌, ◌⊎◌, ◌↔◌, ◌+◌, ◌-◌, ◌^◌, ◌<◌, ◌≤◌, true, false, List, [], ◌∷◌, ◌++◌, ℕ, codes, length, map, slice_index, Contains, IsErrOf, Result, Err};
 ghost use Rattle.ic_disk.specs.Content.{bytes_at};
+ghost use Rattle.ic_disk.specs.Model.{Write};
+ghost use Rattle.ic_frames.specs.Creation.{IsMadeInPart, IsTornBy};
 ghost use Rattle.ic_frames.specs.declared.faults.KeepFault.{KeepFault};
 ghost use Rattle.ic_frames.specs.declared.faults.KeepFault.TheVariants.{Device as KeepDevice};
 ghost use Rattle.ic_frames.specs.declared.faults.OpenCause.{OpenCause};
@@ -127,4 +129,9 @@ pub fn limits_are()
     ensures second { SECOND_AT ≡ place Second }
     ensures second_at { SECOND_AT ≡ 4194304 }
     ensures made { (file : List ℕ) → IsMade file ↔ (place Second + HEAD ≤ length file) }
+{}
+
+/// A write that is made in part is one of those that have torn their file.
+pub fn a_write_in_part_has_torn()
+    ensures { (w : Write) (old new : List ℕ) → IsMadeInPart w old new → IsTornBy w old new }
 {}
