@@ -1,15 +1,13 @@
 -- What a text of a system is answered when it is reduced (this project's choice).
-use Rattle.std.specs.Prelude.{◌≡◌, ◌≢◌, ℕ, List, [], Bool, true, Ok, Err, if◌then◌else◌}
+use Rattle.std.specs.Prelude.{◌≡◌, ℕ, List, [], Bool, true, Ok, Err, if◌then◌else◌}
 use Rattle.std.specs.Option.{option_map}
 use Rattle.ic_term.specs.Configuration.{Configuration}
 use Rattle.ic_rules.specs.RuleSet.{Rules}
 use Rattle.ic_rules.specs.System.{SystemParts}
 use Rattle.ic_text.specs.SystemText.{ReadsSystem}
-use Rattle.ic_text.specs.declared.fault.TextFault.TheVariants as text
 use Rattle.ic_round.specs.Rounds.{iterate}
 use Rattle.ic_round.specs.Quiet.{IsQuiet}
-use Rattle.ic_streams.specs.Streams.{Answering, line_of}
-use Rattle.ic_streams.specs.declared.fault.StreamFault.TheVariants.{Read, Text, Round, Memory, Write}
+use Rattle.ic_streams.specs.Streams.{Answering, answering, line_of}
 use Rattle.ic_by_rounds.specs.Reducing.{IsReducedBy, IsRefusal}
 use Rattle.ic_by_rounds.specs.Stuck.{stuck_text}
 use Rattle.ic_by_rounds.specs.declared.reduction.Reduction.{Reduction}
@@ -50,11 +48,5 @@ EndsAs most partial input reduction =
 
 -- The answers of reducing by at most so many rounds. A refused round is no refusal of the text.
 abbrev pub Reduces : (most : ℕ) (partial : Bool) → Answering
-Reduces most partial input (Ok output) =
-    (reduction : Reduction) × ReducesTo most partial input output reduction
-Reduces most partial input (Err (Text fault)) =
-    ReadsSystem input (Err fault) × (fault ≢ text.Memory)
-Reduces most partial input (Err (Round fault)) = ⊥
-Reduces most partial input (Err Read) = ⊥
-Reduces most partial input (Err Memory) = ⊥
-Reduces most partial input (Err Write) = ⊥
+Reduces most partial = answering (λ input fault. ReadsSystem input (Err fault))
+    (λ input output. (reduction : Reduction) × ReducesTo most partial input output reduction)

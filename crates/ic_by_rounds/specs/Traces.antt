@@ -1,11 +1,9 @@
 -- What a text of a system is answered when it is traced (this project's choice).
-use Rattle.std.specs.Prelude.{◌≡◌, ◌≢◌, ℕ, List, Ok, Err}
+use Rattle.std.specs.Prelude.{◌≡◌, ℕ, List, Ok, Err}
 use Rattle.ic_term.specs.Configuration.{configuration_nodes}
 use Rattle.ic_rules.specs.System.{SystemParts}
 use Rattle.ic_text.specs.SystemText.{ReadsSystem}
-use Rattle.ic_text.specs.declared.fault.TextFault.TheVariants as text
-use Rattle.ic_streams.specs.Streams.{Answering}
-use Rattle.ic_streams.specs.declared.fault.StreamFault.TheVariants.{Read, Text, Round, Memory, Write}
+use Rattle.ic_streams.specs.Streams.{Answering, answering}
 use Rattle.ic_by_rounds.specs.Tracing.{AreRows}
 use Rattle.ic_by_rounds.specs.Pictures.{shown_as}
 use Rattle.ic_by_rounds.specs.declared.row.Row.{Row}
@@ -30,10 +28,5 @@ TracedAs most format input ended =
 -- The answers of tracing at most so many rounds. A refused round is no refusal of the text: what is
 -- shown are the rounds before it.
 abbrev pub Traces : ℕ → Format → Answering
-Traces most format input (Ok output) = (ended : Ended) × TracesTo most format input output ended
-Traces most format input (Err (Text fault)) =
-    ReadsSystem input (Err fault) × (fault ≢ text.Memory)
-Traces most format input (Err (Round fault)) = ⊥
-Traces most format input (Err Read) = ⊥
-Traces most format input (Err Memory) = ⊥
-Traces most format input (Err Write) = ⊥
+Traces most format = answering (λ input fault. ReadsSystem input (Err fault))
+    (λ input output. (ended : Ended) × TracesTo most format input output ended)

@@ -1,5 +1,5 @@
 -- What a text of a system is answered when it is reduced in place (this project's choice).
-use Rattle.std.specs.Prelude.{◌≡◌, ◌≢◌, List, [], Bool, true, false, Option, None, Ok, Err, ℕ, IsTrue, length, if◌then◌else◌}
+use Rattle.std.specs.Prelude.{◌≡◌, List, [], Bool, true, false, Option, None, Ok, Err, ℕ, IsTrue, length, if◌then◌else◌}
 use Rattle.std.specs.Arc.{arc_value}
 use Rattle.std.specs.Option.{option_map}
 use Rattle.std.specs.Io.KnownBytes.{Appends}
@@ -11,9 +11,7 @@ use Rattle.ic_rules.specs.System.{SystemParts}
 use Rattle.ic_naming.specs.Naming.{renumbered}
 use Rattle.ic_text.specs.SystemText.{ReadsSystemWithin}
 use Rattle.ic_text.specs.declared.limits.Limits.{Limits}
-use Rattle.ic_text.specs.declared.fault.TextFault.TheVariants as text
-use Rattle.ic_streams.specs.Streams.{Answering, line_of}
-use Rattle.ic_streams.specs.declared.fault.StreamFault.TheVariants.{Read, Text, Round, Memory, Write}
+use Rattle.ic_streams.specs.Streams.{Answering, answering, line_of}
 use Rattle.ic_by_rounds.specs.Stuck.{stuck_text}
 use Rattle.ic_in_place.specs.Counting.{TellsNameSteps}
 use Rattle.ic_in_place.specs.Reducing.{HasPlaces, IsComeTo, IsPutTogether, IsReachedBy}
@@ -109,14 +107,8 @@ pub record EndsOf (s : SystemParts) (bounds : Bounds) (asked : Asked) (outcome :
 
 -- the answers of reducing in place within limits of the text and bounds of the way
 abbrev pub ReducesInPlace : Limits → Bounds → Asked → Answering
-ReducesInPlace limits bounds asked input (Ok line) =
-    (outcome : Outcome) × EndsAs limits bounds asked input outcome line
-ReducesInPlace limits bounds asked input (Err (Text fault)) =
-    ReadsSystemWithin limits input (Err fault) × (fault ≢ text.Memory)
-ReducesInPlace limits bounds asked input (Err (Round fault)) = ⊥
-ReducesInPlace limits bounds asked input (Err Read) = ⊥
-ReducesInPlace limits bounds asked input (Err Memory) = ⊥
-ReducesInPlace limits bounds asked input (Err Write) = ⊥
+ReducesInPlace limits bounds asked = answering (λ input fault. ReadsSystemWithin limits input (Err fault))
+    (λ input line. (outcome : Outcome) × EndsAs limits bounds asked input outcome line)
 
 -- what is appended for a text, and the outcome that tells of it
 abbrev pub Tells : Limits → Bounds → Asked → List ℕ → Outcome → Option (List ℕ)

@@ -1,5 +1,5 @@
 -- What a text of a system or of a configuration is answered when it is drawn (this project's choice).
-use Rattle.std.specs.Prelude.{◌≡◌, ◌≢◌, ℕ, ◌==◌, List, [], ◌∷◌, Bool, true, false, Result, Ok, Err, if◌then◌else◌}
+use Rattle.std.specs.Prelude.{◌≡◌, ℕ, ◌==◌, List, [], ◌∷◌, Bool, true, false, Result, Ok, Err, if◌then◌else◌}
 use Rattle.ic_term.specs.Configuration.{Configuration}
 use Rattle.ic_rules.specs.RuleSet.{Rules}
 use Rattle.ic_rules.specs.System.{SystemParts}
@@ -7,9 +7,7 @@ use Rattle.ic_text.specs.Text.{Reads}
 use Rattle.ic_text.specs.Token.{is_blank}
 use Rattle.ic_text.specs.SystemText.{ReadsSystem}
 use Rattle.ic_text.specs.declared.fault.TextFault.{TextFault}
-use Rattle.ic_text.specs.declared.fault.TextFault.TheVariants as text
-use Rattle.ic_streams.specs.Streams.{Answering}
-use Rattle.ic_streams.specs.declared.fault.StreamFault.TheVariants.{Read, Text, Round, Memory, Write}
+use Rattle.ic_streams.specs.Streams.{Answering, answering}
 use Rattle.ic_nets.specs.Nets.{IsNet}
 use Rattle.ic_nets.specs.Dot.{dot_of}
 use Rattle.ic_nets.specs.declared.net.Net.{Net}
@@ -43,9 +41,4 @@ pub record DrawsTo (input output : List ℕ) : Type 0 where
 
 -- the answers of drawing
 abbrev pub Draws : Answering
-Draws input (Ok output) = DrawsTo input output
-Draws input (Err (Text fault)) = ReadsDrawn input (Err fault) × (fault ≢ text.Memory)
-Draws input (Err (Round fault)) = ⊥
-Draws input (Err Read) = ⊥
-Draws input (Err Memory) = ⊥
-Draws input (Err Write) = ⊥
+Draws = answering (λ input fault. ReadsDrawn input (Err fault)) DrawsTo

@@ -11,6 +11,7 @@ use Rattle.ic_text.specs.SystemText.{ReadsSystem}
 use Rattle.ic_text.specs.Limits.{most_bytes}
 use Rattle.ic_text.specs.declared.limits.Limits.{Limits}
 use Rattle.ic_text.specs.declared.limits.Limits.TheVariants.{Served}
+use Rattle.ic_text.specs.declared.fault.TextFault.{TextFault}
 use Rattle.ic_text.specs.declared.fault.TextFault.TheVariants as text
 use Rattle.ic_round.specs.Settling.{settled}
 use Rattle.ic_round.specs.Rounds.{round, fits, unless_unfit}
@@ -50,14 +51,18 @@ pub record IsUnfit (input : List ℕ) (fault : RoundFault) : Type 0 where
 abbrev pub Answering : Type 1
 Answering = List ℕ → Result (List ℕ) StreamFault → Type 0
 
+-- the answers where texts are refused with these faults, and others have these lines; no round is refused
+abbrev pub answering : (refuses : List ℕ → TextFault → Type 0) (shows : List ℕ → List ℕ → Type 0) → Answering
+answering refuses shows input (Ok line) = shows input line
+answering refuses shows input (Err (Text fault)) = refuses input fault × (fault ≢ text.Memory)
+answering refuses shows input (Err (Round fault)) = ⊥
+answering refuses shows input (Err Read) = ⊥
+answering refuses shows input (Err Memory) = ⊥
+answering refuses shows input (Err Write) = ⊥
+
 -- the answers of settling
 abbrev pub Settles : Answering
-Settles input (Ok line) = SettlesTo input line
-Settles input (Err (Text fault)) = Reads input (Err fault) × (fault ≢ text.Memory)
-Settles input (Err (Round fault)) = ⊥
-Settles input (Err Read) = ⊥
-Settles input (Err Memory) = ⊥
-Settles input (Err Write) = ⊥
+Settles = answering (λ input fault. Reads input (Err fault)) SettlesTo
 
 -- the answers of one round
 abbrev pub Rounds : Answering

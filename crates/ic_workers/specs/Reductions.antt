@@ -1,12 +1,10 @@
 -- What a text of a system is answered when several threads reduce it (this project's choice).
-use Rattle.std.specs.Prelude.{◌≡◌, ◌≢◌, ℕ, List, Option, Ok, Err}
+use Rattle.std.specs.Prelude.{ℕ, List, Option, Ok, Err}
 use Rattle.std.specs.Io.KnownBytes.{Appends}
 use Rattle.ic_rules.specs.System.{SystemParts}
 use Rattle.ic_text.specs.SystemText.{ReadsSystemWithin}
 use Rattle.ic_text.specs.declared.limits.Limits.{Limits}
-use Rattle.ic_text.specs.declared.fault.TextFault.TheVariants as text
-use Rattle.ic_streams.specs.Streams.{Answering}
-use Rattle.ic_streams.specs.declared.fault.StreamFault.TheVariants.{Read, Text, Round, Memory, Write}
+use Rattle.ic_streams.specs.Streams.{Answering, answering}
 use Rattle.ic_in_place.specs.Reductions.{EndsOf}
 use Rattle.ic_in_place.specs.declared.running.Bounds.{Bounds}
 use Rattle.ic_in_place.specs.declared.stream.Asked.{Asked}
@@ -26,14 +24,8 @@ pub record AnswersByWorkers (limits : Limits) (bounds : Bounds) (asked : Asked) 
 
 -- the answers of reducing by several threads, within limits of the text and bounds of the way
 abbrev pub ReducesByWorkers : Limits → Bounds → Asked → Answering
-ReducesByWorkers limits bounds asked input (Ok line) =
-    (outcome : Outcome) × AnswersByWorkers limits bounds asked input outcome line
-ReducesByWorkers limits bounds asked input (Err (Text fault)) =
-    ReadsSystemWithin limits input (Err fault) × (fault ≢ text.Memory)
-ReducesByWorkers limits bounds asked input (Err (Round fault)) = ⊥
-ReducesByWorkers limits bounds asked input (Err Read) = ⊥
-ReducesByWorkers limits bounds asked input (Err Memory) = ⊥
-ReducesByWorkers limits bounds asked input (Err Write) = ⊥
+ReducesByWorkers limits bounds asked = answering (λ input fault. ReadsSystemWithin limits input (Err fault))
+    (λ input line. (outcome : Outcome) × AnswersByWorkers limits bounds asked input outcome line)
 
 -- what is appended for a text, and the outcome that tells of it
 abbrev pub TellsOfWorkers : Limits → Bounds → Asked → List ℕ → Outcome → Option (List ℕ)
