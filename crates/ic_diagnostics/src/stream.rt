@@ -1,16 +1,21 @@
 //! Answering what a reader gives, and telling of a text that is refused.
 
-ghost use Rattle.std.specs.Prelude.{◌≡◌, ◌≢◌, ◌≤◌, ◌++◌, ◌⊎◌, Ok, IfOk, IfErr, IfSome, OnOk, length};
+ghost use Rattle.std.specs.Prelude.{◌≡◌, ◌≢◌, ◌≤◌, ◌++◌, ◌⊎◌, ℕ, List, Ok, IfOk, IfErr, IfSome, IsTrue, OnOk, length};
 ghost use Rattle.std.specs.Io.KnownBytes.{Keeps};
-ghost use Rattle.ic_streams.specs.Streams.{OfText, IsAnswered, FaultOf, Rounds, Settles, TakesAt, TakesText};
+ghost use Rattle.ic_term.specs.Symbol.{is_over};
+ghost use Rattle.ic_round.specs.Settling.{settled};
+ghost use Rattle.ic_text.specs.SystemText.{ReadsSystem};
+ghost use Rattle.ic_streams.specs.Streams.{OfText, IsAnswered, FaultOf, Rounds, Settles, TakesAt, TakesText, line_of};
 ghost use Rattle.ic_diagnostics.specs.Telling.{Appended, AppendedAt, told_lines, told_lines_within};
 ghost use Rattle.ic_streams.specs.Faults.{fault_of_text};
 
 use crate::telling::{Kind, told_lines_within};
+use ic_flat::{Flat, FlatSystem};
 use ic_flat_round::{FlatRules, round, settle};
 use ic_streams::{StreamFault, flat_line, read_text, write_line};
+use ic_term::Symbols;
 use ic_text::{Limits, Misread, TextFault, find_flat_config, find_flat_system};
-use std::alloc::Global;
+use std::alloc::{AllocError, Global};
 use std::io::{Read, Write};
 
 /// Settles the configuration that the reader gives, and writes it as a line. Where the text is refused, the lines that
@@ -126,12 +131,19 @@ fn settled_line(alloc: Global, text: &[u8], told: &mut Vec<u8>) -> Result<Vec<u8
     ensures sort { IfErr result
         (λ fault. (fault ≢ StreamFault.Write) × (fault ≢ StreamFault.Read)) }
 {
-    let (symbols, config) = match find_flat_config(alloc, text) {
-        Ok(found) => found,
-        Err(misread) => return Err(refused(alloc, Kind::Config, text, misread, told)),
-    };
-    let settled = settle(alloc, &config)?;
-    Ok(flat_line(alloc, &symbols, &settled)?)
+    match find_flat_config(alloc, text) {
+        Ok((symbols, config)) => Ok(line_settled(alloc, &symbols, &config)?),
+        Err(misread) => Err(refused(alloc, Kind::Config, text, misread, told)),
+    }
+}
+
+/// The line of a configuration that is settled.
+fn line_settled(alloc: Global, symbols: &Symbols, config: &Flat) -> Result<Vec<u8>, AllocError>
+    requires { IsTrue (is_over symbols.now config.now) }
+    ensures { IfOk result (λ line. line.items ≡ line_of symbols.now (settled config.now)) }
+{
+    let settled = settle(alloc, config)?;
+    flat_line(alloc, symbols, &settled)
 }
 
 /// The line of a text of which one round is made, or its refusal, of which `told` gets the lines.
@@ -144,10 +156,23 @@ fn once_line(alloc: Global, text: &[u8], told: &mut Vec<u8>) -> Result<Vec<u8>, 
     ensures sort { IfErr result
         (λ fault. (fault ≢ StreamFault.Write) × (fault ≢ StreamFault.Read)) }
 {
-    let system = match find_flat_system(alloc, text) {
-        Ok(found) => found,
-        Err(misread) => return Err(refused(alloc, Kind::System, text, misread, told)),
-    };
+    match find_flat_system(alloc, text) {
+        Ok(system) => round_line(alloc, system),
+        Err(misread) => Err(refused(alloc, Kind::System, text, misread, told)),
+    }
+}
+
+/// The line of a system of which one round is made, or why none is: so it is of each text that is read as the system.
+fn round_line(alloc: Global, system: FlatSystem) -> Result<Vec<u8>, StreamFault>
+    ensures line { IfOk result (λ line. (text : List ℕ) → ReadsSystem text (Ok system)
+        → Rounds text (Ok line.items)) }
+    ensures refused { IfErr result (λ fault. (text : List ℕ) → ReadsSystem text (Ok system)
+        → FaultOf Rounds text fault) }
+    ensures told { IfErr result (λ fault. (text told : List ℕ)
+        → AppendedAt Rounds Kind.System text fault told told) }
+    ensures sort { IfErr result
+        (λ fault. (fault ≢ StreamFault.Write) × (fault ≢ StreamFault.Read)) }
+{
     let (rules, config) = system.into_parts();
     let rules = FlatRules::new(alloc, rules)?;
     let after = round(alloc, &rules, &config)?;
