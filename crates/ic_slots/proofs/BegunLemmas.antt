@@ -34,13 +34,13 @@ begun-byte file begun i = ⊎_elim
 pub after-zero : (i : ℕ) → 18 ≤ i → (slice_index (first_bytes (table_bytes [])) i ≡ 0) × (slice_index (first_bytes (old_table_bytes [])) i ≡ 0)
 after-zero i past = (get_or_past (first_bytes (table_bytes [])) i 0 past, get_or_past (first_bytes (old_table_bytes [])) i 0 past)
 
-abbrev with_head : List ℕ
+abbrev pub with_head : List ℕ
 with_head = laid 4194304 (replicate 13 0) []
 
 abbrev empty : List ℕ
 empty = []
 
-head-zero : (i : ℕ) → i < length with_head → get_or with_head i 0 ≡ 0
+pub head-zero : (i : ℕ) → i < length with_head → get_or with_head i 0 ≡ 0
 head-zero i inside = ⊎_elim
     (λ before. laid-before 4194304 (replicate 13 0) empty i before ∙ get_or_past empty i 0 (omega arith))
     (λ from.
@@ -56,10 +56,10 @@ head-begun = (
   inl (λ i inside. inl (head-zero i inside)),
 )
 
-abbrev with_slot : List ℕ
+abbrev pub with_slot : List ℕ
 with_slot = laid 0 (first_bytes (table_bytes [])) with_head
 
-slot-part : (i : ℕ) → i < length with_slot → (get_or with_slot i 0 ≡ 0) ⊎ (get_or with_slot i 0 ≡ get_or (first_bytes (table_bytes [])) i 0)
+pub slot-part : (i : ℕ) → i < length with_slot → (get_or with_slot i 0 ≡ 0) ⊎ (get_or with_slot i 0 ≡ get_or (first_bytes (table_bytes [])) i 0)
 slot-part i inside = ⊎_elim
     (λ before.
     let same : i - 0 ≡ i = omega arith in

@@ -3,3 +3,4 @@ pub mod TableLemmas
 pub mod FormLemmas
 pub mod UnusedLemmas
 pub mod BegunLemmas
+pub mod StoppedLemmas

@@ -4,6 +4,8 @@ ghost use Rattle.std.specs.Prelude.{◌≡◌, ◌+◌, ◌≤◌, [], replicate
 ghost use Rattle.ic_codec.specs.Tables.{table_bytes};
 ghost use Rattle.ic_disk.specs.Content.{laid};
 ghost use Rattle.ic_disk.specs.Images.{Within};
+ghost use Rattle.ic_disk.specs.Time.{LeavesOnly};
+ghost use Rattle.ic_frames.specs.Creation.{writes_of_create, IsInOneOf, IsTornBy, KeepPace};
 ghost use Rattle.ic_frames.specs.Held.{IsClosedIn};
 ghost use Rattle.ic_frames.specs.Layout.{slot_bytes};
 ghost use Rattle.ic_frames.specs.Places.{place};
@@ -22,6 +24,17 @@ pub fn create<D: Disk>(alloc: Global, disk: &mut D) -> Result<(), CreateFault>
     ensures keeps { D.keeps disk.new ≡ D.keeps disk.old }
     ensures counted { CountsCreate result (D.failures disk.old) (D.failures disk.new) }
     ensures calls { D.clock disk.new ≤ D.clock disk.old + 6 }
+
+    // Whatever the answer, a crash at any moment leaves a file that one of its three writes has torn,
+    // over what those before it have left.
+    ensures ordered { IsTrue (D.keeps disk.old) → LeavesOnly D.clock D.left disk.old disk.new
+        (IsInOneOf IsTornBy (writes_of_create (table_bytes []))
+        (D.content disk.old) (D.image disk.old)) }
+
+    // At Ok each write was there to stay after two calls.
+    ensures paced { IsTrue (D.keeps disk.old) → OnOk result (KeepPace (D.left disk.new)
+        (D.clock disk.old) (writes_of_create (table_bytes []))
+        (D.content disk.old) (D.image disk.old)) }
 
     // Where memory ran out, the disk is as it was.
     ensures unchanged { IsErrOf result CreateFault.Memory → disk.new ≡ disk.old }

@@ -7,6 +7,7 @@ ghost use Rattle.ic_codec.specs.Tables.{table_bytes, old_table_bytes, HasNoBudge
 ghost use Rattle.ic_codec.specs.declared.form.TheConstants.{MAX_BYTES};
 ghost use Rattle.ic_frames.specs.declared.frame.TheConstants.{MAX_BODY, HEAD};
 ghost use Rattle.ic_frames.specs.declared.slot.Slot.{Slot};
+ghost use Rattle.ic_frames.specs.Creation.{writes_of_create, IsInOneOf, IsMadeInPart};
 ghost use Rattle.ic_frames.specs.Places.{place};
 ghost use Rattle.ic_frames.specs.Fields.{is_whole, size, body};
 ghost use Rattle.ic_frames.specs.Held.{IsNewest, HasBody, HoldsEither};
@@ -14,7 +15,7 @@ ghost use Rattle.ic_frames.specs.declared.faults.OpenCause.TheVariants.{NoSlot, 
 ghost use Rattle.ic_slots.specs.declared.fault.CreateFault.{CreateFault};
 ghost use Rattle.ic_slots.specs.declared.fault.CreateFault.TheVariants.{Device as CreateDevice};
 ghost use Rattle.ic_slots.specs.Faults.{CountsCreate};
-ghost use Rattle.ic_slots.specs.Held.{Held, HoldsEitherTable, IsHeld, the_table, no_slot, two_alike, damaged};
+ghost use Rattle.ic_slots.specs.Held.{Held, HoldsEitherTable, HoldsTable, IsHeld, the_table, no_slot, two_alike, damaged};
 ghost use Rattle.ic_slots.specs.Numbers.{all_create_faults, create_fault_number};
 ghost use Rattle.ic_slots.specs.Opening.{Says};
 ghost use Rattle.ic_disk.specs.Content.{laid};
@@ -22,7 +23,7 @@ ghost use Rattle.ic_frames.specs.declared.slot.TheConstants.{SECOND_AT};
 ghost use Rattle.ic_slots.specs.Unused.{IsBegun, IsUnused, first_bytes};
 
 use ic_codec::laws::{each_table_has_its_own_bytes, forms_are_short};
-use ic_frames::laws::{a_slot_is_open_or_whole, the_newest_slot_is_held};
+use ic_frames::laws::{a_slot_is_its_bytes, a_slot_is_open_or_whole, the_newest_slot_is_held};
 
 /// A file holds one table at most, or is refused for one reason.
 pub fn one_is_held()
@@ -159,3 +160,19 @@ pub fn each_write_of_create_is_begun()
     ensures slot { IsBegun (laid 0 (first_bytes (table_bytes []))
         (laid SECOND_AT (replicate HEAD 0) [])) }
 {}
+
+/// A `create` of an empty file may be done again wherever it was stopped, on a file system that fills
+/// up with zeros: whichever of its writes was made in part, the file is what `is_unused` takes for a
+/// stopped `create`, or a made one with the empty table.
+pub fn a_stopped_create_may_be_done_again()
+    ensures left { (file : List ℕ)
+        → IsInOneOf IsMadeInPart (writes_of_create (table_bytes [])) [] (λ f. f ≡ []) file
+        → IsBegun file ⊎ HoldsTable [] file }
+    ensures unused { (file : List ℕ)
+        → IsInOneOf IsMadeInPart (writes_of_create (table_bytes [])) [] (λ f. f ≡ []) file
+        → IsUnused file }
+{
+    a_slot_is_its_bytes();
+    a_slot_is_open_or_whole();
+    the_newest_table_is_held();
+}

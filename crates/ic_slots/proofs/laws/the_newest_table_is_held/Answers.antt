@@ -1,7 +1,7 @@
-use Rattle.std.proofs.Common.{◌∙◌, ⊎_elim, inl, inr, ℕ, arith}
+use Rattle.std.proofs.Common.{⊎_elim, inl, inr, arith}
 use Rattle.std.proofs.lemmas.Bool.{cases_Bool}
 use Rattle.ic_frames.specs.Places.{place}
-use Rattle.ic_frames.specs.Fields.{is_whole, size, body}
+use Rattle.ic_frames.specs.Fields.{is_whole, body}
 use Rattle.ic_slots.proofs.laws.the_newest_table_is_held.Goals as goal
 
 pub returns-clause-held : goal.returns-clause-held
