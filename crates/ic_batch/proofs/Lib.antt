@@ -14,3 +14,4 @@ pub mod OtherLemmas
 pub mod RoundLemmas
 pub mod RunLemmas
 pub mod TakenLemmas
+pub mod NumberLemmas

@@ -1,7 +1,7 @@
 -- Jobs that are read one after the other.
-use Rattle.std.proofs.Common.{◌≡◌, ℕ, ◌≤◌, List, [], ◌∷◌, ◌++◌, Bool, true, false, ◌||◌, Ok, Some, length, map, refl, sym, ap, subst, ◌∙◌, append_assoc, arith, length-append}
+use Rattle.std.proofs.Common.{◌≡◌, ℕ, ◌+◌, ◌<◌, ◌≤◌, List, [], ◌∷◌, ◌++◌, Bool, true, false, ◌||◌, Ok, Some, length, map, refl, sym, ap, subst, ◌∙◌, append_assoc, arith, length-append}
 use Rattle.std.specs.Prelude.{is_some, nat_lt, if◌then◌else◌}
-use Rattle.std.specs.List.{AllByRecursion, IsDistinct, list_any}
+use Rattle.std.specs.List.{count_by, AllByRecursion, IsDistinct, list_any}
 use Rattle.std.specs.Str.{bytes_eq}
 use Rattle.std.proofs.lemmas.Bool.{le-ltb, or_parts}
 use Rattle.std.proofs.lemmas.List.{length-map, map-append}
@@ -13,11 +13,14 @@ use Rattle.ic_jobs.specs.declared.reply.Refusal.TheVariants.{Taken, Full}
 use Rattle.ic_jobs.specs.Events.{after_command, outcome, refused}
 use Rattle.ic_jobs.specs.Job.{JobParts}
 use Rattle.ic_jobs.specs.Table.{job_named}
+use Rattle.ic_lines.specs.Lines.{lines}
 use Rattle.ic_lines.specs.Script.{ReadsScript}
 use Rattle.ic_batch.specs.declared.jobs.NewJob.{NewJob}
 use Rattle.ic_batch.specs.Jobs.{begun_by, names, submit_of}
 use Rattle.ic_batch.specs.inner.Taking.{IsNext}
+use Rattle.ic_batch.specs.Faults.{has_text}
 use Rattle.ic_batch.proofs.NewLemmas.{bytes_eq-comm}
+use Rattle.ic_batch.proofs.NumberLemmas.{lines_enough, LineLaws}
 
 apart_more : (x : List ℕ) (jobs : List NewJob) (new : NewJob) → AllByRecursion (λ y. bytes_eq x y ≡ false) (names jobs) → bytes_eq x new.name ≡ false
     → AllByRecursion (λ y. bytes_eq x y ≡ false) (names (jobs ++ new ∷ []))
@@ -87,3 +90,11 @@ module _ (jobs : List NewJob) (new : NewJob) where
       ap (λ (b : Bool). (if b then refused t Taken else (if nat_lt (length t) MAX_JOBS then outcome (t ++ begun_by new ∷ []) Accepted else refused t Full)).reply)
       (named_begun new.name jobs ∙ any)
       ∙ ap (λ (b : Bool). (if b then outcome (t ++ begun_by new ∷ []) Accepted else refused t Full).reply) over
+
+-- ---- the line of a command that is refused
+
+pub some_line : LineLaws → (text : List ℕ) (jobs : List NewJob) (command : Command) (rest : List Command) → AreSoFar text jobs (command ∷ rest)
+    → length jobs < count_by has_text (lines text)
+some_line laws text jobs command rest so_far =
+    let enough = lines_enough laws text (map submit_of jobs ++ command ∷ rest) so_far.read in
+    omega (arith, enough, length-append (map submit_of jobs) (command ∷ rest), length-map jobs submit_of)

@@ -1,6 +1,6 @@
 -- What the faults of a batch say (this project's choice).
-use Rattle.std.specs.Prelude.{◌≡◌, ◌≢◌, ◌⊎◌, ◌+◌, ◌<◌, ◌≤◌, ℕ, List, [], ◌∷◌, ◌++◌, Some, Ok, Err, IfSome, true, false, length, map}
-use Rattle.std.specs.List.{AllByRecursion, IsDistinct}
+use Rattle.std.specs.Prelude.{◌≡◌, ◌≢◌, ◌⊎◌, ◌+◌, ◌<◌, ◌≤◌, ℕ, List, [], ◌∷◌, ◌++◌, Some, Ok, Err, IfSome, Bool, true, false, not, length, map}
+use Rattle.std.specs.List.{count_by, list_any, AllByRecursion, IsDistinct}
 use Rattle.std.specs.Str.{bytes_eq}
 use Rattle.ic_text.specs.declared.fault.TextFault.TheVariants.{Syntax}
 use Rattle.ic_jobs.specs.declared.command.Command.{Command}
@@ -10,6 +10,8 @@ use Rattle.ic_jobs.specs.Events.{after_command}
 use Rattle.ic_jobs.specs.Job.{JobParts}
 use Rattle.ic_jobs.specs.Memory.{is_submit}
 use Rattle.ic_jobs.specs.Table.{job_named}
+use Rattle.ic_text.specs.Token.{is_blank}
+use Rattle.ic_lines.specs.Lines.{lines}
 use Rattle.ic_lines.specs.Script.{ReadsScript}
 use Rattle.ic_disk.specs.declared.disk.Disk.{Ghosts}
 use Rattle.ic_book.specs.declared.book.Book.{Book}
@@ -37,8 +39,22 @@ IsRefused jobs command (cause.Text fault) = (fault ≡ Syntax) × (is_submit com
 IsRefused jobs command (cause.Refused why) = (is_submit command ≡ true)
     × ((after_command (map begun_by jobs) command).reply ≡ reply.Refused why)
 
--- The lines can be read, and the command after those of these jobs is refused.
-pub record StopsAt (text : List ℕ) (is : JobsCause) : Type 0 where
+-- a line has a byte that isn't blank
+abbrev pub has_text : List ℕ → Bool
+has_text line = list_any (λ b. not (is_blank b)) line
+
+-- The line of this number isn't blank, and so many of those before it aren't.
+pub record IsLineAfter (text : List ℕ) (many number : ℕ) : Type 0 where
+  pub before : List (List ℕ)
+  pub this : List ℕ
+  pub after : List (List ℕ)
+  pub parted : lines text ≡ before ++ this ∷ after
+  pub numbered : number ≡ length before + 1
+  pub counted : count_by has_text before ≡ many
+  pub some : has_text this ≡ true
+
+-- The lines can be read, and the command after those of these jobs is refused. It is that of the line with this number.
+pub record StopsAt (text : List ℕ) (number : ℕ) (is : JobsCause) : Type 0 where
   pub jobs : List NewJob
   pub command : Command
   pub after : List Command
@@ -46,6 +62,7 @@ pub record StopsAt (text : List ℕ) (is : JobsCause) : Type 0 where
   pub distinct : IsDistinct bytes_eq (names jobs)
   pub few : length jobs ≤ MAX_JOBS
   pub refused : IsRefused jobs command is
+  pub line : IsLineAfter text (length jobs) number
 
 -- A line can't be read: this is the first one, and its fault.
 abbrev pub IsUnread : List ℕ → (line : ℕ) → JobsCause → Type 0
@@ -54,7 +71,7 @@ IsUnread text line (cause.Refused why) = ⊥
 
 -- what a fault says of lines
 abbrev pub SaysOfLines : List ℕ → JobsFault → Type 0
-SaysOfLines text (Line line is) = IsUnread text line is ⊎ StopsAt text is
+SaysOfLines text (Line line is) = IsUnread text line is ⊎ StopsAt text line is
 SaysOfLines text Read = ⊥
 SaysOfLines text Memory = Unit {0}
 

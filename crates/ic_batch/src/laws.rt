@@ -31,7 +31,7 @@ ghost use Rattle.ic_batch.specs.declared.fault.JobsCause.{JobsCause};
 ghost use Rattle.ic_batch.specs.declared.fault.JobsCause.TheVariants.{Refused, Text};
 ghost use Rattle.ic_batch.specs.declared.fault.JobsFault.TheVariants.{Line, Read as Unreadable};
 ghost use Rattle.ic_batch.specs.declared.jobs.NewJob.{NewJob};
-ghost use Rattle.ic_batch.specs.Faults.{all_batch_faults, all_jobs_faults, batch_fault_number, jobs_fault_number, AreSame, Differs, Fails, HasAnother, HasNoRoom, IsRefused, Says, SaysOfLines, StopsAt, Succeeds};
+ghost use Rattle.ic_batch.specs.Faults.{all_batch_faults, all_jobs_faults, batch_fault_number, jobs_fault_number, AreSame, Differs, Fails, HasAnother, HasNoRoom, IsLineAfter, IsRefused, Says, SaysOfLines, StopsAt, Succeeds};
 ghost use Rattle.ic_batch.specs.Jobs.{begun_by, names, submit_of, AreJobsOf};
 ghost use Rattle.ic_batch.specs.Served.{accepted, fetches, run_together};
 ghost use Rattle.ic_batch.specs.Way.{fetched_all, AreOnWay, ComesTo, HaveEnded, IsIterate, IsOnWay, IsTextOf, IsUnderWay};
@@ -70,9 +70,9 @@ pub fn jobs_have_one_text()
 pub fn lines_are_refused_so()
     ensures text { (text : List ℕ) (line : ℕ) (fault : TextFault)
         → SaysOfLines text (Line line (Text fault))
-        → ReadsScript text (Err (record { line = line; fault = fault })) ⊎ StopsAt text (Text fault) }
+        → ReadsScript text (Err (record { line = line; fault = fault })) ⊎ StopsAt text line (Text fault) }
     ensures refused { (text : List ℕ) (line : ℕ) (why : Refusal)
-        → SaysOfLines text (Line line (Refused why)) → StopsAt text (Refused why) }
+        → SaysOfLines text (Line line (Refused why)) → StopsAt text line (Refused why) }
     ensures never { (text : List ℕ) → ¬ SaysOfLines text Unreadable }
 {}
 
@@ -185,10 +185,13 @@ pub fn a_batch_fails_so<D: Disk>(old: &Book<D>, new: &Book<D>)
         → (before : List NewJob) × (new : NewJob) × (after : List NewJob) × (job : JobParts)
         × (jobs ≡ before ++ new ∷ after) × AreSame before t × (new.name ≡ name)
         × (job_named name t ≡ Some job) × Differs new job is }
-    ensures line { (text : List ℕ) (is : JobsCause) → StopsAt text is
+    ensures line { (text : List ℕ) (number : ℕ) (is : JobsCause) → StopsAt text number is
         → (jobs : List NewJob) × (command : Command) × (after : List Command)
         × ReadsScript text (Ok (map submit_of jobs ++ command ∷ after))
-        × IsDistinct bytes_eq (names jobs) × (length jobs ≤ MAX_JOBS) × IsRefused jobs command is }
+        × IsDistinct bytes_eq (names jobs) × (length jobs ≤ MAX_JOBS) × IsRefused jobs command is
+        × IsLineAfter text (length jobs) number }
+    ensures number { (text : List ℕ) (many one other : ℕ) → IsLineAfter text many one
+        → IsLineAfter text many other → one ≡ other }
     ensures never { ¬ Fails Read old.now new.now × ¬ Fails LongLine old.now new.now
         × ¬ Fails TooManyLines old.now new.now × ¬ Fails (by_book of_book.LogFull) old.now new.now }
     ensures device { Fails (by_book of_book.Device) old.now new.now → is_broken old.now ≡ false

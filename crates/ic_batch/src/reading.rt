@@ -1,9 +1,10 @@
 //! Reading the lines that submit jobs.
 
 ghost use Rattle.std.specs.Prelude.{◌≡◌, ◌<◌, false, length, IfErr, IfOk};
-ghost use Rattle.std.specs.List.{list_any};
+ghost use Rattle.std.specs.List.{count_by, list_any};
 ghost use Rattle.std.specs.Str.{bytes_eq};
-ghost use Rattle.ic_batch.specs.Faults.{IsRefused, SaysOfLines};
+ghost use Rattle.ic_lines.specs.Lines.{lines};
+ghost use Rattle.ic_batch.specs.Faults.{has_text, IsLineAfter, IsRefused, SaysOfLines};
 ghost use Rattle.ic_batch.specs.Jobs.{AreJobsOf};
 ghost use Rattle.ic_batch.specs.inner.Taking.{IsNext};
 
@@ -21,6 +22,9 @@ pub fn read_jobs(alloc: Global, text: &[u8]) -> Result<Vec<NewJob>, JobsFault>
     ensures read { IfOk result (λ jobs. AreJobsOf text.now jobs.items) }
     ensures refused { IfErr result (SaysOfLines text.now) }
 {
+    ic_commands::laws::commands_ask();
+    ic_commands::laws::script_lines_are_lines_without_runs();
+    ic_commands::laws::one_script_line_reading();
     let commands = match read_script(alloc, text) {
         Ok(commands) => commands,
         Err(refusal) if refusal.fault == TextFault::Memory => return Err(JobsFault::Memory),
@@ -76,13 +80,15 @@ fn is_taken(jobs: &[NewJob], new: &NewJob) -> bool
 
 /// The number, from 1, of the first line that isn't blank after so many that aren't blank; where
 /// there is none, of the last line.
-fn line_after(text: &[u8], many: usize) -> usize {
+fn line_after(text: &[u8], many: usize) -> usize
+    ensures { many < count_by has_text (lines text.now) → IsLineAfter text.now many result }
+{
     let mut line: usize = 1;
     let mut left = many;
     let mut is_begun = false;
     for byte in text {
         if *byte == b'\n' {
-            line = line.saturating_add(1);
+            line += 1;
             is_begun = false;
         } else if !is_begun && !is_blank(*byte) {
             if left == 0 {

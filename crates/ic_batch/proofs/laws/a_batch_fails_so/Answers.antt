@@ -1,4 +1,5 @@
 use Rattle.std.proofs.Common.{inl, inr}
+use Rattle.ic_batch.proofs.NumberLemmas.{one_line}
 use Rattle.ic_batch.proofs.laws.a_batch_fails_so.Goals as goal
 
 pub returns-clause-nothing : goal.returns-clause-nothing
@@ -14,7 +15,10 @@ pub returns-clause-taken : goal.returns-clause-taken
 returns-clause-taken g c jobs t name is other = (other.before, other.new, other.after, other.job, other.among, other.first, other.named, other.there, other.differs)
 
 pub returns-clause-line : goal.returns-clause-line
-returns-clause-line g c text is stops = (stops.jobs, stops.command, stops.after, stops.read, stops.distinct, stops.few, stops.refused)
+returns-clause-line g c text number is stops = (stops.jobs, stops.command, stops.after, stops.read, stops.distinct, stops.few, stops.refused, stops.line)
+
+pub returns-clause-number : goal.returns-clause-number
+returns-clause-number g c = one_line
 
 pub returns-clause-never : goal.returns-clause-never
 returns-clause-never g c = (
