@@ -27,8 +27,11 @@ FIB = (
 )
 
 
-# A tree of turns is walked through, each of which opens names, and nothing of it is kept.
-TURNS = "{T(Z)><Z;T(r)><S(Dup(T(And(r,u)),T(u)));And(x,x)><Z;Dup(Z,Z)><Z;Dup(S(x),S(y))><S(Dup(x,y))}"
+# For each turn of P a number is copied and counted down by Q. Then N has the next turn begin.
+TURNS = (
+    "{P(r,Dup(Q(N(r,n,x)),n))><S(x);P(Z,E)><Z;N(r,n,P(r,n))><Z;Q(u)><S(Q(u));Q(Z)><Z;E><S(E);E><Z;"
+    "Dup(Z,Z)><Z;Dup(S(x),S(y))><S(Dup(x,y))}"
+)
 
 
 def rules_of(text):
@@ -251,12 +254,15 @@ class Sizes(Trial):
                     self.equals(ran.command, f"whether {held} places and equations are near the bound", True, within)
 
     def test_a_small_net_that_opens_many_names_is_not_overgrown(self):
-        """Its turns open some ten million names. Few are there at once."""
-        text = f"{TURNS} <r|T(r)={numeral(21)}>"
+        """Its turns open some twelve million names. Few are there at once."""
+        turns, loops = numeral(700), range(1, 9)
+        each = ",".join(f"P(a{it},{turns})={turns}" for it in loops)
+        text = f"{TURNS} <{','.join(f'a{it}' for it in loops)}|{each}>"
+        wanted = (0, b"<Z,Z,Z,Z,Z,Z,Z,Z|>\n", 8 * (700 * 1_404 + 702), b"")
         for workers in (1, 2, 4):
             ran = run("reduce", "--stats", "--workers", workers, "--nodes", 100_000, given=text, seconds=60)
             made, places, rest = stats_of(ran.err)
-            self.equals(ran.command, "status, answer and interactions", (0, b"<Z|>\n", 5 * 2**21 - 25, b""), (ran.status, ran.out, made, rest))
+            self.equals(ran.command, "status, answer and interactions", wanted, (ran.status, ran.out, made, rest))
             self.equals(ran.command, f"whether {places} places are within the bound", True, places <= 100_000)
 
     def test_how_many_interactions_are_shared_is_told(self):
