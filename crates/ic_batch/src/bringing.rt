@@ -71,7 +71,7 @@ pub fn batch<T: Threads + Wait + Copy + Send + 'static, D: Disk, W: Write, G: Ga
     // One thread has no fault of others. At any fault so much isn't kept at most, where all was before.
     ensures alone { workers ≡ 1 → (fault : ServeFault) → result ≡ Err (Serve fault)
         → ComesAlone fault }
-    ensures behind { IsAllKept book.old → unkept_of book.new ≤ every }
+    ensures few_unkept { IsAllKept book.old → unkept_of book.new ≤ every }
 {
     book.facts();
     if let Some(fault) = first_taken(book.table(), jobs) {
@@ -121,7 +121,7 @@ fn bring_to_ends<T: Threads + Wait + Copy + Send + 'static, D: Disk, G: Gate>(
     ensures kept { OnOk result (IsAllKept book.new) }
     ensures fault { FaultLeaves ComesInLine result book.old book.new }
     ensures alone { workers ≡ 1 → IfErr result ComesAlone }
-    ensures behind { IsAllKept book.old → unkept_of book.new ≤ every }
+    ensures few_unkept { IsAllKept book.old → unkept_of book.new ≤ every }
 {
     submit_missing(alloc, book, jobs)?;
     make_rounds(rt, alloc, book, most, workers, every, gate, makers)?;

@@ -57,7 +57,7 @@ pub(crate) fn make_rounds<T: Threads + Wait + Copy + Send + 'static, D: Disk, G:
     ensures leads { Leads (AreWays most (table_of book.old)) book.old book.new }
     ensures fault { FaultLeaves ComesInLine result book.old book.new }
     ensures alone { workers ≡ 1 → IfErr result ComesAlone }
-    ensures behind { IsAllKept book.old → unkept_of book.new ≤ every }
+    ensures few_unkept { IsAllKept book.old → unkept_of book.new ≤ every }
     ensures ended { OnOk result
         (AllByRecursion (λ job. goes_on most job ≡ false) (table_of book.new)) }
 {

@@ -57,7 +57,7 @@ pub(crate) fn submit_missing<D: Disk>(
     ensures fault { FaultLeaves ComesInLine result book.old book.new }
     ensures alone { IfErr result ComesAlone }
     ensures kept { OnOk result (IsAllKept book.old → IsAllKept book.new) }
-    ensures behind { IsAllKept book.old → unkept_of book.new ≤ 1 }
+    ensures few_unkept { IsAllKept book.old → unkept_of book.new ≤ 1 }
 {
     book.facts();
     ic_jobs::laws::other_jobs_stay();

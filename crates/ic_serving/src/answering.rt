@@ -59,7 +59,7 @@ pub fn answer_line<T: Threads + Wait + Copy + Send + 'static, D: Disk>(
     ensures begun { OnErr result (IsBegun line.now book.old book.new) }
     ensures fault { FaultLeaves ComesInLine result book.old book.new }
     ensures alone { workers ≡ 1 → IfErr result ComesAlone }
-    ensures behind { IsAllKept book.old → unkept_of book.new ≤ every }
+    ensures few_unkept { IsAllKept book.old → unkept_of book.new ≤ every }
 
     // A crash at any moment leaves the table that was kept before the line, or one within it.
     ensures crash { Leaves book.old book.new
@@ -112,7 +112,7 @@ pub(crate) fn answer_read<T: Threads + Wait + Copy + Send + 'static, D: Disk, G:
     ensures begun { OnErr result (Begins (events (table_of book.old) reading) book.old book.new) }
     ensures fault { FaultLeaves ComesInLine result book.old book.new }
     ensures alone { workers ≡ 1 → IfErr result ComesAlone }
-    ensures behind { IsAllKept book.old → unkept_of book.new ≤ every }
+    ensures few_unkept { IsAllKept book.old → unkept_of book.new ≤ every }
     ensures crash { Leaves book.old book.new (IsKeptWithin (table_of book.old)
         (last_kept book.old) (events (table_of book.old) reading)) }
 {
@@ -152,7 +152,7 @@ pub fn answer_command<D: Disk>(
     ensures begun { OnErr result (Begins (by_command command ∷ []) book.old book.new) }
     ensures fault { FaultLeaves ComesInLine result book.old book.new }
     ensures alone { IfErr result ComesAlone }
-    ensures behind { unkept_of book.new ≤ unkept_of book.old + 1 }
+    ensures few_unkept { unkept_of book.new ≤ unkept_of book.old + 1 }
     ensures crash { Leaves book.old book.new (IsKeptWithin (table_of book.old)
         (last_kept book.old) (by_command command ∷ [])) }
 {
@@ -187,7 +187,7 @@ fn answer_run<T: Threads + Wait + Copy + Send + 'static, D: Disk, G: Gate>(
     ensures begun { OnErr result (Begins (turns count 0 (table_of book.old)) book.old book.new) }
     ensures fault { FaultLeaves ComesInLine result book.old book.new }
     ensures alone { workers ≡ 1 → IfErr result ComesAlone }
-    ensures behind { IsAllKept book.old → unkept_of book.new ≤ every }
+    ensures few_unkept { IsAllKept book.old → unkept_of book.new ≤ every }
     ensures crash { Leaves book.old book.new (IsKeptWithin (table_of book.old)
         (last_kept book.old) (turns count 0 (table_of book.old))) }
 {

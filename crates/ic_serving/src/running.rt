@@ -48,7 +48,7 @@ pub(crate) fn run<T: Threads + Wait + Copy + Send + 'static, D: Disk, G: Gate>(
     ensures begun { OnErr result (Begins (turns count 0 (table_of book.old)) book.old book.new) }
     ensures fault { FaultLeaves ComesInLine result book.old book.new }
     ensures alone { workers ≡ 1 → IfErr result ComesAlone }
-    ensures behind { IsAllKept book.old → unkept_of book.new ≤ every }
+    ensures few_unkept { IsAllKept book.old → unkept_of book.new ≤ every }
     ensures crash { Leaves book.old book.new (IsKeptWithin (table_of book.old)
         (last_kept book.old) (turns count 0 (table_of book.old))) }
 {
@@ -80,7 +80,7 @@ fn make_rounds<T: Threads + Wait + Copy + Send + 'static, D: Disk, G: Gate>(
     ensures begun { OnErr result (Begins (turns count 0 (table_of book.old)) book.old book.new) }
     ensures fault { FaultLeaves ComesInLine result book.old book.new }
     ensures alone { workers ≡ 1 → IfErr result ComesAlone }
-    ensures behind { IsAllKept book.old → unkept_of book.new ≤ every }
+    ensures few_unkept { IsAllKept book.old → unkept_of book.new ≤ every }
     ensures crash { Leaves book.old book.new (IsKeptWithin (table_of book.old)
         (last_kept book.old) (turns count 0 (table_of book.old))) }
 {

@@ -50,7 +50,7 @@ pub fn serve_lines<T: Threads + Wait + Copy + Send + 'static, D: Disk, R: Read, 
         book.old book.new (W.contents writer.old) (W.contents writer.new)) }
     ensures fault { FaultLeaves MayCome result book.old book.new }
     ensures alone { workers ≡ 1 → IfErr result ComesAlone }
-    ensures behind { IsAllKept book.old → unkept_of book.new ≤ every }
+    ensures few_unkept { IsAllKept book.old → unkept_of book.new ≤ every }
 {
     serve_watched(rt, alloc, book, reader, writer, workers, every, &OpenGate)
 }
@@ -79,7 +79,7 @@ pub fn serve_watched<
         book.old book.new (W.contents writer.old) (W.contents writer.new)) }
     ensures fault { FaultLeaves MayCome result book.old book.new }
     ensures alone { workers ≡ 1 → IfErr result ComesAlone }
-    ensures behind { IsAllKept book.old → unkept_of book.new ≤ every }
+    ensures few_unkept { IsAllKept book.old → unkept_of book.new ≤ every }
 {
     let mut makers = Makers::new(alloc);
     let served = serve_with(
@@ -115,7 +115,7 @@ fn serve_with<T: Threads + Wait + Copy + Send + 'static, D: Disk, R: Read, W: Wr
         book.old book.new (W.contents writer.old) (W.contents writer.new)) }
     ensures fault { FaultLeaves MayCome result book.old book.new }
     ensures alone { workers ≡ 1 → IfErr result ComesAlone }
-    ensures behind { IsAllKept book.old → unkept_of book.new ≤ every }
+    ensures few_unkept { IsAllKept book.old → unkept_of book.new ≤ every }
 {
     ic_commands::laws::one_line_reading();
     ic_lines::laws::lines_are_served_in_one_way();

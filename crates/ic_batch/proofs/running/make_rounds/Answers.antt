@@ -30,7 +30,7 @@ loop-place-init g c =
       };
       counted = refl;
       ready = λ is. is;
-      behind = λ all. let none = none_unkept c.args.book.now all in omega (arith, none);
+      few_unkept = λ all. let none = none_unkept c.args.book.now all in omega (arith, none);
     }
 
 pub returns-in_default-clause-ended : goal.returns-in_default-clause-ended
@@ -81,23 +81,23 @@ loop-place-preserved g c =
           (subst such (sym c.keep_each.ensures.table) round.leads.table) c.in_ok-keep_each.ensures.kept c.keep_each.ensures.crash;
       counted = c.in_ok-keep_each.ensures.fault.counted ∙ c.in_ok-make_round.ensures.fault.counted ∙ c.loop-place.invariant.counted;
       ready = λ is. c.in_ok-keep_each.ensures.fault.ready (c.in_ok-make_round.ensures.fault.ready (c.loop-place.invariant.ready is));
-      behind = λ all. due_within c.loop-place.made _ c.args.every (unkept_of c.loop-place.book) (unkept_of c.make_round.new.book) (unkept_of c.keep_each.new.book)
-          c.requires.every (wraps c.loop-place.made (omega arith)) (c.loop-place.invariant.behind all) c.make_round.ensures.one c.keep_each.ensures.fewer
+      few_unkept = λ all. due_within c.loop-place.made _ c.args.every (unkept_of c.loop-place.book) (unkept_of c.make_round.new.book) (unkept_of c.keep_each.new.book)
+          c.requires.every (wraps c.loop-place.made (omega arith)) (c.loop-place.invariant.few_unkept all) c.make_round.ensures.one c.keep_each.ensures.fewer
           (λ due. none_unkept c.keep_each.new.book (c.in_ok-keep_each.ensures.due due));
     }
 
-pub returns-in_default-clause-behind : goal.returns-in_default-clause-behind
-returns-in_default-clause-behind g c = λ all.
-    one_within c.loop-place.made c.args.every (unkept_of c.loop-place.book) (unkept_of c.loop-place.book) c.requires.every (c.loop-place.invariant.behind all) (omega arith)
+pub returns-in_default-clause-few_unkept : goal.returns-in_default-clause-few_unkept
+returns-in_default-clause-few_unkept g c = λ all.
+    one_within c.loop-place.made c.args.every (unkept_of c.loop-place.book) (unkept_of c.loop-place.book) c.requires.every (c.loop-place.invariant.few_unkept all) (omega arith)
 
-pub returns-in_err-make_round-clause-behind : goal.returns-in_err-make_round-clause-behind
-returns-in_err-make_round-clause-behind g c = λ all.
-    one_within c.loop-place.made c.args.every (unkept_of c.loop-place.book) (unkept_of c.make_round.new.book) c.requires.every (c.loop-place.invariant.behind all) c.make_round.ensures.one
+pub returns-in_err-make_round-clause-few_unkept : goal.returns-in_err-make_round-clause-few_unkept
+returns-in_err-make_round-clause-few_unkept g c = λ all.
+    one_within c.loop-place.made c.args.every (unkept_of c.loop-place.book) (unkept_of c.make_round.new.book) c.requires.every (c.loop-place.invariant.few_unkept all) c.make_round.ensures.one
 
-pub returns-in_err-keep_each-clause-behind : goal.returns-in_err-keep_each-clause-behind
-returns-in_err-keep_each-clause-behind g c = λ all.
+pub returns-in_err-keep_each-clause-few_unkept : goal.returns-in_err-keep_each-clause-few_unkept
+returns-in_err-keep_each-clause-few_unkept g c = λ all.
     let fewer = c.keep_each.ensures.fewer in
-    one_within c.loop-place.made c.args.every (unkept_of c.loop-place.book) (unkept_of c.keep_each.new.book) c.requires.every (c.loop-place.invariant.behind all)
+    one_within c.loop-place.made c.args.every (unkept_of c.loop-place.book) (unkept_of c.keep_each.new.book) c.requires.every (c.loop-place.invariant.few_unkept all)
     (omega (arith, fewer, c.make_round.ensures.one))
 
 pub loop-place-smaller : goal.loop-place-smaller

@@ -12,7 +12,7 @@ invariant-loop-place g l = record {
   leads : Leads (AreWays l.most (table_of l.fn.book)) l.fn.book l.book;
   counted : g.D.Disk.failures (disk_of l.book) ≡ g.D.Disk.failures (disk_of l.fn.book);
   ready : is_broken l.fn.book ≡ false → is_broken l.book ≡ false;
-  behind : IsAllKept l.fn.book → unkept_of l.book ≤ l.made % l.every;
+  few_unkept : IsAllKept l.fn.book → unkept_of l.book ≤ l.made % l.every;
 }
 
 abbrev pub decreases-loop-place : goal.decreases-loop-place

@@ -93,18 +93,18 @@ returns-clause-all g c =
     all_begun c.args.jobs.now (table_of c.args.book.now) (table_of c.loop-new.book)
     (subst (λ (l : List NewJob). AreSubmitted c.args.jobs.now (table_of c.args.book.now) l (table_of c.loop-new.book)) over c.loop-new.invariant.so_far)
 
-pub returns-in_err-command-clause-behind : goal.returns-in_err-command-clause-behind
-returns-in_err-command-clause-behind g c = λ all.
+pub returns-in_err-command-clause-few_unkept : goal.returns-in_err-command-clause-few_unkept
+returns-in_err-command-clause-few_unkept g c = λ all.
     let none = none_unkept c.loop-new.book (c.loop-new.invariant.all all) in
     omega (arith, none)
 
-pub returns-in_err-answer_command-clause-behind : goal.returns-in_err-answer_command-clause-behind
-returns-in_err-answer_command-clause-behind g c = λ all.
+pub returns-in_err-answer_command-clause-few_unkept : goal.returns-in_err-answer_command-clause-few_unkept
+returns-in_err-answer_command-clause-few_unkept g c = λ all.
     let none = none_unkept c.loop-new.book (c.loop-new.invariant.all all) in
-    let one = c.answer_command.ensures.behind in
+    let one = c.answer_command.ensures.few_unkept in
     omega (arith, none, one)
 
-pub returns-clause-behind : goal.returns-clause-behind
-returns-clause-behind g c = λ all.
+pub returns-clause-few_unkept : goal.returns-clause-few_unkept
+returns-clause-few_unkept g c = λ all.
     let none = none_unkept c.loop-new.book (c.loop-new.invariant.all all) in
     omega (arith, none)

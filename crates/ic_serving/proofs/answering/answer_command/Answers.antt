@@ -148,8 +148,8 @@ returns-clause-replied g c = record {
   });
 }
 
-pub returns-in_err-reply-clause-behind : goal.returns-in_err-reply-clause-behind
-returns-in_err-reply-clause-behind g c =
+pub returns-in_err-reply-clause-few_unkept : goal.returns-in_err-reply-clause-few_unkept
+returns-in_err-reply-clause-few_unkept g c =
     let mid = c.make_room.new.book in
     let new = c.command.new.self in
     let fewer = c.make_room.ensures.fewer in
@@ -162,17 +162,17 @@ returns-in_err-reply-clause-behind g c =
           omega (arith, fewer, same))
     ]
 
-pub returns-in_err-print_reply-clause-behind : goal.returns-in_err-print_reply-clause-behind
-returns-in_err-print_reply-clause-behind g c =
+pub returns-in_err-print_reply-clause-few_unkept : goal.returns-in_err-print_reply-clause-few_unkept
+returns-in_err-print_reply-clause-few_unkept g c =
     let none = none_unkept c.command.new.self c.in_ok-reply.ensures.step.answered.page.1 in
     omega (arith, none)
 
-pub returns-in_err-ended-clause-behind : goal.returns-in_err-ended-clause-behind
-returns-in_err-ended-clause-behind g c =
+pub returns-in_err-ended-clause-few_unkept : goal.returns-in_err-ended-clause-few_unkept
+returns-in_err-ended-clause-few_unkept g c =
     let none = none_unkept c.command.new.self c.in_ok-reply.ensures.step.answered.page.1 in
     omega (arith, none)
 
-pub returns-clause-behind : goal.returns-clause-behind
-returns-clause-behind g c =
+pub returns-clause-few_unkept : goal.returns-clause-few_unkept
+returns-clause-few_unkept g c =
     let none = none_unkept c.command.new.self c.in_ok-reply.ensures.step.answered.page.1 in
     omega (arith, none)

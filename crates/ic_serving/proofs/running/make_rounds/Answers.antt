@@ -19,7 +19,7 @@ loop-made-init g c = record {
   counted = refl;
   ready = λ is. is;
   page = page_first c.args.count c.args.book.now;
-  behind = λ all. let none = none_unkept c.args.book.now all in omega (arith, none);
+  few_unkept = λ all. let none = none_unkept c.args.book.now all in omega (arith, none);
   moments = leaves_nothing c.args.book.now (IsKeptWithin (table_of c.args.book.now) (last_kept c.args.book.now) (turns c.args.count 0 (table_of c.args.book.now)))
       (g.met.D.Disk.left_is_image _) c.facts.ensures.either c.facts.ensures.history.replayed
       (by_nothing c.args.book.now c.facts.ensures.step) (inl refl)
@@ -121,8 +121,8 @@ loop-made-preserved g c =
       ready = λ is. c.in_ok-keep_each.ensures.fault.ready (c.in_ok-make_round.ensures.fault.ready (c.loop-made.invariant.ready is));
       page = rw m.here (page_more c.args.count c.loop-made.made c.loop-made.place c.args.book.now c.loop-made.book c.loop-made.invariant.page m.flight
           c.make_round.new.book c.keep_each.new.book c.loop-made-test.true m.is_due m.advances.table m.page c.keep_each.ensures.table c.keep_each.ensures.page);
-      behind = λ all. due_within c.loop-made.made (c.loop-made.made + 1) c.args.every (unkept_of c.loop-made.book) (unkept_of c.make_round.new.book)
-          (unkept_of c.keep_each.new.book) c.requires.every (inl refl) (c.loop-made.invariant.behind all) c.make_round.ensures.one c.keep_each.ensures.fewer
+      few_unkept = λ all. due_within c.loop-made.made (c.loop-made.made + 1) c.args.every (unkept_of c.loop-made.book) (unkept_of c.make_round.new.book)
+          (unkept_of c.keep_each.new.book) c.requires.every (inl refl) (c.loop-made.invariant.few_unkept all) c.make_round.ensures.one c.keep_each.ensures.fewer
           (λ due. none_unkept c.keep_each.new.book (c.in_ok-keep_each.ensures.due due));
       moments = leaves_in_run c.args.book.now c.make_round.new.book c.keep_each.new.book c.args.count (c.loop-made.made + 1) (m.flight.place + 1) more
           (leaves_in_run c.args.book.now c.loop-made.book c.make_round.new.book c.args.count c.loop-made.made c.loop-made.place
@@ -130,23 +130,23 @@ loop-made-preserved g c =
           c.keep_each.ensures.crash;
     }
 
-pub returns-in_err-make_round-clause-behind : goal.returns-in_err-make_round-clause-behind
-returns-in_err-make_round-clause-behind g c = λ all.
-    one_within c.loop-made.made c.args.every (unkept_of c.loop-made.book) (unkept_of c.make_round.new.book) c.requires.every (c.loop-made.invariant.behind all) c.make_round.ensures.one
+pub returns-in_err-make_round-clause-few_unkept : goal.returns-in_err-make_round-clause-few_unkept
+returns-in_err-make_round-clause-few_unkept g c = λ all.
+    one_within c.loop-made.made c.args.every (unkept_of c.loop-made.book) (unkept_of c.make_round.new.book) c.requires.every (c.loop-made.invariant.few_unkept all) c.make_round.ensures.one
 
-pub returns-in-None-clause-behind : goal.returns-in-None-clause-behind
-returns-in-None-clause-behind g c = λ all.
-    one_within c.loop-made.made c.args.every (unkept_of c.loop-made.book) (unkept_of c.make_round.new.book) c.requires.every (c.loop-made.invariant.behind all) c.make_round.ensures.one
+pub returns-in-None-clause-few_unkept : goal.returns-in-None-clause-few_unkept
+returns-in-None-clause-few_unkept g c = λ all.
+    one_within c.loop-made.made c.args.every (unkept_of c.loop-made.book) (unkept_of c.make_round.new.book) c.requires.every (c.loop-made.invariant.few_unkept all) c.make_round.ensures.one
 
-pub returns-in_err-keep_each-clause-behind : goal.returns-in_err-keep_each-clause-behind
-returns-in_err-keep_each-clause-behind g c = λ all.
+pub returns-in_err-keep_each-clause-few_unkept : goal.returns-in_err-keep_each-clause-few_unkept
+returns-in_err-keep_each-clause-few_unkept g c = λ all.
     let fewer = c.keep_each.ensures.fewer in
     let one = c.make_round.ensures.one in
-    one_within c.loop-made.made c.args.every (unkept_of c.loop-made.book) (unkept_of c.keep_each.new.book) c.requires.every (c.loop-made.invariant.behind all) (omega (arith, fewer, one))
+    one_within c.loop-made.made c.args.every (unkept_of c.loop-made.book) (unkept_of c.keep_each.new.book) c.requires.every (c.loop-made.invariant.few_unkept all) (omega (arith, fewer, one))
 
-pub returns-clause-behind : goal.returns-clause-behind
-returns-clause-behind g c = λ all.
-    one_within c.loop-made.made c.args.every (unkept_of c.loop-made.book) (unkept_of c.loop-made.book) c.requires.every (c.loop-made.invariant.behind all) (omega arith)
+pub returns-clause-few_unkept : goal.returns-clause-few_unkept
+returns-clause-few_unkept g c = λ all.
+    one_within c.loop-made.made c.args.every (unkept_of c.loop-made.book) (unkept_of c.loop-made.book) c.requires.every (c.loop-made.invariant.few_unkept all) (omega arith)
 
 pub returns-clause-within : goal.returns-clause-within
 returns-clause-within g c =

@@ -15,6 +15,6 @@ invariant-loop-made g l = record {
   counted : g.D.Disk.failures (disk_of l.book) ≡ g.D.Disk.failures (disk_of l.fn.book);
   ready : is_broken l.fn.book ≡ false → is_broken l.book ≡ false;
   page : PageInRun l.count l.made l.place l.fn.book l.book;
-  behind : IsAllKept l.fn.book → unkept_of l.book ≤ l.made % l.every;
+  few_unkept : IsAllKept l.fn.book → unkept_of l.book ≤ l.made % l.every;
   moments : Leaves l.fn.book l.book (IsKeptWithin (table_of l.fn.book) (last_kept l.fn.book) (turns l.count 0 (table_of l.fn.book)));
 }
