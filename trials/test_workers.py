@@ -281,6 +281,14 @@ class Sizes(Trial):
                 alone = told["interactions"] - told["shared"]
                 self.equals(ran.command, f"whether {told} end at a look", True, alone > 0 and alone % PIECE == 0)
 
+    def test_where_too_few_are_left_to_share_the_first_are_told_as_shared(self):
+        """The first 100 interactions are made before anything is parted. Then 99 or 40 are left, or fewer than 1,000 a thread."""
+        text = f"{ADD} <r|Add(r,S(Z))={numeral(149)}>"
+        for steps, made, status in ((199, 150, 0), (140, 140, 5)):
+            ran = run("reduce", "--stats", "--workers", 4, "--steps", steps, given=text)
+            told = figures_of(ran.err)[0]
+            self.equals(ran.command, "status, interactions, shared", (status, made, 100), (ran.status, told["interactions"], told["shared"]))
+
     def test_a_net_with_one_pair_at_a_time_is_left_to_one_thread(self):
         text = f"{ADD} <r|Add(r,S(Z))={numeral(3_000_000)}>"
         alone, several = (run("reduce", "--stats", "--workers", it, given=text, seconds=60) for it in (1, 4))

@@ -85,7 +85,7 @@ pub record EndsWatched (s : SystemParts) (bounds : Bounds) (asked : Asked) (outc
       ≡ stuck_at outcome.end s.rules.symbols answer
   pub rules : arc_value outcome.rules ≡ s.rules
 
--- The same, by however many threads, but for places: some machine that holds the net was watched from its interaction on whose
+-- The same, by however many threads, but for places: some machine that holds the net was watched since the interaction whose
 -- number is told as `shared`.
 pub record EndsOf (s : SystemParts) (bounds : Bounds) (asked : Asked) (outcome : Outcome)
     (line : List ℕ) : Type 0 where

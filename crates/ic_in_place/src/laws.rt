@@ -290,7 +290,7 @@ pub fn a_line_is_the_net_of_every_order()
     without_equations_every_order_has_one_text();
 }
 
-/// What is told of a system that one thread reduces is what is told of it where several do, word for word. Beside that it is
+/// All that is told of a system where several threads reduce it is told where one does. Beside that it is
 /// told of one thread how its places were watched from the beginning on.
 pub fn one_thread_tells_what_several_tell()
     ensures { (s : SystemParts) (bounds : Bounds) (asked : Asked) (outcome : Outcome)

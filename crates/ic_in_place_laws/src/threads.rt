@@ -194,7 +194,7 @@ pub fn agents_and_names_are_counted_so()
     ensures none { (i : ℕ) → names_at [] i ≡ 0 }
 {}
 
-/// What several threads had reached was reached by as many interactions as are told to be shared. From there on one machine runs
+/// What some machine held was reached by as many interactions as are told to be shared. From there on this machine runs
 /// on, and is looked at as that of one thread is. It is told that there were too many places and equations only at a look, after
 /// each 4,096 of its interactions. They pass the bound, or what there was before, by no more than so many interactions may make.
 /// Where none is told to be shared, nothing was reached before.

@@ -46,7 +46,7 @@ abbrev pub pace_figure : (interactions millis : ℕ) → List ℕ
 pace_figure n zero = []
 pace_figure n (suc m) = codes ", interactions a second " ++ decimal (a_second n (suc m))
 
--- the line of how many steps were made, of places, equations and threads, how many steps they shared, and how fast it was
+-- the line of how many steps were made, of places, equations and threads, how many were shared, and how fast it was
 abbrev pub figures_line : Outcome → (threads millis : ℕ) → List ℕ
 figures_line o threads millis = concat (steps_figure o ∷ places_figure o
     ∷ threads_figure threads ∷ shared_figure o ∷ seconds_figure millis ∷ pace_figure o.interactions millis
@@ -165,7 +165,7 @@ pace_text n (suc m) = decimal (a_second n (suc m))
 abbrev pub pace_field : (interactions millis : ℕ) → List ℕ
 pace_field n millis = codes ",\"interactions_a_second\":" ++ pace_text n millis
 
--- how many steps were made, of places, equations and threads, how many steps they shared, how long it took, and how fast
+-- how many steps were made, of places, equations and threads, how many were shared, how long it took, and how fast
 abbrev pub count_fields : Outcome → (threads millis : ℕ) → List ℕ
 count_fields o threads millis = concat (step_fields o ∷ places_field o ∷ threads_field threads
     ∷ shared_field o ∷ millis_field millis ∷ pace_field o.interactions millis ∷ [])

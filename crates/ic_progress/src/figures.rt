@@ -89,7 +89,7 @@ fn put_places(outcome: &Outcome, out: &mut Vec<u8>) -> Result<(), AllocError>
     Ok(())
 }
 
-/// Appends how many threads reduced.
+/// Appends how many threads may.
 fn put_threads(threads: usize, out: &mut Vec<u8>) -> Result<(), AllocError>
     ensures { OnOk result (out.new.items ≡ out.old.items ++ threads_figure threads) }
 {
@@ -355,7 +355,7 @@ fn put_places_field(outcome: &Outcome, out: &mut Vec<u8>) -> Result<(), AllocErr
     Ok(())
 }
 
-/// Appends the field of how many threads reduced.
+/// Appends the field of how many threads may.
 fn put_threads_field(threads: usize, out: &mut Vec<u8>) -> Result<(), AllocError>
     ensures { OnOk result (out.new.items ≡ out.old.items ++ threads_field threads) }
 {

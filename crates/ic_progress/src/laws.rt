@@ -11,16 +11,17 @@ ghost use Rattle.ic_rules.specs.Rule.{Rule};
 ghost use Rattle.ic_rules.specs.RuleSet.{Rules};
 ghost use Rattle.ic_term.specs.Symbol.{Symbol};
 
-/// The line of 12 interactions and 3 name steps, with 40 places and 5 equations, by 2 threads in 2,507 milliseconds. Where it
-/// took no whole millisecond, no pace is told, and where name steps aren't counted, none are.
+/// The line of 12 interactions and 3 name steps, with 40 places and 5 equations, by 2 threads in 2,507 milliseconds. Of the
+/// interactions 7 are shared. Where it took no whole millisecond, no pace is told, and where name steps aren't counted, none are.
 pub fn figures_are_told_so()
     ensures line { (o : Outcome) → o.interactions ≡ 12 → o.name_steps ≡ Some 3
-        → o.places ≡ 40 → o.left ≡ 5 → figures_line o 2 2507
-        ≡ codes "icserve: interactions 12, name steps 3, places 40, equations 5, threads 2"
+        → o.places ≡ 40 → o.left ≡ 5 → o.shared ≡ 7 → figures_line o 2 2507
+        ≡ codes "icserve: interactions 12, name steps 3, places 40, equations 5, threads 2, shared 7"
         ++ codes ", seconds 2.507, interactions a second 4\n" }
     ensures at_once { (o : Outcome) → o.interactions ≡ 12 → o.name_steps ≡ None
-        → o.places ≡ 40 → o.left ≡ 5 → figures_line o 2 0
-        ≡ codes "icserve: interactions 12, places 40, equations 5, threads 2, seconds 0.000\n" }
+        → o.places ≡ 40 → o.left ≡ 5 → o.shared ≡ 7 → figures_line o 2 0
+        ≡ codes "icserve: interactions 12, places 40, equations 5, threads 2, shared 7"
+        ++ codes ", seconds 0.000\n" }
     ensures both { (o : Outcome) (threads millis : ℕ) → figures_lines o threads millis
         ≡ figures_line o threads millis ++ rules_line (arc_value o.rules) o.by_rule.items }
 {}
@@ -30,19 +31,19 @@ pub fn figures_are_told_so()
 pub fn an_object_is_told_so()
     ensures object { (o : Outcome) → o.end ≡ Quiet
         → option_map (λ text. text.items) o.stuck ≡ Some (codes "A><C")
-        → o.interactions ≡ 12 → o.name_steps ≡ Some 3 → o.places ≡ 40 → o.left ≡ 5
+        → o.interactions ≡ 12 → o.name_steps ≡ Some 3 → o.places ≡ 40 → o.left ≡ 5 → o.shared ≡ 7
         → o.by_rule.items ≡ 11 ∷ [] → rule_text (arc_value o.rules) 0 ≡ codes "A><B"
         → figures_object o 2 2507
         ≡ codes "{\"end\":\"quiet\",\"stuck\":\"A><C\",\"interactions\":12,\"name_steps\":3"
-        ++ codes ",\"places\":40,\"equations\":5,\"threads\":2,\"milliseconds\":2507"
+        ++ codes ",\"places\":40,\"equations\":5,\"threads\":2,\"shared\":7,\"milliseconds\":2507"
         ++ codes ",\"interactions_a_second\":4"
         ++ codes ",\"by_rule\":[{\"rule\":\"A><B\",\"interactions\":11}]}\n" }
     ensures at_once { (o : Outcome) → o.end ≡ Steps
         → option_map (λ text. text.items) o.stuck ≡ None
-        → o.interactions ≡ 12 → o.name_steps ≡ None → o.places ≡ 40 → o.left ≡ 5
+        → o.interactions ≡ 12 → o.name_steps ≡ None → o.places ≡ 40 → o.left ≡ 5 → o.shared ≡ 7
         → o.by_rule.items ≡ [] → figures_object o 2 0
         ≡ codes "{\"end\":\"steps\",\"stuck\":null,\"interactions\":12"
-        ++ codes ",\"places\":40,\"equations\":5,\"threads\":2,\"milliseconds\":0"
+        ++ codes ",\"places\":40,\"equations\":5,\"threads\":2,\"shared\":7,\"milliseconds\":0"
         ++ codes ",\"interactions_a_second\":null,\"by_rule\":[]}\n" }
     ensures ends { map end_word (Quiet ∷ Steps ∷ Nodes ∷ Limit ∷ Memory ∷ [])
         ≡ codes "quiet" ∷ codes "steps" ∷ codes "places" ∷ codes "limit" ∷ codes "memory" ∷ [] }
