@@ -243,16 +243,18 @@ advanced line old new taken short = record {
   taken = λ is. taken;
   short = λ is. short;
   end = λ is. absurd (apart is);
+  stays = λ is. absurd (apart is);
   long = λ is. (let never : ⊥ = cc in absurd never);
   fault = tt;
   none = λ other. absurd (other refl);
 }
 
-advanced_none : (line : List ℕ) (old new : Option (List ℕ)) → HasNoLine old → line ≡ [] → Advances (Ok false) line old new
-advanced_none line old new end none = record {
+advanced_none : (line : List ℕ) (old new : Option (List ℕ)) → HasNoLine old → Keeps old new → line ≡ [] → Advances (Ok false) line old new
+advanced_none line old new end kept none = record {
   taken = λ is. absurd (apart (sym is));
   short = λ is. absurd (apart (sym is));
   end = λ is. end;
+  stays = λ is. kept;
   long = λ is. (let never : ⊥ = cc in absurd never);
   fault = tt;
   none = λ other. none;
@@ -265,6 +267,7 @@ advanced_fault (Err e) fault line old new is kept none long = record {
   taken = λ other. (let never : ⊥ = cc in absurd never);
   short = λ other. (let never : ⊥ = cc in absurd never);
   end = λ other. (let never : ⊥ = cc in absurd never);
+  stays = λ other. (let never : ⊥ = cc in absurd never);
   long = λ same. (let named : e ≡ fault = is in long cc);
   fault = kept;
   none = λ other. none;
@@ -277,6 +280,17 @@ advanced_line some front ahead line left x y before now is moved p ex ey =
     let m : MovesFront (Ok true) front ahead line left = rw is at moved in
     advanced x before (prepend_known (y ++ left) now) (took_swapped some front ahead line left x y before now is moved p ex ey) (rw ex m.0.short)
 
+-- no byte has come, of this line or of another
+none_taken : (old now next : Option (List ℕ)) (line more y : List ℕ) → Consumes old now line → Consumes now next more
+    → line ≡ [] → more ≡ [] → y ≡ [] → Keeps old (prepend_known (y ++ more) next)
+none_taken None now next line more y p q first second third = tt
+none_taken (Some t) None next line more y p q first second third = absurd p
+none_taken (Some t) (Some xs) None line more y p q first second third = absurd q
+none_taken (Some t) (Some xs) (Some ys) line more y p q first second third =
+    let one : t ≡ xs = p ∙ ap (λ zs. zs ++ xs) first in
+    let two : xs ≡ ys = q ∙ ap (λ zs. zs ++ ys) second in
+    rw (third, second) (sym (one ∙ two))
+
 -- the end is met: what has come is the last line, unless it has no byte
 pub advanced_last : (some empty : Bool) (len : ℕ) (old now next : Option (List ℕ)) (line more x y : List ℕ) → some ≡ false → empty ≡ (len == 0) → len ≡ length x
     → Consumes old now line → Consumes now next more → (said some ≢ said true → more ≡ []) → (said some ≡ said false → IsAtEnd now)
@@ -288,6 +302,8 @@ advanced_last some false len old now next line more x y off blank same p q none 
     (rw ex f.short)
 advanced_last some true len old now next line more x y off blank same p q none end f ex ey =
     let all : (length x == 0) ≡ true = ap (λ n. n == 0) (sym same) ∙ sym blank in
+    let nothing : more ≡ [] = none (λ on. let bad : false ≡ true = cc in false≢true bad) in
     advanced_none x old (prepend_known (y ++ more) next)
     (takes_none old now line p (end (ap said off)) (ap (λ xs. length xs == 0) (sym ex) ∙ all))
+    (none_taken old now next line more y p q (sym ex ∙ no_bytes x all) nothing ey)
     (no_bytes x all)

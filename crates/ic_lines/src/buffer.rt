@@ -181,6 +181,8 @@ impl LineBuffer {
             (to_come self.new (R.remaining reader.new)) }
         ensures short { result ≡ Ok true → length self.new.line ≤ MAX_TEXT }
         ensures end { result ≡ Ok false → HasNoLine (to_come self.old (R.remaining reader.old)) }
+        ensures stays { result ≡ Ok false → Keeps (to_come self.old (R.remaining reader.old))
+            (to_come self.new (R.remaining reader.new)) }
         ensures long { result ≡ Err LongLine
             → HasLongLine (to_come self.old (R.remaining reader.old)) }
         ensures fault { OnErr result (Keeps (to_come self.old (R.remaining reader.old))

@@ -33,6 +33,7 @@ pub record Advances (result : Result Bool LineFault) (line : List ℕ) (old new 
   pub taken : result ≡ Ok true → TakesLine line old new
   pub short : result ≡ Ok true → length line ≤ MAX_TEXT
   pub end : result ≡ Ok false → HasNoLine old
+  pub stays : result ≡ Ok false → Keeps old new
   pub long : result ≡ Err LongLine → HasLongLine old
   pub fault : OnErr result (Keeps old new)
   pub none : result ≢ Ok true → line ≡ []
