@@ -1,3 +1,4 @@
 pub mod Reasons
 pub mod Noted
 pub mod Causes
+pub mod Passed

@@ -1,5 +1,8 @@
 //! Standard output, of which a write is noted that nobody reads.
 
+ghost use Rattle.std.specs.Prelude.{◌≡◌};
+ghost use Rattle.ic_causes.specs.Passed.{output_of};
+
 use crate::{FileCall, Notes, Target};
 use std::io::{self, ErrorKind, Write};
 
@@ -11,7 +14,9 @@ pub struct NotedOutput<'n, W> {
 }
 
 impl<'n, W> NotedOutput<'n, W> {
-    pub fn new(output: W, notes: &'n Notes) -> NotedOutput<'n, W> {
+    pub fn new(output: W, notes: &'n Notes) -> NotedOutput<'n, W>
+        ensures { output_of result ≡ output }
+    {
         NotedOutput { output, notes }
     }
 
@@ -25,6 +30,9 @@ impl<'n, W> NotedOutput<'n, W> {
 }
 
 impl<W: Write> Write for NotedOutput<'_, W> {
+    // What is written here is written to the output.
+    ghost contents = { λ noted. W.contents (output_of noted) };
+
     fn write(&mut self, bytes: &[u8]) -> io::Result<usize> {
         let answer = self.output.write(bytes);
         self.note(&answer);
