@@ -1,5 +1,8 @@
 //! The line of progress that a terminal shows of long work.
 
+ghost use Rattle.std.specs.Prelude.{◌≡◌};
+ghost use Rattle.ic_progress.specs.Wiped.{output_of};
+
 use crate::line::{Pace, a_second, progress_line, reducing_line};
 use ic_in_place::Watch;
 use ic_pool::Gate;
@@ -208,7 +211,9 @@ pub struct WipedFirst<'a, W> {
 }
 
 impl<'a, W> WipedFirst<'a, W> {
-    pub fn new(progress: &'a Progress<'a>, output: W) -> WipedFirst<'a, W> {
+    pub fn new(progress: &'a Progress<'a>, output: W) -> WipedFirst<'a, W>
+        ensures { output_of result ≡ output }
+    {
         WipedFirst {
             line: &progress.line,
             output,
@@ -216,7 +221,9 @@ impl<'a, W> WipedFirst<'a, W> {
     }
 
     /// The same of a net that is watched.
-    pub fn watching(watching: &'a Watching<'a>, output: W) -> WipedFirst<'a, W> {
+    pub fn watching(watching: &'a Watching<'a>, output: W) -> WipedFirst<'a, W>
+        ensures { output_of result ≡ output }
+    {
         WipedFirst {
             line: &watching.line,
             output,
@@ -225,6 +232,9 @@ impl<'a, W> WipedFirst<'a, W> {
 }
 
 impl<W: Write> Write for WipedFirst<'_, W> {
+    // What is written here is written to the output.
+    ghost contents = { λ wiped. W.contents (output_of wiped) };
+
     fn write(&mut self, bytes: &[u8]) -> io::Result<usize> {
         self.line.wipe();
         self.output.write(bytes)
