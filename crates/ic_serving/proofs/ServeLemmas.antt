@@ -1,8 +1,9 @@
 -- The lines of a reader, one after the other.
-use Rattle.std.proofs.Common.{Bool, false, ◌≡◌, ◌≢◌, inl, inr, ℕ, ◌+◌, ◌<◌, ◌≤◌, List, [], ◌∷◌, ◌++◌, Option, None, Some, Err, length, refl, sym, ap, subst, ◌∙◌, arith, append-nil, append_assoc, length-append}
+use Rattle.std.proofs.Common.{Bool, false, ◌≡◌, ◌==◌, ◌≢◌, inl, inr, ℕ, ◌+◌, ◌<◌, ◌≤◌, List, [], ◌∷◌, ◌++◌, Option, None, Some, Err, length, refl, sym, ap, subst, ◌∙◌, arith, append-nil, append_assoc, length-append}
 use Rattle.std.specs.Prelude.{replicate}
+use Rattle.std.proofs.lemmas.Bool.{cases_Bool}
 use Rattle.std.proofs.lemmas.List.{length-replicate}
-use Rattle.std.specs.List.{AllByRecursion}
+use Rattle.std.specs.List.{AllByRecursion, onto_first}
 use Rattle.std.specs.Io.KnownBytes.{Appends, Keeps}
 use Rattle.ic_jobs.specs.Job.{JobParts}
 use Rattle.ic_jobs.specs.declared.event.Event.{Event}
@@ -16,7 +17,7 @@ use Rattle.ic_serving.specs.declared.limits.TheConstants.{MAX_LINES}
 use Rattle.ic_serving.specs.declared.fault.ServeFault.{ServeFault}
 use Rattle.ic_serving.specs.declared.fault.ServeFault.TheVariants.{Read, Write, TooManyLines, Book, Pool, LongLine, Memory}
 use Rattle.ic_serving.specs.Parts.{IsPart, IsKeptWithin, IsInFirst}
-use Rattle.ic_serving.specs.Served.{OfLines, MayBeServed, AreAnswered, AppendsFront, SaysOf, IsLeftBy, IsEnded, IsCut}
+use Rattle.ic_serving.specs.Served.{OfLines, IsReadOut, MayBeServed, AreAnswered, AppendsFront, SaysOf, IsLeftBy, IsEnded, IsCut}
 use Rattle.ic_serving.specs.Faults.{MayCome, ComesInLine, CountsServe, StaysReady, fault_of_line}
 use Rattle.ic_lines.specs.declared.buffer.LineFault.{LineFault}
 use Rattle.ic_lines.specs.declared.buffer.LineFault.TheVariants as line_fault
@@ -65,6 +66,30 @@ is_ahead (Some rest) = refl
 pub none_ahead : (rest : Option (List ℕ)) → HasNoLine rest → AreToCome rest []
 none_ahead None none = tt
 none_ahead (Some rest) none = none
+
+no_bytes : (text : List ℕ) → lines text ≡ [] → text ≡ []
+no_bytes [] none = refl
+no_bytes (b ∷ bs) none = elim (cases_Bool (b == 10)) [
+  | inl e ↦ (let bad : [] ∷ lines bs ≡ [] = rw e at none in let zero = ap length bad in absurd (omega (arith, zero)))
+  | inr e ↦ (let bad : onto_first b (lines bs) ≡ [] = rw e at none in absurd (never (lines bs) bad))
+]
+  where
+    never : (ls : List (List ℕ)) → onto_first b ls ≡ [] → ⊥
+    never [] bad = let zero = ap length bad in omega (arith, zero)
+    never (l ∷ ls) bad = let zero = ap length bad in omega (arith, zero)
+
+-- no line is to come, and no more is read: the reader has nothing left
+pub read_out : (text rest : Option (List ℕ)) (front : List (List ℕ)) (b : BufferParts) (now : Option (List ℕ)) → AreFirst text front rest
+    → HasNoLine rest → Keeps rest (to_come b now) → IsReadOut text now
+read_out None rest front b now first none kept = tt
+read_out (Some text) None front b now first none kept = absurd first
+read_out (Some text) (Some rest) front b None first none kept = absurd kept
+read_out (Some text) (Some rest) front b (Some left) first none kept =
+    ap (λ xs. Some xs) (none_of b.ahead left (kept ∙ no_bytes rest none))
+  where
+    none_of : (xs ys : List ℕ) → xs ++ ys ≡ [] → ys ≡ []
+    none_of [] ys none = none
+    none_of (x ∷ xs) ys none = let zero = ap length none in absurd (omega (arith, zero))
 
 pub taken : (line : List ℕ) (rest next : Option (List ℕ)) → TakesLine line rest next → AreToCome rest (line ∷ ahead next)
 taken line None next takes = tt

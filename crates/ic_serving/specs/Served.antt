@@ -1,5 +1,5 @@
 -- What a serving leaves, by its answer.
-use Rattle.std.specs.Prelude.{◌≡◌, ℕ, ◌<◌, ◌≤◌, List, [], ◌∷◌, ◌++◌, Option, None, Some, length}
+use Rattle.std.specs.Prelude.{◌≡◌, ⊤, ℕ, ◌<◌, ◌≤◌, List, [], ◌∷◌, ◌++◌, Option, None, Some, length}
 use Rattle.std.specs.List.{AllByRecursion}
 use Rattle.std.specs.Io.KnownBytes.{Appends}
 use Rattle.ic_jobs.specs.Job.{JobParts}
@@ -15,6 +15,11 @@ use Rattle.ic_serving.specs.Parts.{IsInFirst}
 abbrev pub OfLines : (bytes : Option (List ℕ)) (what : List (List ℕ) → Type 0) → Type 0
 OfLines None what = (ls : List (List ℕ)) × what ls
 OfLines (Some text) what = what (lines text)
+
+-- all bytes that a reader tells were read
+abbrev pub IsReadOut : (old new : Option (List ℕ)) → Type 0
+IsReadOut None new = ⊤
+IsReadOut (Some text) new = new ≡ Some []
 
 -- lines that may be served: no more than there may be, and none too long
 pub record MayBeServed (ls : List (List ℕ)) : Type 0 where

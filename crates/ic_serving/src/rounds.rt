@@ -1,6 +1,6 @@
 //! One round over a book.
 
-ghost use Rattle.std.specs.Prelude.{false, ◌≡◌, ◌<◌, ◌≤◌, ◌+◌, [], ◌∷◌, ◌++◌, length, None, OnOk, OnErr, IfOk, IfErr, IfSome, IfNone};
+ghost use Rattle.std.specs.Prelude.{false, ◌≡◌, ◌≢◌, ◌<◌, ◌≤◌, ◌+◌, [], ◌∷◌, ◌++◌, length, None, OnOk, OnErr, IfOk, IfErr, IfSome, IfNone};
 ghost use Rattle.ic_jobs.specs.declared.event.Event.TheVariants.{Round};
 ghost use Rattle.ic_jobs.specs.declared.reply.Reply.{Reply};
 ghost use Rattle.ic_jobs.specs.declared.limits.TheConstants.{MAX_JOBS};
@@ -11,6 +11,7 @@ ghost use Rattle.ic_book.specs.Entries.{round_entry};
 ghost use Rattle.ic_serving.specs.Booked.{last_kept, unkept_of, IsAllKept, Advances, MakesRound, StaysPut};
 ghost use Rattle.ic_book.specs.ByCalls.{IsByCalls};
 ghost use Rattle.ic_book.specs.Moves.{keeps};
+ghost use Rattle.ic_book.specs.declared.fault.BookFault.TheVariants as of_book;
 ghost use Rattle.ic_serving.specs.Answered.{EndsWith};
 ghost use Rattle.ic_serving.specs.Faults.{ComesAlone, ComesInLine};
 ghost use Rattle.ic_serving.specs.Grown.{IsSamePage};
@@ -53,6 +54,8 @@ pub fn keep_all<D: Disk>(book: &mut Book<D>) -> Result<(), ServeFault>
     ensures unkept { OnErr result (last_kept book.new ≡ last_kept book.old) }
     ensures page { IsSamePage book.old book.new }
     ensures fault { FaultLeaves ComesInLine result book.old book.new }
+    ensures others { IfErr result (λ fault. fault ≢ ServeFault.Book of_book.Broken
+        → fault ≢ ServeFault.Book of_book.Worn → fault ≡ ServeFault.Book of_book.Device) }
     ensures alone { IfErr result ComesAlone }
     ensures fewer { unkept_of book.new ≤ unkept_of book.old }
     ensures crash { Leaves book.old book.new (IsKeptOrNow book.old) }

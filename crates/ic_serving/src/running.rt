@@ -1,11 +1,13 @@
 //! The rounds of a run over a book.
 
-ghost use Rattle.std.specs.Prelude.{false, ◌≡◌, ◌≤◌, ◌%◌, ◌⊎◌, OnOk, OnErr, IfOk, IfErr, length};
+ghost use Rattle.std.specs.Prelude.{false, ◌≡◌, ◌≢◌, ◌≤◌, ◌%◌, ◌⊎◌, IsOk, OnOk, OnErr, IfOk, IfErr, count_by, length};
 ghost use Rattle.ic_book.specs.Book.{is_broken, table_of};
+ghost use Rattle.ic_jobs.specs.State.{is_running};
 ghost use Rattle.ic_lines.specs.Turns.{turns, after_events};
 ghost use Rattle.ic_serving.specs.Booked.{last_kept, unkept_of, Begins, IsAllKept};
 ghost use Rattle.ic_serving.specs.Parts.{IsKeptWithin};
 ghost use Rattle.ic_book.specs.Moves.{keeps};
+ghost use Rattle.ic_book.specs.declared.fault.BookFault.TheVariants as of_book;
 ghost use Rattle.ic_serving.specs.Answered.{EndsWith};
 ghost use Rattle.ic_serving.specs.Faults.{ComesAlone, ComesInLine};
 ghost use Rattle.ic_serving.specs.Grown.{IsSamePage, GoesOn, HasRoom};
@@ -98,22 +100,32 @@ fn make_rounds<T: Threads + Wait + Copy + Send + 'static, D: Disk, G: Gate>(
 }
 
 /// How many of these jobs are running.
-pub fn count_running(jobs: &[Job]) -> usize {
-    jobs.iter()
-        .filter(|job| job.state() == State::Running)
-        .count()
+pub fn count_running(jobs: &[Job]) -> usize
+    ensures { result ≡ count_by (λ job. is_running job.state) jobs.now }
+{
+    let mut running = 0;
+    for job in jobs {
+        if job.state() == State::Running {
+            running += 1;
+        }
+    }
+    running
 }
 
 /// Keeps what isn't kept, where the number of rounds is a multiple of `every`.
 pub fn keep_each<D: Disk>(book: &mut Book<D>, made: u64, every: u64) -> Result<(), ServeFault>
     requires { 1 ≤ every }
     ensures due { OnOk result (made % every ≡ 0 → IsAllKept book.new) }
+    ensures idle { made % every ≢ 0 → IsOk result }
+    ensures stays { made % every ≢ 0 → book.new ≡ book.old }
     ensures table { table_of book.new ≡ table_of book.old }
     ensures kept { OnOk result ((last_kept book.new ≡ last_kept book.old)
         ⊎ (last_kept book.new ≡ table_of book.old)) }
     ensures unkept { OnErr result (last_kept book.new ≡ last_kept book.old) }
     ensures page { IsSamePage book.old book.new }
     ensures fault { FaultLeaves ComesInLine result book.old book.new }
+    ensures others { IfErr result (λ fault. fault ≢ ServeFault.Book of_book.Broken
+        → fault ≢ ServeFault.Book of_book.Worn → fault ≡ ServeFault.Book of_book.Device) }
     ensures alone { IfErr result ComesAlone }
     ensures fewer { unkept_of book.new ≤ unkept_of book.old }
     ensures crash { Leaves book.old book.new (IsKeptOrNow book.old) }

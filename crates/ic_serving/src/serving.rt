@@ -1,13 +1,13 @@
 //! Serving all lines of a reader over a book.
 
-ghost use Rattle.std.specs.Prelude.{◌≡◌, ◌≢◌, ◌≤◌, ◌⊎◌, IfOk, IfErr};
+ghost use Rattle.std.specs.Prelude.{◌≡◌, ◌≢◌, ◌≤◌, ◌⊎◌, IfOk, IfErr, OnOk};
 ghost use Rattle.std.specs.Io.KnownBytes.{Keeps};
 ghost use Rattle.ic_commands.specs.LineText.{ReadsLine};
 ghost use Rattle.ic_lines.specs.declared.buffer.LineFault.TheVariants.{LongLine};
 ghost use Rattle.ic_serving.specs.Faults.{ComesAlone, MayCome, fault_of_line};
 ghost use Rattle.ic_serving.specs.Booked.{unkept_of, IsAllKept};
 ghost use Rattle.ic_serving.specs.Moments.{FaultLeaves};
-ghost use Rattle.ic_serving.specs.Served.{OfLines};
+ghost use Rattle.ic_serving.specs.Served.{OfLines, IsReadOut};
 ghost use Rattle.ic_serving.specs.Serving.{IsServing};
 
 use crate::answering::{Reading, answer_read, read_line};
@@ -48,6 +48,7 @@ pub fn serve_lines<T: Threads + Wait + Copy + Send + 'static, D: Disk, R: Read, 
     // There are lines of which all this holds: those of the reader's bytes, where it tells them.
     ensures serving { OfLines (R.remaining reader.old) (λ ls. IsServing result ls
         book.old book.new (W.contents writer.old) (W.contents writer.new)) }
+    ensures over { OnOk result (IsReadOut (R.remaining reader.old) (R.remaining reader.new)) }
     ensures fault { FaultLeaves MayCome result book.old book.new }
     ensures alone { workers ≡ 1 → IfErr result ComesAlone }
     ensures few_unkept { IsAllKept book.old → unkept_of book.new ≤ every }
@@ -77,6 +78,7 @@ pub fn serve_watched<
     requires every { 1 ≤ every }
     ensures serving { OfLines (R.remaining reader.old) (λ ls. IsServing result ls
         book.old book.new (W.contents writer.old) (W.contents writer.new)) }
+    ensures over { OnOk result (IsReadOut (R.remaining reader.old) (R.remaining reader.new)) }
     ensures fault { FaultLeaves MayCome result book.old book.new }
     ensures alone { workers ≡ 1 → IfErr result ComesAlone }
     ensures few_unkept { IsAllKept book.old → unkept_of book.new ≤ every }
@@ -113,6 +115,7 @@ fn serve_with<T: Threads + Wait + Copy + Send + 'static, D: Disk, R: Read, W: Wr
     requires every { 1 ≤ every }
     ensures serving { OfLines (R.remaining reader.old) (λ ls. IsServing result ls
         book.old book.new (W.contents writer.old) (W.contents writer.new)) }
+    ensures over { OnOk result (IsReadOut (R.remaining reader.old) (R.remaining reader.new)) }
     ensures fault { FaultLeaves MayCome result book.old book.new }
     ensures alone { workers ≡ 1 → IfErr result ComesAlone }
     ensures few_unkept { IsAllKept book.old → unkept_of book.new ≤ every }

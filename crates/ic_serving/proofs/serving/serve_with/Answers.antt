@@ -15,7 +15,7 @@ use Rattle.ic_book.specs.lemmas.Chains.{by_nothing}
 use Rattle.ic_serving.specs.lemmas.Reaching.{kept_all, kept_or_same}
 use Rattle.ic_serving.proofs.TurnLemmas.{turns_more}
 use Rattle.ic_serving.proofs.ReadingLemmas.{fault_unbegun, keeps_then, leaves_in_line, line_answered, says_unbegun}
-use Rattle.ic_serving.proofs.ServeLemmas.{under_first, under_more, ahead, is_ahead, first_more, taken, ended_at, cut_after, kept_part, left_within, says_book, not_taken, none_after, not_write, counts_after, ready_after}
+use Rattle.ic_serving.proofs.ServeLemmas.{read_out, under_first, under_more, ahead, is_ahead, first_more, taken, ended_at, cut_after, kept_part, left_within, says_book, not_taken, none_after, not_write, counts_after, ready_after}
 use Rattle.ic_serving.proofs.StopLemmas.{stops_first, stops_more, stops_longer, serving_over, serving_err, serving_untaken, fault_after, fault_untaken, fault_unwritten, still_all, still_last}
 use Rattle.ic_serving.proofs.serving.serve_with.Goals as goal
 
@@ -50,6 +50,12 @@ pub returns-then-not-branch-clause-serving : goal.returns-then-not-branch-clause
 returns-then-not-branch-clause-serving g c = serving_over tt c.one_line_reading.ensures.total (g.R.Read.remaining c.args.reader.now) (to_come c.loop.lines (g.R.Read.remaining c.loop.reader)) c.loop.counter
     c.args.book.now c.loop.book (g.W.Write.contents c.args.writer.now) (g.W.Write.contents c.loop.writer) (g.W.Write.contents c.take_line.new.writer)
     c.loop.invariant (c.in_ok-take_line.ensures.end (ap (λ b. Ok b) c.if-not-branch.true)) c.take_line.ensures.kept (by_nothing c.loop.book c.facts-in-loop.ensures.step)
+
+pub returns-then-not-branch-clause-over : goal.returns-then-not-branch-clause-over
+returns-then-not-branch-clause-over g c =
+    let none = ap (λ b. Ok b) c.if-not-branch.true in
+    read_out (g.R.Read.remaining c.args.reader.now) (to_come c.loop.lines (g.R.Read.remaining c.loop.reader)) c.loop.invariant.way.front
+    c.take_line.new.self (g.R.Read.remaining c.take_line.new.reader) c.loop.invariant.way.first (c.in_ok-take_line.ensures.end none) (c.in_ok-take_line.ensures.stays none)
 
 pub returns-in_err-reading-clause-serving : goal.returns-in_err-reading-clause-serving
 returns-in_err-reading-clause-serving g c =
@@ -196,6 +202,12 @@ pub returns-in-Ok-false-clause-serving : goal.returns-in-Ok-false-clause-serving
 returns-in-Ok-false-clause-serving g c = serving_over tt c.one_line_reading.ensures.total (g.R.Read.remaining c.args.reader.now) (to_come c.loop.lines (g.R.Read.remaining c.loop.reader)) c.loop.counter
     c.args.book.now c.loop.book (g.W.Write.contents c.args.writer.now) (g.W.Write.contents c.loop.writer) (g.W.Write.contents c.take_line-2.new.writer)
     c.loop.invariant (c.take_line-2.ensures.end (let got : c.take_line-2.result ≡ Ok false = cc in got)) c.take_line-2.ensures.kept (by_nothing c.loop.book c.facts-2.ensures.step)
+
+pub returns-in-Ok-false-clause-over : goal.returns-in-Ok-false-clause-over
+returns-in-Ok-false-clause-over g c =
+    let none : c.take_line-2.result ≡ Ok false = cc in
+    read_out (g.R.Read.remaining c.args.reader.now) (to_come c.loop.lines (g.R.Read.remaining c.loop.reader)) c.loop.invariant.way.front
+    c.take_line-2.new.self (g.R.Read.remaining c.take_line-2.new.reader) c.loop.invariant.way.first (c.take_line-2.ensures.end none) (c.take_line-2.ensures.stays none)
 
 pub returns-clause-serving : goal.returns-clause-serving
 returns-clause-serving g c =
