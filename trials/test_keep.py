@@ -168,8 +168,21 @@ class Keep(Stops):
         # What the other file has is at most one keep older.
         for place, kept in ((0, {9, 30}), (1, {9, 30})):
             self.put(bytes(HEAD) if it == place else whole[it] for it in (0, 1))
+            held = [f"file {place + 1}: closed, number 0, size 0, no state"] * 2
+            held[1 - place] = seen(2 - place, whole[1 - place])[0]
+            self.runs("inspect", "--disk", self.file, out=[*held, f"held: file {2 - place}"])
             self.equals(self.file, "interactions that are kept", True, self.kept() in kept)
             self.agree(run("reduce", "--resume", self.file, *FIGURES), self.whole(ackermann(2)))
+
+    def test_inspect_tells_that_a_file_is_cut_off_where_it_is_refused(self):
+        run("reduce", "--keep", self.file, "--steps", 9, given=ackermann(2))
+        whole = self.contents()
+        for place in (0, 1):
+            for cut in (0, HEAD - 1):
+                self.put(whole[it][:cut] if it == place else whole[it] for it in (0, 1))
+                lines = [f"file {it + 1}: cut off" if it == place else seen(it + 1, whole[it])[0] for it in (0, 1)]
+                self.runs("inspect", "--disk", self.file, out=[*lines, "held: damaged"])
+                self.refuses("reduce", "--resume", self.file, line="damaged", status=3)
 
     def test_what_is_not_asked_for_is_not_printed(self):
         self.runs("reduce", "--keep", self.file, "--quiet-answer", given=ackermann(2))

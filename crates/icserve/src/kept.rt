@@ -41,17 +41,28 @@ enum Seen {
     State(Front, StateHead),
 }
 
-/// The first bytes of the file of this path and of its second file, if a state stands in the first.
+/// The first bytes of the file of this path and of its second file, if a state stands in the first, or in the second where the
+/// first has no more than a head.
 pub(crate) fn read_fronts(
     rt: &HostRuntime,
     path: &str,
     notes: &Notes,
 ) -> Result<Option<Fronts>, Failure> {
     let first = read_front(rt, path, Target::File, notes)?;
-    if !has_format(&first) {
+    if has_format(&first) {
+        let second = read_second(rt, path, notes)?;
+        return Ok(Some(Fronts { first, second }));
+    }
+    if first.len() as u64 > HEAD {
         return Ok(None);
     }
-    let second = read_second(rt, path, notes)?;
+    let Ok(Some(second)) = read_second(rt, path, notes) else {
+        return Ok(None);
+    };
+    if !has_format(&second) {
+        return Ok(None);
+    }
+    let second = Some(second);
     Ok(Some(Fronts { first, second }))
 }
 
@@ -245,6 +256,11 @@ fn head_members(rt: &HostRuntime, head: StateHead) -> Result<String, AllocError>
     )
 }
 
+/// Whether a file is shorter than its head.
+fn is_cut_off(seen: Seen) -> bool {
+    matches!(seen, Seen::CutOff)
+}
+
 /// The number of a file whose gate is open.
 fn open_number(seen: Seen) -> Option<u64> {
     match seen {
@@ -255,6 +271,9 @@ fn open_number(seen: Seen) -> Option<u64> {
 
 /// Which file has the state that is kept, by the heads of both.
 fn held_of(first: Seen, second: Seen) -> &'static str {
+    if is_cut_off(first) || is_cut_off(second) {
+        return "damaged";
+    }
     match (open_number(first), open_number(second)) {
         (None, None) => "no slot",
         (Some(one), Some(other)) if one == other => "two alike",
