@@ -288,6 +288,10 @@ class Sizes(Trial):
             ran = run("reduce", "--stats", "--workers", 4, "--steps", steps, given=text)
             told = figures_of(ran.err)[0]
             self.equals(ran.command, "status, interactions, shared", (status, made, 100), (ran.status, told["interactions"], told["shared"]))
+        ran = run("reduce", "--stats", "--quiet-answer", "--workers", 64, "--steps", 63_000, "--nodes", 100_000, given=PILES)
+        told = figures_of(ran.err)[0]
+        alone = told["interactions"] - told["shared"]
+        self.equals(ran.command, f"whether {told} end at a later look", (1, True, 0), (ran.status, alone > PIECE, alone % PIECE))
 
     def test_a_net_with_one_pair_at_a_time_is_left_to_one_thread(self):
         text = f"{ADD} <r|Add(r,S(Z))={numeral(3_000_000)}>"
