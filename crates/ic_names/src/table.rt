@@ -41,8 +41,7 @@ impl NameTable {
         }
     }
 
-    /// Gives a name a number in the place of the one that it has. It fails only for a name that the table isn't laid out
-    /// for, and changes nothing then.
+    /// Gives a name a number in the place of the one that it has. Where memory runs out, nothing is changed.
     pub fn set(&mut self, name: u64, number: u32) -> Result<(), AllocError>
         requires { number < u32.MAX }
         ensures set { OnOk result ((x : ℕ) → found self.new x
