@@ -25,7 +25,7 @@ impl Model for Team {
 }
 
 impl Team {
-    ghost use Rattle.std.specs.Prelude.{◌≡◌, IfOk, OnOk};
+    ghost use Rattle.std.specs.Prelude.{◌≡◌, IfOk};
     ghost use Rattle.ic_flights.specs.Played.{round_of};
     ghost use Rattle.ic_pool.specs.Workers.{ByWorkers, played_by};
     ghost use Rattle.ic_crew.specs.Teams.{standing_after};
@@ -41,8 +41,8 @@ impl Team {
     /// first, but no more than 64. It is the same round for every number of workers and in whatever
     /// order they work.
     ///
-    /// Its faults are those of `ic_pool::play`: at `NoThread` the threads that were started are
-    /// joined, as they are at `Memory`, `Lost` and `Stranger`, after which nobody stands.
+    /// Its faults are those of `ic_pool::play`. At `NoThread` the threads that were started are
+    /// joined, as all are at `Memory`, `Lost` and `Stranger`: nobody stands after these.
     pub fn play<R: Threads + Wait + Copy + Send + 'static>(
         &mut self,
         rt: &R,
@@ -52,7 +52,7 @@ impl Team {
     ) -> Result<Played, PoolFault>
         ensures any_workers { IfOk result (λ played. played ≡ round_of flight.now) }
         ensures answer { ByWorkers result (played_by workers flight.now) }
-        ensures stands { OnOk result (self.new ≡ standing_after self.old workers) }
+        ensures stands { self.new ≡ standing_after result self.old workers }
     {
         if workers == 0 {
             return Err(PoolFault::NoWorkers);

@@ -20,12 +20,12 @@ pub(crate) struct Standing {
 }
 
 impl Standing {
-    ghost use Rattle.std.specs.Prelude.{◌⊎◌, ◌<◌, min, IfOk, IfErr, OnOk};
+    ghost use Rattle.std.specs.Prelude.{◌⊎◌, ◌<◌, min, IfOk, IfErr, if◌then◌else◌};
     ghost use Rattle.ic_flights.specs.Played.{round_of};
     ghost use Rattle.ic_pool.specs.Played.{played};
     ghost use Rattle.ic_pool.specs.declared.limits.TheConstants.{MAX_THREADS};
     ghost use Rattle.ic_pool.specs.declared.fault.PoolFault.TheVariants.{NoThread, Memory};
-    ghost use Rattle.ic_crew.specs.Crews.{ByCrew};
+    ghost use Rattle.ic_crew.specs.Crews.{ByCrew, is_spent_by};
     ghost use Rattle.ic_crew.specs.Teams.{workers_of};
 
     /// A new crew of so many workers, but no more than 64, each in a thread of its own. Where one
@@ -58,7 +58,8 @@ impl Standing {
     ) -> (Option<Standing>, Result<Played, PoolFault>)
         ensures any_workers { IfOk result.1 (λ played. played ≡ round_of flight.now) }
         ensures answer { ByCrew result.1 (played flight.now) }
-        ensures stands { OnOk result.1 (workers_of result.0 ≡ self.crew.workers) }
+        ensures stands { workers_of result.0
+            ≡ (if is_spent_by result.1 then 0 else self.crew.workers) }
     {
         let Standing { mut crew, threads } = self;
         let played = crew.play(rt, alloc, flight);
@@ -71,7 +72,7 @@ impl Standing {
         crew: Crew,
         threads: Vec<JoinHandle<()>>,
     ) -> Option<Standing>
-        ensures { crew.spent ≡ false → workers_of result ≡ crew.workers }
+        ensures { workers_of result ≡ (if crew.spent then 0 else crew.workers) }
     {
         if crew.is_spent() {
             dismiss(rt, crew, threads);

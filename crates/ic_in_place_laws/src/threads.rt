@@ -178,17 +178,19 @@ pub fn places_of_several_were_in_use()
     crate::places::a_machine_begins_with_what_its_configuration_has();
 }
 
-/// Agents of a symbol are counted by hand, in `<S(Z)|S(x)=Z>` with S for 0 and Z for 1. The names at a place are those of
-/// the rule there.
+/// Agents of a symbol are counted by hand, in `<S(Z)|A(S(x),S(Z))=Z>` with S for 0, Z for 1 and A for 2. The names at a place
+/// are those of the rule there.
 pub fn agents_and_names_are_counted_so()
     ensures agents { (c : Configuration) (x : ℕ) → c ≡ record {
       interface = agent 0 (more_trees (agent 1 no_trees) no_trees) ∷ [];
       equations = record {
-        left = agent 0 (more_trees (name x) no_trees);
+        left = agent 2 (more_trees (agent 0 (more_trees (name x) no_trees))
+        (more_trees (agent 0 (more_trees (agent 1 no_trees) no_trees)) no_trees));
         right = agent 1 no_trees;
       } ∷ [];
       next = suc x;
-    } → (agents_of_symbol 0 c ≡ 2) × (agents_of_symbol 1 c ≡ 2) × (agents_of_symbol 2 c ≡ 0) }
+    } → (agents_of_symbol 0 c ≡ 3) × (agents_of_symbol 1 c ≡ 3) × (agents_of_symbol 2 c ≡ 1)
+        × (agents_of_symbol 3 c ≡ 0) }
     ensures first { (r : Rule) (rs : List Rule) → names_at (r ∷ rs) 0 ≡ r.names }
     ensures later { (r : Rule) (rs : List Rule) (i : ℕ) → names_at (r ∷ rs) (suc i) ≡ names_at rs i }
     ensures none { (i : ℕ) → names_at [] i ≡ 0 }

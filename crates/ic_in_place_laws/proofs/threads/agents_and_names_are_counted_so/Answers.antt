@@ -5,8 +5,9 @@ use Rattle.ic_in_place_laws.proofs.threads.agents_and_names_are_counted_so.Goals
 
 pub returns-clause-agents : goal.returns-clause-agents
 returns-clause-agents c = λ d x is.
-    subst (λ (e : Configuration). (agents_of_symbol 0 e ≡ 2) × (agents_of_symbol 1 e ≡ 2) × (agents_of_symbol 2 e ≡ 0)) (sym is)
-    (refl, refl, refl)
+    subst (λ (e : Configuration). (agents_of_symbol 0 e ≡ 3) × (agents_of_symbol 1 e ≡ 3)
+    × (agents_of_symbol 2 e ≡ 1) × (agents_of_symbol 3 e ≡ 0)) (sym is)
+    (refl, refl, refl, refl)
 
 pub returns-clause-first : goal.returns-clause-first
 returns-clause-first c = λ r rs. refl
