@@ -2,23 +2,13 @@
 use denote.RattleType.{RattleType}
 use denote.Param.Send.{IsSend, IsSync, sendable}
 use Rattle.std.proofs.Crossing.{crosses}
-use Rattle.ic_term.proofs.symbols.Symbols.TheSendSync as symbols
-use Rattle.ic_rules.proofs.rule_set.SymbolPair.TheSendSync as pair
 use Rattle.ic_flat.proofs.word.Word.TheSendSync as word
 use Rattle.ic_rules.proofs.job_name.JobName.TheSendSync as name
 use Rattle.ic_jobs.proofs.budget.Budget.TheSendSync as budget
 use Rattle.ic_jobs.proofs.shown.JobList.TheSendSync as list
 use Rattle.ic_jobs.proofs.state.State.TheSendSync as state
 use Rattle.ic_jobs.proofs.reply.Refusal.TheSendSync as refusal
-use Rattle.ic_rules.specs.contracts.rule.Rule as Rule
-use Rattle.ic_rules.specs.contracts.rule_set.RuleSet as RuleSet
-use Rattle.ic_round.specs.contracts.work.Work as Work
-use Rattle.ic_round.specs.contracts.work.Fired as Fired
-use Rattle.ic_crew.specs.contracts.answers.Answer as Answer
-use Rattle.ic_crew.specs.contracts.parcels.Parcel as Parcel
-use Rattle.ic_crew.specs.contracts.parcels.Returned as Returned
 use Rattle.ic_crew.specs.contracts.posts.Line as Line
-use Rattle.ic_crew.specs.contracts.posts.Post as Post
 use Rattle.ic_crew.specs.contracts.crews.Crew as Crew
 use Rattle.ic_crew.specs.lemmas.Crossings.{RuleSet_send, RuleSet_sync, Parcel_send, Returned_send}
 use Rattle.ic_flat.specs.contracts.flat.Flat as Flat

@@ -1,5 +1,5 @@
 -- What the faults of an attendance say.
-use Rattle.std.specs.Prelude.{◌≡◌, ℕ, List, [], Result, Ok, Err, IsTrue, length}
+use Rattle.std.specs.Prelude.{◌≡◌, ◌≢◌, ◌⊎◌, ℕ, List, [], Result, Ok, Err, IsTrue, length}
 use Rattle.std.specs.List.{All, AllZip}
 use Rattle.ic_disk.specs.declared.disk.Disk.{Ghosts}
 use Rattle.ic_frames.specs.Faults.{CountsOpen}
@@ -75,11 +75,24 @@ pub record IsAsOpened {D : Type 0} {ghosts : Ghosts D} (disk : D) (book : Book D
 
 -- Each script's client was answered its first commands, or none, and was refused the next one
 -- exactly where it has an end. Each runner has an end that may be a runner's.
-pub record IsStopped {D : Type 0} {ghosts : Ghosts D} (scripts : List (List Command))
+pub record AreFollowed {D : Type 0} {ghosts : Ghosts D} (scripts : List (List Command))
     (runners workers : ℕ) (a : Attended D ghosts) : Type 0 where
   pub followed : AllZip Follows scripts a.answers.items
   pub counted : length a.ends.items ≡ runners
   pub may_be : All (EndMayBe workers) a.ends.items
+
+-- They are, and the book began with the table that the disk holds.
+pub record IsStopped {D : Type 0} (ghosts : Ghosts D) (disk : D) (scripts : List (List Command))
+    (runners workers : ℕ) (a : Attended D ghosts) : Type 0 where
+  pub held : IsTrue (ghosts.keeps disk)
+      → IsHeld (the_table (start_of a.book)) (ghosts.content disk)
+  pub followed : AreFollowed scripts runners workers a
+
+-- They are, but the book began with another table.
+pub record BeganOtherwise {D : Type 0} {ghosts : Ghosts D} (opening : List JobParts)
+    (scripts : List (List Command)) (runners workers : ℕ) (a : Attended D ghosts) : Type 0 where
+  pub other : start_of a.book ≢ opening
+  pub followed : AreFollowed scripts runners workers a
 
 -- Each client keeps to its script and each runner has an end that may be a runner's. But the book
 -- began with another table, or its log isn't one history of them, or an end by a refusal isn't borne
@@ -98,4 +111,5 @@ pub record IsTorn {D : Type 0} (ghosts : Ghosts D) (disk : D) (scripts : List (L
     (runners turns workers : ℕ) (a : Attended D ghosts) : Type 0 where
   pub opening : List JobParts
   pub held : IsTrue (ghosts.keeps disk) → IsHeld (the_table opening) (ghosts.content disk)
-  pub torn : Differs opening scripts runners turns workers a
+  pub torn : BeganOtherwise opening scripts runners workers a
+      ⊎ Differs opening scripts runners turns workers a

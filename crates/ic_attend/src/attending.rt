@@ -1,11 +1,11 @@
 //! A disk that clients and runners attend to.
 
-ghost use Rattle.std.specs.Prelude.{◌≡◌, ◌<◌, map, vec_items, vec_len, IsTrue, IfOk};
+ghost use Rattle.std.specs.Prelude.{◌≡◌, ◌<◌, ◌⊎◌, map, vec_items, vec_len, IsTrue, IfOk};
 ghost use Rattle.ic_slots.specs.Held.{IsHeld, the_table};
 ghost use Rattle.ic_book.specs.Book.{start_of};
 ghost use Rattle.ic_attend.specs.OneHistory.{IsOneHistory};
 ghost use Rattle.ic_attend.specs.Ends.{EndsTell};
-ghost use Rattle.ic_attend.specs.Faults.{IfUnopened, IfUnbegun, IfStopped, IfTorn, IsUnopened, IsAsOpened, IsStopped, IsTorn, Differs};
+ghost use Rattle.ic_attend.specs.Faults.{IfUnopened, IfUnbegun, IfStopped, IfTorn, IsUnopened, IsAsOpened, AreFollowed, IsStopped, BeganOtherwise, IsTorn, Differs};
 ghost use Rattle.ic_attend.specs.inner.Gathering.{IsReady, IsBegun};
 
 use crate::attended::Attended;
@@ -54,10 +54,10 @@ pub fn attend<R: Threads + Wait + Sync, D: Disk + Send, G: Gate>(
     ensures unopened { IfUnopened result (λ fault. IsUnopened D.Disk disk fault) }
     ensures unbegun { IfUnbegun result (λ book. IsAsOpened disk book) }
 
-    // At `NoThread` the first commands of each script were answered, or none. `Torn` comes only
-    // where one of the facts at Ok fails.
+    // At `NoThread` the first commands of each script were answered, or none, and the log goes on
+    // from the table that the disk holds. `Torn` comes only where one of the facts at Ok fails.
     ensures stopped { IfStopped result (λ attended.
-        IsStopped (map vec_items scripts.items) runners workers attended) }
+        IsStopped D.Disk disk (map vec_items scripts.items) runners workers attended) }
     ensures torn { IfTorn result (λ attended.
         IsTorn D.Disk disk (map vec_items scripts.items) runners turns workers attended) }
 {
@@ -115,9 +115,13 @@ fn attend_book<R: Threads + Wait + Sync, D: Disk + Send, G: Gate>(
     ensures ends { IfOk result (λ attended. EndsTell duty.workers attended) }
     ensures begun { IsBegun result }
     ensures stopped { IfStopped result (λ attended.
-        IsStopped (map vec_items scripts.items) runners duty.workers attended) }
-    ensures torn { IfTorn result (λ attended. Differs opening.now
-        (map vec_items scripts.items) runners duty.turns duty.workers attended) }
+        AreFollowed (map vec_items scripts.items) runners duty.workers attended) }
+    ensures stopped_start { IfStopped result (λ attended.
+        start_of attended.book ≡ opening.now) }
+    ensures torn { IfTorn result (λ attended.
+        BeganOtherwise opening.now (map vec_items scripts.items) runners duty.workers attended
+        ⊎ Differs opening.now (map vec_items scripts.items) runners duty.turns duty.workers
+        attended) }
 {
     let signs = Signs::new(scripts.len() as u64);
     let desk = Desk::new(book);
@@ -131,7 +135,10 @@ fn attend_book<R: Threads + Wait + Sync, D: Disk + Send, G: Gate>(
         ends: gathered.ends,
     };
     if !is_complete {
-        return Err(AttendFault::NoThread(attended));
+        if attended.began_with(opening) {
+            return Err(AttendFault::NoThread(attended));
+        }
+        return Err(AttendFault::Torn(attended));
     }
     attended.book.facts();
     if !attended.is_borne_out(opening, duty.turns, duty.workers) {

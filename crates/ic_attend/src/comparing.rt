@@ -4,6 +4,7 @@ ghost use Rattle.std.specs.Prelude.{◌≡◌, ◌↔◌, ◌-◌, Some, IsTrue,
 ghost use Rattle.std.specs.List.{All};
 ghost use Rattle.ic_jobs.specs.declared.event.Event.TheVariants.{Command as by_command};
 ghost use Rattle.ic_book.specs.declared.fault.BookFault.TheVariants.{Device as by_device};
+ghost use Rattle.ic_book.specs.Book.{start_of};
 ghost use Rattle.ic_book.specs.Entries.{is_round, AreRounds};
 ghost use Rattle.ic_attend.specs.declared.attended.ClientRun.{ClientRun as Run};
 ghost use Rattle.ic_attend.specs.Parts.{part, AreOfClients};
@@ -26,17 +27,24 @@ impl<D: Disk> Attended<D> {
         self.agrees(opening, turns) && self.ends_tell(workers)
     }
 
+    /// Whether the book began with this table.
+    pub(crate) fn began_with(&self, opening: &Table) -> bool
+        ensures { IsTrue result ↔ (start_of self.now.book ≡ opening.now) }
+    {
+        ic_jobs::laws::equality_is_exact();
+        *self.book.start() == *opening
+    }
+
     /// Whether the book's history goes on from this table and tells of these clients and runners.
     fn agrees(&self, opening: &Table, turns: usize) -> bool
         ensures { IsTrue result ↔ Agrees opening.now turns self.now }
     {
         self.book.facts();
-        ic_jobs::laws::equality_is_exact();
         let log = self.book.log();
         let (kept, unkept) = log.split_at(self.book.kept());
         let answers = self.answers.as_slice();
         let ends = self.ends.as_slice();
-        *self.book.start() == *opening
+        self.began_with(opening)
             && are_of_clients(log, answers.len())
             && are_parts(kept, answers)
             && may_stand_after(unkept, answers)

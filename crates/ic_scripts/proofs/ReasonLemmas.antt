@@ -33,7 +33,7 @@ keeps_same (Some xs) = refl
 pub says_why : {D : Type 0} {ghosts : Ghosts D} (disk : D) (scripts : List (List Command)) (runners turns workers : ℕ) (left : D) (fault : AttendFault D ghosts)
     → left ≡ disk_left fault
     → IfUnopened (Err fault) (IsUnopened ghosts disk) → IfUnbegun (Err fault) (IsAsOpened disk)
-    → IfStopped (Err fault) (IsStopped scripts runners workers) → IfTorn (Err fault) (IsTorn ghosts disk scripts runners turns workers)
+    → IfStopped (Err fault) (IsStopped ghosts disk scripts runners workers) → IfTorn (Err fault) (IsTorn ghosts disk scripts runners turns workers)
     → SaysWhy ghosts disk scripts runners turns workers left (fault_of_attendance fault)
 says_why disk scripts runners turns workers left (attending.Open fault) is unopened unbegun stopped torn = (fault, refl, unopened, is)
 says_why disk scripts runners turns workers left (attending.NoThread a) is unopened unbegun stopped torn = (a, stopped, is)

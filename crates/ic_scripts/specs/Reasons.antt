@@ -21,7 +21,8 @@ SaysWhy {D = D} ghosts disk scripts runners turns workers left (Open cause) =
     (fault : OpenFault D) × (fault.cause ≡ cause) × IsUnopened ghosts disk fault
     × (left ≡ fault.disk)
 SaysWhy {D = D} ghosts disk scripts runners turns workers left NoThread =
-    (a : Attended D ghosts) × IsStopped scripts runners workers a × (left ≡ disk_of a.book)
+    (a : Attended D ghosts) × IsStopped ghosts disk scripts runners workers a
+    × (left ≡ disk_of a.book)
 SaysWhy {D = D} ghosts disk scripts runners turns workers left Torn =
     (a : Attended D ghosts) × IsTorn ghosts disk scripts runners turns workers a
     × (left ≡ disk_of a.book)

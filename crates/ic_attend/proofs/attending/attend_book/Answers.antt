@@ -1,4 +1,4 @@
-use Rattle.std.proofs.Common.{◌≡◌, ℕ, true, false, sym, subst, ◌∙◌}
+use Rattle.std.proofs.Common.{◌≡◌, ℕ, true, false, sym, subst, ◌∙◌, inr}
 use Rattle.ic_attend.specs.Parts.{AreOfClients}
 use Rattle.ic_attend.proofs.Exact.{agrees_of}
 use Rattle.ic_attend.proofs.PartLemmas.{runs_counted}
@@ -26,7 +26,7 @@ returns-clause-history g c =
 pub returns-then-not-is_borne_out-clause-torn : goal.returns-then-not-is_borne_out-clause-torn
 returns-then-not-is_borne_out-clause-torn g c =
     let gathered = c.gather-gathered.ensures in
-    record {
+    inr (record {
       scripts_kept = gathered.runs c.if-not-is_complete.false;
       counted = gathered.ends;
       may_be = gathered.may_be;
@@ -34,4 +34,4 @@ returns-then-not-is_borne_out-clause-torn g c =
           let yes : c.is_borne_out.result ≡ true = c.is_borne_out.ensures.1 (agrees_of _ _ _ _ _ start history, told) in
           let no : true ≡ false = sym yes ∙ c.if-not-is_borne_out.true in
           cc;
-    }
+    })
