@@ -48,8 +48,10 @@ def try_edits(name, used):
 
 
 def main():
-    used = libraries()
-    names = sys.argv[1:] or sorted(it.name for it in (TOP / "checks" / "edits").iterdir())
+    used, tried = libraries(), sorted(it.name for it in (TOP / "checks" / "edits").iterdir())
+    names = sys.argv[1:] or tried
+    if not set(names) <= set(tried):
+        sys.exit(f"{__doc__}\nIt has edits of {' '.join(tried)}.")
     return max([try_edits(name, used) for name in names], default=0)
 
 
