@@ -2,7 +2,7 @@
 use Rattle.std.proofs.Common.{◌≡◌, ℕ, ◌+◌, ◌-◌, Bool, true, false, if◌then◌else◌, List, [], ◌∷◌, ◌++◌, Option, None, Some, length, length-append, refl, sym, ap, ◌∙◌, subst, append_assoc, arith}
 use Rattle.std.specs.List.{list_all}
 use Rattle.std.proofs.lemmas.Bool.{and_from, and_parts}
-use Rattle.ic_commands.specs.LineSource.{LinePhrase, nothing, submit, run, line_words}
+use Rattle.ic_commands.specs.LineSource.{LinePhrase, nothing, submit, line_words}
 use Rattle.ic_text.specs.Places.{IsWordPlace, is_between}
 use Rattle.ic_text.specs.Token.{Token, word, is_blank, is_word_byte, before, tokens, words_among}
 use Rattle.ic_diagnostics.specs.Sights.{first_word}

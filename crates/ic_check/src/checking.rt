@@ -1,6 +1,6 @@
 //! Looking over a file by its form.
 
-ghost use Rattle.std.specs.Prelude.{◌≡◌, ◌++◌, ℕ, List, IfOk};
+ghost use Rattle.std.specs.Prelude.{◌≡◌, ◌++◌, ℕ, List, IfOk, OnErr};
 ghost use Rattle.ic_check.specs.Checking.{Tells, TellsComment, TellsForm, first_of, form_of};
 
 use crate::lines::{blanks_before, check_lines};
@@ -88,11 +88,28 @@ fn check_form(
     }
 }
 
-/// Appends lines that tell the faults of a file of this name, and the warnings of what has none, and tells whether it
-/// has a fault. A line of a faulty file may be without one, and is looked at by itself.
-pub fn check(alloc: Global, file: &[u8], text: &[u8], out: &mut Vec<u8>) -> Result<bool, AllocError>
-    ensures { IfOk result (λ faulty. (told : List ℕ) × Tells file.now text.now told faulty
-        × (out.new.items ≡ out.old.items ++ told)) }
+/// What is told of a text, and whether it has a fault.
+pub(crate) fn told_of_text(
+    alloc: Global,
+    file: &[u8],
+    text: &[u8],
+) -> Result<(Vec<u8>, bool), AllocError>
+    ensures { IfOk result (λ told. Tells file.now text.now told.0.items told.1) }
 {
-    check_form(alloc, form_of(text), file, text, out)
+    let mut told = Vec::new(alloc);
+    let faulty = check_form(alloc, form_of(text), file, text, &mut told)?;
+    Ok((told, faulty))
+}
+
+/// Appends lines that tell the faults of a file of this name, and the warnings of what has none, and tells whether it
+/// has a fault. A line of a faulty file may be without one, and is looked at by itself. Where memory runs out, nothing
+/// is appended.
+pub fn check(alloc: Global, file: &[u8], text: &[u8], out: &mut Vec<u8>) -> Result<bool, AllocError>
+    ensures told { IfOk result (λ faulty. (told : List ℕ) × Tells file.now text.now told faulty
+        × (out.new.items ≡ out.old.items ++ told)) }
+    ensures silent { OnErr result (out.new.items ≡ out.old.items) }
+{
+    let (told, faulty) = told_of_text(alloc, file, text)?;
+    out.extend_from_slice(&told)?;
+    Ok(faulty)
 }

@@ -7,8 +7,8 @@ ghost use Rattle.ic_check.specs.Content.{Content};
 ghost use Rattle.ic_check.specs.Files.{LooksOver, LooksOverFront, LooksOverPart, TellsAs, TellsContent, content_of};
 ghost use Rattle.ic_check.specs.inner.Verdicts.{WritesPart, content_by, verdict_by, worse};
 
-use crate::checking::check;
-use crate::lines::check_script;
+use crate::checking::told_of_text;
+use crate::lines::told_of_script;
 use crate::objects::objects;
 use ic_causes::shown_path;
 use ic_output::write_flushed;
@@ -202,13 +202,11 @@ fn told_lines(
     ensures { IfOk result (λ told.
         TellsContent file.now (content_by is_script text.now) told.0.items told.1) }
 {
-    let mut lines = Vec::new(alloc);
-    let is_faulty = if is_script {
-        check_script(alloc, file, text, &mut lines)?
+    if is_script {
+        told_of_script(alloc, file, text)
     } else {
-        check(alloc, file, text, &mut lines)?
-    };
-    Ok((lines, is_faulty))
+        told_of_text(alloc, file, text)
+    }
 }
 
 /// Writes lines and flushes them.

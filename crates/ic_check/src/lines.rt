@@ -1,6 +1,6 @@
 //! Looking over lines, each by itself.
 
-ghost use Rattle.std.specs.Prelude.{◌≡◌, ◌<◌, ◌≤◌, ◌∷◌, ◌++◌, ℕ, List, IfOk, IfSome, OnOk, length};
+ghost use Rattle.std.specs.Prelude.{◌≡◌, ◌<◌, ◌≤◌, ◌∷◌, ◌++◌, ℕ, List, IfOk, IfSome, OnErr, OnOk, length};
 ghost use Rattle.ic_lines.specs.Lines.{lines};
 ghost use Rattle.ic_check.specs.Checking.{TellsEach, TellsLine, WarnsOf};
 ghost use Rattle.ic_check.specs.Scripts.{TellsOne, TellsScript, TellsScriptLine, run_place};
@@ -48,7 +48,7 @@ fn put_asked(alloc: Global, place: &[u8], asked: &Line, out: &mut Vec<u8>) -> Re
 }
 
 /// Appends what is told of the line of this number, and tells whether it has a fault.
-pub fn check_line(
+fn put_line(
     alloc: Global,
     file: &[u8],
     number: usize,
@@ -72,6 +72,26 @@ pub fn check_line(
             Ok(true)
         }
     }
+}
+
+/// Appends what is told of the line of this number, and tells whether it has a fault. Where memory runs out, nothing is
+/// appended.
+pub fn check_line(
+    alloc: Global,
+    file: &[u8],
+    number: usize,
+    line: &[u8],
+    out: &mut Vec<u8>,
+) -> Result<bool, AllocError>
+    ensures told { IfOk result (λ faulty. (told : List ℕ)
+        × TellsLine file.now number line.now told faulty
+        × (out.new.items ≡ out.old.items ++ told)) }
+    ensures silent { OnErr result (out.new.items ≡ out.old.items) }
+{
+    let mut told = Vec::new(alloc);
+    let faulty = put_line(alloc, file, number, line, &mut told)?;
+    out.extend_from_slice(&told)?;
+    Ok(faulty)
 }
 
 /// How many blanks a line begins with.
@@ -100,9 +120,8 @@ fn run_place(line: &[u8]) -> Option<usize>
     }
 }
 
-/// Appends what is told of the line of this number of a script, and tells whether it has a fault. A run has one: scripts
-/// hold commands alone.
-pub fn check_script_line(
+/// Appends what is told of the line of this number of a script, and tells whether it has a fault.
+fn put_script_line(
     alloc: Global,
     file: &[u8],
     number: usize,
@@ -119,8 +138,28 @@ pub fn check_script_line(
             put_placed(alloc, file, before, line, at, TextFault::Syntax, RUN, out)?;
             Ok(true)
         }
-        None => check_line(alloc, file, number, line, out),
+        None => put_line(alloc, file, number, line, out),
     }
+}
+
+/// Appends what is told of the line of this number of a script, and tells whether it has a fault. A run has one: scripts
+/// hold commands alone. Where memory runs out, nothing is appended.
+pub fn check_script_line(
+    alloc: Global,
+    file: &[u8],
+    number: usize,
+    line: &[u8],
+    out: &mut Vec<u8>,
+) -> Result<bool, AllocError>
+    ensures told { IfOk result (λ faulty. (told : List ℕ)
+        × TellsScriptLine file.now number line.now told faulty
+        × (out.new.items ≡ out.old.items ++ told)) }
+    ensures silent { OnErr result (out.new.items ≡ out.old.items) }
+{
+    let mut told = Vec::new(alloc);
+    let faulty = put_script_line(alloc, file, number, line, &mut told)?;
+    out.extend_from_slice(&told)?;
+    Ok(faulty)
 }
 
 /// Appends what is told of a line of this number, of a script or of a file for a server.
@@ -137,23 +176,41 @@ fn check_one(
         × (out.new.items ≡ out.old.items ++ told)) }
 {
     if in_script {
-        check_script_line(alloc, file, number, line, out)
+        put_script_line(alloc, file, number, line, out)
     } else {
-        check_line(alloc, file, number, line, out)
+        put_line(alloc, file, number, line, out)
     }
 }
 
-/// Appends what is told of the lines of a script, and tells whether one has a fault.
+/// What is told of the lines of a script, and whether one has a fault.
+pub(crate) fn told_of_script(
+    alloc: Global,
+    file: &[u8],
+    text: &[u8],
+) -> Result<(Vec<u8>, bool), AllocError>
+    ensures { IfOk result (λ told. TellsScript file.now text.now told.0.items told.1) }
+{
+    let mut told = Vec::new(alloc);
+    let faulty = check_lines(alloc, true, file, text, &mut told)?;
+    Ok((told, faulty))
+}
+
+/// Appends what is told of the lines of a script, and tells whether one has a fault. Where memory runs out, nothing is
+/// appended.
 pub fn check_script(
     alloc: Global,
     file: &[u8],
     text: &[u8],
     out: &mut Vec<u8>,
 ) -> Result<bool, AllocError>
-    ensures { IfOk result (λ faulty. (told : List ℕ) × TellsScript file.now text.now told faulty
+    ensures told { IfOk result (λ faulty. (told : List ℕ)
+        × TellsScript file.now text.now told faulty
         × (out.new.items ≡ out.old.items ++ told)) }
+    ensures silent { OnErr result (out.new.items ≡ out.old.items) }
 {
-    check_lines(alloc, true, file, text, out)
+    let (told, faulty) = told_of_script(alloc, file, text)?;
+    out.extend_from_slice(&told)?;
+    Ok(faulty)
 }
 
 /// Appends what is told of the lines of a text, a script or none, and tells whether one has a fault.

@@ -1,6 +1,6 @@
 //! Telling a session of its lines that are refused.
 
-ghost use Rattle.std.specs.Prelude.{◌≡◌, ◌+◌, ◌++◌, ◌<◌, ◌≤◌, ◌^◌, ℕ, List, IfOk, OnOk, length};
+ghost use Rattle.std.specs.Prelude.{◌≡◌, ◌+◌, ◌++◌, ◌<◌, ◌≤◌, ◌^◌, ℕ, List, IfOk, OnErr, OnOk, length};
 ghost use Rattle.ic_lines.specs.Lines.{lines};
 ghost use Rattle.ic_check.specs.Sessions.{TellsRefusal, TellsRefusals, asks_end, asks_help, column_text, refusal_line, session_sentence};
 
@@ -115,10 +115,9 @@ fn tell_line(alloc: Global, number: u64, line: &[u8], out: &mut Vec<u8>) -> Resu
     Ok(())
 }
 
-/// Appends for each line of a text that a server refuses, the first of which has this number, where it is refused and
-/// what is amiss there. Where `help` or `?` stands in place of a command, the lines that there are are told, and where
-/// `quit` or `exit` does, how a session ends. Answers the number of the line after them.
-pub fn tell_refusals(
+/// Appends what is told of the lines of a text, the first of which has this number, and answers the number of the line
+/// after them.
+fn put_refusals(
     alloc: Global,
     number: u64,
     text: &[u8],
@@ -137,5 +136,27 @@ pub fn tell_refusals(
         next += 1;
         rest = more;
     }
+    Ok(next)
+}
+
+/// Appends for each line of a text that a server refuses, the first of which has this number, where it is refused and
+/// what is amiss there. Where `help` or `?` stands in place of a command, the lines that there are are told, and where
+/// `quit` or `exit` does, how a session ends. Answers the number of the line after them. Where memory runs out, nothing
+/// is appended.
+pub fn tell_refusals(
+    alloc: Global,
+    number: u64,
+    text: &[u8],
+    out: &mut Vec<u8>,
+) -> Result<u64, AllocError>
+    requires { number + length text.now < 2 ^ 64 }
+    ensures told { OnOk result ((told : List ℕ) × TellsRefusals number (lines text.now) told
+        × (out.new.items ≡ out.old.items ++ told)) }
+    ensures next { IfOk result (λ next. next ≡ number + length (lines text.now)) }
+    ensures silent { OnErr result (out.new.items ≡ out.old.items) }
+{
+    let mut told = Vec::new(alloc);
+    let next = put_refusals(alloc, number, text, &mut told)?;
+    out.extend_from_slice(&told)?;
     Ok(next)
 }

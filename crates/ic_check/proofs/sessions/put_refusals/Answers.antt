@@ -2,7 +2,7 @@ use Rattle.std.proofs.Common.{◌≡◌, ◌+◌, ◌++◌, ◌∙◌, List, ℕ
 use Rattle.ic_lines.specs.Lines.{lines}
 use Rattle.ic_check.proofs.Split.{empty}
 use Rattle.ic_check.proofs.Refused.{refusal_more, refusals_end}
-use Rattle.ic_check.proofs.sessions.tell_refusals.Goals as goal
+use Rattle.ic_check.proofs.sessions.put_refusals.Goals as goal
 
 pub loop-rest-preserved : goal.loop-rest-preserved
 loop-rest-preserved c =

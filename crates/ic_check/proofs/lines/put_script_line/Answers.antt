@@ -3,7 +3,7 @@ use Rattle.ic_text.specs.declared.fault.TextFault.TheVariants.{Syntax}
 use Rattle.ic_check.specs.Scripts.{run_sentence}
 use Rattle.ic_check.specs.Telling.{placed_line}
 use Rattle.ic_check.proofs.Told.{run_told}
-use Rattle.ic_check.proofs.lines.check_script_line.Goals as goal
+use Rattle.ic_check.proofs.lines.put_script_line.Goals as goal
 
 pub returns-in_ok-put_placed-in-Some : goal.returns-in_ok-put_placed-in-Some
 returns-in_ok-put_placed-in-Some c =

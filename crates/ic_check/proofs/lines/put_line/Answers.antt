@@ -1,6 +1,6 @@
 use Rattle.std.proofs.Common.{rules}
 use Rattle.ic_check.proofs.Told.{line_told}
-use Rattle.ic_check.proofs.lines.check_line.Goals as goal
+use Rattle.ic_check.proofs.lines.put_line.Goals as goal
 
 pub returns-in_ok-put_line_fault-in-Err : goal.returns-in_ok-put_line_fault-in-Err
 returns-in_ok-put_line_fault-in-Err c =

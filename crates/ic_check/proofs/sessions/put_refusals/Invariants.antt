@@ -1,7 +1,7 @@
 use Rattle.std.proofs.Common.{◌≡◌, ◌≤◌, ◌++◌, ◌+◌, List, ℕ, length}
 use Rattle.ic_lines.specs.Lines.{lines}
 use Rattle.ic_check.proofs.Refused.{RefusalsGoOn}
-use Rattle.ic_check.proofs.sessions.tell_refusals.Given as goal
+use Rattle.ic_check.proofs.sessions.put_refusals.Given as goal
 
 -- what is told so far, and whatever is told of what is left, is told of the whole
 abbrev pub invariant-loop-rest : goal.invariant-loop-rest
