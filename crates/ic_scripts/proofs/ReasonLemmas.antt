@@ -17,13 +17,14 @@ use Rattle.ic_book.specs.declared.fault.BookFault.TheVariants.{Broken, LogFull, 
 use Rattle.ic_book.specs.Book.{disk_of, start_of, log_of, table_of, kept_of, is_broken}
 use Rattle.ic_book.specs.Calls.{BreaksOrStays, KeepsAll, TellsWorn}
 use Rattle.ic_book.specs.Kept.{IsHistory, IsOnDisk, table_kept}
-use Rattle.ic_book.specs.Server.{Closes}
+use Rattle.ic_book.specs.Moves.{closes, keep_move}
+use Rattle.ic_book.specs.Server.{Closes, Step, down, up}
 use Rattle.ic_attend.specs.declared.fault.AttendFault.{AttendFault}
 use Rattle.ic_attend.specs.declared.fault.AttendFault.TheVariants as attending
 use Rattle.ic_attend.specs.Faults.{IfUnopened, IfUnbegun, IfStopped, IfTorn, IsUnopened, IsAsOpened, IsStopped, IsTorn}
 use Rattle.ic_scripts.specs.Attending.{HasTable}
 use Rattle.ic_scripts.specs.Outcome.{disk_left, fault_of_attendance}
-use Rattle.ic_scripts.specs.Reasons.{KeepTells, SaysWhy}
+use Rattle.ic_scripts.specs.Reasons.{IsKeptAndClosed, KeepTells, SaysWhy}
 
 pub keeps_same : (c : Option (List ℕ)) → Keeps c c
 keeps_same None = tt
@@ -69,16 +70,24 @@ pub kept_closed : {T D : Type 0} {ghosts : Ghosts D} (result : Result T BookFaul
     → (IsTrue (ghosts.keeps (disk_of new))
     → IsOnDisk (ghosts.content (disk_of new)) (ghosts.image (disk_of new)) (start_of new) (log_of new) (kept_of new) (is_broken new))
     → Closes new disk → OnOk result (IsTrue (ghosts.keeps disk) → HasTable ghosts (table_of old) disk)
-kept_closed (Err fault) old new disk all kept history on_disk closes = tt
-kept_closed {D = D} {ghosts = g} (Ok done) old new disk all kept history on_disk closes = λ keeps.
-    let is = on_disk (subst (λ (d : D). IsTrue (g.keeps d)) closes.same keeps) in
+kept_closed (Err fault) old new disk all kept history on_disk close = tt
+kept_closed {D = D} {ghosts = g} (Ok done) old new disk all kept history on_disk close = λ keeps.
+    let is = on_disk (subst (λ (d : D). IsTrue (g.keeps d)) close.same keeps) in
     let table : table_kept (start_of new) (log_of new) (kept_of new) ≡ table_of old =
     ap (λ (k : ℕ). replay (start_of new) (take k (log_of new))) kept
     ∙ ap (λ (es : List Entry). replay (start_of new) es) (take_all (length (log_of new)) (log_of new) (omega arith))
     ∙ history.replayed ∙ all.table in
     record {
-      held = subst (λ (d : D). IsHeld (the_table (table_of old)) (g.content d)) (sym closes.same)
+      held = subst (λ (d : D). IsHeld (the_table (table_of old)) (g.content d)) (sym close.same)
           (subst (λ (t : List JobParts). IsHeld (the_table t) (g.content (disk_of new))) table (is.held all.ready));
-      images = subst (λ (d : D). Within (g.image d) (IsHeld (the_table (table_of old)))) (sym closes.same)
+      images = subst (λ (d : D). Within (g.image d) (IsHeld (the_table (table_of old)))) (sym close.same)
           (subst (λ (t : List JobParts). Within (g.image (disk_of new)) (IsHeld (the_table t))) table (is.holds all.ready));
     }
+
+-- a keep and a closing are two moves, and a keep that makes no call leaves the keeper as it was
+pub kept_and_closed : {T D : Type 0} {ghosts : Ghosts D} (result : Result T BookFault) (old new : Book D ghosts) (disk : D)
+    → Step (keep_move result) (up old) (up new) → BreaksOrStays result old new → Step closes (up new) (down disk) → IsKeptAndClosed old result disk
+kept_and_closed result old new disk kept fault close = record {
+  run = (up new, (up old, refl, kept), close);
+  untouched = λ failed other. close.same ∙ ap keeper.disk_of (fault.refused failed other).same_keeper;
+}

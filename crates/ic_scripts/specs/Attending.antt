@@ -14,7 +14,7 @@ use Rattle.ic_attend.specs.declared.attended.ClientRun.{ClientRun}
 use Rattle.ic_attend.specs.Ends.{EndsTell}
 use Rattle.ic_attend.specs.OneHistory.{IsOneHistory}
 use Rattle.ic_scripts.specs.Outcome.{IsFirstOf, faults_of}
-use Rattle.ic_scripts.specs.Reasons.{KeepTells, SaysWhy}
+use Rattle.ic_scripts.specs.Reasons.{IsKeptAndClosed, KeepTells, SaysWhy}
 use Rattle.ic_scripts.specs.Telling.{WritesFront, told}
 use Rattle.ic_scripts.specs.declared.fault.ScriptsFault.{ScriptsFault}
 use Rattle.ic_scripts.specs.declared.fault.ScriptsFault.TheVariants.{Memory, Write}
@@ -53,12 +53,14 @@ pub record HasTable {D : Type 0} (ghosts : Ghosts D) (table : List JobParts) (di
 
 -- The faults are those of the clients, of the runners and of the keep after them. The keep ended as
 -- the book that they left has it, and on the disk that it left a call more is counted as failed
--- exactly where it was `Device`. At its Ok this disk has the table of the book.
+-- exactly where it was `Device`. Nothing else was done to the book but to close it. At the keep's Ok
+-- this disk has the table of the book.
 pub record IsTold {T D : Type 0} {ghosts : Ghosts D} (a : Attended D ghosts) (left : D)
     (result : Result T ScriptsFault) (old new : Option (List ℕ)) : Type 0 where
   pub kept : Result (Unit {0}) BookFault
   pub bears : KeepTells a.book kept
   pub counted : CountsBook kept (ghosts.failures (disk_of a.book)) (ghosts.failures left)
+  pub closed : IsKeptAndClosed a.book kept left
   pub held : OnOk kept (IsTrue (ghosts.keeps left) → HasTable ghosts (table_of a.book) left)
   pub told : IsToldOf a.answers.items (faults_of a.answers.items a.ends.items kept) result old new
 

@@ -1,5 +1,6 @@
--- Why scripts have no history, and what a keep after a history says (this project's choice).
-use Rattle.std.specs.Prelude.{◌≡◌, ◌≢◌, ℕ, ◌-◌, ◌^◌, ◌<◌, List, true, false, length, Result, Ok, Err}
+-- Why scripts have no history, and what a keep after a history says and leaves (this project's
+-- choice).
+use Rattle.std.specs.Prelude.{◌≡◌, ◌≢◌, ℕ, ◌-◌, ◌^◌, ◌<◌, List, [], ◌∷◌, true, false, length, Result, Ok, Err, IsErr, IsErrOf}
 use Rattle.ic_disk.specs.declared.disk.Disk.{Ghosts}
 use Rattle.ic_frames.specs.declared.faults.OpenFault.{OpenFault}
 use Rattle.ic_jobs.specs.declared.command.Command.{Command}
@@ -7,6 +8,8 @@ use Rattle.ic_book.specs.declared.book.Book.{Book}
 use Rattle.ic_book.specs.declared.fault.BookFault.{BookFault}
 use Rattle.ic_book.specs.declared.fault.BookFault.TheVariants as of_book
 use Rattle.ic_book.specs.Book.{disk_of, log_of, kept_of, is_broken, number_of}
+use Rattle.ic_book.specs.Moves.{closes, keep_move}
+use Rattle.ic_book.specs.Server.{Runs, down, up}
 use Rattle.ic_attend.specs.declared.attended.Attended.{Attended}
 use Rattle.ic_attend.specs.Faults.{IsAsOpened, IsStopped, IsTorn, IsUnopened}
 use Rattle.ic_scripts.specs.declared.fault.ScriptsFault.{ScriptsFault}
@@ -49,3 +52,12 @@ KeepTells book (Err of_book.LogFull) = ⊥
 KeepTells book (Err of_book.Worn) = WantsKeep book × (number_of book ≡ 2 ^ 64 - 1)
 KeepTells book (Err of_book.Memory) = ⊥
 KeepTells book (Err of_book.Device) = WantsKeep book × (number_of book ≢ 2 ^ 64 - 1)
+
+-- The book is kept, with this answer, and closed, and this disk is left. These are moves of a
+-- server: a stop in the keep, on a made disk, leaves the table that was kept before, or the one after
+-- all entries, and so does a keep that fails. One that is refused without a call leaves the disk as
+-- it was.
+pub record IsKeptAndClosed {T D : Type 0} {ghosts : Ghosts D} (book : Book D ghosts)
+    (kept : Result T BookFault) (left : D) : Type 0 where
+  pub run : Runs (closes ∷ keep_move kept ∷ []) (up book) (down left)
+  pub untouched : IsErr kept → ¬ IsErrOf kept of_book.Device → left ≡ disk_of book

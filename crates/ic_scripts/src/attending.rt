@@ -4,7 +4,7 @@ ghost use Rattle.std.specs.Prelude.{◌≡◌, map, vec_items, OnOk, IsTrue};
 ghost use Rattle.ic_book.specs.Book.{disk_of, table_of};
 ghost use Rattle.ic_book.specs.Refusals.{CountsBook};
 ghost use Rattle.ic_scripts.specs.Attending.{HasTable, IsAttended, IsTold};
-ghost use Rattle.ic_scripts.specs.Reasons.{KeepTells};
+ghost use Rattle.ic_scripts.specs.Reasons.{IsKeptAndClosed, KeepTells};
 
 use crate::ends::outcome;
 use crate::fault::{ScriptsFault, without_history};
@@ -34,8 +34,9 @@ pub fn attend_scripts<R: Threads + Wait + Sync, D: Disk + Send, G: Gate, W: Writ
 ) -> (D, Result<(), ScriptsFault>)
     // The answers that are written are those of one legal history of these scripts' clients, which
     // goes on from the table that the disk held. Unless the keep after it fails, the disk holds the
-    // table that this history leaves. A fault is one that the history or the keep has, or one of
-    // writing, or says why there is no history. Then the disk is the one that `attend` left.
+    // table that this history leaves. Where it fails, or is stopped at any moment, a made disk holds
+    // that table or the one that was kept before. A fault is one that the history or the keep has, or
+    // one of writing, or says why there is no history. Then the disk is the one that `attend` left.
     ensures { IsAttended D.Disk disk (map vec_items scripts.items) runners turns workers
         result.0 result.1 (W.contents writer.old) (W.contents writer.new) }
 {
@@ -74,6 +75,7 @@ fn keep_and_close<D: Disk>(mut book: Book<D>) -> (Result<(), BookFault>, D)
     ensures tells { KeepTells book result.0 }
     ensures counted { CountsBook result.0
         (D.failures (disk_of book)) (D.failures result.1) }
+    ensures closed { IsKeptAndClosed book result.0 result.1 }
     ensures held { OnOk result.0 (IsTrue (D.keeps result.1)
         → HasTable D.Disk (table_of book) result.1) }
 {
