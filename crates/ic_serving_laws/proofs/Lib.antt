@@ -4,3 +4,4 @@ pub mod ServingLemmas
 pub mod WordLemmas
 pub mod ToldLemmas
 pub mod KeepLemmas
+pub mod FrontLemmas

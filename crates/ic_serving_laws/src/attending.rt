@@ -14,11 +14,15 @@ ghost use Rattle.ic_jobs.specs.History.{replay};
 ghost use Rattle.ic_jobs.specs.Landing.{due};
 ghost use Rattle.ic_slots.specs.Held.{IsHeld, the_table};
 ghost use Rattle.ic_slots.specs.Opening.{Says};
+ghost use Rattle.ic_book.specs.declared.fault.BookFault.{BookFault};
 ghost use Rattle.ic_book.specs.declared.fault.BookFault.TheVariants.{Broken, LogFull, Worn, Device};
 ghost use Rattle.ic_book.specs.declared.fault.BookFault.TheVariants as of_book;
 ghost use Rattle.ic_book.specs.declared.limits.TheConstants.{MAX_ENTRIES};
 ghost use Rattle.ic_book.specs.Book.{disk_of, start_of, log_of, table_of, kept_of, is_broken, number_of};
+ghost use Rattle.ic_book.specs.ByCalls.{IsOnMadeDisk};
 ghost use Rattle.ic_book.specs.Entries.{is_round};
+ghost use Rattle.ic_book.specs.Moves.{keep_move, stops};
+ghost use Rattle.ic_book.specs.Server.{IsFound, Step, down, up};
 ghost use Rattle.ic_attend.specs.declared.attended.ClientRun.{ClientRun};
 ghost use Rattle.ic_attend.specs.declared.attended.RunnerEnd.TheVariants.{Idle, Turns, Book as by_book};
 ghost use Rattle.ic_attend.specs.Clients.{Follows, KeepsTo};
@@ -31,7 +35,7 @@ ghost use Rattle.ic_scripts.specs.Attending.{HasHistory, IsAttended, IsTold, IsT
 ghost use Rattle.ic_scripts.specs.Outcome.{faults_of};
 ghost use Rattle.ic_scripts.specs.Reasons.{KeepTells, SaysWhy};
 ghost use Rattle.ic_scripts.specs.Telling.{WritesFront, told};
-ghost use Rattle.ic_serving_laws.specs.Attending.{AttendedOver};
+ghost use Rattle.ic_serving_laws.specs.Attending.{AttendedOver, HoldsFrontOf};
 ghost use Rattle.ic_serving_laws.specs.Served.{BookOver};
 
 use ic_attend::Attended;
@@ -232,4 +236,30 @@ pub fn the_keep_after_scripts_is_refused_so<D: Disk>(book: &Book<D>)
         × ¬ KeepTells {T = Unit {0}} book.now (Err of_book.Memory) }
 {
     let _ = book;
+}
+
+/// A stop at any moment of the keep after scripts leaves a made disk with the table after a front of
+/// their history that has all that was kept before it. So does a keep that fails, and reads of the disk
+/// that is handed back give this table. Such a stop is a step of a server. A keep that is refused
+/// without a call leaves the disk as it was. A book that is closed with no keep leaves such a table too.
+pub fn the_keep_after_scripts_leaves_a_front<D: Disk>(attended: &Attended<D>, left: &D)
+    ensures crash { (result : Result (Unit {0}) ScriptsFault) (old new : Option (List ℕ))
+        → IsTold attended.now left.now result old new → IsOnMadeDisk attended.now.book
+        → LeavesOnly D.clock D.left (disk_of attended.now.book) left.now
+        (HoldsFrontOf attended.now.book) }
+    ensures reads { (result : Result (Unit {0}) ScriptsFault) (old new : Option (List ℕ))
+        → IsTold attended.now left.now result old new → IsOnMadeDisk attended.now.book
+        → HoldsFrontOf attended.now.book (D.content left.now) }
+    ensures stopped { (result : Result (Unit {0}) ScriptsFault) (old new : Option (List ℕ))
+        (found : D) (is : IsTold attended.now left.now result old new)
+        → IsFound D.Disk (disk_of attended.now.book) left.now found
+        → Step {ghosts = D.Disk} (stops (keep_move is.kept)) (up attended.now.book) (down found) }
+    ensures untouched { (result : Result (Unit {0}) ScriptsFault) (old new : Option (List ℕ))
+        (fault : BookFault) (is : IsTold attended.now left.now result old new)
+        → is.kept ≡ Err fault → fault ≢ Device → left.now ≡ disk_of attended.now.book }
+    ensures unkept { left.now ≡ disk_of attended.now.book → IsOnMadeDisk attended.now.book
+        → Within (D.image left.now) (HoldsFrontOf attended.now.book) }
+{
+    let _ = left;
+    attended.book.facts();
 }

@@ -1,4 +1,4 @@
-use Rattle.std.proofs.Common.{[], ◌∷◌, Ok, Err, refl, sym, subst, ◌∙◌, append-nil}
+use Rattle.std.proofs.Common.{[], ◌∷◌, Ok, Err, sym, subst, ◌∙◌, append-nil}
 use Rattle.ic_commands.specs.declared.line.Line.TheVariants.{Blank, Run, Command as Asks}
 use Rattle.ic_lines.specs.Answers.{answer}
 use Rattle.ic_book.specs.Book.{table_of}

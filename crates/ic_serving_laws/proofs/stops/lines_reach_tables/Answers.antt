@@ -1,4 +1,4 @@
-use Rattle.std.proofs.Common.{◌≡◌, ℕ, ◌<◌, ◌≤◌, List, [], ◌∷◌, ◌++◌, length, refl, sym, ap, subst, ◌∙◌, arith, append-nil}
+use Rattle.std.proofs.Common.{◌≡◌, ℕ, ◌<◌, List, [], ◌∷◌, ◌++◌, length, refl, sym, subst, ◌∙◌, arith, append-nil}
 use Rattle.ic_jobs.specs.Job.{JobParts}
 use Rattle.ic_lines.specs.Answers.{Reading, events, after}
 use Rattle.ic_lines.specs.Serving.{AreRead, IsServed}
