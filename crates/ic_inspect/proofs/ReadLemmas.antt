@@ -1,10 +1,11 @@
 -- What was taken of a reader is what it had first.
-use Rattle.std.proofs.Common.{◌≡◌, ⊎_elim, ℕ, ◌<◌, ◌≤◌, Bool, List, [], ◌++◌, Option, None, Some, ◌+◌, length, take, sym, ap, subst, ◌∙◌, append-nil, arith}
+use Rattle.std.proofs.Common.{◌≡◌, ⊎_elim, ℕ, ◌<◌, ◌≤◌, Bool, List, [], ◌++◌, Option, None, Some, ◌+◌, length, take, sym, ap, subst, ◌∙◌, append-nil, arith, length-append}
+use Rattle.std.proofs.KnownBytes.{Consumes-trans}
 use Rattle.std.proofs.lemmas.List.{length-take-le, take_all, take-append-le}
 use Rattle.std.proofs.lemmas.Bool.{cases_lt}
 use Rattle.std.specs.Io.KnownBytes.{Consumes, IsAtEnd}
 use Rattle.ic_frames.specs.declared.frame.TheConstants.{HEAD}
-use Rattle.ic_inspect.specs.Slots.{HasHead, HasOtherHead, IsFrontOf, IsSlotOf, body_room, is_one_file}
+use Rattle.ic_inspect.specs.Slots.{HasHead, HasOtherHead, IsFrontOf, IsSlotOf, TakesAtMost, body_room, is_one_file}
 use Rattle.ic_inspect.proofs.SlotLemmas.{no_room, room_of_head, take-append-add}
 
 -- these bytes are taken, which are all there are or as many as are read
@@ -65,3 +66,12 @@ front_of n bytes old new takes = ⊎_elim
     (λ fewer. at_end n old new bytes takes.0 takes.1 (takes.2 fewer))
     (λ full. at_limit n old new bytes takes.0 (omega (arith, takes.1, full)))
     (cases_lt (length bytes) n)
+
+-- ---- how many bytes are taken
+
+pub taken_more : (n : ℕ) (a b c : Option (List ℕ)) (xs ys : List ℕ) → Consumes a b xs → Consumes b c ys → length xs + length ys ≤ n → TakesAtMost n a c
+taken_more n a b c xs ys p q bound = (xs ++ ys, Consumes-trans a b c xs ys p q, rw length-append bound)
+
+-- two reads, one after the other
+pub taken_both : (m k n : ℕ) (a b c : Option (List ℕ)) → m + k ≤ n → TakesAtMost m a b → TakesAtMost k b c → TakesAtMost n a c
+taken_both m k n a b c few p q = taken_more n a b c p.0 q.0 p.1 q.1 (omega (arith, few, p.2, q.2))

@@ -1,5 +1,6 @@
 -- What is read of the two slots of a file (this project's choice).
-use Rattle.std.specs.Prelude.{◌≡◌, ◌⊎◌, ℕ, ◌+◌, List, [], ◌∷◌, ◌++◌, Bool, true, false, ◌&&◌, Option, None, Some, length, nat_le, take, if◌then◌else◌}
+use Rattle.std.specs.Prelude.{◌≡◌, ◌⊎◌, ◌≤◌, ℕ, ◌+◌, List, [], ◌∷◌, ◌++◌, Bool, true, false, ◌&&◌, Option, None, Some, length, nat_le, take, if◌then◌else◌}
+use Rattle.std.specs.Io.KnownBytes.{Consumes}
 use Rattle.ic_disk.specs.Content.{filled_to}
 use Rattle.ic_frames.specs.declared.frame.TheConstants.{HEAD, MAX_BODY}
 use Rattle.ic_frames.specs.declared.slot.TheConstants.{SECOND_AT}
@@ -30,6 +31,10 @@ is_one_file first (b ∷ bs) = nat_le (HEAD + body_room first) (length first)
 abbrev pub IsFrontOf : ℕ → List ℕ → Option (List ℕ) → Type 0
 IsFrontOf n bytes None = Unit {0}
 IsFrontOf n bytes (Some all) = bytes ≡ take n all
+
+-- no more than so many bytes are taken from a reader
+abbrev pub TakesAtMost : ℕ → Option (List ℕ) → Option (List ℕ) → Type 0
+TakesAtMost n old new = (bytes : List ℕ) × Consumes old new bytes × (length bytes ≤ n)
 
 -- this was read of a slot, from the place of which on a reader has its bytes
 abbrev pub IsSlotOf : List ℕ → Option (List ℕ) → Type 0

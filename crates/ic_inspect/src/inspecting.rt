@@ -4,7 +4,8 @@ ghost use Rattle.std.specs.Prelude.{◌≡◌, ◌≢◌, [], true, IfOk, IfErr,
 ghost use Rattle.std.specs.Io.KnownBytes.{Appends, Keeps};
 ghost use Rattle.ic_output.specs.Output.{AppendsFront};
 ghost use Rattle.ic_inspect.specs.Inspecting.{Tells, WritesTold, WritesToldPart, told_as};
-ghost use Rattle.ic_inspect.specs.Slots.{HasHead, HaveChanged, file_of, is_one_file};
+ghost use Rattle.ic_frames.specs.declared.frame.TheConstants.{HEAD};
+ghost use Rattle.ic_inspect.specs.Slots.{HasHead, HaveChanged, TakesAtMost, file_of, is_one_file};
 
 use crate::fault::InspectFault;
 use crate::looking::see;
@@ -57,6 +58,9 @@ pub fn inspect<R: Read, S: Read, W: Write>(
     ensures same_at_cut { IfErr result (λ fault. fault ≡ InspectFault.Write
         → HasHead slots.now.first.items (R.remaining first.old)
         × HasHead slots.now.second.items (S.remaining second.old)) }
+    // Of each slot no more is read again than its head.
+    ensures first_few { TakesAtMost HEAD (R.remaining first.old) (R.remaining first.new) }
+    ensures second_few { TakesAtMost HEAD (S.remaining second.old) (S.remaining second.new) }
 {
     read_again(alloc, slots, first, second)?;
     let lines = told(alloc, layout, slots)?;

@@ -1,10 +1,10 @@
 //! Reading the slots of a file.
 
-ghost use Rattle.std.specs.Prelude.{◌≡◌, ◌≢◌, ◌⊎◌, true, take, IfOk, IfErr, OnOk};
+ghost use Rattle.std.specs.Prelude.{◌≡◌, ◌≢◌, ◌⊎◌, ◌+◌, true, take, IfOk, IfErr, OnOk};
 ghost use Rattle.std.specs.Io.KnownBytes.{Consumes};
 ghost use Rattle.std.specs.Str.{bytes_eq};
-ghost use Rattle.ic_frames.specs.declared.frame.TheConstants.{HEAD};
-ghost use Rattle.ic_inspect.specs.Slots.{HasHead, HasOtherHead, HaveChanged, IsFrontOf, IsSlotOf, is_one_file};
+ghost use Rattle.ic_frames.specs.declared.frame.TheConstants.{HEAD, MAX_BODY};
+ghost use Rattle.ic_inspect.specs.Slots.{HasHead, HasOtherHead, HaveChanged, IsFrontOf, IsSlotOf, TakesAtMost, is_one_file};
 
 use crate::fault::InspectFault;
 use crate::looking::body_room;
@@ -27,6 +27,7 @@ fn read_front<R: Read>(alloc: Global, limit: usize, reader: &mut R) -> Result<Ve
     ensures front { IfOk result (λ front. IsFrontOf limit front.items (R.remaining reader.old)) }
     ensures taken { IfOk result (λ front.
         Consumes (R.remaining reader.old) (R.remaining reader.new) front.items) }
+    ensures few { TakesAtMost limit (R.remaining reader.old) (R.remaining reader.new) }
     ensures sort { IfErr result
         (λ fault. (fault ≡ InspectFault.Read) ⊎ (fault ≡ InspectFault.Memory)) }
 {
@@ -50,6 +51,9 @@ fn read_front<R: Read>(alloc: Global, limit: usize, reader: &mut R) -> Result<Ve
 /// Reads a slot whose bytes the reader has from its place on: its head, and then its body, unless that is too long.
 fn read_slot<R: Read>(alloc: Global, reader: &mut R) -> Result<Vec<u8>, InspectFault>
     ensures slot { IfOk result (λ slot. IsSlotOf slot.items (R.remaining reader.old)) }
+    ensures taken { IfOk result (λ slot.
+        Consumes (R.remaining reader.old) (R.remaining reader.new) slot.items) }
+    ensures few { TakesAtMost (HEAD + MAX_BODY) (R.remaining reader.old) (R.remaining reader.new) }
     ensures sort { IfErr result
         (λ fault. (fault ≡ InspectFault.Read) ⊎ (fault ≡ InspectFault.Memory)) }
 {
@@ -71,6 +75,15 @@ pub fn read_slots<R: Read, S: Read>(
         (λ slots. IsSlotOf slots.first.items (R.remaining first.old)) }
     ensures second { IfOk result
         (λ slots. IsSlotOf slots.second.items (S.remaining second.old)) }
+    // At Ok these bytes are taken, and whatever the answer no more than a slot has.
+    ensures first_taken { IfOk result (λ slots.
+        Consumes (R.remaining first.old) (R.remaining first.new) slots.first.items) }
+    ensures second_taken { IfOk result (λ slots.
+        Consumes (S.remaining second.old) (S.remaining second.new) slots.second.items) }
+    ensures first_few { TakesAtMost (HEAD + MAX_BODY)
+        (R.remaining first.old) (R.remaining first.new) }
+    ensures second_few { TakesAtMost (HEAD + MAX_BODY)
+        (S.remaining second.old) (S.remaining second.new) }
     ensures sort { IfErr result
         (λ fault. (fault ≡ InspectFault.Read) ⊎ (fault ≡ InspectFault.Memory)) }
 {
@@ -94,6 +107,8 @@ pub(crate) fn read_again<R: Read, S: Read>(
     ensures changed { IfErr result (λ fault. fault ≡ InspectFault.Changed
         → HaveChanged slots.now.first.items slots.now.second.items
         (R.remaining first.old) (S.remaining second.old)) }
+    ensures first_few { TakesAtMost HEAD (R.remaining first.old) (R.remaining first.new) }
+    ensures second_few { TakesAtMost HEAD (S.remaining second.old) (S.remaining second.new) }
     ensures sort { IfErr result (λ fault. fault ≢ InspectFault.Write) }
 {
     head_again(alloc, &slots.first, first)?;
@@ -116,6 +131,7 @@ fn head_again<R: Read>(alloc: Global, slot: &[u8], again: &mut R) -> Result<(), 
     ensures same { OnOk result (HasHead slot.now (R.remaining again.old)) }
     ensures changed { IfErr result (λ fault. fault ≡ InspectFault.Changed
         → HasOtherHead slot.now (R.remaining again.old)) }
+    ensures few { TakesAtMost HEAD (R.remaining again.old) (R.remaining again.new) }
     ensures sort { IfErr result (λ fault. fault ≢ InspectFault.Write) }
 {
     let later = read_front(alloc, HEAD, again)?;
