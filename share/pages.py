@@ -52,7 +52,7 @@ class Help:
 
 
 # What else `help` tells of, beside the words.
-TOLD_OF = "language"
+TOLD_OF = ("language", "keep")
 
 
 def said(program, *words):
@@ -101,7 +101,8 @@ def manual(version, top, words, told):
         page += [f'.SH "ICSERVE {word.upper()}"', f".B {roff(one.usage)}", ".PP", roff(one.about) + "."]
         page += items((re.sub(r"[\[\]<>]", "", name), says) for name, says in one.arguments)
         page += options_of(one) + shown(one.more)
-    page += [f".SH {TOLD_OF.upper()}", *shown(told.rstrip("\n"))]
+    for topic, text in told.items():
+        page += [f".SH {topic.upper()}", *shown(text.rstrip("\n"))]
     return "\n".join(page + [".SH EXAMPLE"] + shown(top.more)) + "\n"
 
 
@@ -112,7 +113,7 @@ def bash(top, words):
     cases = []
     for word, one in words.items():
         flags = " ".join(it for option in one.options for it in (option.short, option.long) if it)
-        files, others = ("yes" if one.takes_files() else ""), (f'"$words {TOLD_OF}"' if word == "help" else "")
+        files, others = ("yes" if one.takes_files() else ""), (f'"$words {" ".join(TOLD_OF)}"' if word == "help" else "")
         cases.append(f'    {word}) flags="{flags}" files={files} others={others} ;;')
     before = []
     for word, option in ((word, it) for word, one in words.items() for it in one.options if it.value):
@@ -172,7 +173,7 @@ def zsh(top, words):
     lines += ["        _arguments " + " ".join(spec(it) for it in top.options), "        return", "    fi", "    local word=$words[2]"]
     lines += ["    shift words", "    (( CURRENT-- ))", "    case $word in"]
     for word, one in words.items():
-        rest = ["'*:file:_files'"] if one.takes_files() else ["'1:word:(" + " ".join([*words, TOLD_OF]) + ")'"] if word == "help" else []
+        rest = ["'*:file:_files'"] if one.takes_files() else ["'1:word:(" + " ".join([*words, *TOLD_OF]) + ")'"] if word == "help" else []
         lines += [f"        {word})", "            _arguments " + " \\\n                ".join([spec(it) for it in one.options] + rest), "            ;;"]
     return "\n".join(lines + ["    esac", "}", "", '_icserve "$@"', ""])
 
@@ -197,7 +198,7 @@ def fish(top, words):
         if one.takes_files():
             lines.append(f"complete -c icserve -n '{condition}' -F")
         if word == "help":
-            lines.append(f"complete -c icserve -n '{condition}' -a '{' '.join([*words, TOLD_OF])}'")
+            lines.append(f"complete -c icserve -n '{condition}' -a '{' '.join([*words, *TOLD_OF])}'")
     return "\n".join(lines) + "\n"
 
 
@@ -209,7 +210,7 @@ def main(program, prefix):
     top, words = helps_of(program)
     version = said(program, "--version").strip()
     made = {
-        "man/man1/icserve.1": manual(version, top, words, said(program, "help", TOLD_OF)),
+        "man/man1/icserve.1": manual(version, top, words, {it: said(program, "help", it) for it in TOLD_OF}),
         "bash-completion/completions/icserve": bash(top, words),
         "zsh/site-functions/_icserve": zsh(top, words),
         "fish/vendor_completions.d/icserve.fish": fish(top, words),

@@ -10,13 +10,13 @@ import sys
 from program import IN_MEMORY, PROGRAM, TOP, Trial, run
 from test_pages import typed_in
 
-LANGUAGE = ("language",)
+TOPICS = (("language",), ("keep",))
 WORDS = "settle once create serve attend reduce trace draw dump inspect check batch expand help".split()
 
 
 def help_of(*words):
-    """What the program prints as its help, as that of a word, or of the language."""
-    return run(*(("help", *words) if words == LANGUAGE else (*words, "--help"))).out.decode()
+    """What the program prints as its help, as that of a word, of the language or of keeps."""
+    return run(*(("help", *words) if words in TOPICS else (*words, "--help"))).out.decode()
 
 
 class Install(Trial):
@@ -88,6 +88,7 @@ class Install(Trial):
         self.equals("icserve create --disk su", "what is offered", ["sum.ic"], self.completed("create", "--disk", "su"))
         self.equals("icserve help re", "what is offered", ["reduce"], self.completed("help", "re"))
         self.equals("icserve help l", "what is offered", ["language"], self.completed("help", "l"))
+        self.equals("icserve help k", "what is offered", ["keep"], self.completed("help", "k"))
 
     def test_the_page_is_rendered_without_a_warning(self):
         for words in (["groff", "-man", "-Tutf8", "-ww", "-z"], ["mandoc", "-T", "lint", "-W", "warning"]):
@@ -100,6 +101,7 @@ class Install(Trial):
             if b"minimized" not in ran.out:
                 self.equals(ran.command, "whether it tells of two and two", True, b"<S(S(S(S(Z))))|>" in ran.out)
                 self.equals(ran.command, "whether it tells the language", True, b"a name that stands once is free" in ran.out)
+                self.equals(ran.command, "whether it tells of keeps", True, b"F and F.2 belong together" in ran.out)
 
 
 class Helps(Trial):
@@ -119,7 +121,7 @@ class Helps(Trial):
         self.equals(ran.command, "how it ends", (2, b"", help_of().encode()), (ran.status, ran.out, ran.err))
 
     def test_lines_of_helps_fit_a_terminal_but_for_those_with_great_numbers(self):
-        for words in ((), LANGUAGE, *((word,) for word in WORDS)):
+        for words in ((), *TOPICS, *((word,) for word in WORDS)):
             long = [line for line in help_of(*words).split("\n") if len(line) > 105 and "46116860184273879" not in line]
             self.equals(f"icserve {' '.join(words)} --help", "lines of more than 105 columns", [], long)
 
@@ -127,7 +129,7 @@ class Helps(Trial):
         (self.room / "bin").mkdir()
         (self.room / "bin/icserve").symlink_to(PROGRAM)
         path = {**os.environ, "PATH": f"{self.room}/bin:{os.environ['PATH']}"}
-        for number, words in enumerate(((), LANGUAGE, *((word,) for word in WORDS if word != "help"))):
+        for number, words in enumerate(((), *TOPICS, *((word,) for word in WORDS if word != "help"))):
             text = help_of(*words)
             block = text[text.index("Example") :].rstrip("\n").split("\n")[1:]
             room = self.room / str(number)

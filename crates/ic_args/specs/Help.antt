@@ -2,7 +2,7 @@
 use Rattle.std.specs.Prelude.{◌≡◌, ◌+◌, ◌*◌, ◌%◌, ℕ, List, [], ◌∷◌, codes, bytes_eq, find, fold, Option, None, Some, option_map, unwrap_or, length, take, drop}
 use Rattle.clap.specs.Words.{Text}
 use Rattle.ic_args.specs.declared.help.TheConstants.{ATTEND, BATCH, CHECK, CREATE, DRAW, DUMP, EXPAND, HELP}
-use Rattle.ic_args.specs.declared.help.TheConstants.{INSPECT, LANGUAGE, ONCE, PROGRAM, REDUCE, SERVE, SETTLE, TRACE}
+use Rattle.ic_args.specs.declared.help.TheConstants.{INSPECT, KEEP, LANGUAGE, ONCE, PROGRAM, REDUCE, SERVE, SETTLE, TRACE}
 
 abbrev pub program_help : Text
 program_help = PROGRAM.now
@@ -52,13 +52,17 @@ help_help = HELP.now
 abbrev pub language_help : Text
 language_help = LANGUAGE.now
 
--- the help of each command, and of the language
+abbrev pub keep_help : Text
+keep_help = KEEP.now
+
+-- the help of each command, of the language and of keeps
 abbrev pub helps : List (Text × Text)
 helps = (codes "settle", settle_help) ∷ (codes "once", once_help) ∷ (codes "create", create_help)
     ∷ (codes "serve", serve_help) ∷ (codes "attend", attend_help) ∷ (codes "reduce", reduce_help)
     ∷ (codes "trace", trace_help) ∷ (codes "draw", draw_help) ∷ (codes "dump", dump_help)
     ∷ (codes "inspect", inspect_help) ∷ (codes "check", check_help) ∷ (codes "batch", batch_help)
-    ∷ (codes "expand", expand_help) ∷ (codes "help", help_help) ∷ (codes "language", language_help) ∷ []
+    ∷ (codes "expand", expand_help) ∷ (codes "help", help_help) ∷ (codes "language", language_help)
+    ∷ (codes "keep", keep_help) ∷ []
 
 -- the help of the command of this name, none where it names none
 abbrev pub named_help : Text → Option Text

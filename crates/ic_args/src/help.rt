@@ -28,7 +28,8 @@ To run jobs, which outlive a crash:
   inspect  Tells what the file F holds, which a server may have open
 
 To read on:
-  help     Shows this help, or that of a command: icserve help language tells the language
+  help     Shows this help, or that of a command
+icserve help language tells how texts are written, and icserve help keep how a reduction is kept.
 The repository's docs/ say more, and its film shows a net round by round.
 
 Options:
@@ -173,11 +174,11 @@ Options:
       --limits <L>       The text's limits: those of a job (served) or wide ones (wide) [default: wide]
       --partial          Print the configuration too where the net, a round or memory ends it
       --quiet-answer     Print no configuration, where only figures or the exit status are wanted
-      --stats            Tell how many interactions were made, and how fast
+      --stats            Tell how many interactions were made, by each rule too, and how fast
       --format <FORMAT>  How --stats tells it: lines (lines) or a JSON object (json) [default: lines]
       --keep <F>         Keep what is reached in the new files F and F.2 now and then, and at the end
       --resume <F>       Go on with what is kept in F and F.2, and keep it there
-      --seconds <N>      About how long it goes on between two keeps, from 1 to 86400 [default: 30]
+      --seconds <N>      Keep after about N seconds and 2^22 interactions, from 1 to 86400 [default: 30]
       --rounds <N>       Make rounds, and at most so many, from 0 to 4611686018427387904
       --workers <N>      Threads, from 1 to 64 [default: processors, 1 with --steps, 2 with --rounds]
   -h, --help             Print help
@@ -187,10 +188,12 @@ Beside --rounds only --workers and --partial may stand,
 and beside --keep and --resume, with which one thread reduces, no --limits or --workers.
 Without --workers and --steps as many threads reduce as the process may use processors, at most 64.
 Several may leave the same equations in another order and with other names each time.
+Compare the seconds of --stats with those of --workers 1 to see whether several were faster.
 Without --stats, --format changes nothing.
 What --nodes bounds is looked at every 4096 interactions, and less often where several threads
 reduce, so there may be more by then.
 If two agents are left that have no rule, the first pair is told: icserve: stuck A><B
+A rule that --stats doesn't name never fired; an agent inside another term meets nothing.
 
 Exit statuses:
   0  no step is possible
@@ -205,6 +208,7 @@ icserve help language tells how a text is written. It has at most 65536 symbols,
 and nodes, and 8589934592 bytes.
 With --rounds, as in jobs and other commands, it has at most 64 symbols, 256 rules, 8192 nodes,
 262144 bytes, and 64 terms before |.
+icserve help keep tells how a reduction is kept, and goes on after a stop.
 
 Example:
   $ echo '{Add(x,x)><Z; Add(S(x),y)><S(Add(x,y))} <r|Add(r,S(Z))=S(Z)>' > sum.ic
@@ -234,6 +238,31 @@ writes rules that copy and erase. icserve help reduce tells how large a text may
 
 Example:
   $ echo '{Add(x,x)><Z; Add(S(x),y)><S(Add(x,y))} <r|Add(r,S(Z))=S(Z)>' | icserve reduce
+  <S(S(Z))|>
+";
+
+/// What `help keep` shows.
+pub(crate) const KEEP: &str = "\
+Tells how a reduction is kept, so that it goes on after a stop
+
+The commands:
+  icserve reduce --keep F FILE   begins it, and keeps what is reached in the new files F and F.2
+  icserve reduce --resume F      goes on with what is kept there, and reads no text
+  icserve inspect --disk F       tells what is kept, also while a reduction goes on
+
+A stop at any moment loses what was done since the last keep. Keeps come after about as many
+seconds as --seconds says, and 4194304 interactions at least, so later on a slow machine. The end
+is kept too, and --resume prints the answer again. --steps counts the interactions of all runs.
+F and F.2 belong together: move or copy both, while neither is open, and give the name F.
+After a stop in the very first keep mostly nothing is kept: remove both files, and begin again.
+If one of them is lost, head -c 17 /dev/zero >LOST makes it anew. Then --resume goes on with what
+the other one holds: the last keep or the one before, if a keep into that one has ended.
+
+Example:
+  $ echo '{Add(x,x)><Z; Add(S(x),y)><S(Add(x,y))} <r|Add(r,S(Z))=S(Z)>' > sum.ic
+  $ icserve reduce --keep sum.keep sum.ic
+  <S(S(Z))|>
+  $ icserve reduce --resume sum.keep
   <S(S(Z))|>
 ";
 
@@ -400,7 +429,7 @@ Shows the help of a command, or of the program
 Usage: icserve help [WORD]
 
 Arguments:
-  [WORD]  The command, or language; where there is none, the program's help is shown
+  [WORD]  The command, language or keep; where there is none, the program's help is shown
 
 Options:
   -h, --help  Print help
@@ -447,7 +476,7 @@ pub(crate) fn has_help(word: Option<&str>) -> bool
     }
 }
 
-/// The help of the command of this name, none where it names none. The word `language` has one, too.
+/// The help of the command of this name, none where it names none. The words `language` and `keep` have one, too.
 fn named_help(word: &str) -> Option<&'static str>
     ensures { option_map (λ text. text.now) result ≡ named_help word.now }
 {
@@ -467,6 +496,7 @@ fn named_help(word: &str) -> Option<&'static str>
         "expand" => Some(EXPAND),
         "help" => Some(HELP),
         "language" => Some(LANGUAGE),
+        "keep" => Some(KEEP),
         _ => None,
     }
 }

@@ -17,7 +17,7 @@ ghost use Rattle.ic_args.specs.declared.words.FiguresFormat.{FiguresFormat};
 ghost use Rattle.ic_args.specs.declared.words.WordsFault.TheVariants.{Words, Memory};
 ghost use Rattle.ic_args.specs.Words.{AnswersWords, figures_word, format_word, limits_word, help_asked, mistakes_of, words_fault_number, IsDecimal, Names, report_word, commands, text_word, text_words};
 ghost use Rattle.ic_args.specs.Help.{help_by, help_of, helps, Says, digest, program_help, help_help, create_help, serve_help, attend_help};
-ghost use Rattle.ic_args.specs.Help.{batch_help, check_help, dump_help, inspect_help, reduce_help, trace_help};
+ghost use Rattle.ic_args.specs.Help.{batch_help, check_help, dump_help, inspect_help, keep_help, language_help, reduce_help, trace_help};
 ghost use Rattle.ic_args.specs.Lines.{AreInPlace, AreOfRounds, Given, HasNoHyphen, IsAttendLine, IsBatchLine, IsCheckLine, IsCreateLine, IsDumpLine};
 ghost use Rattle.ic_args.specs.Lines.{IsInspectLine, IsReduceLine, IsServeLine, IsTextLine, IsTraceLine};
 
@@ -77,6 +77,10 @@ pub fn help_and_version_are_asked()
     ensures word { mistakes_of (codes "help" ∷ []) ≡ DisplayHelp ∷ [] }
     ensures words { map (λ name. mistakes_of (codes "help" ∷ name ∷ [])) commands
         ≡ map (λ name. DisplayHelp ∷ []) commands }
+    ensures topics { map (λ name. mistakes_of (codes "help" ∷ name ∷ []))
+        (codes "language" ∷ codes "keep" ∷ []) ≡ (DisplayHelp ∷ []) ∷ (DisplayHelp ∷ []) ∷ [] }
+    ensures topics_asked { map (λ name. help_asked (codes "help" ∷ name ∷ []))
+        (codes "language" ∷ codes "keep" ∷ []) ≡ language_help ∷ keep_help ∷ [] }
     ensures asked { map (λ name. help_asked (codes "help" ∷ name ∷ [])) commands
         ≡ map (λ name. help_of (name ∷ [])) commands }
     ensures whole { help_asked (codes "help" ∷ []) ≡ program_help }
@@ -140,14 +144,14 @@ pub fn each_command_has_its_help()
 /// The digest of each help, so that no byte of a help is another one, and none is missing or added, unless its number
 /// here is another one too.
 pub fn each_help_has_its_digest()
-    ensures program { digest program_help ≡ 2193908877286253835 }
+    ensures program { digest program_help ≡ 666129612443401343 }
     ensures commands { map {B = Text × ℕ} (λ p. (p.0, digest p.1)) helps
         ≡ (codes "settle", 931219200271934001)
         ∷ (codes "once", 1394801555228910466)
         ∷ (codes "create", 1291611657193787632)
         ∷ (codes "serve", 929575633331203873)
         ∷ (codes "attend", 1668646222601145556)
-        ∷ (codes "reduce", 210551545449908613)
+        ∷ (codes "reduce", 1013376821851478269)
         ∷ (codes "trace", 799278808976956339)
         ∷ (codes "draw", 2041493995027470377)
         ∷ (codes "dump", 932412384161095633)
@@ -155,8 +159,9 @@ pub fn each_help_has_its_digest()
         ∷ (codes "check", 1077786187809080752)
         ∷ (codes "batch", 2076966897777228702)
         ∷ (codes "expand", 1377817142407763554)
-        ∷ (codes "help", 1627113604630027952)
+        ∷ (codes "help", 432805027625040180)
         ∷ (codes "language", 2291029144940344194)
+        ∷ (codes "keep", 546445077730567613)
         ∷ [] }
 {}
 

@@ -7,7 +7,7 @@ pub returns-clause-program : goal.returns-clause-program
 returns-clause-program c = λ word words others. ap (λ o. unwrap_or o program_help) (no_help_named word others)
 
 pub returns-clause-named : goal.returns-clause-named
-returns-clause-named c = λ words. (refl, (refl, (refl, (refl, (refl, (refl, (refl, (refl, (refl, (refl, (refl, (refl, (refl, (refl, (refl, tt)))))))))))))))
+returns-clause-named c = λ words. (refl, (refl, (refl, (refl, (refl, (refl, (refl, (refl, (refl, (refl, (refl, (refl, (refl, (refl, (refl, (refl, tt))))))))))))))))
 
 pub returns-clause-commands : goal.returns-clause-commands
 returns-clause-commands c = ((703, refl), ((745, refl), ((819, refl), ((140, refl), ((218, refl), ((1002, refl), ((1078, refl), ((498, refl), ((910, refl), ((1160, refl), ((430, refl), ((373, refl), ((287, refl), ((584, refl), tt))))))))))))))
@@ -16,16 +16,16 @@ pub returns-clause-streams : goal.returns-clause-streams
 returns-clause-streams c = ((90, refl), ((65, refl), ((70, refl), ((100, refl), tt))))
 
 pub returns-clause-options : goal.returns-clause-options
-returns-clause-options c = ((1337, refl), ((1365, refl), tt))
+returns-clause-options c = ((1393, refl), ((1421, refl), tt))
 
 pub returns-clause-words : goal.returns-clause-words
 returns-clause-words c = ((106, refl), (96, refl), (55, refl))
 
 pub returns-clause-rounds : goal.returns-clause-rounds
-returns-clause-rounds c = ((81, refl), ((1261, refl), ((1314, refl), ((1350, refl), ((1378, refl), tt)))))
+returns-clause-rounds c = ((81, refl), ((1284, refl), ((1337, refl), ((1373, refl), ((1401, refl), tt)))))
 
 pub returns-clause-in_place : goal.returns-clause-in_place
-returns-clause-in_place c = ((223, refl), ((282, refl), ((349, refl), ((447, refl), ((608, refl), ((800, refl), ((504, refl), ((557, refl), ((579, refl), ((586, refl), ((876, refl), ((923, refl), ((948, refl), ((1903, refl), ((955, refl), ((702, refl), ((978, refl), ((1080, refl), ((1161, refl), ((1225, refl), tt))))))))))))))))))))
+returns-clause-in_place c = ((223, refl), ((282, refl), ((349, refl), ((447, refl), ((608, refl), ((800, refl), ((504, refl), ((557, refl), ((579, refl), ((586, refl), ((894, refl), ((941, refl), ((966, refl), ((2019, refl), ((973, refl), ((702, refl), ((996, refl), ((1098, refl), ((1179, refl), ((1248, refl), tt))))))))))))))))))))
 
 pub returns-clause-formats : goal.returns-clause-formats
 returns-clause-formats c = ((72, refl), ((213, refl), ((266, refl), ((321, refl), ((358, refl), ((375, refl), ((397, refl), ((404, refl), tt))))))))
