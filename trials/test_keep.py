@@ -61,7 +61,14 @@ def torn(draw, old, new):
 
 def second_missing(path):
     """What is told of a file of a reduction whose second file isn't there."""
-    return f"{path}: it can't be resumed without its second file, {path}.2: bring that back, or name the first file if this is the second one"
+    what = f"{path}: it can't be resumed without its second file, {path}.2"
+    return f"{what}: bring that back, or name the first file if this is the second one; if that is lost, `head -c 17 /dev/zero > F.2` makes it anew"
+
+
+def first_missing(path):
+    """What is told of a file that isn't there, where the second file of its reduction is."""
+    what = f"{path}: its second file, {path}.2, holds a reduction: bring the first one back"
+    return f"{what}; if it is lost, `head -c 17 /dev/zero > F` makes it anew, and `icserve reduce --resume F` goes on"
 
 
 def turned(state):
@@ -160,6 +167,25 @@ class Keep(Stops):
             told = f"{path}.2: open: no such file or folder\n{second_missing(path)}\n"
             self.equals(ran.command, "the end", (3, b"icserve: device\n", told), (ran.status, ran.err, ran.after.decode()))
             self.second.unlink(missing_ok=True)
+
+    def test_a_second_file_is_told_of_where_the_first_is_lost(self):
+        run("reduce", "--keep", self.file, "--steps", 9, given=ackermann(2))
+        run("reduce", "--resume", self.file, "--steps", 30)
+        second = self.second.read_bytes()
+        told = f"{self.file}: open: no such file or folder\n"
+        for content in (second, b"\0" + second[1:], bytes(HEAD), b"text", b"", None):
+            self.clear()
+            if content is not None:
+                self.second.write_bytes(content)
+            more = f"{first_missing(self.file)}\n" if content == second else ""
+            for words in (["inspect", "--disk"], ["reduce", "--resume"]):
+                ran = run(*words, self.file)
+                self.equals(ran.command, "the end", (3, b"icserve: device\n", told + more), (ran.status, ran.err, ran.after.decode()))
+            self.equals(self.file, "what the files hold", [None, content], self.contents())
+        # It is as is told.
+        self.second.write_bytes(second)
+        self.file.write_bytes(bytes(HEAD))
+        self.agree(run("reduce", "--resume", self.file, *FIGURES), self.whole(ackermann(2)))
 
     def test_a_file_that_is_lost_is_made_anew(self):
         run("reduce", "--keep", self.file, "--steps", 9, given=ackermann(2))

@@ -5,7 +5,7 @@ ghost use Rattle.std.specs.Prelude.{◌≡◌, IfOk};
 ghost use Rattle.ic_exits.specs.After.{book_lines, create_lines, ends_without_reader, is_of_writing, is_silent, lines_after, open_lines, scripts_lines};
 ghost use Rattle.ic_exits.specs.After.{batch_lines, input_lines, inspect_lines, nodes_words, overgrown_lines, reached_lines, reached_text, round_lines};
 ghost use Rattle.ic_exits.specs.After.{around_second, disk_lines, finds_no_second, found_lines, keep_lines, kept_lines};
-ghost use Rattle.ic_exits.specs.After.{no_second, not_as_kept};
+ghost use Rattle.ic_exits.specs.After.{no_first, no_second, not_as_kept};
 ghost use Rattle.ic_exits.specs.After.{serve_lines, shown_of, stream_lines, taken_words};
 
 use crate::{Failure, Reached};
@@ -406,7 +406,21 @@ pub fn second_missing(alloc: Global, path: &[u8]) -> Result<Vec<u8>, AllocError>
         alloc,
         path,
         b"it can't be resumed without its second file, ",
-        b": bring that back, or name the first file if this is the second one",
+        b": bring that back, or name the first file if this is the second one; \
+if that is lost, `head -c 17 /dev/zero > F.2` makes it anew",
+    )
+}
+
+/// The line that says of the file of this path, which isn't there, that the second file of its reduction is.
+pub fn first_missing(alloc: Global, path: &[u8]) -> Result<Vec<u8>, AllocError>
+    ensures { IfOk result (λ line. line.items ≡ shown_of path.now (no_first path.now)) }
+{
+    said_of_both(
+        alloc,
+        path,
+        b"its second file, ",
+        b", holds a reduction: bring the first one back; if it is lost, \
+`head -c 17 /dev/zero > F` makes it anew, and `icserve reduce --resume F` goes on",
     )
 }
 

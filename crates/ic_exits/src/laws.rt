@@ -46,7 +46,7 @@ ghost use Rattle.ic_batch.specs.declared.fault.Difference.TheVariants as differe
 ghost use Rattle.ic_causes.specs.declared.cause.FileCall.{FileCall};
 ghost use Rattle.ic_causes.specs.declared.cause.Reason.TheVariants as reason;
 ghost use Rattle.ic_exits.specs.Endings.{status_of, check_ending, failure_line, failure_of_dump, idle_line, opening_failure, reduce_ending, stuck_line};
-ghost use Rattle.ic_exits.specs.After.{is_silent, lines_after};
+ghost use Rattle.ic_exits.specs.After.{is_silent, lines_after, no_first, shown_of};
 ghost use Rattle.ic_exits.specs.JobLines.{refused_job_line};
 ghost use Rattle.ic_exits.specs.Others.{lines_or_other};
 ghost use Rattle.ic_exits.specs.declared.others.Other.{Other};
@@ -321,8 +321,12 @@ pub fn endings_of_kept_reductions_are()
           reason = reason.Missing;
         })) ++ shown_path path ++ codes ": "
         ++ codes "it can't be resumed without its second file, " ++ shown_path path
-        ++ codes ".2: bring that back, or name the first file if this is the second one"
-        ++ 10 ∷ [] }
+        ++ codes ".2: bring that back, or name the first file if this is the second one; "
+        ++ codes "if that is lost, `head -c 17 /dev/zero > F.2` makes it anew" ++ 10 ∷ [] }
+    ensures no_first_file { (path : List ℕ) → shown_of path (no_first path) ≡ shown_path path
+        ++ codes ": " ++ codes "its second file, " ++ shown_path path ++ codes ".2, holds a reduction: "
+        ++ codes "bring the first one back; if it is lost, `head -c 17 /dev/zero > F` makes it anew, "
+        ++ codes "and `icserve reduce --resume F` goes on" ++ 10 ∷ [] }
 {}
 
 /// Nothing is told where answers can't be written since nobody reads standard output any more. Of all else something is.

@@ -9,7 +9,7 @@ mod job_lines;
 pub mod laws;
 mod others;
 
-pub use after::second_missing;
+pub use after::{first_missing, second_missing};
 pub use failure::{
     Failure, Reached, check_ending, idle_line, opening_failure, reduce_ending, stuck_line,
 };

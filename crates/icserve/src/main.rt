@@ -23,7 +23,7 @@ mod texts;
 use crate::answers::Answers;
 use crate::input::{Input, open_text, told_of};
 use crate::keeping::KeptIn;
-use crate::others::other_at;
+use crate::others::{has_second, other_at};
 use crate::reducing::{Wanted, threads_for};
 use crate::session::Session;
 use crate::standing::stand_ins;
@@ -31,10 +31,10 @@ use crate::standstill::tell_of_jobs;
 use ic_args::{Task, TextLimits, TextWord, WordsFault, read_words};
 use ic_book::{Book, BookFault, OpenCause, OpenFault};
 use ic_by_rounds::Workers;
-use ic_causes::{NotedFile, NotedFiles, NotedInput, NotedOutput, Notes, Target};
+use ic_causes::{Cause, NotedFile, NotedFiles, NotedInput, NotedOutput, Notes, Reason, Target};
 use ic_diagnostics::{once_telling, settle_telling};
 use ic_disk::{Disk, DiskFault, FileDisk};
-use ic_exits::{Failure, opening_failure};
+use ic_exits::{Failure, first_missing, opening_failure};
 use ic_in_place::{Asked, Bounds};
 use ic_jobs::Command;
 use ic_pool::Gate;
@@ -721,7 +721,22 @@ fn tell_failure(
     if let Ok(lines) = failure.lines_or_other(rt.alloc(), path.as_bytes(), notes.last(), other) {
         tell(rt, &lines);
     }
+    if finds_no_file(failure, notes.last()) && has_second(rt, path) {
+        if let Ok(line) = first_missing(rt.alloc(), path.as_bytes()) {
+            tell(rt, &line);
+        }
+    }
     Ok(())
+}
+
+/// Whether a failure is that a file isn't there, as the call tells that has failed last.
+fn finds_no_file(failure: &Failure, cause: Option<Cause>) -> bool {
+    match (failure, cause) {
+        (Failure::Disk(_), Some(cause)) => {
+            cause.target == Target::File && cause.reason == Reason::Missing
+        }
+        _ => false,
+    }
 }
 
 /// Whether a failure is that a file was taken for a disk, and isn't made or opened as one.

@@ -13,14 +13,30 @@ const FRONT: u64 = 25;
 /// What the file of this path is, where that is known and it is no disk.
 pub(crate) fn other_at(rt: &HostRuntime, path: &str) -> Option<Other> {
     let front = front_of(rt, path)?;
-    let form = FORMAT.to_be_bytes();
-    if front.ends_with(form.as_slice()) && front.len() as u64 == FRONT {
+    if is_of_reduction(&front) {
         Some(Other::Reduction)
     } else if !front.is_empty() && front.iter().all(|byte| is_of_texts(*byte)) {
         Some(Other::Text)
     } else {
         None
     }
+}
+
+/// Whether the second file of a reduction whose first file has this path is there, and a keep into it has ended.
+pub(crate) fn has_second(rt: &HostRuntime, path: &str) -> bool {
+    let Ok(second) = format!(in rt.alloc(); "{path}.2") else {
+        return false;
+    };
+    match front_of(rt, second.as_str()) {
+        Some(front) => is_of_reduction(&front) && front.starts_with(&[1]),
+        None => false,
+    }
+}
+
+/// Whether a file that begins with these bytes keeps a reduction.
+fn is_of_reduction(front: &[u8]) -> bool {
+    let form = FORMAT.to_be_bytes();
+    front.ends_with(form.as_slice()) && front.len() as u64 == FRONT
 }
 
 /// The bytes with which the file of this path begins, or none where it can't be read.
