@@ -30,6 +30,7 @@ ghost use Rattle.ic_frames.specs.Staged.{IsStaged};
 ghost use Rattle.ic_slots.specs.Held.{Held, IsHeld, the_table, no_slot, two_alike, damaged};
 ghost use Rattle.ic_inspect.specs.declared.fault.InspectFault.{InspectFault};
 ghost use Rattle.ic_inspect.specs.declared.inspecting.Layout.{Layout};
+ghost use Rattle.ic_inspect.specs.declared.inspecting.Layout.TheVariants.{Objects, Words};
 ghost use Rattle.ic_inspect.specs.declared.seen.Body.TheVariants.{TooLong, CutShort, NoTable, Holds};
 ghost use Rattle.ic_inspect.specs.declared.seen.Seen.{Seen};
 ghost use Rattle.ic_inspect.specs.Seeing.{IsSeen};
@@ -40,7 +41,7 @@ ghost use Rattle.ic_inspect.specs.Objects.{body_field, halt_field, held_objects,
 ghost use Rattle.ic_inspect.specs.Held.{as_newest, held_of, newest_of};
 ghost use Rattle.ic_inspect.specs.Report.{active_pairs, counts_text, job_line, line, newest_text, report, slot_line, stuck_part, table_lines, told_held, halt_text, why_text};
 ghost use Rattle.ic_inspect.specs.Moments.{AreHeadsRead, AreSlotsRead, IsServed, IsServerStep, IsReadTwice, IsReadTwiceBetween, IsWholeNewest};
-ghost use Rattle.ic_inspect.specs.Inspecting.{Tells, WritesTold, all_inspect_faults, inspect_fault_number, told_as};
+ghost use Rattle.ic_inspect.specs.Inspecting.{Tells, WritesTold, WritesToldPart, all_inspect_faults, inspect_fault_number, told_as};
 ghost use Rattle.ic_inspect.specs.Slots.{file_of, is_one_file, slot_read, HaveChanged};
 
 use crate::fault::InspectFault;
@@ -231,6 +232,56 @@ pub fn pairs_with_a_rule_are_counted()
     ensures inert { (rs : List Rule) (c d : Configuration) (e : Pair)
         → c.equations ≡ e ∷ d.equations → ¬ IsSome (rule_of_sides rs e.left e.right)
         → active_pairs rs c ≡ active_pairs rs d }
+{}
+
+/// Files by hand, and what is seen and told of them. The first one has an open gate, the number 258, the length 3 and two
+/// bytes of a body. The gate of the other one is closed, and its body would be longer than a body may be. Both end within
+/// their first slot.
+pub fn files_by_hand()
+    ensures cut_short { (seen : Option Seen) → IsSeen First seen
+        (1 ∷ 0 ∷ 0 ∷ 0 ∷ 0 ∷ 0 ∷ 0 ∷ 1 ∷ 2 ∷ 0 ∷ 0 ∷ 0 ∷ 3 ∷ 5 ∷ 6 ∷ [])
+        → seen ≡ Some (record { opened = true; number = 258; size = 3; body = CutShort }) }
+    ensures words { (lines : List ℕ) → Tells Words
+        (1 ∷ 0 ∷ 0 ∷ 0 ∷ 0 ∷ 0 ∷ 0 ∷ 1 ∷ 2 ∷ 0 ∷ 0 ∷ 0 ∷ 3 ∷ 5 ∷ 6 ∷ []) lines
+        → lines ≡ codes "slot 1: open, number 258, body 3, cut short\n"
+        ++ codes "slot 2: cut off\nheld: damaged\n" }
+    ensures objects { (lines : List ℕ) → Tells Objects
+        (1 ∷ 0 ∷ 0 ∷ 0 ∷ 0 ∷ 0 ∷ 0 ∷ 1 ∷ 2 ∷ 0 ∷ 0 ∷ 0 ∷ 3 ∷ 5 ∷ 6 ∷ []) lines
+        → lines ≡ codes "{\"slot\":1,\"state\":\"open\",\"number\":258,\"size\":3,"
+        ++ codes "\"body\":\"cut short\"}\n{\"slot\":2,\"state\":\"cut off\"}\n"
+        ++ codes "{\"held\":\"damaged\"}\n" }
+    ensures too_long { (seen : Option Seen) → IsSeen First seen
+        (0 ∷ 0 ∷ 0 ∷ 0 ∷ 0 ∷ 0 ∷ 0 ∷ 0 ∷ 1 ∷ 255 ∷ 255 ∷ 255 ∷ 255 ∷ [])
+        → seen ≡ Some (record { opened = false; number = 1; size = 4294967295; body = TooLong }) }
+{}
+
+/// Slots by hand, of which the first or the second one has the job `two`: they are told in their order, then which of them
+/// is held, and then its jobs.
+pub fn slots_by_hand()
+    ensures first { told_as Words
+        (Some (record { opened = true; number = 7; size = 90; body = Holds (one_plus_one ∷ []) }))
+        (Some (record { opened = true; number = 6; size = 8; body = NoTable }))
+        ≡ codes "slot 1: open, number 7, body 90, a table\n"
+        ++ codes "slot 2: open, number 6, body 8, no table\n"
+        ++ codes "held: slot 1\ntwo: running, rounds 0, nodes 7, active pairs 1\n" }
+    ensures second { told_as Objects None
+        (Some (record { opened = true; number = 7; size = 90; body = Holds (one_plus_one ∷ []) }))
+        ≡ codes "{\"slot\":1,\"state\":\"cut off\"}\n"
+        ++ codes "{\"slot\":2,\"state\":\"open\",\"number\":7,\"size\":90,\"body\":\"a table\"}\n"
+        ++ codes "{\"held\":\"slot 2\"}\n{\"job\":\"two\",\"state\":\"running\",\"rounds\":0,"
+        ++ codes "\"nodes\":7,\"active_pairs\":1}\n" }
+{}
+
+/// The lines that tell of a file stand after what was written before, all of them, or a front of them where the writer has
+/// failed.
+pub fn what_is_written_is_told()
+    ensures all { (layout : Layout) (file before : List ℕ) (new : Option (List ℕ))
+        → WritesTold layout file (Some before) new
+        → (lines : List ℕ) × Tells layout file lines × (new ≡ Some (before ++ lines)) }
+    ensures front { (layout : Layout) (file before : List ℕ) (new : Option (List ℕ))
+        → WritesToldPart layout file (Some before) new
+        → (sent unsent : List ℕ) × Tells layout file (sent ++ unsent)
+        × (new ≡ Some (before ++ sent)) }
 {}
 
 /// What is read of the two slots of a file may be of one file, and what is seen of that is seen of the file. So are its
