@@ -269,8 +269,10 @@ pub fn kept_lines_are_taken()
         ∷ (codes "--rounds=1" ∷ []) ∷ (codes "--workers=2" ∷ []) ∷ [])
         ≡ (ArgumentConflict ∷ []) ∷ (ArgumentConflict ∷ []) ∷ (ArgumentConflict ∷ [])
         ∷ (ArgumentConflict ∷ []) ∷ (ArgumentConflict ∷ []) ∷ [] }
-    ensures limits { mistakes_of (codes "reduce" ∷ codes "--keep=f" ∷ codes "--limits=served" ∷ [])
-        ≡ ArgumentConflict ∷ [] }
+    ensures kept_clash { map (λ more. mistakes_of (codes "reduce" ∷ codes "--keep=f" ∷ more))
+        ((codes "--limits=served" ∷ []) ∷ (codes "--workers=4" ∷ [])
+        ∷ (codes "--rounds=1" ∷ []) ∷ [])
+        ≡ (ArgumentConflict ∷ []) ∷ (ArgumentConflict ∷ []) ∷ (ArgumentConflict ∷ []) ∷ [] }
     ensures no_file { mistakes_of (codes "reduce" ∷ codes "--seconds=1" ∷ [])
         ≡ MissingRequiredArgument ∷ [] }
     ensures other { mistakes_of (codes "reduce" ∷ codes "--keep=f" ∷ codes "--format=tsv" ∷ [])
