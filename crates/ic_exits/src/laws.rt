@@ -1,6 +1,6 @@
 //! Laws of what the program makes of its failures.
 
-ghost use Rattle.std.specs.Prelude.{◌≡◌, ◌≢◌, ℕ, List, [], ◌∷◌, ◌++◌, Option, None, Some, Ok, Err, map, codes, string_bytes, true, false};
+ghost use Rattle.std.specs.Prelude.{◌≡◌, ◌≢◌, ℕ, List, [], ◌∷◌, ◌++◌, Option, None, Some, Ok, Err, map, codes, replicate, string_bytes, true, false};
 ghost use Rattle.std.specs.Fmt.{decimal};
 ghost use Rattle.ic_disk.specs.declared.disk.DiskFault.{DiskFault};
 ghost use Rattle.ic_text.specs.Text.{fault_text};
@@ -256,8 +256,9 @@ pub fn lines_of_looks_are()
     ensures not_done { failure_line NotDone ≡ codes "icserve: not done" ++ 10 ∷ [] }
     ensures round { (r nodes : ℕ) → map (λ fault. failure_line
         (Round (record { fault = fault; round = r; nodes = nodes })))
-        (round.Overgrown ∷ round.NamesOut ∷ [])
-        ≡ (codes "icserve: overgrown" ++ 10 ∷ []) ∷ (codes "icserve: names out" ++ 10 ∷ []) ∷ [] }
+        (round.Overgrown ∷ round.NamesOut ∷ round.Memory ∷ [])
+        ≡ (codes "icserve: overgrown" ++ 10 ∷ []) ∷ (codes "icserve: names out" ++ 10 ∷ [])
+        ∷ (codes "icserve: memory" ++ 10 ∷ []) ∷ [] }
     ensures overgrown { (reached : Reached) (nodes : ℕ)
         → failure_line (Overgrown reached nodes) ≡ codes "icserve: overgrown" ++ 10 ∷ [] }
     ensures table_full { (reached : Reached)
@@ -282,6 +283,11 @@ pub fn endings_of_kept_reductions_are()
         ∷ Kept keeping.Memory ∷ Kept (keeping.Keep keep.Device) ∷ [])
         ≡ map (λ word. codes "icserve: " ++ word ++ 10 ∷ []) (codes "not empty" ∷ codes "device"
         ∷ codes "no slot" ∷ codes "damaged" ∷ codes "limit" ∷ codes "memory" ∷ codes "device" ∷ []) }
+    ensures opened { (cause : OpenCause)
+        → failure_line (Kept (keeping.Open cause)) ≡ failure_line (Open cause) }
+    ensures keeps { map failure_line
+        (Kept (keeping.Keep keep.Broken) ∷ Kept (keeping.Keep keep.Worn) ∷ [])
+        ≡ (codes "icserve: broken" ++ 10 ∷ []) ∷ (codes "icserve: worn" ++ 10 ∷ []) ∷ [] }
     ensures not_empty { (path : List ℕ) (cause : Option Cause)
         → lines_after (Kept keeping.NotEmpty) path cause ≡ shown_path path ++ codes ": "
         ++ codes "it or its second file, " ++ shown_path path ++ codes ".2, holds something; "
@@ -305,6 +311,7 @@ pub fn endings_of_kept_reductions_are()
         (Kept keeping.Unsound ∷ Kept keeping.Unsound ∷ []) }
     ensures calls { (path : List ℕ) (cause : Option Cause)
         → (lines_after (Kept (keeping.Keep keep.Device)) path cause ≡ cause_line path cause)
+        × (lines_after (Kept (keeping.Keep keep.Broken)) path cause ≡ cause_line path cause)
         × (lines_after (Kept keeping.Device) path cause ≡ cause_line path cause)
         × (lines_after (Kept (keeping.Open opening.Device)) path cause ≡ cause_line path cause) }
     ensures second_file { (fault : DiskFault) (path : List ℕ) (cause : Cause)
@@ -329,7 +336,8 @@ pub fn endings_of_kept_reductions_are()
         ++ codes "and `icserve reduce --resume F` goes on" ++ 10 ∷ [] }
 {}
 
-/// Nothing is told where answers can't be written since nobody reads standard output any more. Of all else something is.
+/// Nothing is told where answers can't be written since nobody reads standard output any more. Of each
+/// other failure, and where another call has failed last, something is.
 pub fn nothing_is_told_where_nobody_reads()
     ensures silent { (c : FileCall) → map (λ failure. is_silent failure (Some (record {
       target = target.Output;
@@ -338,21 +346,21 @@ pub fn nothing_is_told_where_nobody_reads()
     }))) (Stream stream.Write ∷ Serve serve.Write ∷ Attend scripts.Write ∷ Dump dump.Write
         ∷ Inspect inspect.Write ∷ Batch (batch.Serve serve.Write) ∷ [])
         ≡ true ∷ true ∷ true ∷ true ∷ true ∷ true ∷ [] }
-    ensures told { (cause : Option Cause) → map (λ failure. is_silent failure cause)
-        (Stream stream.Read ∷ Serve serve.Read ∷ Locked ∷ NotEmpty ∷ Faults ∷ NotDone ∷ [])
-        ≡ false ∷ false ∷ false ∷ false ∷ false ∷ false ∷ [] }
-    ensures no_room { (failure : Failure) (c : FileCall) → is_silent failure (Some (record {
-      target = target.Output;
-      call = c;
-      reason = reason.NoRoom;
-    })) ≡ false }
+    ensures others { (failure : Failure) (cause : Option Cause) → failure ≢ Stream stream.Write
+        → failure ≢ Serve serve.Write → failure ≢ Attend scripts.Write → failure ≢ Dump dump.Write
+        → failure ≢ Inspect inspect.Write → failure ≢ Batch (batch.Serve serve.Write)
+        → is_silent failure cause ≡ false }
+    ensures elsewhere { (failure : Failure) (cause : Cause) → cause.target ≢ target.Output
+        → is_silent failure (Some cause) ≡ false }
+    ensures other_reasons { (failure : Failure) (cause : Cause) → cause.reason ≢ reason.NoReader
+        → is_silent failure (Some cause) ≡ false }
     ensures no_cause { (failure : Failure) → is_silent failure None ≡ false }
 {}
 
 /// What is told after the line of a failure: of `device` why the last call to the file has failed,
 /// of a disk that isn't opened what is wrong with the file, of a `read` of standard input why it has
 /// failed, of a refused round its number and the nodes before it, of a net that is reduced in place
-/// how far it came, and of all else nothing.
+/// how far it came, and of all else nothing (`nothing_is_told_after_these`).
 pub fn lines_after_are(text: &String)
     ensures round_overgrown { (r nodes : ℕ) (path : List ℕ) (cause : Option Cause)
         → lines_after
@@ -363,6 +371,10 @@ pub fn lines_after_are(text: &String)
     ensures names_out { (r nodes : ℕ) (path : List ℕ) (cause : Option Cause)
         → lines_after
         (Round (record { fault = round.NamesOut; round = r; nodes = nodes })) path cause ≡ codes "round " ++ decimal r ++ codes ", nodes " ++ decimal nodes ++ 10 ∷ [] }
+    ensures round_memory { (r nodes : ℕ) (path : List ℕ) (cause : Option Cause)
+        → lines_after
+        (Round (record { fault = round.Memory; round = r; nodes = nodes })) path cause
+        ≡ codes "round " ++ decimal r ++ codes ", nodes " ++ decimal nodes ++ 10 ∷ [] }
     ensures overgrown { (i p e nodes : ℕ) (path : List ℕ) (cause : Option Cause)
         → lines_after (Overgrown (record { interactions = i; places = p; left = e }) nodes)
         path cause ≡ codes "interactions " ++ decimal i ++ codes ", places " ++ decimal p
@@ -448,6 +460,35 @@ pub fn lines_after_are(text: &String)
         → lines_after (Jobs fault) path cause ≡ [] }
     ensures words { (path : List ℕ) (cause : Option Cause)
         → lines_after (Words (words.Words text.now)) path cause ≡ [] }
+{}
+
+/// After the line of each of these failures nothing is told, whatever call has failed last.
+/// `lines_after_are` and `endings_of_kept_reductions_are` have all others.
+pub fn nothing_is_told_after_these()
+    ensures memory { (path : List ℕ) (cause : Option Cause)
+        → map (λ failure. lines_after failure path cause)
+        (Words words.Memory ∷ Stream stream.Memory ∷ Create creating.Memory ∷ Open opening.Memory
+        ∷ Serve serve.Memory ∷ Attend scripts.Memory ∷ Attend (scripts.Book book.Memory)
+        ∷ Inspect inspect.Memory ∷ Kept keeping.Memory ∷ Kept (keeping.Open opening.Memory) ∷ [])
+        ≡ replicate 10 [] }
+    ensures writing { (path : List ℕ) (cause : Option Cause)
+        → map (λ failure. lines_after failure path cause)
+        (Stream stream.Write ∷ Serve serve.Write ∷ Attend scripts.Write
+        ∷ Inspect inspect.Write ∷ []) ≡ replicate 4 [] }
+    ensures limits { (path : List ℕ) (cause : Option Cause)
+        → map (λ failure. lines_after failure path cause)
+        (Serve serve.TooManyLines ∷ Serve serve.LongLine ∷ Attend (scripts.Book book.LogFull)
+        ∷ Attend (scripts.Book book.Worn) ∷ Kept keeping.Limit ∷ Kept (keeping.Keep keep.Worn) ∷ [])
+        ≡ replicate 6 [] }
+    ensures threads { (fault : PoolFault) (path : List ℕ) (cause : Option Cause)
+        → map (λ failure. lines_after failure path cause) (Serve (serve.Pool fault)
+        ∷ Attend (scripts.Pool fault) ∷ Attend scripts.NoThread ∷ Attend scripts.Torn ∷ [])
+        ≡ replicate 4 [] }
+    ensures texts { (fault : RoundFault) (place : ℕ) (refusal : ScriptFault) (path : List ℕ)
+        (cause : Option Cause)
+        → map (λ failure. lines_after failure path cause) (Stream (stream.Round fault)
+        ∷ Attend scripts.Read ∷ Attend (scripts.Script place refusal)
+        ∷ Inspect inspect.Changed ∷ []) ≡ replicate 4 [] }
 {}
 
 /// Of a file that is known to be no disk it is told alone what it is, where that is why no disk is made or opened. A text
