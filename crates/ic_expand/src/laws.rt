@@ -1,6 +1,6 @@
 //! What is proved of the definitions alone: each law is the contract of a function that does nothing.
 
-ghost use Rattle.std.specs.Prelude.{◌≡◌, ◌≢◌, ◌≤◌, ◌+◌, ◌==◌, ℕ, List, [], ◌∷◌, ◌++◌, Contains, Option, Result, Ok, Err, false, true, codes, length};
+ghost use Rattle.std.specs.Prelude.{◌≡◌, ◌≢◌, ◌<◌, ◌≤◌, ◌+◌, ◌==◌, ℕ, List, [], ◌∷◌, ◌++◌, Contains, Option, Result, Ok, Err, false, true, codes, length};
 ghost use Rattle.std.specs.Io.KnownBytes.{Consumes, IsAtEnd};
 ghost use Rattle.std.specs.List.{concat, list_any, AllByRecursion};
 ghost use Rattle.ic_diagnostics.specs.Lines.{place_lines};
@@ -13,7 +13,7 @@ ghost use Rattle.ic_expand.specs.declared.names.Spelling.{Spelling};
 ghost use Rattle.ic_expand.specs.declared.names.Spelling.TheVariants.{Short, Long};
 ghost use Rattle.ic_expand.specs.declared.fault.ExpandFault.TheVariants.{Refused};
 ghost use Rattle.ic_expand.specs.declared.fault.Reason.{Reason};
-ghost use Rattle.ic_expand.specs.declared.fault.Reason.TheVariants.{NoCopier, NoEraser, NoSymbol, NotSymbol, TextBytes};
+ghost use Rattle.ic_expand.specs.declared.fault.Reason.TheVariants.{NoCopier, NoEnd, NoEraser, NoRules, NoSymbol, NoText, NotSymbol, TextBytes};
 ghost use Rattle.ic_expand.specs.declared.spot.Kind.{Kind};
 ghost use Rattle.ic_expand.specs.declared.spot.Spot.TheVariants.{Elsewhere};
 ghost use Rattle.ic_expand.specs.Begins.{is_begun};
@@ -93,6 +93,27 @@ pub fn arguments_are_copied_in_their_order()
     ensures given { expanded (codes "{ R><D(R,R); copy D; erase E } <|P(a,b)=D(a,b),E=Q(c),c=R>")
         ≡ Ok (codes "{ R><D(R,R);  D(a,b)><D(a,b);D(P(a,b),P(a1,b1))><P(D(a,a1),D(b,b1));D(E,E)><E;"
         ++ codes "D(Q(a),Q(a1))><Q(D(a,a1));  E><R;E><P(E,E);E><E;E><Q(E) } <|P(a,b)=D(a,b),E=Q(c),c=R>") }
+{}
+
+/// Each refusal by a text that has it. The place is that of the symbol after `copy` or `erase`, of what follows it, or of what
+/// stands first. A text that is too long is refused at its first byte too many.
+pub fn refusals_by_hand()
+    ensures copier { expanded (codes "{ copy A } <|A(x,y,z)=B>") ≡ Err (Refused (NoCopier 3) 7) }
+    ensures eraser { expanded (codes "{ erase A } <|A(x,y)=B>") ≡ Err (Refused (NoEraser 2) 8) }
+    ensures twice { expanded (codes "{ copy D; copy D } <|D(x,y)=B>") ≡ Err (Refused NoRules 15) }
+    ensures given { expanded (codes "{ E><E; erase E } <|E=E>") ≡ Err (Refused NoRules 14) }
+    ensures unended { expanded (codes "{ copy D E><F } <|D(x,y)=E>") ≡ Err (Refused NoEnd 9) }
+    ensures line { expanded (codes " submit a {} <|>") ≡ Err (Refused NoText 1) }
+    ensures long { (text : List ℕ) → MAX_RICH_TEXT < length text
+        → expanded text ≡ Err (Refused TextBytes MAX_RICH_TEXT) }
+{}
+
+/// Arguments of arguments aren't counted: here P has two, and R one. A blank may stand before them.
+pub fn arguments_are_counted_by_hand()
+    ensures { expanded (codes "{ copy D } <|P(Q(a,b),c)=D(x,R (Q(y,z)))>")
+        ≡ Ok (codes "{  D(P(a,b),P(a1,b1))><P(D(a,a1),D(b,b1));"
+        ++ codes "D(Q(a,b),Q(a1,b1))><Q(D(a,a1),D(b,b1));"
+        ++ codes "D(a,b)><D(a,b);D(R(a),R(a1))><R(D(a,a1)) } <|P(Q(a,b),c)=D(x,R (Q(y,z)))>") }
 {}
 
 /// Each symbol that stands in a term, within the limits of text and arguments, has its rule with a copier or an eraser, unless
