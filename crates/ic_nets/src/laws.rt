@@ -4,6 +4,7 @@ ghost use Rattle.std.specs.Prelude.{◌≡◌, ◌≢◌, ◌↔◌, ◌≤◌, 
 ghost use Rattle.std.specs.Fmt.{decimal};
 ghost use Rattle.std.specs.List.{list_all};
 ghost use Rattle.ic_term.specs.Configuration.{Configuration, IsConfiguration, configuration_names, occurrences};
+ghost use Rattle.ic_term.specs.Tree.{agent, more_trees, name, no_trees};
 ghost use Rattle.ic_rules.specs.Rule.{Rule};
 ghost use Rattle.ic_rules.specs.System.{SystemParts};
 ghost use Rattle.ic_settle.specs.Settling.{settled};
@@ -192,6 +193,28 @@ pub fn arrow_heads_stand_at_principal_ports()
     ensures none { (p q : Port) → ((j : ℕ) → ¬ (p ≡ Principal j))
         → ((j : ℕ) → ¬ (q ≡ Principal j))
         → style_of (record { from = p; to = q; active = false }) ≡ [] }
+{}
+
+/// The graph of `<x|If(A,x,y)=P(y,z),z=u>` without rules, by hand. Only an agent with more than two auxiliary ports has their
+/// numbers in its box, and the equation of two names is a point.
+pub fn a_graph_by_hand()
+    ensures { (net : Net) → IsNet [] (record {
+      interface = name 23 ∷ [];
+      equations = record {
+        left = agent 0 (more_trees (agent 1 no_trees)
+            (more_trees (name 23) (more_trees (name 24) no_trees)));
+        right = agent 2 (more_trees (name 24) (more_trees (name 25) no_trees));
+      } ∷ record { left = name 25; right = name 20 } ∷ [];
+      next = 26;
+    }) net → dot_of (record { text = codes "If"; arity = 3 }
+        ∷ record { text = codes "A"; arity = 0 } ∷ record { text = codes "P"; arity = 2 } ∷ []) net
+        ≡ codes "graph net {\nnode [shape=plaintext, width=0, height=0]\nedge [arrowsize=0.7]\n"
+        ++ codes "A0 [shape=record, label=\"{<0>If|{<1>1|<2>2|<3>3}}\"]\n"
+        ++ codes "A1 [shape=record, label=\"{<0>A}\"]\n"
+        ++ codes "A2 [shape=record, label=\"{<0>P|{<1>|<2>}}\"]\n"
+        ++ codes "J0 [shape=point, width=0.05, height=0.05]\n"
+        ++ codes "A0:1 -- A1:0 [dir=forward]\nA0:0 -- A2:0 [dir=both]\nI1 -- A0:2\n"
+        ++ codes "A0:3 -- A2:1\nA2:2 -- J0\nJ0 -- u\n}\n" }
 {}
 
 /// A text has rules exactly where its first byte that isn't blank is `{`.
