@@ -136,15 +136,16 @@ def what_is_believed_is_counted():
 
 
 def calls_that_may_wait_are_told():
-    """The row of docs/promises.md on calls that return names just the public calls that wait, by their bound `Wait` or by
-    the `Maker` that they are given."""
+    """The row of docs/promises.md on calls that return names just the public calls that wait, by their bound `Wait`, by the
+    `Maker` that they are given, or for the threads that they say they join."""
     waits, told = {"Workers", "Maker", "Wait"}, set()
     for path in Path("crates").glob("*/src/**/*.rt"):
         text = path.read_text()
         for call in re.finditer(r"(?m)^( *)pub fn (\w+)<([^(]*)\(", text):
             owner = re.findall(r"(?m)^impl(?:<.*?>)? (\w+)", text[: call.start()])[-1] if call[1] else ""
             is_shown = f"pub struct {owner}" in text if owner else True
-            if re.search(r"\b(?:Wait|Maker)\b", call[3]) and is_shown and not path.parts[1].endswith("_rows"):
+            may_wait = re.search(r"\b(?:Wait|Maker)\b", call[3]) or text[: call.start()].endswith("joins their threads.\n")
+            if may_wait and is_shown and not path.parts[1].endswith("_rows"):
                 waits.add(f"{owner}::{call[2]}".removeprefix("::"))
     for path, number, line in lines_of("docs/promises.md"):
         if line.startswith("| each function without the bound `Wait` returns |"):
