@@ -1,6 +1,7 @@
 //! Laws that rest on definitions in which laws of crates below end. No program calls them.
 #![tactic(auto)]
 
+pub mod answered;
 pub mod dealing;
 pub mod firsts;
 pub mod jobs;
