@@ -3,3 +3,4 @@ pub mod FaultLemmas
 pub mod DealingLemmas
 pub mod MarkLemmas
 pub mod NameLemmas
+pub mod TakenLemmas

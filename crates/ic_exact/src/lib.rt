@@ -7,4 +7,5 @@ pub mod firsts;
 pub mod jobs;
 pub mod rounds;
 pub mod spelled;
+pub mod taken;
 pub mod texts;
