@@ -4,3 +4,4 @@ pub mod DealingLemmas
 pub mod MarkLemmas
 pub mod NameLemmas
 pub mod TakenLemmas
+pub mod EndLemmas

@@ -5,6 +5,7 @@ pub mod answered;
 pub mod dealing;
 pub mod firsts;
 pub mod jobs;
+pub mod reductions;
 pub mod rounds;
 pub mod spelled;
 pub mod taken;
