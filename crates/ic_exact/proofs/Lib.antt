@@ -5,3 +5,4 @@ pub mod MarkLemmas
 pub mod NameLemmas
 pub mod TakenLemmas
 pub mod EndLemmas
+pub mod TraceLemmas

@@ -10,3 +10,4 @@ pub mod rounds;
 pub mod spelled;
 pub mod taken;
 pub mod texts;
+pub mod traces;
