@@ -10,4 +10,5 @@ pub mod rounds;
 pub mod spelled;
 pub mod taken;
 pub mod texts;
+pub mod told;
 pub mod traces;
