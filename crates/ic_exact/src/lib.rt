@@ -3,6 +3,7 @@
 
 pub mod answered;
 pub mod dealing;
+pub mod dumps;
 pub mod firsts;
 pub mod jobs;
 pub mod reductions;
