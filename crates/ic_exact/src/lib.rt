@@ -2,6 +2,7 @@
 #![tactic(auto)]
 
 pub mod answered;
+pub mod crashes;
 pub mod dealing;
 pub mod dumps;
 pub mod firsts;
