@@ -1,10 +1,13 @@
 #!/usr/bin/env python3
 """Finds facts of definitions on which nothing rests. `python3 checks/weaken.py [CRATE..]` lists those fields of records of
-specs/ that no proof of their crate or of one above uses, as far as their names tell; it checks nothing. A law that the prover
-found by itself may use them all the same. `python3 checks/weaken.py --cases CRATE..` lists the cases of definitions: an equation
-(`1`), a side of its `⊎` or `×` (`1/2`), which where it says nothing is a disjunct that always holds, or a conjunct less, and a
-premise of a constructor (`name/2`). `python3 checks/weaken.py --try CRATE FACT..` takes facts or cases out that are named as they
-are listed, also of crates below, checks the crate in a room of hard links, and tells which proofs miss one of them."""
+specs/ that no proof of their crate or of one above uses, as far as their names tell; it checks nothing. A law that the
+prover found by itself may use them all the same. A fact that proofs only carry, from one value of its record to another,
+counts as used: the law shrinks with it. With `--carried` those are listed too that are taken only where a value with such a
+field is built; what definitions that are no records say may be carried unseen. `python3 checks/weaken.py --cases CRATE..`
+lists the cases of definitions: an equation (`1`), a side of its `⊎` or `×` (`1/2`), which where it says nothing is a
+disjunct that always holds, or a conjunct less, and a premise of a constructor (`name/2`). `python3 checks/weaken.py --try
+CRATE FACT..` takes facts or cases out that are named as they are listed, also of crates below, checks the crate in a room of
+hard links, and tells which proofs miss one of them."""
 
 import argparse
 import os
@@ -60,6 +63,12 @@ def clauses(text):
             yield start[1], found[2] or found[1], body[found.end() : at - 1]
 
 
+def builds(text, name, at):
+    """Whether the declaration in which a field is taken builds a value with a field of this name."""
+    start, end = text.rfind("\n\n", 0, at), text.find("\n\n", at)
+    return re.search(r"[{;]\s*%s = " % re.escape(name), text[max(start, 0) : end if end >= 0 else None])
+
+
 class Tree:
     """What the proofs of the repository use, by the names in their texts."""
 
@@ -112,14 +121,16 @@ class Tree:
         cited = " ".join(self.lemmas[it] for it in set(WORD.findall(text)) if it in self.lemmas) if last in ")]" else ""
         return record in self.names(("bound", path, last), bound) or record in self.names(path, f"{text} {own} {callees} {cited}")
 
-    def unused(self, chosen):
-        """The facts that no proof uses. To hand a field on to one of the same name is no use."""
+    def unused(self, chosen, carried):
+        """The facts that no proof uses. To hand a field on to one of the same name is no use; with `carried`, neither is to take
+        it where a value with such a field is built."""
         for crate, module, record, name, kind in self.facts:
             above = [it for it in self.used if crate in self.below[it] and (not chosen or crate in chosen)]
-            taken = re.compile(r"\." + re.escape(name) + r"(?![\w'-])")
+            taken = re.compile(r"(?<!\.ensures)" * carried + r"\." + re.escape(name) + r"(?![\w'-])")
             handed = re.compile(r"\b" + re.escape(name) + r" = [\w.]+\." + re.escape(name) + r"(?=\s*[;},])")
             texts = ((path, handed.sub("", text)) for other in above for path, text in self.proofs[other].items())
-            if above and not any(self.may_be(record, path, text, it.start()) for path, text in texts for it in taken.finditer(text)):
+            uses = ((path, text, it.start()) for path, text in texts for it in taken.finditer(text))
+            if above and not any(self.may_be(record, *it) for it in uses if not (carried and builds(it[1], name, it[2]))):
                 yield f"{crate}.{module}.{record}.{name} : {kind[:100]}"
 
 
@@ -239,6 +250,7 @@ if __name__ == "__main__":
     given = argparse.ArgumentParser(description=__doc__.split(". ", maxsplit=1)[0])
     given.add_argument("names", nargs="*", help="crates; with --try a crate, and facts as they are listed")
     given.add_argument("--cases", action="store_true", help="list the cases of the crates' definitions")
+    given.add_argument("--carried", action="store_true", help="list also facts that proofs may only carry from one value of a record to another: they are taken only where one is built")
     given.add_argument("--try", dest="tries", action="store_true", help="check the crate without these facts")
     asked = given.parse_args()
     if asked.tries:
@@ -247,4 +259,4 @@ if __name__ == "__main__":
         for path in (it for crate in asked.names for it in sorted((TOP / "crates" / crate / "specs").glob("*.antt"))):
             print(*(f"{path.parts[-3]}.{path.stem}.{name}.{case}" for name, case, *_ in cases(path.read_text())), sep="\n")
     else:
-        print(*Tree().unused(asked.names), sep="\n")
+        print(*Tree().unused(asked.names, asked.carried), sep="\n")
