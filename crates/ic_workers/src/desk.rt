@@ -8,7 +8,7 @@ ghost use Rattle.std.specs.List.{AllByRecursion};
 ghost use Rattle.ic_machine.specs.Net.{IsStuck};
 ghost use Rattle.ic_machine.specs.Plan.{Plans};
 ghost use Rattle.ic_workers.specs.inner.HandsOn.{Come, IsAllOf};
-ghost use Rattle.ic_workers.specs.inner.Keeping.{parts_at, parts_in, parts_in_all, slots_at, AreApart, AreAt, AreWithin, IsDesk};
+ghost use Rattle.ic_workers.specs.inner.Keeping.{parts_at, parts_in, parts_in_all, slots_at, whole, AreApart, AreAt, AreWithin, IsDesk};
 
 use self::handing::gather;
 use crate::kept::{Hand, Kept, empty_part};
@@ -50,11 +50,7 @@ pub(crate) struct Desk {
 impl Desk {
     /// One part, which is the whole.
     fn new(alloc: Global, machine: Machine) -> Result<Desk, AllocError>
-        ensures parts { IfOk result (λ desk. slots_at desk ≡ (record {
-          number = 0;
-          net = machine;
-          borders = record { ends = []; ended = []; next = 0; step = 512 };
-        } ∷ []) ∷ []) }
+        ensures parts { IfOk result (λ desk. slots_at desk ≡ (whole machine ∷ []) ∷ []) }
         ensures made { IfOk result (λ desk. desk.made ≡ 0) }
     {
         let mut parts = Vec::new(alloc);

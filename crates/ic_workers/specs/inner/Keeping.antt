@@ -5,7 +5,7 @@ use Rattle.ic_arena.specs.declared.word.TheConstants.{GIVEN}
 use Rattle.ic_arena.specs.declared.word.Word.{Word}
 use Rattle.ic_machine.specs.declared.moving.Parcel.{Parcel}
 use Rattle.ic_machine.specs.Moving.{side_of, spells_cut, times, worth, AreBordered, AreSpelled, Ends, KeepWorth, Packs, Ships, Unpacks}
-use Rattle.ic_machine.specs.Net.{IsStuck}
+use Rattle.ic_machine.specs.Net.{IsStuck, Net}
 use Rattle.ic_machine.specs.Plan.{Plans, ArePlans}
 use Rattle.ic_workers.specs.Parts.{Part}
 use Rattle.ic_workers.specs.inner.HandsOn.{Come, HaveWorked}
@@ -15,6 +15,14 @@ use Rattle.ic_workers.specs.declared.desk.Desk.{Desk}
 
 abbrev pub part_of : Kept → Part
 part_of k = record { number = k.number; net = k.machine; borders = k.borders }
+
+-- the part that has all of a machine
+abbrev pub whole : Net → Part
+whole m = record {
+  number = 0;
+  net = m;
+  borders = record { ends = []; ended = []; next = 0; step = 512 };
+}
 
 -- a slot of a desk has a part, or a hand has it
 abbrev pub slot : Option Kept → List Part

@@ -1,12 +1,14 @@
 //! Steps of threads, and what is shared before them.
 
-ghost use Rattle.std.specs.Prelude.{◌≡◌, ℕ, ◌+◌, ◌*◌, ◌/◌, ◌^◌, ◌<◌, ◌≤◌, ◌==◌, ◌++◌, List, [], count_by, length, map, max, nat_le, slice_index_or, sum_by, IfOk, OnOk, IsPermutation};
+ghost use Rattle.std.specs.Prelude.{◌≡◌, ℕ, ◌+◌, ◌*◌, ◌/◌, ◌^◌, ◌<◌, ◌≤◌, ◌==◌, ◌++◌, List, [], ◌∷◌, count_by, length, map, max, nat_le, slice_index_or, sum_by, IfOk, OnOk, IsPermutation};
 ghost use Rattle.std.specs.List.{AllByRecursion};
-ghost use Rattle.ic_meaning.specs.Plans.{rule_number};
+ghost use Rattle.ic_machine.specs.Net.{IsStuck};
+ghost use Rattle.ic_machine.specs.Plan.{ArePlans};
+ghost use Rattle.ic_meaning.specs.Plans.{rule_number, ArePlansOf};
 ghost use Rattle.ic_in_place.specs.Counting.{names_at};
-ghost use Rattle.ic_in_place.specs.Stopping.{HasCome, IsSound};
-ghost use Rattle.ic_workers.specs.inner.HandsOn.{Come};
-ghost use Rattle.ic_workers.specs.inner.Keeping.{parts_at, parts_in_all, slots_at, AreAt, HandWorked, HandsWorked, IsDesk, IsIdle, IsReady};
+ghost use Rattle.ic_in_place.specs.Stopping.{arities_of, HasCome, IsSound};
+ghost use Rattle.ic_workers.specs.inner.HandsOn.{Come, IsAllOf};
+ghost use Rattle.ic_workers.specs.inner.Keeping.{parts_at, parts_in_all, slots_at, whole, AreAt, AreFit, HandWorked, HandsWorked, IsDesk, IsIdle, IsKept, IsReady};
 
 use super::{Desk, Due, MOST_PARTS};
 use crate::gain::{Gain, Ran, nanos};
@@ -48,18 +50,41 @@ pub fn run_by_workers<R: Threads + Sync, C: Clock + Sync, V: Watch>(
         stopped.by_rule.items stopped.machine stopped.end stopped.places stopped.shared) }
     ensures alone { policy.workers ≤ 1 → IfOk result (λ stopped. stopped.shared ≡ 0) }
 {
+    let (program, numbers) = compile(alloc, system.rules())?;
+    run_compiled(
+        rt, clock, alloc, system, &program, &numbers, policy, bounds, watch,
+    )
+}
+
+/// The same, where the rules of the system are compiled. Its caller drops them: each `?` here would, and make the proof long.
+fn run_compiled<R: Threads + Sync, C: Clock + Sync, V: Watch>(
+    rt: &R,
+    clock: &C,
+    alloc: Global,
+    system: &WideSystem,
+    program: &Program,
+    numbers: &[u32],
+    policy: Policy,
+    bounds: Bounds,
+    watch: &V,
+) -> Result<Stopped, AllocError>
+    requires arities { program.now.arities ≡ arities_of system.now }
+    requires sound { ArePlans program.now }
+    requires numbers { length numbers.now ≡ length program.now.plans }
+    requires plans { ArePlansOf system.now.rules numbers.now program.now }
+    ensures come { IfOk result (λ stopped. HasCome system.now bounds stopped.given.items
+        stopped.by_rule.items stopped.machine stopped.end stopped.places stopped.shared) }
+    ensures alone { policy.workers ≤ 1 → IfOk result (λ stopped. stopped.shared ≡ 0) }
+{
     what_parts_come_to_is_reached();
     what_a_machine_holds_is_reached();
     a_run_that_goes_on_stops_by_the_bounds_of_all();
     systems_are_sound(system);
-    let (program, numbers) = compile(alloc, system.rules())?;
     let first = first_plan(alloc, system)?;
-    let machine = begin(alloc, system, &program, &first)?;
-    let mut desk = Desk::new(alloc, machine)?;
-    desk.run_in_parts(rt, clock, alloc, &program, policy, bounds, watch)?;
-    let mut machine = desk.put_together(alloc)?;
+    let machine = begin(alloc, system, program, &first)?;
+    let mut machine = run_parts(rt, clock, alloc, program, machine, policy, bounds, watch)?;
     what_a_machine_holds(&machine);
-    let few = has_few_names(alloc, system, &first, &numbers, &machine)?;
+    let few = has_few_names(alloc, system, &first, numbers, &machine)?;
     if !few {
         return Err(AllocError);
     }
@@ -69,8 +94,8 @@ pub fn run_by_workers<R: Threads + Sync, C: Clock + Sync, V: Watch>(
         nodes: bounds.nodes,
     };
     let mut by_rule = no_counts(alloc, system.rules().rules().len())?;
-    let (end, places) = run_in_pieces(&mut machine, &program, left, watch);
-    sum_by_rule(&mut by_rule, &numbers, machine.fired());
+    let (end, places) = run_in_pieces(&mut machine, program, left, watch);
+    sum_by_rule(&mut by_rule, numbers, machine.fired());
     Ok(Stopped {
         machine,
         given: first.given,
@@ -79,6 +104,31 @@ pub fn run_by_workers<R: Threads + Sync, C: Clock + Sync, V: Watch>(
         shared,
         end,
     })
+}
+
+/// Has threads run the parts of what a machine has, if there are several threads. It answers a machine that has all parts.
+fn run_parts<R: Threads + Sync, C: Clock + Sync, V: Watch>(
+    rt: &R,
+    clock: &C,
+    alloc: Global,
+    program: &Program,
+    machine: Machine,
+    policy: Policy,
+    bounds: Bounds,
+    watch: &V,
+) -> Result<Machine, AllocError>
+    requires fit { AreFit program.now }
+    requires kept { IsKept program.now (whole machine) }
+    requires none { machine.interactions ≡ 0 }
+    ensures all { IfOk result (IsAllOf program.now (whole machine ∷ [])) }
+    ensures kept { IfOk result (λ all. (all.arities ≡ program.now.arities)
+        × AllByRecursion (IsStuck program.now) all.aside) }
+    ensures within { IfOk result (λ all. all.interactions ≤ bounds.steps) }
+    ensures alone { policy.workers ≤ 1 → IfOk result (λ all. all.interactions ≡ 0) }
+{
+    let mut desk = Desk::new(alloc, machine)?;
+    desk.run_in_parts(rt, clock, alloc, program, policy, bounds, watch)?;
+    desk.put_together(alloc)
 }
 
 /// Whether a machine has no more names than the plan of the configuration makes, and the rules that fired have. That it never has

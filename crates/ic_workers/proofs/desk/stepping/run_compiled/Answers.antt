@@ -1,0 +1,74 @@
+use Rattle.std.proofs.Common.{rules, ◌≡◌, ◌+◌, ◌<◌, ◌≤◌, ◌^◌, ◌++◌, ℕ, List, length, map, ap, sym, ◌∙◌, arith, refl, subst}
+use Rattle.std.specs.List.{AllByRecursion}
+use Rattle.ic_rules.specs.RuleSet.{Rules}
+use Rattle.ic_rules.specs.System.{SystemParts}
+use Rattle.ic_machine.specs.Net.{Net}
+use Rattle.ic_machine.specs.Plan.{Plans, planned}
+use Rattle.ic_machine.specs.Runs.{IsStart}
+use Rattle.ic_meaning.specs.Plans.{ArePlansOf}
+use Rattle.ic_in_place.specs.Summing.{IsSummed}
+use Rattle.ic_in_place.specs.lemmas.Watched.{watched_ran}
+use Rattle.ic_workers.proofs.Begun.{first_part}
+use Rattle.ic_workers.proofs.Desks.{desk_begun, kept_begun, new_ends}
+use Rattle.ic_workers.proofs.Stopped.{all_of_first, come_so, compiled_so, few_named, few_so, first_used, first_worth, no_counts}
+use Rattle.ic_workers.proofs.desk.stepping.run_compiled.Goals as goal
+
+pub run_parts-requires-clause-fit : goal.run_parts-requires-clause-fit
+run_parts-requires-clause-fit g c = λ κs outlives.
+    record { sound = c.requires.sound; symbols = few_so c.args.system.now c.args.program.now c.systems_are_sound.ensures c.requires.arities }
+
+pub run_parts-requires-clause-kept : goal.run_parts-requires-clause-kept
+run_parts-requires-clause-kept g c = λ κs outlives.
+    let first = c.in_ok-first.first in
+    kept_begun c.args.program.now (length first.given.items) (planned first.plan) first.interface.items c.in_ok-machine.machine c.in_ok-machine.ensures
+
+pub returns-clause-come : goal.returns-clause-come
+returns-clause-come g c =
+    let s : SystemParts = c.args.system.now in
+    let p : Plans = c.args.program.now in
+    let numbers : List ℕ = c.args.numbers.now in
+    let first = c.in_ok-first.first in
+    let begun = c.in_ok-machine.ensures in
+    let all = c.in_ok-machine-2.machine in
+    let run = c.run_in_pieces-end in
+    let by_rule = c.sum_by_rule.new.by_rule.items in
+    let sound = c.systems_are_sound.ensures in
+    let arities = c.requires.arities in
+    let compiled = compiled_so s numbers p first.given.items (planned first.plan) first.interface.items sound arities c.requires.sound c.requires.plans
+    c.in_ok-first.ensures.start c.in_ok-first.ensures.stands c.in_ok-first.ensures.given in
+    let start = subst (λ (a : List ℕ). IsStart a (length first.given.items) (planned first.plan) first.interface.items) (sym arities) c.in_ok-first.ensures.start in
+    let laws = c.what_parts_come_to_is_reached.ensures in
+    let held = laws.begun s.rules p s.config first.given.items (planned first.plan) first.interface.items c.in_ok-machine.machine (new_ends 0)
+    sound.names compiled.plans compiled.few compiled.is_plan compiled.stands start begun.starts begun.separate begun.arities refl first_worth in
+    let has = laws.all s.rules numbers p s.config first.given.items (first_part c.in_ok-machine.machine (new_ends 0)) all
+    sound.rules sound.over sound.names compiled.plans c.requires.plans compiled.free held begun.none
+    (no_counts p (length first.given.items) (planned first.plan) first.interface.items c.in_ok-machine.machine begun)
+    (kept_begun p (length first.given.items) (planned first.plan) first.interface.items c.in_ok-machine.machine begun).plans
+    (first_used s numbers p first.given.items (planned first.plan) first.interface.items c.in_ok-machine.machine begun
+    (c.what_a_machine_holds_is_reached.ensures.used s.rules numbers p s.config first.given.items (planned first.plan) first.interface.items c.in_ok-machine.machine
+    sound.rules sound.over sound.names compiled)) c.in_ok-machine-2.ensures.all in
+    let watched = run.ensures.watched in
+    let ran = watched_ran p c.args.bounds.nodes all run.new.machine watched in
+    let now = laws.ran s.rules numbers p s.config first.given.items all run.new.machine
+    sound.rules sound.over sound.names compiled.plans c.requires.plans compiled.free has ran.0 in
+    let kept = c.in_ok-machine-2.ensures.kept in
+    let counted : length c.in_ok-by_rule.by_rule.items ≡ length s.rules.rules =
+    c.in_ok-by_rule.ensures.len ∙ ap length (c.rules-2.ensures.rules ∙ ap (λ (r : Rules). r.rules) (c.deref.ensures ∙ c.rules.ensures.rules)) in
+    let summed : IsSummed (length s.rules.rules) numbers run.new.machine.counts by_rule =
+    subst (λ (n : ℕ). IsSummed n numbers run.new.machine.counts by_rule) counted
+    (subst (λ (cs : List ℕ). IsSummed (length c.in_ok-by_rule.by_rule.items) numbers cs by_rule) c.fired.ensures c.sum_by_rule.ensures) in
+    let low : run.new.machine.interactions < 2 ^ 64 = search rules in
+    let numbered : length numbers ≡ length p.plans = c.requires.numbers in
+    let many = ran.0.counted in
+    let few_names = few_named s.rules.rules all.names first.plan.names numbers numbers all.counts has.fired refl
+    (subst (λ (k : ℕ). AllByRecursion (λ i. i < k) has.fired) (sym numbered) has.known) (λ k there. has.counts k (omega (arith, there, numbered)))
+    (omega (arith, low, many, has.made)) (λ is known each few. sym c.if-not-few.false ∙ c.in_ok-few.ensures is known each few) in
+    let made : all.interactions ≤ c.args.bounds.steps = c.in_ok-machine-2.ensures.within in
+    let left : c.args.bounds.steps ≡ all.interactions + c.saturating_sub.result = omega (arith, made, c.interactions-shared.ensures, c.saturating_sub.ensures) in
+    come_so s c.args.bounds numbers p first.given.items (planned first.plan) first.interface.items all run.new.machine run.result.0 run.result.1
+    sound arities compiled has c.interactions-shared.result c.interactions-shared.ensures kept.0 kept.1 c.what_a_machine_holds.ensures.room few_names now.0 watched (now.1 ∙ ap (λ (l : List ℕ). has.fired ++ l) ran.1) run.ensures.looked
+    (omega (arith, run.ensures.ends.within, left)) run.ensures.count run.ensures.enough
+    run.ensures.places run.ensures.pairs
+    (c.a_run_that_goes_on_stops_by_the_bounds_of_all.ensures c.args.bounds c.saturating_sub.result p all run.new.machine run.result.0 left
+    run.ensures.ends run.ensures.nodes run.ensures.looked)
+    by_rule summed c.requires.numbers low
