@@ -14,7 +14,7 @@ use Rattle.ic_crew.specs.lemmas.Crossings.{RuleSet_send, RuleSet_sync, Parcel_se
 use Rattle.ic_flat.specs.contracts.flat.Flat as Flat
 use Rattle.ic_flat.specs.contracts.wide.WideFlat as WideFlat
 use Rattle.ic_flat.specs.contracts.system.FlatSystem as FlatSystem
-use Rattle.ic_flat_round.specs.contracts.flat_rules.FlatRules as FlatRules
+use Rattle.ic_flat_rules.specs.contracts.flat_rules.FlatRules as FlatRules
 use Rattle.ic_jobs.specs.contracts.command.Command as Command
 use Rattle.ic_jobs.specs.contracts.event.Event as Event
 use Rattle.ic_jobs.specs.contracts.event.Entry as Entry

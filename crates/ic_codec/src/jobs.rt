@@ -15,7 +15,7 @@ use crate::flats::{flat_at, put_flat};
 use crate::form::{Form, Heading, heading_at, put_heading};
 use crate::rules::{put_rules, rule_set_at};
 use crate::symbols::{put_symbols, symbols_at};
-use ic_flat_round::FlatRules;
+use ic_flat_rules::FlatRules;
 use ic_jobs::Job;
 use ic_rules::RuleSet;
 use std::alloc::{AllocError, Global};

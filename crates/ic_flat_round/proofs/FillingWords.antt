@@ -6,7 +6,7 @@ use Rattle.ic_rules.specs.Rule.{Rule}
 use Rattle.ic_round.specs.Firing.{Active, oriented, rule_of_sides, active_pair, products_by, fired_pair, fired_from, count_of, names_taken, next_after}
 use Rattle.ic_round.specs.Works.{PlainFired, work_at, works_from, result_of}
 use Rattle.ic_flat.specs.declared.word.Word.{Word}
-use Rattle.ic_flat_round.specs.inner.RuleWords.{pairs_words}
+use Rattle.ic_flat_rules.specs.RuleWords.{pairs_words}
 use Rattle.ic_flat_round.proofs.FiringLimits.{fired-first}
 use Rattle.ic_flat_round.proofs.ActiveWorks.{taken_by}
 

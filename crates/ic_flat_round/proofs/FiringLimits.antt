@@ -11,7 +11,7 @@ use Rattle.ic_flat.specs.declared.word.Word.{Word}
 use Rattle.ic_flat.specs.Flat.{sides}
 use Rattle.ic_flat.specs.lemmas.FlatLaws.{length-sides}
 use Rattle.ic_flat.specs.lemmas.WordLaws.{forest-words, forest-le}
-use Rattle.ic_flat_round.specs.inner.RuleWords.{pairs_words}
+use Rattle.ic_flat_rules.specs.RuleWords.{pairs_words}
 use Rattle.ic_flat_round.specs.inner.Limits.{is_within, fits_after}
 use Rattle.ic_flat_round.proofs.Interacting.{pairs_words-append}
 

@@ -9,7 +9,7 @@ use Rattle.ic_settle.specs.lemmas.Containers.{IsRoot, IsChosen, elsewhere, outle
 use Rattle.ic_flat.specs.declared.word.Word.{Word}
 use Rattle.ic_flat.specs.declared.word.Word.TheVariants.{Name, Agent}
 use Rattle.ic_flat.specs.Words.{with_word, forest}
-use Rattle.ic_flat_round.specs.inner.Standing.{first_of, tree_at}
+use Rattle.ic_flat_rules.specs.Standing.{first_of, tree_at}
 use Rattle.ic_flat_round.specs.inner.Heads.{head, heads, told}
 
 -- ---- what is told of an outlet

@@ -34,10 +34,11 @@ use Rattle.ic_flat.specs.Words.{arguments as word_arguments, forest, IsWhole, tr
 use Rattle.ic_flat.specs.lemmas.WordLaws.{words-forest, whole-drop, whole-words, nodes-forest}
 use Rattle.ic_flat.specs.Flat.{sides, configuration_of, configuration_words, IsFlat}
 use Rattle.ic_flat.specs.lemmas.FlatLaws.{nodes-words, IsFlat-configuration_words, configuration_of-words}
-use Rattle.ic_flat_round.specs.declared.places.Sides.{Sides}
-use Rattle.ic_flat_round.specs.inner.Standing.{tree_at, pair_at}
-use Rattle.ic_flat_round.proofs.WordPlaces.{arguments_at, arguments_there, arguments_count}
-use Rattle.ic_flat_round.specs.inner.RuleWords.{rule_words, above, pairs_words, against_words, interaction_words}
+use Rattle.ic_flat_rules.specs.declared.places.Sides.{Sides}
+use Rattle.ic_flat_rules.specs.Standing.{tree_at, pair_at}
+use Rattle.ic_flat_rules.specs.lemmas.WordPlaces.{arguments_at, arguments_there, arguments_count}
+use Rattle.ic_flat_rules.specs.RuleWords.{rule_words, pairs_words}
+use Rattle.ic_flat_round.specs.inner.RuleWords.{above, against_words, interaction_words}
 use Rattle.ic_flat_round.proofs.RaisedWords.{forest-rule_words}
 
 pub pairs_words-append : (ps qs : List Pair) → pairs_words (ps ++ qs) ≡ pairs_words ps ++ pairs_words qs

@@ -1,8 +1,5 @@
-pub mod WordPlaces
 pub mod Appending
 pub mod RaisedWords
-pub mod RuleBounds
-pub mod RuleWriting
 pub mod Interacting
 pub mod ActiveWorks
 pub mod FiringLimits

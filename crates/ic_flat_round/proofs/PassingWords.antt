@@ -18,11 +18,11 @@ use Rattle.ic_flat.specs.Words.{forest, IsWhole, tree_words, word_names}
 use Rattle.ic_flat.specs.Flat.{sides, configuration_words}
 use Rattle.ic_flat.specs.lemmas.WordLaws.{forest-words}
 use Rattle.ic_flat.specs.lemmas.WordTests.{names-forest}
-use Rattle.ic_flat_round.specs.declared.places.Sides.{Sides}
+use Rattle.ic_flat_rules.specs.declared.places.Sides.{Sides}
 use Rattle.ic_flat_round.specs.declared.pass.Kept.{Kept}
-use Rattle.ic_flat_round.specs.inner.Standing.{tree_at, pair_at, pairs_at, AreSides}
+use Rattle.ic_flat_rules.specs.Standing.{tree_at, pair_at, pairs_at, AreSides}
 use Rattle.ic_flat_round.specs.inner.Waits.{waiting, kept_at, other_place}
-use Rattle.ic_flat_round.proofs.WordPlaces.{pair_slice}
+use Rattle.ic_flat_rules.specs.lemmas.WordPlaces.{pair_slice}
 use Rattle.ic_flat_round.proofs.Interacting.{interface_words}
 
 -- ---- names

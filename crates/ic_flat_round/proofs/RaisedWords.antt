@@ -8,7 +8,8 @@ use Rattle.ic_rules.specs.Rule.{Rule}
 use Rattle.ic_flat.specs.declared.word.Word.TheVariants.{Agent}
 use Rattle.ic_flat.specs.Words.{forest, IsWhole, tree_words, trees_words}
 use Rattle.ic_flat.specs.lemmas.WordLaws.{forest-words, forest-append, whole-words, whole-append}
-use Rattle.ic_flat_round.specs.inner.RuleWords.{rule_words, above, raised_word, product_words, against_words}
+use Rattle.ic_flat_rules.specs.RuleWords.{rule_words}
+use Rattle.ic_flat_round.specs.inner.RuleWords.{above, raised_word, product_words, against_words}
 
 count_same : (f : ℕ → ℕ) (ts : Trees) → length (list_of (renamed_trees f ts)) ≡ length (list_of ts)
 count_same f no_trees = refl

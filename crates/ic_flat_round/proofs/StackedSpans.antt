@@ -12,9 +12,9 @@ use Rattle.ic_flat.specs.lemmas.WordLaws.{forest-le, whole-drop}
 use Rattle.ic_flat_round.specs.declared.rebuilding.Span.{Span}
 use Rattle.ic_flat_round.specs.declared.pass.Kept.{Kept}
 use Rattle.ic_flat_round.specs.inner.Waits.{kept_at, IsKeptWithin}
-use Rattle.ic_flat_round.specs.inner.Standing.{tree_at}
+use Rattle.ic_flat_rules.specs.Standing.{tree_at}
 use Rattle.ic_flat_round.specs.inner.Rebuilding.{span_terms, IsSpan, span_of, stacked}
-use Rattle.ic_flat_round.proofs.WordPlaces.{some_terms, first-rest}
+use Rattle.ic_flat_rules.specs.lemmas.WordPlaces.{some_terms, first-rest}
 
 -- ---- lists of which each element is so
 

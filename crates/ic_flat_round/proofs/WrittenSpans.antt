@@ -7,7 +7,7 @@ use Rattle.ic_flat.specs.declared.word.Word.TheVariants.{Name, Agent}
 use Rattle.ic_flat.specs.Words.{IsWhole}
 use Rattle.std.proofs.Common.{get_or}
 use Rattle.ic_flat_round.specs.declared.rebuilding.Span.{Span}
-use Rattle.ic_flat_round.specs.inner.Standing.{tree_at}
+use Rattle.ic_flat_rules.specs.Standing.{tree_at}
 use Rattle.ic_flat_round.specs.inner.Rebuilding.{State, state, span_terms, span_of, stacked, IsSpan, PutsOn, effort}
 use Rattle.ic_flat_round.proofs.PutWords.{puts-name, puts-bound, puts-agent, effort-name, effort-bound, effort-agent}
 use Rattle.ic_flat_round.proofs.StackedSpans.{stacked-push, span_of-one, span-name, span-agent}

@@ -1,5 +1,4 @@
 -- For private functions. No public clause needs what is here.
-pub mod Standing
 pub mod Room
 pub mod RuleWords
 pub mod Limits

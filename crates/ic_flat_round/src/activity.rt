@@ -3,9 +3,8 @@
 ghost use Rattle.std.specs.Prelude.{◌≡◌, count_by, is_some};
 ghost use Rattle.ic_round.specs.Firing.{rule_of_sides};
 
-use crate::growth::rule_of;
-use crate::places::{equations_place, sides_at};
 use ic_flat::Flat;
+use ic_flat_rules::{equations_place, rule_of, sides_at};
 use ic_rules::RuleSet;
 
 /// How many equations are active. Takes time linear in the nodes, and no memory.

@@ -2,10 +2,10 @@
 
 ghost use Rattle.std.specs.Prelude.{◌≡◌};
 ghost use Rattle.ic_flat_round.specs.Facing.{symbols_of, first_facing};
-ghost use Rattle.ic_flat_round.specs.inner.Standing.{tree_at, AreSides};
+ghost use Rattle.ic_flat_rules.specs.Standing.{tree_at, AreSides};
 
-use crate::places::{Sides, equations_place, sides_at};
 use ic_flat::{Flat, Word};
+use ic_flat_rules::{Sides, equations_place, sides_at};
 
 /// The symbols of the first equation of two agents. Takes time linear in the nodes, and no memory.
 pub fn facing(flat: &Flat) -> Option<(u32, u32)>

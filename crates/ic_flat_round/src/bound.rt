@@ -4,7 +4,7 @@ ghost use Rattle.std.specs.Prelude.{◌≡◌, ◌==◌, ℕ, ◌<◌, None, IfN
 ghost use Rattle.indexmap.specs.IndexMap.{get, swap_remove_entry, IsUnchanged};
 ghost use Rattle.ic_settle.specs.lemmas.Waiting.{Resolves};
 ghost use Rattle.ic_flat.specs.Words.{IsWhole};
-ghost use Rattle.ic_flat_round.specs.inner.Standing.{tree_at};
+ghost use Rattle.ic_flat_rules.specs.Standing.{tree_at};
 ghost use Rattle.ic_flat_round.specs.inner.Waits.{waiting, AreWithin};
 
 use ic_flat::Word;

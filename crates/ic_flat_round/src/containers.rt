@@ -5,11 +5,11 @@ ghost use Rattle.std.specs.List.{flat_map};
 ghost use Rattle.indexmap.specs.IndexMap.{get};
 ghost use Rattle.ic_settle.specs.lemmas.Containers.{IsLinked, IsRoot, AreUnlinkedFrom, AreKnown, IsChosen, noted, noted_in, noted_equations, noted_from, elsewhere};
 ghost use Rattle.ic_flat.specs.Words.{IsWhole, word_names};
-ghost use Rattle.ic_flat_round.specs.inner.Standing.{pairs_at, AreInTwos, IsEquationsPlace};
+ghost use Rattle.ic_flat_rules.specs.Standing.{pairs_at, AreInTwos, IsEquationsPlace};
 ghost use Rattle.ic_flat_round.specs.inner.Heads.{head, heads, told_at, told, IsTarget};
 
-use crate::places::sides_at;
 use ic_flat::{Flat, Word};
+use ic_flat_rules::sides_at;
 use ic_settle::{Applicable, Side};
 use indexmap::IndexMap;
 use indexmap::map::Entry;

@@ -12,13 +12,12 @@ ghost use Rattle.ic_round.specs.WorkViews.{fired_of};
 ghost use Rattle.ic_round.specs.Plans.{planned};
 ghost use Rattle.ic_round.specs.Rounds.{fits};
 ghost use Rattle.ic_flat_round.specs.inner.Limits.{reached};
-ghost use Rattle.ic_flat_round.specs.inner.RuleWords.{pairs_words};
-ghost use Rattle.ic_flat_round.specs.inner.Standing.{pairs_at, AreInTwos};
+ghost use Rattle.ic_flat_rules.specs.RuleWords.{pairs_words};
+ghost use Rattle.ic_flat_rules.specs.Standing.{pairs_at, AreInTwos};
 
 use crate::fired::Reached;
-use crate::growth::rule_of;
-use crate::places::{equations_place, sides_at};
 use ic_flat::{Flat, Word, write_terms};
+use ic_flat_rules::{equations_place, rule_of, sides_at};
 use ic_round::Fired;
 use ic_rules::RuleSet;
 use ic_term::{Equation, MAX_NODES};

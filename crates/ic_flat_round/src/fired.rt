@@ -10,16 +10,13 @@ ghost use Rattle.ic_round.specs.Firing.{fired, fired_pair, fired_from, names_tak
 ghost use Rattle.ic_round.specs.Rounds.{fits, unless_unfit};
 ghost use Rattle.ic_round.specs.RoundAnswers.{Answers};
 ghost use Rattle.ic_flat_round.specs.inner.Room.{Appended};
-ghost use Rattle.ic_flat_round.specs.inner.RuleWords.{pairs_words};
+ghost use Rattle.ic_flat_rules.specs.RuleWords.{pairs_words};
 ghost use Rattle.ic_flat_round.specs.inner.Limits.{is_within, reached, IsRoomy, fits_after};
-ghost use Rattle.ic_flat_round.specs.inner.Standing.{pair_at, pairs_at, AreSides, AreInTwos, IsEquationsPlace};
+ghost use Rattle.ic_flat_rules.specs.Standing.{pair_at, pairs_at, AreSides, AreInTwos, IsEquationsPlace};
 
 use crate::firing::{put_copied, put_interaction};
-use crate::fitting::refusal;
-use crate::flat_rules::FlatRules;
-use crate::growth::rule_of;
-use crate::places::{Sides, equations_place, sides_at};
 use ic_flat::{Flat, Word};
+use ic_flat_rules::{FlatRules, Sides, equations_place, refusal, rule_of, sides_at};
 use ic_round::RoundFault;
 use ic_term::{MAX_NEXT, MAX_NODES};
 use std::alloc::Global;

@@ -5,7 +5,7 @@ ghost use Rattle.ic_flat.specs.Words.{forest, IsWhole};
 ghost use Rattle.ic_round.specs.Firing.{arguments};
 ghost use Rattle.ic_flat_round.specs.inner.Room.{HasRoom, Appended};
 ghost use Rattle.ic_flat_round.specs.inner.RuleWords.{raised_word, product_words, against_words, interaction_words};
-ghost use Rattle.ic_flat_round.specs.inner.Standing.{tree_at, IsTermAt};
+ghost use Rattle.ic_flat_rules.specs.Standing.{tree_at, IsTermAt};
 
 use ic_flat::{Word, end_of_term};
 

@@ -8,8 +8,8 @@ ghost use Rattle.ic_flat_round.specs.inner.Waits.{waiting, AreWithin, IsKeptWith
 
 use crate::bound::{Bound, resolved};
 use crate::containers::Containers;
-use crate::places::{equations_place, sides_at};
 use ic_flat::Flat;
+use ic_flat_rules::{equations_place, sides_at};
 use ic_settle::Side;
 use std::alloc::AllocError;
 

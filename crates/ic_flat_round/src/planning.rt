@@ -15,12 +15,10 @@ ghost use Rattle.ic_round.specs.Rounds.{fits, unless_unfit};
 ghost use Rattle.ic_round.specs.RoundAnswers.{Answers};
 ghost use Rattle.ic_flat_round.specs.PlainWorks.{shown};
 ghost use Rattle.ic_flat_round.specs.inner.Activity.{is_agent};
-ghost use Rattle.ic_flat_round.specs.inner.Standing.{pair_at, AreSides, IsEquationsPlace};
+ghost use Rattle.ic_flat_rules.specs.Standing.{pair_at, AreSides, IsEquationsPlace};
 
-use crate::fitting::{fits_from, refusal};
-use crate::growth::rule_of;
-use crate::places::{Sides, equations_place, sides_at};
 use ic_flat::{Flat, Word, terms_of};
+use ic_flat_rules::{Sides, equations_place, fits_from, refusal, rule_of, sides_at};
 use ic_round::{RoundFault, Work};
 use ic_rules::RuleSet;
 use ic_term::{Equation, Term};

@@ -8,9 +8,9 @@ ghost use Rattle.ic_round.specs.Rounds.{round, iterate, unless_unfit};
 ghost use Rattle.ic_round.specs.RoundAnswers.{Answers};
 
 use crate::fired::fire;
-use crate::flat_rules::FlatRules;
 use crate::settling::settle;
 use ic_flat::Flat;
+use ic_flat_rules::FlatRules;
 use ic_round::RoundFault;
 use std::alloc::Global;
 

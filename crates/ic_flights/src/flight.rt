@@ -5,7 +5,7 @@ ghost use Rattle.std.specs.Arc.{arc_value};
 
 use crate::limits::MAX_ROUNDS;
 use ic_flat::Flat;
-use ic_flat_round::{FlatRules, fits};
+use ic_flat_rules::{FlatRules, fits};
 use ic_rules::{JobName, RuleSet};
 use std::marker::Model;
 use std::sync::Arc;

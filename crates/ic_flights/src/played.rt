@@ -4,7 +4,7 @@ ghost use Rattle.std.specs.Prelude.{◌≡◌, IfOk};
 ghost use Rattle.std.specs.Arc.{arc_value};
 
 use ic_flat::Flat;
-use ic_flat_round::FlatRules;
+use ic_flat_rules::FlatRules;
 use ic_rules::{JobName, RuleSet};
 use std::alloc::{AllocError, Global};
 use std::marker::Model;

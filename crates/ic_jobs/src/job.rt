@@ -8,7 +8,7 @@ use crate::budget::{Budget, is_used_up, is_within};
 use crate::shown::ShownJob;
 use crate::state::State;
 use ic_flat::{Flat, FlatSystem, over};
-use ic_flat_round::{FlatRules, quiet};
+use ic_flat_rules::{FlatRules, quiet};
 use ic_flights::{Flight, MAX_ROUNDS};
 use ic_rules::{JobName, RuleSet};
 use std::alloc::{AllocError, Global};

@@ -5,7 +5,7 @@ ghost use Rattle.std.specs.Arc.{arc_value};
 
 use crate::state::State;
 use ic_flat::Flat;
-use ic_flat_round::FlatRules;
+use ic_flat_rules::FlatRules;
 use ic_rules::{JobName, RuleSet};
 use std::alloc::{AllocError, Global};
 use std::marker::Model;

@@ -4,7 +4,7 @@ use Rattle.ic_term.specs.Tree.{Pair}
 use Rattle.ic_term.specs.declared.limits.TheConstants.{MAX_NODES, MAX_NEXT}
 use Rattle.ic_flat.specs.declared.word.Word.{Word}
 use Rattle.ic_flat_round.specs.declared.fired.Reached.{Reached}
-use Rattle.ic_flat_round.specs.inner.RuleWords.{pairs_words}
+use Rattle.ic_flat_rules.specs.RuleWords.{pairs_words}
 
 -- so many nodes, with names below this number, are within the limits
 abbrev pub is_within : ℕ → ℕ → Bool

@@ -7,7 +7,7 @@ use Rattle.ic_settle.specs.declared.applicability.Side.TheVariants.{Left, Right}
 use Rattle.ic_settle.specs.lemmas.Waiting.{kept_by}
 use Rattle.ic_flat.specs.declared.word.Word.{Word}
 use Rattle.ic_flat_round.specs.declared.pass.Kept.{Kept}
-use Rattle.ic_flat_round.specs.inner.Standing.{tree_at}
+use Rattle.ic_flat_rules.specs.Standing.{tree_at}
 
 -- the names, each with the term that waits for it
 abbrev pub waiting : List Word → List (ℕ × ℕ) → List (ℕ × Tree)

@@ -1,8 +1,8 @@
 use Rattle.std.proofs.Common.{◌≡◌, ap, is_some, count_by, arith}
 use Rattle.ic_term.specs.Tree.{Pair}
 use Rattle.ic_round.specs.Firing.{rule_of_sides}
-use Rattle.ic_flat_round.specs.inner.Standing.{pairs_at}
-use Rattle.ic_flat_round.proofs.WordPlaces.{whole_words, pairs_start, twos_start, within_start}
+use Rattle.ic_flat_rules.specs.Standing.{pairs_at}
+use Rattle.ic_flat_rules.specs.lemmas.WordPlaces.{whole_words, pairs_start, twos_start, within_start}
 use Rattle.ic_flat_round.proofs.activity.active_equations.Goals as goal
 
 pub loop-place-init : goal.loop-place-init

@@ -1,6 +1,6 @@
 use Rattle.std.proofs.Common.{◌≡◌, ◌+◌, ◌-◌, ◌≤◌, length, is_some, count_by}
 use Rattle.ic_round.specs.Firing.{rule_of_sides}
-use Rattle.ic_flat_round.specs.inner.Standing.{pairs_at, AreInTwos}
+use Rattle.ic_flat_rules.specs.Standing.{pairs_at, AreInTwos}
 use Rattle.ic_flat_round.proofs.activity.active_equations.Given as goal
 
 -- those counted so far and those left are all

@@ -1,6 +1,6 @@
 use Rattle.std.proofs.Common.{ap}
 use Rattle.ic_flat_round.specs.Facing.{first_facing}
-use Rattle.ic_flat_round.proofs.WordPlaces.{whole_words, pairs_start, twos_start, within_start}
+use Rattle.ic_flat_rules.specs.lemmas.WordPlaces.{whole_words, pairs_start, twos_start, within_start}
 use Rattle.ic_flat_round.proofs.agents.facing.Goals as goal
 
 pub loop-place-init : goal.loop-place-init

@@ -6,9 +6,9 @@ use Rattle.ic_settle.specs.lemmas.Delays.{ResolvesSoFar, resolves-start, resolve
 use Rattle.ic_settle.specs.lemmas.Taking.{take_is}
 use Rattle.ic_flat.specs.declared.word.Word.TheVariants.{Name}
 use Rattle.ic_flat.specs.Words.{forest}
-use Rattle.ic_flat_round.specs.inner.Standing.{tree_at}
+use Rattle.ic_flat_rules.specs.Standing.{tree_at}
 use Rattle.ic_flat_round.specs.inner.Waits.{waiting}
-use Rattle.ic_flat_round.proofs.WordPlaces.{name_at, agent_at}
+use Rattle.ic_flat_rules.specs.lemmas.WordPlaces.{name_at, agent_at}
 use Rattle.ic_flat_round.proofs.BoundPlaces.{within-removed}
 use Rattle.ic_flat_round.proofs.bound.resolved.Goals as goal
 

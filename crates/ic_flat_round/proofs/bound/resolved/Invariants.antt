@@ -1,7 +1,7 @@
 use Rattle.std.proofs.Common.{◌<◌, length}
 use Rattle.ic_settle.specs.lemmas.Delays.{ResolvesSoFar}
 use Rattle.ic_settle.specs.lemmas.Waiting.{nodes_kept}
-use Rattle.ic_flat_round.specs.inner.Standing.{tree_at}
+use Rattle.ic_flat_rules.specs.Standing.{tree_at}
 use Rattle.ic_flat_round.specs.inner.Waits.{waiting, AreWithin}
 use Rattle.ic_flat_round.proofs.bound.resolved.Given as goal
 

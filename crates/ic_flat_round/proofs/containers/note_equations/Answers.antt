@@ -3,7 +3,7 @@ use Rattle.std.specs.Prelude.{nat_eq}
 use Rattle.indexmap.specs.IndexMap.{get}
 use Rattle.ic_term.specs.Tree.{pair_names}
 use Rattle.ic_settle.specs.lemmas.Containers.{noted_in, noted_equations}
-use Rattle.ic_flat_round.specs.inner.Standing.{pair_at, pairs_at}
+use Rattle.ic_flat_rules.specs.Standing.{pair_at, pairs_at}
 use Rattle.ic_flat_round.proofs.PassingWords.{names-pair_slice}
 use Rattle.ic_flat_round.proofs.containers.note_equations.Goals as goal
 

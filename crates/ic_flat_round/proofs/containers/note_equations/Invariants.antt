@@ -2,7 +2,7 @@ use Rattle.std.proofs.Common.{◌≡◌, ℕ, ◌-◌, ◌≤◌, length}
 use Rattle.std.specs.Prelude.{nat_eq}
 use Rattle.indexmap.specs.IndexMap.{get}
 use Rattle.ic_settle.specs.lemmas.Containers.{noted_equations}
-use Rattle.ic_flat_round.specs.inner.Standing.{pairs_at, AreInTwos}
+use Rattle.ic_flat_rules.specs.Standing.{pairs_at, AreInTwos}
 use Rattle.ic_flat_round.proofs.containers.note_equations.Given as goal
 
 -- what is noted so far, with what is left, is what the whole gives

@@ -10,9 +10,9 @@ use Rattle.ic_round.specs.Firing.{fired, fired_from, next_after}
 use Rattle.ic_round.specs.Works.{works_from, result_of}
 use Rattle.ic_round.specs.lemmas.RoundLemmas.{fired_is_configuration, fired_is_over}
 use Rattle.ic_flat_round.specs.declared.fired.Reached.{Reached}
-use Rattle.ic_flat_round.specs.inner.RuleWords.{pairs_words}
-use Rattle.ic_flat_round.specs.inner.Standing.{pairs_at}
-use Rattle.ic_flat_round.proofs.WordPlaces.{whole_words, pairs_start, twos_start}
+use Rattle.ic_flat_rules.specs.RuleWords.{pairs_words}
+use Rattle.ic_flat_rules.specs.Standing.{pairs_at}
+use Rattle.ic_flat_rules.specs.lemmas.WordPlaces.{whole_words, pairs_start, twos_start}
 use Rattle.ic_flat_round.proofs.FiringLimits.{within_parts, few_equations}
 use Rattle.ic_flat_round.proofs.Interacting.{fired_configuration, interface_words, flat_parts}
 use Rattle.ic_flat_round.proofs.filling.filled.Goals as goal

@@ -6,8 +6,8 @@ use Rattle.ic_flat.specs.declared.word.Word.{Word}
 use Rattle.ic_round.specs.Firing.{fired_from, next_after, count_of}
 use Rattle.ic_round.specs.WorkViews.{fired_of}
 use Rattle.ic_round.specs.lemmas.ActiveRules.{rule_within, active_by}
-use Rattle.ic_flat_round.specs.inner.Standing.{pair_at, pairs_at}
-use Rattle.ic_flat_round.proofs.WordPlaces.{pair_slice}
+use Rattle.ic_flat_rules.specs.Standing.{pair_at, pairs_at}
+use Rattle.ic_flat_rules.specs.lemmas.WordPlaces.{pair_slice}
 use Rattle.ic_flat_round.proofs.ActiveWorks.{names-room, names-read}
 use Rattle.ic_flat_round.proofs.FillingWords.{Fills, fills-inert, fills-active}
 use Rattle.ic_flat_round.proofs.filling.put_filled.Goals as goal

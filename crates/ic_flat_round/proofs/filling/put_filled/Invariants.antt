@@ -2,7 +2,7 @@ use Rattle.std.proofs.Common.{◌≡◌, ◌-◌, ◌≤◌, length, map}
 use Rattle.std.specs.Vec.Iter.{into_iter_items, into_iter_len}
 use Rattle.ic_round.specs.Firing.{fired_from, next_after}
 use Rattle.ic_round.specs.WorkViews.{fired_of}
-use Rattle.ic_flat_round.specs.inner.Standing.{pairs_at, AreInTwos}
+use Rattle.ic_flat_rules.specs.Standing.{pairs_at, AreInTwos}
 use Rattle.ic_flat_round.proofs.FillingWords.{Fills}
 use Rattle.ic_flat_round.proofs.filling.put_filled.Given as goal
 

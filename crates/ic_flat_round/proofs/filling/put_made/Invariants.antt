@@ -1,7 +1,7 @@
 use Rattle.std.proofs.Common.{◌≡◌, ◌++◌, map, length}
 use Rattle.std.specs.Vec.Iter.{into_iter_items, into_iter_len}
 use Rattle.ic_term.specs.Term.{pair}
-use Rattle.ic_flat_round.specs.inner.RuleWords.{pairs_words}
+use Rattle.ic_flat_rules.specs.RuleWords.{pairs_words}
 use Rattle.ic_flat_round.proofs.filling.put_made.Given as goal
 
 -- the words so far and those of the equations left are those of all

@@ -13,9 +13,9 @@ use Rattle.ic_flat.specs.lemmas.FlatLaws.{nodes-words}
 use Rattle.ic_round.specs.Firing.{fired, fired_from, next_after}
 use Rattle.ic_flat_round.specs.inner.Limits.{is_within, reached}
 use Rattle.ic_flat_round.specs.inner.Room.{Appended}
-use Rattle.ic_flat_round.specs.inner.RuleWords.{pairs_words}
-use Rattle.ic_flat_round.specs.inner.Standing.{pairs_at}
-use Rattle.ic_flat_round.proofs.WordPlaces.{whole_words, pairs_start, twos_start, within_start}
+use Rattle.ic_flat_rules.specs.RuleWords.{pairs_words}
+use Rattle.ic_flat_rules.specs.Standing.{pairs_at}
+use Rattle.ic_flat_rules.specs.lemmas.WordPlaces.{whole_words, pairs_start, twos_start, within_start}
 use Rattle.ic_flat_round.proofs.Appending.{appended-both}
 use Rattle.ic_flat_round.proofs.Interacting.{fired_configuration, interface_words}
 use Rattle.ic_flat_round.proofs.fired.put_configuration.Goals as goal

@@ -9,8 +9,8 @@ use Rattle.ic_round.specs.Firing.{fired_pair, fired_from, names_taken, next_afte
 use Rattle.ic_round.specs.lemmas.FiredNames.{next_grows}
 use Rattle.ic_flat_round.specs.declared.fired.Reached.{Reached}
 use Rattle.ic_flat_round.specs.inner.Room.{GoesOnTo}
-use Rattle.ic_flat_round.specs.inner.RuleWords.{pairs_words}
-use Rattle.ic_flat_round.specs.inner.Standing.{pair_at, pairs_at}
+use Rattle.ic_flat_rules.specs.RuleWords.{pairs_words}
+use Rattle.ic_flat_rules.specs.Standing.{pair_at, pairs_at}
 use Rattle.ic_flat_round.proofs.Appending.{goes_on_to-next}
 use Rattle.ic_flat_round.proofs.FiringLimits.{within_parts, beyond_more, few_equations, fired-first}
 use Rattle.ic_flat_round.proofs.fired.put_equations.Goals as goal

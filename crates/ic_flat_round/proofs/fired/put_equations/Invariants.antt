@@ -6,8 +6,8 @@ use Rattle.ic_term.specs.declared.limits.TheConstants.{MAX_NEXT}
 use Rattle.ic_round.specs.Firing.{fired_from, next_after}
 use Rattle.ic_flat_round.specs.inner.Limits.{IsRoomy}
 use Rattle.ic_flat_round.specs.inner.Room.{GoesOnTo}
-use Rattle.ic_flat_round.specs.inner.RuleWords.{pairs_words}
-use Rattle.ic_flat_round.specs.inner.Standing.{pairs_at, AreInTwos}
+use Rattle.ic_flat_rules.specs.RuleWords.{pairs_words}
+use Rattle.ic_flat_rules.specs.Standing.{pairs_at, AreInTwos}
 use Rattle.ic_flat_round.proofs.fired.put_equations.Given as goal
 
 -- what the equations left give when they are fired is left

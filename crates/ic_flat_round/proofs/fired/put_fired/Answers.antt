@@ -6,9 +6,10 @@ use Rattle.ic_flat.specs.declared.word.Word.{Word}
 use Rattle.ic_flat.specs.Words.{forest, IsWhole}
 use Rattle.ic_flat_round.specs.inner.Limits.{fits_after}
 use Rattle.ic_flat_round.specs.inner.Room.{Appended}
-use Rattle.ic_flat_round.specs.inner.RuleWords.{rule_words, interaction_words, pairs_words}
-use Rattle.ic_flat_round.specs.inner.Standing.{pair_at, tree_at}
-use Rattle.ic_flat_round.proofs.WordPlaces.{pair_nodes_at, pair_slice}
+use Rattle.ic_flat_rules.specs.RuleWords.{rule_words, pairs_words}
+use Rattle.ic_flat_round.specs.inner.RuleWords.{interaction_words}
+use Rattle.ic_flat_rules.specs.Standing.{pair_at, tree_at}
+use Rattle.ic_flat_rules.specs.lemmas.WordPlaces.{pair_nodes_at, pair_slice}
 use Rattle.ic_flat_round.proofs.RaisedWords.{whole-rule_words}
 use Rattle.ic_flat_round.proofs.Interacting.{some_at, Ruled, ruled, Inert, inert_by, fires_at}
 use Rattle.ic_flat_round.proofs.FiringLimits.{within_parts, tested_after}

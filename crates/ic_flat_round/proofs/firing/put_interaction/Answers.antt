@@ -6,7 +6,7 @@ use Rattle.ic_flat.specs.lemmas.WordLaws.{forest-le}
 use Rattle.ic_round.specs.Firing.{arguments}
 use Rattle.ic_flat_round.specs.inner.Room.{Appended}
 use Rattle.ic_flat_round.specs.inner.RuleWords.{against_words}
-use Rattle.ic_flat_round.specs.inner.Standing.{tree_at}
+use Rattle.ic_flat_rules.specs.Standing.{tree_at}
 use Rattle.ic_flat_round.proofs.Appending.{appended-both}
 use Rattle.ic_flat_round.proofs.Interacting.{count_at, enough_at, agent_words, second_words}
 use Rattle.ic_flat_round.proofs.firing.put_interaction.Goals as goal

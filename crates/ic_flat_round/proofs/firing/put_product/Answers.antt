@@ -4,8 +4,8 @@ use Rattle.ic_flat.specs.Words.{tree_words}
 use Rattle.ic_rules.specs.Renaming.{renamed}
 use Rattle.ic_flat_round.specs.inner.Room.{Appended}
 use Rattle.ic_flat_round.specs.inner.RuleWords.{above, raised_word}
-use Rattle.ic_flat_round.specs.inner.Standing.{tree_at}
-use Rattle.ic_flat_round.proofs.WordPlaces.{term_at, slice_at}
+use Rattle.ic_flat_rules.specs.Standing.{tree_at}
+use Rattle.ic_flat_rules.specs.lemmas.WordPlaces.{term_at, slice_at}
 use Rattle.ic_flat_round.proofs.Appending.{appended-both}
 use Rattle.ic_flat_round.proofs.RaisedWords.{raised-words, raised-length}
 use Rattle.ic_flat_round.proofs.firing.put_product.Goals as goal

@@ -3,8 +3,8 @@ use Rattle.ic_flat.specs.declared.word.Word.{Word}
 use Rattle.ic_flat.specs.Words.{forest}
 use Rattle.ic_flat_round.specs.inner.Room.{GoesOn}
 use Rattle.ic_flat_round.specs.inner.RuleWords.{against_words, product_words}
-use Rattle.ic_flat_round.specs.inner.Standing.{tree_at}
-use Rattle.ic_flat_round.proofs.WordPlaces.{first-rest}
+use Rattle.ic_flat_rules.specs.Standing.{tree_at}
+use Rattle.ic_flat_rules.specs.lemmas.WordPlaces.{first-rest}
 use Rattle.ic_flat_round.proofs.Appending.{goes_on-room, goes_on-next}
 use Rattle.ic_flat_round.proofs.RaisedWords.{against-more}
 use Rattle.ic_flat_round.proofs.firing.put_products.Goals as goal

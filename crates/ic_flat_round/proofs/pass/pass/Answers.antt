@@ -12,9 +12,9 @@ use Rattle.ic_settle.specs.lemmas.Taking.{insert_is}
 use Rattle.ic_flat.specs.declared.word.Word.{Word}
 use Rattle.ic_flat.specs.declared.word.Word.TheVariants.{Name}
 use Rattle.ic_flat_round.specs.declared.pass.Kept.{Kept}
-use Rattle.ic_flat_round.specs.inner.Standing.{tree_at, pairs_at}
+use Rattle.ic_flat_rules.specs.Standing.{tree_at, pairs_at}
 use Rattle.ic_flat_round.specs.inner.Waits.{waiting, AreWithin, IsKeptWithin, kept_at, other_place}
-use Rattle.ic_flat_round.proofs.WordPlaces.{whole_words, pairs_start, twos_start, within_start, pairs_end}
+use Rattle.ic_flat_rules.specs.lemmas.WordPlaces.{whole_words, pairs_start, twos_start, within_start, pairs_end}
 use Rattle.ic_flat_round.proofs.BoundPlaces.{within-none, within-added}
 use Rattle.ic_flat_round.proofs.StackedSpans.{all_push}
 use Rattle.ic_flat_round.proofs.HeadLemmas.{chosen_at}

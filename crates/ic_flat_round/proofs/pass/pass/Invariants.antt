@@ -3,7 +3,7 @@ use Rattle.std.specs.Prelude.{nat_eq}
 use Rattle.std.specs.List.{AllByRecursion}
 use Rattle.indexmap.specs.IndexMap.{get}
 use Rattle.ic_settle.specs.lemmas.Containers.{IsLinked, AreUnlinkedFrom, AreKnown}
-use Rattle.ic_flat_round.specs.inner.Standing.{pairs_at, AreInTwos}
+use Rattle.ic_flat_rules.specs.Standing.{pairs_at, AreInTwos}
 use Rattle.ic_flat_round.specs.inner.Waits.{waiting, AreWithin, IsKeptWithin, kept_at}
 use Rattle.ic_flat_round.proofs.PassingWords.{IsPassingAt}
 use Rattle.ic_flat_round.proofs.pass.pass.Given as goal

@@ -5,8 +5,8 @@ use Rattle.ic_round.specs.Firing.{count_of}
 use Rattle.ic_round.specs.Works.{work_at, works_from}
 use Rattle.ic_round.specs.WorkViews.{work_of}
 use Rattle.ic_round.specs.lemmas.ActiveRules.{rule_within, active_by}
-use Rattle.ic_flat_round.specs.inner.Standing.{pair_at, pairs_at}
-use Rattle.ic_flat_round.proofs.WordPlaces.{whole_words, pairs_start, twos_start, within_start}
+use Rattle.ic_flat_rules.specs.Standing.{pair_at, pairs_at}
+use Rattle.ic_flat_rules.specs.lemmas.WordPlaces.{whole_words, pairs_start, twos_start, within_start}
 use Rattle.ic_flat_round.proofs.ActiveWorks.{takes-inert, takes-active, names-room, names-read, rule_is, work_is}
 use Rattle.ic_flat_round.proofs.planning.active_works.Goals as goal
 use Rattle.ic_flat_round.proofs.planning.active_works.Goals.{In-Some, After-names, in-Some+in_ok-equation+in_ok-push, in_default}

@@ -2,7 +2,7 @@ use Rattle.std.proofs.Common.{◌-◌, ◌≤◌, length, map}
 use Rattle.ic_round.specs.Firing.{fired}
 use Rattle.ic_round.specs.Works.{works_from}
 use Rattle.ic_round.specs.WorkViews.{work_of}
-use Rattle.ic_flat_round.specs.inner.Standing.{pairs_at, AreInTwos}
+use Rattle.ic_flat_rules.specs.Standing.{pairs_at, AreInTwos}
 use Rattle.ic_flat_round.proofs.ActiveWorks.{Takes}
 use Rattle.ic_flat_round.proofs.planning.active_works.Given as goal
 

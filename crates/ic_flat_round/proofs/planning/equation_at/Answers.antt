@@ -3,8 +3,8 @@ use Rattle.ic_term.specs.Term.{tree}
 use Rattle.ic_flat.specs.Words.{forest}
 use Rattle.ic_flat.specs.Flat.{sides}
 use Rattle.ic_flat.specs.lemmas.WordLaws.{forest-words}
-use Rattle.ic_flat_round.specs.inner.Standing.{tree_at, pair_at}
-use Rattle.ic_flat_round.proofs.WordPlaces.{pair_slice}
+use Rattle.ic_flat_rules.specs.Standing.{tree_at, pair_at}
+use Rattle.ic_flat_rules.specs.lemmas.WordPlaces.{pair_slice}
 use Rattle.ic_flat_round.proofs.ActiveWorks.{popped, none_left}
 use Rattle.ic_flat_round.proofs.planning.equation_at.Goals as goal
 use Rattle.ic_flat_round.proofs.planning.equation_at.Goals.{In_ok-stack, In-Some}

@@ -4,7 +4,7 @@ use Rattle.ic_term.specs.Tree.{Tree}
 use Rattle.ic_flat.specs.Flat.{sides}
 use Rattle.ic_flat_round.specs.declared.pass.Kept.{Kept}
 use Rattle.ic_flat_round.specs.declared.rebuilding.Span.{Span}
-use Rattle.ic_flat_round.specs.inner.Standing.{tree_at}
+use Rattle.ic_flat_rules.specs.Standing.{tree_at}
 use Rattle.ic_flat_round.specs.inner.Waits.{waiting, kept_at}
 use Rattle.ic_flat_round.specs.inner.Rebuilding.{IsSpan, PutsOn, span_terms, state}
 use Rattle.ic_flat_round.proofs.PutWords.{puts-both, puts-more}

@@ -3,7 +3,7 @@ use Rattle.std.proofs.lemmas.List.{length-drop}
 use Rattle.ic_flat.specs.declared.word.Word.TheVariants.{Name}
 use Rattle.ic_flat.specs.lemmas.WordLaws.{forest-le}
 use Rattle.ic_settle.specs.lemmas.Taking.{take_is}
-use Rattle.ic_flat_round.specs.inner.Standing.{tree_at}
+use Rattle.ic_flat_rules.specs.Standing.{tree_at}
 use Rattle.ic_flat_round.specs.inner.Waits.{waiting}
 use Rattle.ic_flat_round.proofs.StackedSpans.{span_of-one, span-agent}
 use Rattle.ic_flat_round.proofs.WrittenSpans.{word-bound, word-name, word-agent}

@@ -5,7 +5,7 @@ use Rattle.std.specs.Map.{lookup}
 use Rattle.ic_term.specs.Tree.{names}
 use Rattle.ic_settle.specs.lemmas.Containers.{noted_in, noted_equations}
 use Rattle.ic_settle.specs.lemmas.Spots.{noted_after}
-use Rattle.ic_flat_round.proofs.WordPlaces.{whole_words, equations_few, pairs_start, twos_start, within_start}
+use Rattle.ic_flat_rules.specs.lemmas.WordPlaces.{whole_words, equations_few, pairs_start, twos_start, within_start}
 use Rattle.ic_flat_round.proofs.PassingWords.{names-interface}
 use Rattle.ic_flat_round.proofs.containers.Containers.refill.Goals as goal
 

@@ -10,7 +10,7 @@ use Rattle.ic_flat_round.specs.declared.pass.Kept.{Kept}
 use Rattle.ic_flat_round.specs.declared.rebuilding.Span.{Span}
 use Rattle.ic_flat_round.specs.inner.Waits.{waiting, kept_at}
 use Rattle.ic_flat_round.specs.inner.Rebuilding.{PutsOn, span_terms, state}
-use Rattle.ic_flat_round.proofs.WordPlaces.{whole_words, interface_there}
+use Rattle.ic_flat_rules.specs.lemmas.WordPlaces.{whole_words, interface_there}
 use Rattle.ic_flat_round.proofs.SettledWords.{settled_parts, interface_terms}
 use Rattle.ic_flat_round.proofs.workspace.Workspace.settle.Goals as goal
 use Rattle.ic_flat_round.proofs.workspace.Workspace.settle.Goals.{After-next}

@@ -1,0 +1,2 @@
+pub mod RuleBounds
+pub mod RuleWriting

@@ -1,0 +1,3 @@
+pub mod Standing
+pub mod RuleWords
+pub mod lemmas
