@@ -29,7 +29,8 @@ use Rattle.ic_readback.proofs.Ends.{first_state, sides_given, once_places, given
 use Rattle.ic_readback.proofs.Puttings.{token_names, EachName, each_both, Not, named_in, MendedSo, mended_so, mended_each, mended_places, equations_in}
 use Rattle.ic_readback.proofs.Parts.{IsLeft, steps_untold, gathered_order, gathered_left, gathered_terms, gathered_numbered, gathered_places, steps_numbered, IsNumbered}
 use Rattle.ic_readback.proofs.Shapes.{IsTerm, mended_terms, sides_in, term_pair}
-use Rattle.ic_readback.proofs.Results.{ReadsNet, with_arities, rows_read, shape_of, result_counted}
+use Rattle.ic_readback.specs.inner.Parted.{ReadsNet}
+use Rattle.ic_readback.proofs.Results.{with_arities, rows_read, shape_of, result_counted}
 use Rattle.ic_meaning.specs.lemmas.Terms.{same_word, word_itself}
 
 -- ---- how often the number of a place occurs

@@ -28,7 +28,8 @@ use Rattle.ic_readback.proofs.Moves.{all_there}
 use Rattle.ic_readback.proofs.Words.{balance_step, given_step}
 use Rattle.ic_readback.proofs.Ends.{first_state, sides_given}
 use Rattle.ic_readback.proofs.Puttings.{equations_in}
-use Rattle.ic_readback.proofs.Results.{ReadsNet, with_arities}
+use Rattle.ic_readback.specs.inner.Parted.{ReadsNet}
+use Rattle.ic_readback.proofs.Results.{with_arities}
 use Rattle.ic_readback.proofs.StepNets.{some_first as first_some}
 use Rattle.ic_meaning.specs.lemmas.Orders.{all_back}
 

@@ -24,6 +24,7 @@ use Rattle.ic_readback.specs.inner.Expanding.{state, Steps, IsIdle}
 use Rattle.ic_readback.specs.inner.Reading.{at_words, HasRead, Gathers, HoldOnce}
 use Rattle.ic_readback.specs.inner.Writing.{Part, part_of, Gathered, Mended}
 use Rattle.ic_readback.specs.inner.Mending.{WritesLoose}
+use Rattle.ic_readback.specs.inner.Parted.{IsParted, ReadsNet}
 use Rattle.ic_readback.specs.lemmas.Given.{NetLaws}
 use Rattle.ic_readback.specs.lemmas.Rows.{over, WholeOver, over-nil, whole-nil, pairs-more}
 use Rattle.ic_readback.specs.lemmas.RowNets.{to_configured}
@@ -35,46 +36,20 @@ use Rattle.ic_readback.proofs.Shapes.{IsTerm, mended_terms, row_parts, sides_in,
 use Rattle.ic_readback.proofs.Readers.{read_once}
 use Rattle.ic_readback.proofs.MendNets.{net_left, mended_net}
 
--- What was read and written of the net of a machine: the words of its interface and the sides of its equations, and then what
--- was left, as terms that were put together.
-pub record ReadsNet (arities : List ℕ) (m : Net) (ts : List Token) (equations : ℕ) : Type 0 where
-  pub roots : List Token
-  pub between : List Piece
-  pub end : List Piece
-  pub parts : List Part
-  pub done : List Part
-  pub steps : Steps arities (first_state m.interface m.pending m.aside m.places) (state roots [] between)
-  pub gathered : Gathered arities parts between end
-  pub mended : Mended parts [] done
-  pub tokens : ts ≡ roots ++ equations_in done
-  pub counted : equations ≡ (length m.pending + length m.aside) + length done
-  pub idle : HoldOnce m.places → AllByRecursion IsIdle end
-  pub fewer : HoldOnce m.places → HoldOnce between
-
--- a reader that had read nothing, with the places of a machine
-pub record Begins (m : Net) (is : List Word) (es fs : List Equation) (old : Reader) : Type 0 where
-  pub interface : is ≡ m.interface
-  pub pending : es ≡ m.pending
-  pub aside : fs ≡ m.aside
-  pub arities : old.places.arities ≡ m.arities
-  pub pieces : old.places.pieces ≡ m.places
-  pub tokens : old.tokens.items ≡ []
-  pub equations : old.equations ≡ 0
-
 -- `mid` has read the words, `two` has its tokens taken out, and `last` has read what was left
-pub reads_net : (m : Net) (is : List Word) (es fs : List Equation) (old mid two last : Reader) (before after : List Loose) (new : Writer) → Begins m is es fs old
+pub reads_net : (m : Net) (is : List Word) (es fs : List Equation) (old mid two last : Reader) (before after : List Loose) (new : Writer) → IsParted m is es fs old.places → old.tokens.items ≡ [] → old.equations ≡ 0
     → HasRead (is ++ (sides_of es ++ sides_of fs)) old mid → mid.equations ≡ old.equations + (length es + length fs) → two.places ≡ mid.places → two.equations ≡ mid.equations
     → before ≡ [] → Gathers two last before after → (HoldOnce two.places.pieces → AllByRecursion IsIdle last.places.pieces)
     → WritesLoose (map part_of after) mid.tokens.items last.equations new → ReadsNet m.arities m new.tokens.items new.equations
-reads_net m is es fs old mid two last before after new begins read counted places equations none gathers idle written =
+reads_net m is es fs old mid two last before after new parted blank zero read counted places equations none gathers idle written =
     let a = written.counted in
     let b = gathers.equations in
-    let d = begins.equations in
-    let e = ap length begins.pending in
-    let f = ap length begins.aside in
+    let d = zero in
+    let e = ap length parted.pending_is in
+    let f = ap length parted.aside_is in
     let start : at_words (is ++ (sides_of es ++ sides_of fs)) old ≡ state [] (m.interface ++ (sides_of m.pending ++ sides_of m.aside)) m.places =
-    (λ i. state (begins.tokens i) (begins.interface i ++ (sides_of (begins.pending i) ++ sides_of (begins.aside i))) (begins.pieces i)) in
-    let same : two.places.arities ≡ m.arities = ap (λ (h : Held). h.arities) places ∙ (read.arities ∙ begins.arities) in
+    (λ i. state (blank i) (parted.interface_is i ++ (sides_of (parted.pending_is i) ++ sides_of (parted.aside_is i))) (parted.pieces i)) in
+    let same : two.places.arities ≡ m.arities = ap (λ (h : Held). h.arities) places ∙ (read.arities ∙ parted.arities) in
     let parts : map part_of after ≡ gathers.parts = gathers.added ∙ ap (λ ls. map part_of ls ++ gathers.parts) none in
     record {
       roots = mid.tokens.items;
@@ -84,7 +59,7 @@ reads_net m is es fs old mid two last before after new begins read counted place
       done = written.done;
       steps = transport (λ (h : Held). Steps m.arities (first_state m.interface m.pending m.aside m.places) (state mid.tokens.items [] h.pieces)) (sym places)
           (transport (λ s. Steps m.arities s (at_words [] mid)) start
-          (transport (λ l. Steps l (at_words (is ++ (sides_of es ++ sides_of fs)) old) (at_words [] mid)) begins.arities read.steps));
+          (transport (λ l. Steps l (at_words (is ++ (sides_of es ++ sides_of fs)) old) (at_words [] mid)) parted.arities read.steps));
       gathered = transport (λ l. Gathered l gathers.parts two.places.pieces last.places.pieces) same gathers.gathered;
       mended = transport (λ ps. Mended ps [] written.done) parts written.mended;
       tokens = written.tokens;
@@ -96,7 +71,7 @@ reads_net m is es fs old mid two last before after new begins read counted place
     held : HoldOnce m.places → HoldOnce two.places.pieces
     held once =
         transport (λ (h : Held). HoldOnce h.pieces) (sym places)
-        (read_once (is ++ (sides_of es ++ sides_of fs)) old mid read (transport HoldOnce (sym begins.pieces) once))
+        (read_once (is ++ (sides_of es ++ sides_of fs)) old mid read (transport HoldOnce (sym parted.pieces) once))
 
 -- ---- the terms
 

@@ -3,3 +3,4 @@ pub mod Expanding
 pub mod Writing
 pub mod Reading
 pub mod Mending
+pub mod Parted

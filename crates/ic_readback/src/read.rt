@@ -3,16 +3,18 @@
 ghost use Rattle.std.specs.Prelude.{◌≡◌, ℕ, ◌+◌, ◌*◌, ◌++◌, length, IfOk};
 ghost use Rattle.ic_round.specs.Naming.{HasNames};
 ghost use Rattle.ic_reaching.specs.OneNet.{OneNet};
-ghost use Rattle.ic_machine.specs.Net.{pieces};
+ghost use Rattle.ic_machine.specs.Net.{pieces, Net as AnyNet};
 ghost use Rattle.ic_flat.specs.Words.{forest, IsWhole};
 ghost use Rattle.ic_meaning.specs.Words.{Numbers, AreNumbers};
 ghost use Rattle.ic_meaning.specs.Nets.{net_of, AreNetPieces};
 ghost use Rattle.ic_readback.specs.Reading.{flat_words, configuration_read, AreGiven, BeginAs, sides_of, AreCirclesAfter};
+ghost use Rattle.ic_readback.specs.inner.Parted.{IsParted, ReadsNet};
 
 use crate::reader::Reader;
 use crate::token::ReadBack;
-use crate::writer::write_loose;
-use ic_machine::Machine;
+use crate::writer::{Writer, write_loose};
+use ic_arena::Word;
+use ic_machine::{Equation, Machine, Places};
 use std::alloc::{AllocError, Global};
 use std::mem;
 
@@ -46,20 +48,42 @@ pub fn read_back(alloc: Global, machine: Machine) -> Result<ReadBack, AllocError
     ic_reaching::laws::the_order_of_equations_is_no_matter();
     ic_reaching::laws::a_piece_is_put_for_its_name();
     let parts = machine.into_parts();
-    let mut reader = Reader {
-        places: parts.places,
-        stack: Vec::new(alloc),
-        tokens: Vec::new(alloc),
-        equations: 0,
-    };
-    reader.expand_all(&parts.interface, &parts.pending, &parts.aside)?;
-    let tokens = mem::replace(&mut reader.tokens, Vec::new(alloc));
-    let mut loose = Vec::new(alloc);
-    reader.read_left(alloc, &mut loose)?;
-    let written = write_loose(alloc, loose, tokens, reader.equations)?;
+    let written = read_parts(
+        alloc,
+        parts.places,
+        &parts.interface,
+        &parts.pending,
+        &parts.aside,
+    )?;
     Ok(ReadBack {
         tokens: written.tokens,
         terms: parts.interface.len(),
         equations: written.equations,
     })
+}
+
+/// The same, where the machine was taken apart. Its caller drops the parts: each `?` here would, and make the proof long.
+fn read_parts(
+    alloc: Global,
+    places: Places,
+    interface: &[Word],
+    pending: &[Equation],
+    aside: &[Equation],
+) -> Result<Writer, AllocError>
+    ensures { IfOk result (λ w. (m : AnyNet)
+        → IsParted m interface.now pending.now aside.now places
+        → ReadsNet m.arities m w.tokens.items w.equations) }
+{
+    let mut reader = Reader {
+        places,
+        stack: Vec::new(alloc),
+        tokens: Vec::new(alloc),
+        equations: 0,
+    };
+    reader.expand_all(interface, pending, aside)?;
+    let tokens = mem::replace(&mut reader.tokens, Vec::new(alloc));
+    let mut loose = Vec::new(alloc);
+    reader.read_left(alloc, &mut loose)?;
+    let written = write_loose(alloc, loose, tokens, reader.equations)?;
+    Ok(written)
 }
