@@ -16,7 +16,7 @@ use Rattle.ic_round.specs.lemmas.QuietLemmas.{no_step, is_quiet_where, none_of}
 use Rattle.ic_round.specs.declared.round_fault.RoundFault.{RoundFault}
 use Rattle.ic_round.specs.declared.round_fault.RoundFault.TheVariants.{Overgrown, NamesOut}
 use Rattle.ic_by_rounds.specs.Reducing.{AreMade, IsReducedBy, IsRefusedAfter}
-use Rattle.ic_by_rounds.specs.Stuck.{is_of_agents, pair_text, stuck_text}
+use Rattle.ic_streams.specs.Stuck.{is_of_agents, pair_text, stuck_text}
 use Rattle.ic_by_rounds.proofs.Rounds.{none_made, one_more_made}
 
 -- ---- rounds of a quiet configuration

@@ -10,7 +10,7 @@ use Rattle.ic_term.specs.Configuration.{Configuration}
 use Rattle.ic_term.specs.Tree.{Tree, Trees, name, agent, list_of, Pair}
 use Rattle.ic_text.specs.Text.{text_or_none}
 use Rattle.ic_flat_round.specs.Facing.{symbols_of, first_facing}
-use Rattle.ic_by_rounds.specs.Stuck.{is_agent, is_of_agents, pair_text, stuck_text, symbol_of}
+use Rattle.ic_streams.specs.Stuck.{is_agent, is_of_agents, pair_text, stuck_text, symbol_of}
 
 known : (ss : List Symbol) (s n : ℕ) → has_arity n (slice_get ss s) ≡ true → s < length ss
 known ss s n fits = at (slice_get ss s) refl

@@ -1,5 +1,5 @@
 pub mod Reducing
-pub mod Stuck
+pub use Rattle.ic_streams.specs.Stuck
 pub mod Reductions
 pub mod Tracing
 pub mod Tables

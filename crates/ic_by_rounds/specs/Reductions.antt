@@ -9,7 +9,7 @@ use Rattle.ic_round.specs.Rounds.{iterate}
 use Rattle.ic_round.specs.Quiet.{IsQuiet}
 use Rattle.ic_streams.specs.Streams.{Answering, answering, line_of}
 use Rattle.ic_by_rounds.specs.Reducing.{IsReducedBy, IsRefusal}
-use Rattle.ic_by_rounds.specs.Stuck.{stuck_text}
+use Rattle.ic_streams.specs.Stuck.{stuck_text}
 use Rattle.ic_by_rounds.specs.declared.reduction.Reduction.{Reduction}
 use Rattle.ic_by_rounds.specs.declared.reduction.Reduction.TheVariants.{Done, NotDone, Refused}
 

@@ -17,7 +17,7 @@ ghost use Rattle.ic_by_rounds.specs.Pictures.{greatest, most_nodes};
 ghost use Rattle.ic_by_rounds.specs.Reductions.{EndsAs, Reduces};
 ghost use Rattle.ic_by_rounds.specs.Reducing.{IsReducedBy, IsRefusedAfter};
 ghost use Rattle.ic_by_rounds.specs.Objects.{row_object};
-ghost use Rattle.ic_by_rounds.specs.Stuck.{is_of_agents, stuck_text};
+ghost use Rattle.ic_streams.specs.Stuck.{is_of_agents, stuck_text};
 ghost use Rattle.ic_by_rounds.specs.Tables.{head_line, row_line};
 ghost use Rattle.ic_by_rounds.specs.Traces.{TracedAs, TracesTo};
 ghost use Rattle.ic_by_rounds.specs.Tracing.{active_count, rows_of};

@@ -3,7 +3,7 @@
 ghost use Rattle.std.specs.Prelude.{◌≡◌, IfOk, IsTrue};
 ghost use Rattle.std.specs.Option.{option_map};
 ghost use Rattle.ic_term.specs.Symbol.{is_over};
-ghost use Rattle.ic_by_rounds.specs.Stuck.{stuck_text};
+ghost use Rattle.ic_streams.specs.Stuck.{stuck_text};
 
 use ic_flat::Flat;
 use ic_flat_round::facing;

@@ -26,7 +26,7 @@ use Rattle.ic_in_place.specs.declared.running.End.{End}
 use Rattle.ic_in_place.specs.declared.running.End.TheVariants.{Quiet, Steps, Nodes, Limit, Memory}
 use Rattle.ic_in_place.specs.Reductions.{is_written, line_reached, stuck_at}
 use Rattle.ic_in_place.specs.inner.Told.{words_stuck}
-use Rattle.ic_by_rounds.specs.Stuck.{is_of_agents, pair_text, stuck_text}
+use Rattle.ic_streams.specs.Stuck.{is_of_agents, pair_text, stuck_text}
 
 -- a line that is asked for is written at a quiet end
 pub asked_for : (asked : Asked) → asked ≢ Nothing → (line : List ℕ) → cond (is_written asked Quiet) line [] ≡ line

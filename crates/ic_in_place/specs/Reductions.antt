@@ -12,7 +12,7 @@ use Rattle.ic_naming.specs.Naming.{renumbered}
 use Rattle.ic_text.specs.SystemText.{ReadsSystemWithin}
 use Rattle.ic_text.specs.declared.limits.Limits.{Limits}
 use Rattle.ic_streams.specs.Streams.{Answering, answering, line_of}
-use Rattle.ic_by_rounds.specs.Stuck.{stuck_text}
+use Rattle.ic_streams.specs.Stuck.{stuck_text}
 use Rattle.ic_in_place.specs.Counting.{TellsNameSteps}
 use Rattle.ic_in_place.specs.Reducing.{HasPlaces, IsComeTo, IsPutTogether, IsReachedBy}
 use Rattle.ic_in_place.specs.declared.running.Bounds.{Bounds}

@@ -5,7 +5,7 @@ ghost use Rattle.std.specs.List.{list_all};
 ghost use Rattle.std.specs.Option.{option_map};
 ghost use Rattle.ic_flat.specs.Words.{forest, is_word_over, IsWhole};
 ghost use Rattle.ic_flat.specs.Flat.{configuration_of, pairs_of};
-ghost use Rattle.ic_by_rounds.specs.Stuck.{stuck_text};
+ghost use Rattle.ic_streams.specs.Stuck.{stuck_text};
 ghost use Rattle.ic_in_place.specs.inner.Told.{first_told, words_told};
 
 use ic_flat::{Word, end_of_term};

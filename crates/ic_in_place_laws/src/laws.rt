@@ -26,7 +26,7 @@ ghost use Rattle.ic_text.specs.declared.fault.TextFault.{TextFault};
 ghost use Rattle.ic_text.specs.declared.limits.Limits.{Limits};
 ghost use Rattle.ic_streams.specs.Streams.{line_of};
 ghost use Rattle.ic_streams.specs.declared.fault.StreamFault.TheVariants as stream;
-ghost use Rattle.ic_by_rounds.specs.Stuck.{stuck_text};
+ghost use Rattle.ic_streams.specs.Stuck.{stuck_text};
 ghost use Rattle.ic_by_rounds.specs.Tracing.{rows_of};
 ghost use Rattle.ic_in_place.specs.declared.running.Bounds.{Bounds};
 ghost use Rattle.ic_in_place.specs.declared.running.End.{End};

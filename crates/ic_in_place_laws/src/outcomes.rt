@@ -11,7 +11,7 @@ ghost use Rattle.ic_reaching.specs.OneNet.{OneNet};
 ghost use Rattle.ic_reaching.specs.Reaching.{Reaches, rules_fired};
 ghost use Rattle.ic_naming.specs.Naming.{renumbered};
 ghost use Rattle.ic_streams.specs.Streams.{line_of};
-ghost use Rattle.ic_by_rounds.specs.Stuck.{stuck_text};
+ghost use Rattle.ic_streams.specs.Stuck.{stuck_text};
 ghost use Rattle.ic_in_place.specs.declared.running.Bounds.{Bounds};
 ghost use Rattle.ic_in_place.specs.declared.running.End.TheVariants.{Quiet};
 ghost use Rattle.ic_in_place.specs.declared.stream.Asked.{Asked};

@@ -20,7 +20,7 @@ ghost use Rattle.ic_reaching.specs.OneNet.{OneNet, SameButNext};
 ghost use Rattle.ic_reaching.specs.Reaching.{Reaches, rules_fired};
 ghost use Rattle.ic_naming.specs.Naming.{renumbered};
 ghost use Rattle.ic_streams.specs.Streams.{line_of};
-ghost use Rattle.ic_by_rounds.specs.Stuck.{stuck_text};
+ghost use Rattle.ic_streams.specs.Stuck.{stuck_text};
 ghost use Rattle.ic_by_rounds.specs.Tracing.{rows_of};
 ghost use Rattle.ic_in_place.specs.declared.running.Bounds.{Bounds};
 ghost use Rattle.ic_in_place.specs.declared.running.End.{End};

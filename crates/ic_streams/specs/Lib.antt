@@ -1,3 +1,4 @@
 pub mod Faults
 pub mod Streams
+pub mod Stuck
 pub mod lemmas

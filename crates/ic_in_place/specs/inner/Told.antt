@@ -8,7 +8,7 @@ use Rattle.ic_flat.specs.declared.word.Word.{Word}
 use Rattle.ic_flat.specs.declared.word.Word.TheVariants.{Name, Agent}
 use Rattle.ic_term.specs.Configuration.{Configuration}
 use Rattle.ic_text.specs.Text.{text_or_none}
-use Rattle.ic_by_rounds.specs.Stuck.{is_of_agents, pair_text, stuck_text}
+use Rattle.ic_streams.specs.Stuck.{is_of_agents, pair_text, stuck_text}
 use Rattle.ic_in_place.specs.declared.running.End.{End}
 use Rattle.ic_in_place.specs.declared.running.End.TheVariants as end
 

@@ -4,7 +4,7 @@ use Rattle.std.specs.List.{list_all}
 use Rattle.std.specs.Option.{option_map}
 use Rattle.std.specs.Prelude.{IsTrue}
 use Rattle.std.specs.Result.{is_err}
-use Rattle.ic_by_rounds.specs.Stuck.{stuck_text}
+use Rattle.ic_streams.specs.Stuck.{stuck_text}
 use Rattle.ic_flat.specs.Flat.{configuration_of}
 use Rattle.ic_flat.specs.Words.{is_word_over}
 use Rattle.ic_in_place.specs.declared.running.End.TheVariants.{Quiet}

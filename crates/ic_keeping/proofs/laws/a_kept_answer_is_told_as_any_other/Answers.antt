@@ -1,6 +1,6 @@
 use Rattle.std.proofs.Common.{[], cond}
 use Rattle.ic_streams.specs.Streams.{line_of}
-use Rattle.ic_by_rounds.specs.Stuck.{stuck_text}
+use Rattle.ic_streams.specs.Stuck.{stuck_text}
 use Rattle.ic_in_place.specs.Reductions.{is_written}
 use Rattle.ic_keeping.proofs.laws.a_kept_answer_is_told_as_any_other.Goals as goal
 
