@@ -13,7 +13,7 @@ ghost use Rattle.ic_text.specs.Text.{printed};
 ghost use Rattle.ic_text.specs.declared.fault.TextFault.{TextFault};
 ghost use Rattle.ic_streams.specs.declared.fault.StreamFault.TheVariants.{Round, Text};
 ghost use Rattle.ic_by_rounds.specs.Reductions.{EndsAs, Reduces};
-ghost use Rattle.ic_by_rounds.specs.Stuck.{stuck_text};
+ghost use Rattle.ic_streams.specs.Stuck.{stuck_text};
 ghost use Rattle.ic_by_rounds.specs.declared.reduction.Reduction.TheVariants.{Done, NotDone, Refused};
 ghost use Rattle.ic_by_rounds.specs.declared.refusal.Refusal.{Refusal};
 

@@ -6,7 +6,7 @@ use Rattle.ic_term.specs.Tree.{Pair}
 use Rattle.ic_jobs.specs.Job.{JobParts}
 use Rattle.ic_jobs.specs.declared.state.State.{State}
 use Rattle.ic_jobs.specs.declared.state.State.TheVariants.{Done}
-use Rattle.ic_by_rounds.specs.Stuck.{is_of_agents, pair_text, stuck_text}
+use Rattle.ic_streams.specs.Stuck.{is_of_agents, pair_text, stuck_text}
 use Rattle.ic_inspect.specs.Stuck.{stuck_in, stuck_of}
 
 -- of a done job it is told by its configuration

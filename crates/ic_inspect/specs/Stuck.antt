@@ -3,7 +3,7 @@ use Rattle.std.specs.Prelude.{ℕ, List, Option, None}
 use Rattle.ic_jobs.specs.declared.state.State.{State}
 use Rattle.ic_jobs.specs.declared.state.State.TheVariants as state
 use Rattle.ic_jobs.specs.Job.{JobParts}
-use Rattle.ic_by_rounds.specs.Stuck.{stuck_text}
+use Rattle.ic_streams.specs.Stuck.{stuck_text}
 
 -- of a job in this state: of a done one, of which no step is possible, the first equation of two
 -- agents

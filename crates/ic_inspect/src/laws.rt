@@ -15,7 +15,7 @@ ghost use Rattle.ic_codec.specs.Tables.{IsFormOf};
 ghost use Rattle.ic_codec.specs.Worked.{one_plus_one};
 ghost use Rattle.ic_commands.specs.ReplyText.{state_text};
 ghost use Rattle.ic_jobs.specs.Job.{IsJob, JobParts, can_move};
-ghost use Rattle.ic_by_rounds.specs.Stuck.{is_of_agents, pair_text};
+ghost use Rattle.ic_streams.specs.Stuck.{is_of_agents, pair_text};
 ghost use Rattle.ic_jobs.specs.Table.{IsTable};
 ghost use Rattle.ic_frames.specs.declared.frame.TheConstants.{HEAD, MAX_BODY};
 ghost use Rattle.ic_frames.specs.declared.slot.Slot.{Slot};

@@ -3,7 +3,7 @@ use Rattle.ic_term.specs.Configuration.{configuration_nodes}
 use Rattle.ic_round.specs.Quiet.{IsQuiet}
 use Rattle.ic_round.specs.Rounds.{iterate}
 use Rattle.ic_text.specs.declared.limits.Limits.TheVariants.{Served}
-use Rattle.ic_by_rounds.specs.Stuck.{stuck_text}
+use Rattle.ic_streams.specs.Stuck.{stuck_text}
 use Rattle.ic_by_rounds.specs.declared.reduction.Reduction.TheVariants.{Done, NotDone, Refused}
 use Rattle.ic_exact.proofs.EndLemmas.{ends_of, goes_on}
 use Rattle.ic_exact.proofs.reductions.rounds_end_as_is_told.Goals as goal
