@@ -23,6 +23,7 @@ from systems import ACKERMANN, church, numeral  # noqa: E402
 FIGURES = ["--stats", "--format", "json"]
 HEAD = 17
 IMAGES = 3
+STRANGER = "it keeps no reduction: `--resume F` takes a file F that `--keep F` made"
 
 
 def ackermann(number):
@@ -92,7 +93,8 @@ class Keep(Stops):
 
     def put(self, contents):
         for path, content in zip((self.file, self.second), contents):
-            path.write_bytes(content)
+            if content is not None:
+                path.write_bytes(content)
 
     def clear(self):
         for path in (self.file, self.second):
@@ -262,9 +264,15 @@ class Keep(Stops):
         disk = self.disk("net.keep")
         ran = run("reduce", "--resume", disk)
         self.equals(ran.command, "the end", (3, b"icserve: device\n"), (ran.status, ran.err))
-        told = f"{disk}.2: open: no such file or folder\n{second_missing(disk)}\n"
-        self.equals(ran.command, "what is told of the second file", told, ran.after.decode())
-        for contents in ((b"", b""), (bytes(HEAD), bytes(HEAD)), (b"\1" * 40, b""), (b"\1" * 40, bytes(HEAD)), (b"text", b"text")):
+        self.equals(ran.command, "what is told of the file", f"{disk}: {STRANGER}\n", ran.after.decode())
+        for contents in ((self.file.read_bytes(), b""), (b"text", None), (b"text", b"text"), (b"text", bytes(HEAD))):
+            self.clear()
+            self.put(contents)
+            ran = run("reduce", "--resume", self.file)
+            self.equals(ran.command, f"status of {contents[:20]}; it said {ran.err}", 3, ran.status)
+            self.equals(ran.command, "what is told of the file", f"{self.file}: {STRANGER}\n", ran.after.decode())
+            self.equals(ran.command, "what the files hold", list(contents), self.contents())
+        for contents in ((b"", b""), (bytes(HEAD), bytes(HEAD)), (b"\1" * 40, b""), (b"\1" * 40, bytes(HEAD))):
             self.put(contents)
             ran = run("reduce", "--resume", self.file)
             self.equals(ran.command, f"status of {contents}; it said {ran.err}", 3, ran.status)

@@ -62,7 +62,7 @@ not_both_empty path = around_second path (codes "it or its second file, ")
 -- of files in which no reduction is kept
 abbrev pub nothing_kept : (path : List ℕ) → List ℕ
 nothing_kept path = around_second path (codes "no reduction is kept in it and in its second file, ")
-    (codes ", as after a stop in the first keep: remove both, and begin again")
+    (codes ": bring back a copy of both; after a stop in the first keep, remove both, and begin again")
 
 -- of files that no reduction has left so which goes on
 abbrev pub not_as_kept : (path : List ℕ) → List ℕ

@@ -261,7 +261,7 @@ fn found_lines(
             alloc,
             path,
             b"no reduction is kept in it and in its second file, ",
-            b", as after a stop in the first keep: remove both, and begin again",
+            b": bring back a copy of both; after a stop in the first keep, remove both, and begin again",
         ),
         OpenCause::TwoAlike | OpenCause::Damaged => not_as_kept(alloc, path),
         OpenCause::Memory => Ok(Vec::new(alloc)),

@@ -296,7 +296,7 @@ pub fn endings_of_kept_reductions_are()
         → lines_after (Kept (keeping.Open opening.NoSlot)) path cause ≡ shown_path path
         ++ codes ": "
         ++ codes "no reduction is kept in it and in its second file, " ++ shown_path path
-        ++ codes ".2, as after a stop in the first keep: remove both, and begin again"
+        ++ codes ".2: bring back a copy of both; after a stop in the first keep, remove both, and begin again"
         ++ 10 ∷ [] }
     ensures unsound { (path : List ℕ) (cause : Option Cause)
         → lines_after (Kept keeping.Unsound) path cause ≡ shown_path path ++ codes ": "
@@ -491,9 +491,9 @@ pub fn nothing_is_told_after_these()
         ∷ Inspect inspect.Changed ∷ []) ≡ replicate 4 [] }
 {}
 
-/// Of a file that is known to be no disk it is told alone what it is, where that is why no disk is made or opened. A text
-/// is told so where it has no slot, or would be written over. Where nothing is known, or another failure came, it is told
-/// what is told else.
+/// Of a file that is known to be another than it was taken for it is told alone what it is, where that is why the failure
+/// came. A text is told so where it has no slot, or would be written over, and a file that no `--keep` made where it was to be
+/// resumed. Where nothing is known, or another failure came, it is told what is told else.
 pub fn other_files_are_told_to_be_so()
     ensures reduction { (path : List ℕ) (cause : Option Cause)
         → lines_or_other NotEmpty path cause (Some other.Reduction) ≡ shown_path path ++ codes ": "
@@ -519,11 +519,31 @@ pub fn other_files_are_told_to_be_so()
         (Open opening.Damaged ∷ Open opening.TwoAlike ∷ [])
         ≡ map (λ failure. lines_after failure path cause)
         (Open opening.Damaged ∷ Open opening.TwoAlike ∷ []) }
-    ensures others { (is : Other) (fault : DiskFault) (path : List ℕ) (cause : Option Cause)
-        → map (λ failure. lines_or_other failure path cause (Some is))
-        (Disk fault ∷ Locked ∷ Open opening.Device ∷ Open opening.Memory ∷ [])
+    ensures stranger { (fault : DiskFault) (path : List ℕ) (cause : Option Cause)
+        → lines_or_other (Disk fault) path cause (Some other.Stranger) ≡ shown_path path ++ codes ": "
+        ++ codes "it keeps no reduction: `--resume F` takes a file F that `--keep F` made" ++ 10 ∷ [] }
+    ensures strangers { (fault : DiskFault) (path : List ℕ) (cause : Option Cause)
+        → map (λ failure. lines_or_other failure path cause (Some other.Stranger))
+        (Kept (keeping.Open opening.NoSlot) ∷ Kept (keeping.Open opening.TwoAlike)
+        ∷ Kept (keeping.Open opening.Damaged) ∷ [])
+        ≡ map (λ failure. lines_or_other failure path cause (Some other.Stranger))
+        (Disk fault ∷ Disk fault ∷ Disk fault ∷ []) }
+    ensures no_strangers { (path : List ℕ) (cause : Option Cause)
+        → map (λ failure. lines_or_other failure path cause (Some other.Stranger))
+        (NotEmpty ∷ Open opening.NoSlot ∷ Open opening.Damaged ∷ Kept keeping.NotEmpty
+        ∷ Kept (keeping.Open opening.Device) ∷ Kept (keeping.Open opening.Memory) ∷ [])
         ≡ map (λ failure. lines_after failure path cause)
-        (Disk fault ∷ Locked ∷ Open opening.Device ∷ Open opening.Memory ∷ []) }
+        (NotEmpty ∷ Open opening.NoSlot ∷ Open opening.Damaged ∷ Kept keeping.NotEmpty
+        ∷ Kept (keeping.Open opening.Device) ∷ Kept (keeping.Open opening.Memory) ∷ []) }
+    ensures disks { (fault : DiskFault) (path : List ℕ) (cause : Option Cause)
+        → map (λ is. lines_or_other (Disk fault) path cause (Some is))
+        (other.Reduction ∷ other.Text ∷ [])
+        ≡ map (λ failure. lines_after failure path cause) (Disk fault ∷ Disk fault ∷ []) }
+    ensures others { (is : Other) (path : List ℕ) (cause : Option Cause)
+        → map (λ failure. lines_or_other failure path cause (Some is))
+        (Locked ∷ Open opening.Device ∷ Open opening.Memory ∷ [])
+        ≡ map (λ failure. lines_after failure path cause)
+        (Locked ∷ Open opening.Device ∷ Open opening.Memory ∷ []) }
     ensures unknown { (failure : Failure) (path : List ℕ) (cause : Option Cause)
         → lines_or_other failure path cause None ≡ lines_after failure path cause }
 {}

@@ -1,12 +1,13 @@
-//! What is told after the line of a failure where the file is known to be no disk: what it is, alone.
+//! What is told after the line of a failure where the file is known to be another than it was taken for: what it is, alone.
 
 ghost use Rattle.std.specs.Prelude.{◌≡◌, IfOk};
 ghost use Rattle.ic_exits.specs.After.{shown_of};
-ghost use Rattle.ic_exits.specs.Others.{comes_of, is_reduction, lines_or_other, may_be, other_words};
+ghost use Rattle.ic_exits.specs.Others.{comes_of, is_of_contents, is_reduction, is_stranger, lines_or_other, may_be, other_words};
 
 use crate::Failure;
 use crate::after::said_of;
 use ic_causes::Cause;
+use ic_keeping::KeepingFault;
 use ic_scripts::ScriptsFault;
 use ic_slots::OpenCause;
 use std::alloc::{AllocError, Global};
@@ -19,13 +20,18 @@ const REDUCTION: &[u8] = b"it is one of the two files of a reduction, and no dis
 const TEXT: &[u8] =
     b"the file is a text, and no disk; `icserve create --disk F` makes a new file F one";
 
-/// What a file is that is no disk.
+/// What is said of a file that no `--keep` made.
+const STRANGER: &[u8] = b"it keeps no reduction: `--resume F` takes a file F that `--keep F` made";
+
+/// What a file is that was taken for a disk, or for a file of a reduction.
 #[derive(Clone, Copy, Debug, PartialEq, Eq)]
 pub enum Other {
     /// One of the two files in which a reduction is kept.
     Reduction,
     /// A text.
     Text,
+    /// A file that was taken for one of a reduction, and that no `--keep` made.
+    Stranger,
 }
 
 impl Other {
@@ -43,14 +49,15 @@ impl Other {
         match self {
             Other::Reduction => REDUCTION,
             Other::Text => TEXT,
+            Other::Stranger => STRANGER,
         }
     }
 }
 
 impl Failure {
     /// What standard error is told after the line of the failure, where it may be known what the file of
-    /// this path is that is no disk. If that is why the failure came, it alone is told. The cause is that
-    /// of the last call to the file, or to standard input, that has failed.
+    /// this path is, if it is another than it was taken for. If that is why the failure came, it alone is
+    /// told. The cause is that of the last call to the file, or to standard input, that has failed.
     pub fn lines_or_other(
         &self,
         alloc: Global,
@@ -77,9 +84,11 @@ impl Failure {
         ensures { result ≡ comes_of self.now other }
     {
         match self {
-            Failure::NotEmpty => true,
+            Failure::NotEmpty => !is_stranger(other),
             Failure::Open(cause) => may_be(*cause, other),
             Failure::Attend(ScriptsFault::Open(cause)) => may_be(*cause, other),
+            Failure::Disk(_) => is_stranger(other),
+            Failure::Kept(KeepingFault::Open(cause)) => is_stranger(other) && is_of_contents(*cause),
             _ => false,
         }
     }
@@ -90,8 +99,18 @@ fn may_be(cause: OpenCause, other: Other) -> bool
     ensures { result ≡ may_be cause other }
 {
     match cause {
-        OpenCause::NoSlot => true,
+        OpenCause::NoSlot => !is_stranger(other),
         OpenCause::TwoAlike | OpenCause::Damaged => is_reduction(other),
+        OpenCause::Device | OpenCause::Memory => false,
+    }
+}
+
+/// Whether a refusal to open is of what files hold.
+fn is_of_contents(cause: OpenCause) -> bool
+    ensures { result ≡ is_of_contents cause }
+{
+    match cause {
+        OpenCause::NoSlot | OpenCause::TwoAlike | OpenCause::Damaged => true,
         OpenCause::Device | OpenCause::Memory => false,
     }
 }
@@ -102,6 +121,16 @@ fn is_reduction(other: Other) -> bool
 {
     match other {
         Other::Reduction => true,
-        Other::Text => false,
+        Other::Text | Other::Stranger => false,
+    }
+}
+
+/// Whether it is a file that no `--keep` made.
+fn is_stranger(other: Other) -> bool
+    ensures { result ≡ is_stranger other }
+{
+    match other {
+        Other::Stranger => true,
+        Other::Reduction | Other::Text => false,
     }
 }

@@ -23,7 +23,7 @@ mod texts;
 use crate::answers::Answers;
 use crate::input::{Input, open_text, told_of};
 use crate::keeping::KeptIn;
-use crate::others::{has_second, other_at};
+use crate::others::{has_second, is_stranger, other_at};
 use crate::reducing::{Wanted, threads_for};
 use crate::session::Session;
 use crate::standing::stand_ins;
@@ -34,9 +34,10 @@ use ic_by_rounds::Workers;
 use ic_causes::{Cause, NotedFile, NotedFiles, NotedInput, NotedOutput, Notes, Reason, Target};
 use ic_diagnostics::{once_telling, settle_telling};
 use ic_disk::{Disk, DiskFault, FileDisk};
-use ic_exits::{Failure, first_missing, opening_failure};
+use ic_exits::{Failure, Other, first_missing, opening_failure};
 use ic_in_place::{Asked, Bounds};
 use ic_jobs::Command;
+use ic_keeping::KeepingFault;
 use ic_pool::Gate;
 use ic_progress::{Progress, WipedFirst};
 use ic_scripts::{ScriptsFault, attend_scripts};
@@ -704,7 +705,7 @@ fn refuse(rt: &HostRuntime, failure: &Failure, path: &str, notes: &Notes, told: 
 }
 
 /// Writes the line of a failure to standard error, and what is to be told of the disk's file of this path: if it is known
-/// to be no disk, what it is.
+/// to be another than it was taken for, what it is.
 fn tell_failure(
     rt: &HostRuntime,
     failure: &Failure,
@@ -715,6 +716,8 @@ fn tell_failure(
     tell(rt, &line);
     let other = if is_of_disk(failure) {
         other_at(rt, path)
+    } else if is_of_resumed(failure, notes.last()) && is_stranger(rt, path) {
+        Some(Other::Stranger)
     } else {
         None
     };
@@ -745,6 +748,17 @@ fn is_of_disk(failure: &Failure) -> bool {
         failure,
         Failure::Open(_) | Failure::NotEmpty | Failure::Attend(ScriptsFault::Open(_))
     )
+}
+
+/// Whether a failure is that no reduction is found in a file, or that its second file isn't there.
+fn is_of_resumed(failure: &Failure, cause: Option<Cause>) -> bool {
+    match (failure, cause) {
+        (Failure::Kept(KeepingFault::Open(_)), _) => true,
+        (Failure::Disk(_), Some(cause)) => {
+            cause.target == Target::Second && cause.reason == Reason::Missing
+        }
+        _ => false,
+    }
 }
 
 /// Writes lines to standard error, as far as that can be done.

@@ -1,8 +1,9 @@
-//! Files that were taken for disks and are others: what they are, as far as their first bytes tell.
+//! Files that are others than they were taken for: what they are, as far as their first bytes tell.
 
 use crate::inspecting::open_to_read;
 use ic_causes::Notes;
 use ic_exits::Other;
+use ic_frames::HEAD;
 use ic_state::FORMAT;
 use std::io::Read;
 
@@ -31,6 +32,25 @@ pub(crate) fn has_second(rt: &HostRuntime, path: &str) -> bool {
         Some(front) => is_of_reduction(&front) && front.starts_with(&[1]),
         None => false,
     }
+}
+
+/// Whether the file of this path is known to be none that keeps a reduction: its first byte is no gate, or after its head
+/// stands a table of jobs.
+pub(crate) fn is_stranger(rt: &HostRuntime, path: &str) -> bool {
+    match front_of(rt, path) {
+        Some(front) => !is_of_reduction(&front) && (has_no_gate(&front) || holds_table(&front)),
+        None => false,
+    }
+}
+
+/// Whether the first byte of a file that begins with these bytes is no gate.
+fn has_no_gate(front: &[u8]) -> bool {
+    front.first().is_some_and(|gate| *gate > 1)
+}
+
+/// Whether the first slot of a disk that begins with these bytes holds a table of jobs.
+fn holds_table(front: &[u8]) -> bool {
+    front.len() > HEAD && front[HEAD..].starts_with(b"ICT")
 }
 
 /// Whether a file that begins with these bytes keeps a reduction.
