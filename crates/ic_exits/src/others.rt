@@ -88,7 +88,8 @@ impl Failure {
             Failure::Open(cause) => may_be(*cause, other),
             Failure::Attend(ScriptsFault::Open(cause)) => may_be(*cause, other),
             Failure::Disk(_) => is_stranger(other),
-            Failure::Kept(KeepingFault::Open(cause)) => is_stranger(other) && is_of_contents(*cause),
+            Failure::Kept(KeepingFault::Open(cause)) => is_stranger(other)
+                && is_of_contents(*cause),
             _ => false,
         }
     }
