@@ -185,7 +185,7 @@ pub fn agents_and_names_are_counted_so()
       interface = agent 0 (more_trees (agent 1 no_trees) no_trees) ∷ [];
       equations = record {
         left = agent 2 (more_trees (agent 0 (more_trees (name x) no_trees))
-        (more_trees (agent 0 (more_trees (agent 1 no_trees) no_trees)) no_trees));
+            (more_trees (agent 0 (more_trees (agent 1 no_trees) no_trees)) no_trees));
         right = agent 1 no_trees;
       } ∷ [];
       next = suc x;

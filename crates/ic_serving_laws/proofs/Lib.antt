@@ -5,3 +5,4 @@ pub mod WordLemmas
 pub mod ToldLemmas
 pub mod KeepLemmas
 pub mod FrontLemmas
+pub mod TornLemmas

@@ -129,8 +129,9 @@ pub fn scripts_leave_their_history_on_the_disk<D: Disk>(disk: &D, left: &D)
 
 /// Where a disk isn't opened, the refusal says what reads give. The disk that is handed back is the one
 /// that was given, also after a crash, and one more failure is counted exactly where the disk failed.
-/// Where a thread can't be started, each client has followed its script as far as it came, and each
-/// runner has an end that may be a runner's. Where what is left is torn, each client keeps to its script.
+/// Where a thread can't be started, and where what is left is torn, each client has followed its script
+/// as far as it came, and each runner has an end that may be a runner's. In the first case the book began
+/// with the table that the disk holds. Where it did in the second, each client keeps to its script.
 pub fn what_is_not_attended_is_said<D: Disk>(disk: &D, attended: &Attended<D>)
     ensures unopened { (fault : OpenFault D) → IsUnopened D.Disk disk.now fault
         → IsTrue (D.keeps disk.now)
@@ -142,18 +143,28 @@ pub fn what_is_not_attended_is_said<D: Disk>(disk: &D, attended: &Attended<D>)
         → CountsOpen {T = Unit {0}} (Err fault.cause)
         (D.failures disk.now) (D.failures fault.disk) }
     ensures stopped { (scripts : List (List Command)) (runners workers : ℕ)
-        → IsStopped scripts runners workers attended.now
+        → IsStopped D.Disk disk.now scripts runners workers attended.now
         → AllZip Follows scripts attended.now.answers.items
         × (length attended.now.ends.items ≡ runners)
         × All (EndMayBe workers) attended.now.ends.items }
+    ensures began { (scripts : List (List Command)) (runners workers : ℕ)
+        → IsStopped D.Disk disk.now scripts runners workers attended.now
+        → IsTrue (D.keeps disk.now)
+        → IsHeld (the_table (start_of attended.now.book)) (D.content disk.now) }
     ensures torn { (scripts : List (List Command)) (runners turns workers : ℕ)
         → IsTorn D.Disk disk.now scripts runners turns workers attended.now
-        → AllZip KeepsTo scripts attended.now.answers.items
+        → AllZip Follows scripts attended.now.answers.items
         × (length attended.now.ends.items ≡ runners)
         × All (EndMayBe workers) attended.now.ends.items }
+    ensures kept_to { (scripts : List (List Command)) (runners turns workers : ℕ)
+        → IsTorn D.Disk disk.now scripts runners turns workers attended.now
+        → IsTrue (D.keeps disk.now)
+        → IsHeld (the_table (start_of attended.now.book)) (D.content disk.now)
+        → AllZip KeepsTo scripts attended.now.answers.items }
 {
     let _ = disk;
     let _ = attended;
+    ic_slots::laws::one_is_held();
 }
 
 /// At `Ok` no client and no runner had a fault, and just the answers to all clients are written. The
@@ -199,7 +210,7 @@ pub fn scripts_without_a_history_say_why<D: Disk>(disk: &D, left: &D)
         × (left.now ≡ fault.disk) }
     ensures stopped { (scripts : List (List Command)) (runners turns workers : ℕ)
         → SaysWhy D.Disk disk.now scripts runners turns workers left.now NoThread
-        → (a : AttendedOver D.Disk) × IsStopped scripts runners workers a
+        → (a : AttendedOver D.Disk) × IsStopped D.Disk disk.now scripts runners workers a
         × (left.now ≡ disk_of a.book) }
     ensures torn { (scripts : List (List Command)) (runners turns workers : ℕ)
         → SaysWhy D.Disk disk.now scripts runners turns workers left.now Torn
