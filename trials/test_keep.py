@@ -277,7 +277,7 @@ class Keep(Stops):
             ran = run("reduce", "--resume", self.file)
             self.equals(ran.command, f"status of {contents}; it said {ran.err}", 3, ran.status)
             self.equals(ran.command, "whether it is told to begin again", True, ran.after.endswith(b"begin again\n"))
-            self.equals(ran.command, "whether the second file is named", True, f"its second file, {self.second}, " in ran.after.decode())
+            self.equals(ran.command, "whether the second file is named", True, f"its second file, {self.second}" in ran.after.decode())
             self.equals(ran.command, "what the files hold", list(contents), self.contents())
         # What is kept is read whole: a file that was cut, or whose state is another.
         self.clear()
