@@ -6,7 +6,7 @@ use Rattle.ic_by_rounds.specs.Pictures.{greatest, most_nodes}
 use Rattle.ic_by_rounds.specs.declared.row.Row.{Row}
 use Rattle.ic_rules.specs.lemmas.NumberingLaws.{self_eq as itself}
 
-all_below : (number : Row → ℕ) (low high : ℕ) (rows : List Row) → low ≤ high → AllByRecursion (λ row. number row ≤ low) rows → AllByRecursion (λ row. number row ≤ high) rows
+pub all_below : (number : Row → ℕ) (low high : ℕ) (rows : List Row) → low ≤ high → AllByRecursion (λ row. number row ≤ low) rows → AllByRecursion (λ row. number row ≤ high) rows
 all_below number low high [] up all = tt
 all_below number low high (row ∷ rows) up all = (let here = all.0 in omega arith, all_below number low high rows up all.1)
 

@@ -1,6 +1,6 @@
 //! Laws of the definitions that the contracts of this crate cite.
 
-ghost use Rattle.std.specs.Prelude.{◌≡◌, ◌↔◌, ◌⊎◌, ℕ, suc, ◌+◌, ◌<◌, ◌≤◌, ◌==◌, ◌∷◌, IsTrue, Bool, List, None, Some, Ok, Err, codes, false, get_or, length, sum_by};
+ghost use Rattle.std.specs.Prelude.{◌≡◌, ◌↔◌, ◌⊎◌, ℕ, suc, ◌+◌, ◌*◌, ◌<◌, ◌≤◌, ◌==◌, ◌∷◌, IsTrue, Bool, List, None, Some, Ok, Err, codes, false, get_or, length, sum_by};
 ghost use Rattle.std.specs.List.{AllByRecursion, find, list_any};
 ghost use Rattle.ic_term.specs.Tree.{Pair};
 ghost use Rattle.ic_term.specs.Configuration.{Configuration, configuration_names, configuration_nodes};
@@ -13,7 +13,7 @@ ghost use Rattle.ic_round.specs.Quiet.{IsQuiet};
 ghost use Rattle.ic_round.specs.Steps.{Steps};
 ghost use Rattle.ic_round.specs.declared.round_fault.RoundFault.{RoundFault};
 ghost use Rattle.ic_by_rounds.specs.Interacting.{interactions_of};
-ghost use Rattle.ic_by_rounds.specs.Pictures.{greatest, most_nodes};
+ghost use Rattle.ic_by_rounds.specs.Pictures.{across, greatest, most_nodes, sums_of, tenths_in, up};
 ghost use Rattle.ic_by_rounds.specs.Reductions.{EndsAs, Reduces};
 ghost use Rattle.ic_by_rounds.specs.Reducing.{IsReducedBy, IsRefusedAfter};
 ghost use Rattle.ic_by_rounds.specs.Objects.{row_object};
@@ -122,6 +122,25 @@ pub fn a_row_by_hand()
     ensures head { head_line ≡ codes "round\tpairs\tnodes\tequations\tnames\n" }
     ensures object { row_object (record { round = 3; pairs = 5; nodes = 9; equations = 4; names = 2 })
         ≡ codes "{\"round\":3,\"pairs\":5,\"nodes\":9,\"equations\":4,\"names\":2}\n" }
+{}
+
+/// Bars and line fill a picture. No bar passes its window, which is as high as the highest. The line goes from edge to edge
+/// and never above the top, where it is at the most nodes. The average is told by whole ones and tenths.
+pub fn bars_and_line_fill_a_picture()
+    ensures bars { (before : ℕ) (rows : List Row)
+        → AllByRecursion (λ row. row.pairs ≤ (sums_of before rows).bars) rows }
+    ensures highest { (before : ℕ) (rows : List Row) → 0 < greatest (λ row. row.pairs) rows
+        → (sums_of before rows).bars ≡ greatest (λ row. row.pairs) rows }
+    ensures wide { (before : ℕ) (rows : List Row) → 0 < length rows
+        → (across (sums_of before rows) 0 ≡ 0)
+        × (across (sums_of before rows) (length rows) ≡ 6400) }
+    ensures below { (before nodes : ℕ) (rows : List Row) → nodes ≤ most_nodes before rows
+        → up (sums_of before rows) nodes ≤ 3500 }
+    ensures top { (before : ℕ) (rows : List Row) → 0 < most_nodes before rows
+        → up (sums_of before rows) (most_nodes before rows) ≡ 3500 }
+    ensures average { (before : ℕ) (rows : List Row)
+        → 10 * (sums_of before rows).whole + (sums_of before rows).tenth ≡ tenths_in rows }
+    ensures tenth { (before : ℕ) (rows : List Row) → (sums_of before rows).tenth < 10 }
 {}
 
 /// The greatest number of rows is the number of one of them, and none of them has a greater one. The most nodes of a
