@@ -280,6 +280,19 @@ class Faults(Stops):
                 calls = "".join(it.kind for it in noted(self.log) if it.kind in "WS")
                 self.equals(ran.command, f"syncs before the first write, of {calls}", wanted, len(calls.partition("W")[0]))
 
+    def test_create_syncs_the_folder_after_it_has_made_and_synced_the_file(self):
+        """So the file's name is there for good, too. Where the folder's sync fails, the file is there, and one sync was made."""
+        disk, came = self.room / "made.disk", []
+
+        def attempt(env, _):
+            ran = run("create", "--disk", disk, env=env)
+            if b": its folder: sync: " in ran.after:
+                came.append((disk.exists(), sum(it.kind == "S" for it in noted(self.log))))
+            disk.unlink(missing_ok=True)
+
+        self.in_turn("disk", ["once"], attempt)
+        self.equals("create", "whether the file was there where the folder's sync failed, and the syncs before", [(True, 1)], came)
+
     def test_each_read_of_a_serving_fails_in_turn(self):
         self.are(len(LOOPING) + 1, self.served(LOOPING, ("once", "on"), "read", (4, "read")))
         self.served(LOOPING, ("interrupt", "short"), "read", may_go_well=True)
