@@ -22,7 +22,7 @@ use std::sync::Wait;
 use std::thread::Threads;
 
 /// The paths of a disk and of a file of lines.
-#[derive(Clone, Copy, Debug)]
+#[derive(Clone, Copy)]
 pub(crate) struct Files<'a> {
     pub(crate) disk: &'a str,
     pub(crate) lines: &'a str,

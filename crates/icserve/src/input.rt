@@ -1,6 +1,5 @@
 //! What the words over a text read: standard input, or a file.
 
-use crate::session::Session;
 use ic_causes::{NotedFile, NotedFiles, NotedInput, Notes, Target, cause_line, shown_path};
 use ic_exits::Failure;
 use ic_streams::StreamFault;
@@ -12,24 +11,13 @@ use std::io::{self, ErrorKind, IsTerminal, Read, Write};
 #[derive(Drop)]
 pub(crate) enum Input<'n, R> {
     Standard(NotedInput<'n, R>),
-    Session(Session<'n, NotedInput<'n, R>>),
     File(NotedFile<'n>),
-}
-
-impl<R> Input<'_, R> {
-    /// Ends a session whose lines are all answered.
-    pub(crate) fn end(&mut self) {
-        if let Input::Session(session) = self {
-            session.end();
-        }
-    }
 }
 
 impl<R: Read> Read for Input<'_, R> {
     fn read(&mut self, buf: &mut [u8]) -> io::Result<usize> {
         match self {
             Input::Standard(input) => input.read(buf),
-            Input::Session(session) => session.read(buf),
             Input::File(file) => file.read(buf),
         }
     }

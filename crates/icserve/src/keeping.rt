@@ -18,7 +18,7 @@ use std::io::{self, Read};
 use std::time::{Duration, Instant};
 
 /// Where a reduction is kept, and how often.
-#[derive(Clone, Copy, Debug)]
+#[derive(Clone, Copy)]
 pub(crate) struct KeptIn<'a> {
     /// The path of the first file.
     pub(crate) path: &'a str,
@@ -52,12 +52,7 @@ pub(crate) fn reduce<R: Read>(
     notes: &Notes,
     told: &mut Vec<u8>,
 ) -> Result<(), Failure> {
-    let (first, second) = if kept.begins {
-        let state = read_state(rt, Limits::Wide, input, told).map_err(Failure::Stream)?;
-        begin_in(rt, kept.path, &state, notes)?
-    } else {
-        open_both(rt, kept.path, notes)?
-    };
+    let (first, second) = open_kept(rt, kept, input, notes, told)?;
     let pace = Pace::new(kept.seconds.saturating_mul(1_000));
     let (ended, _keeper) = live_over(rt, first, second, bounds, pace, wanted.asked)?;
     let done = tell(rt, ended, bounds, wanted, notes);
@@ -65,6 +60,21 @@ pub(crate) fn reduce<R: Read>(
         let _ = tell_kept(rt, kept.path, told);
     }
     done
+}
+
+/// The disks in the two files: as they are, or with the state that the text on this input begins with.
+fn open_kept<'a, R: Read>(
+    rt: &HostRuntime,
+    kept: KeptIn<'_>,
+    input: &mut R,
+    notes: &'a Notes,
+    told: &mut Vec<u8>,
+) -> Result<(NotedDisk<'a>, NotedDisk<'a>), Failure> {
+    if kept.begins {
+        let state = read_state(rt, Limits::Wide, input, told).map_err(Failure::Stream)?;
+        return begin_in(rt, kept.path, &state, notes);
+    }
+    open_both(rt, kept.path, notes)
 }
 
 /// Tells of a net that is kept in the file of this path and has too many places.

@@ -19,7 +19,7 @@ const FRONT: u64 = HEAD + 56;
 const FORMAT: &[u8] = b"ICKEPT01";
 
 /// The first bytes of both files; those of the second where it is there.
-#[derive(Debug, Drop)]
+#[derive(Drop)]
 pub(crate) struct Fronts {
     first: Vec<u8>,
     second: Option<Vec<u8>>,
@@ -33,7 +33,7 @@ impl Fronts {
 }
 
 /// What is seen of a file.
-#[derive(Clone, Copy, Debug)]
+#[derive(Clone, Copy)]
 enum Seen {
     Missing,
     CutOff,

@@ -100,22 +100,29 @@ fn answer<T: Threads + Wait + Copy + Send + Sync + 'static>(
     notes: &Notes,
     told: &mut Vec<u8>,
 ) -> Result<(), Failure> {
-    let mut input = match (task, file_of(task)) {
-        (Task::Serve { explain, .. }, _) => {
-            let input = NotedInput::new(rt.reader(), notes);
-            Input::Session(Session::new(rt, input, *explain))
-        }
-        (_, None) => {
+    if let Task::Serve {
+        disk,
+        workers,
+        every,
+        explain,
+    } = task
+    {
+        let making = Making {
+            workers: *workers,
+            every: *every,
+        };
+        return serve_session(rt, threads, disk.as_str(), making, *explain, notes);
+    }
+    let mut input = match file_of(task) {
+        Some(path) => Input::File(open_text(rt, path, notes).map_err(Failure::Stream)?),
+        None => {
             if awaits_text(task) {
                 input::tell_terminal(rt);
             }
             Input::Standard(NotedInput::new(rt.reader(), notes))
         }
-        (_, Some(path)) => Input::File(open_text(rt, path, notes).map_err(Failure::Stream)?),
     };
-    run(rt, threads, task, &mut input, notes, told)?;
-    input.end();
-    Ok(())
+    run(rt, threads, task, &mut input, notes, told)
 }
 
 /// The path of the file that a task reads a text from, none where it reads standard input or no text.
@@ -153,7 +160,7 @@ fn path_of(task: &Task) -> &str {
     }
 }
 
-/// Does a task. Only `serve` and the tasks that `on_word` and `on_text` do read this input. The lines that tell the
+/// Does a task other than `serve`. Only the tasks that `on_word` and `on_text` do read this input. The lines that tell the
 /// place of a fault in a text, and those that tell why a text or a script can't be read, are appended to `told`.
 fn run<T: Threads + Wait + Copy + Send + Sync + 'static, R: Read>(
     rt: &HostRuntime,
@@ -173,19 +180,6 @@ fn run<T: Threads + Wait + Copy + Send + Sync + 'static, R: Read>(
         } => checking::check(rt, files, *format, *script, notes, told),
         Task::Help(text) | Task::Version(text) => {
             show(&mut output, text.as_str()).map_err(Failure::Stream)
-        }
-        Task::Serve {
-            disk,
-            workers,
-            every,
-            explain,
-        } => {
-            let book = open(rt, disk.as_str(), notes)?;
-            let making = Making {
-                workers: *workers,
-                every: *every,
-            };
-            serve(rt, threads, book, input, making, *explain, notes).map_err(Failure::Serve)
         }
         Task::Create { .. } | Task::Dump { .. } | Task::Inspect { .. } => on_disk(
             rt, threads, task, notes, told,
@@ -398,7 +392,7 @@ fn on_disk<T: Threads + Wait + Copy + Send + Sync + 'static>(
 }
 
 /// How many runners make rounds beside the clients, how many turns each has, and how many workers a round.
-#[derive(Clone, Copy, Debug)]
+#[derive(Clone, Copy)]
 struct Clients {
     runners: u32,
     turns: u32,
@@ -548,7 +542,7 @@ pub(crate) fn book_on<'a>(
 }
 
 /// By how many workers a round is made, and after how many rounds they are kept.
-#[derive(Clone, Copy, Debug)]
+#[derive(Clone, Copy)]
 pub(crate) struct Making {
     pub(crate) workers: u32,
     pub(crate) every: u32,
@@ -568,6 +562,22 @@ impl Making {
     {
         u64::from(self.every.max(1))
     }
+}
+
+/// Serves the lines of standard input over the disk in the file of this path.
+fn serve_session<T: Threads + Wait + Copy + Send + 'static>(
+    rt: &HostRuntime,
+    threads: &T,
+    path: &str,
+    making: Making,
+    explains: bool,
+    notes: &Notes,
+) -> Result<(), Failure> {
+    let book = open(rt, path, notes)?;
+    let mut session = Session::new(rt, NotedInput::new(rt.reader(), notes), explains);
+    serve(rt, threads, book, &mut session, making, explains, notes).map_err(Failure::Serve)?;
+    session.end();
+    Ok(())
 }
 
 /// Serves the lines of an input over the book, and closes it. Answers to lines that were read together are

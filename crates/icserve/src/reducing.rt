@@ -17,7 +17,7 @@ use std::thread::{Threads, available_parallelism};
 use std::time::{Duration, Instant};
 
 /// What is wanted of a reduction in place.
-#[derive(Clone, Copy, Debug)]
+#[derive(Clone, Copy)]
 pub(crate) struct Wanted {
     /// What of it is printed.
     pub(crate) asked: Asked,
