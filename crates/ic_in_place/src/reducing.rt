@@ -3,8 +3,9 @@
 ghost use Rattle.std.specs.Prelude.{◌≡◌, ◌≤◌, IfOk, length};
 ghost use Rattle.ic_term.specs.Configuration.{Configuration, configuration_nodes};
 ghost use Rattle.ic_machine.specs.Net.{equations_left};
-ghost use Rattle.ic_machine.specs.Plan.{planned};
+ghost use Rattle.ic_machine.specs.Plan.{planned, ArePlans};
 ghost use Rattle.ic_machine.specs.Runs.{IsStart};
+ghost use Rattle.ic_meaning.specs.Plans.{ArePlansOf};
 ghost use Rattle.ic_in_place.specs.declared.running.Bounds.{Bounds as AnyBounds};
 ghost use Rattle.ic_in_place.specs.Counting.{TellsNameSteps};
 ghost use Rattle.ic_in_place.specs.Reducing.{IsPutTogether, IsReachedBy, Writes};
@@ -187,16 +188,35 @@ pub(crate) fn run_system<V: Watch>(
     ensures { IfOk result (λ stopped. HasStopped system.now bounds stopped.given.items
         stopped.by_rule.items stopped.machine stopped.end stopped.places stopped.shared) }
 {
+    let (program, numbers) = compile(alloc, system.rules())?;
+    run_compiled(alloc, system, &program, &numbers, bounds, watch)
+}
+
+/// The same, where the rules of the system are compiled. Its caller drops them: each `?` here would, and make the proof long.
+fn run_compiled<V: Watch>(
+    alloc: Global,
+    system: &WideSystem,
+    program: &Program,
+    numbers: &[u32],
+    bounds: Bounds,
+    watch: &V,
+) -> Result<Stopped, AllocError>
+    requires arities { program.now.arities ≡ arities_of system.now }
+    requires sound { ArePlans program.now }
+    requires numbers { length numbers.now ≡ length program.now.plans }
+    requires plans { ArePlansOf system.now.rules numbers.now program.now }
+    ensures { IfOk result (λ stopped. HasStopped system.now bounds stopped.given.items
+        stopped.by_rule.items stopped.machine stopped.end stopped.places stopped.shared) }
+{
     crate::laws::what_a_machine_holds_is_reached();
     ic_machine::laws::places_are_those_that_were_in_use();
     ic_machine::laws::places_are_made_by_plans();
     systems_are_sound(system);
-    let (program, numbers) = compile(alloc, system.rules())?;
     let first = first_plan(alloc, system)?;
-    let mut machine = begin(alloc, system, &program, &first)?;
+    let mut machine = begin(alloc, system, program, &first)?;
     let mut by_rule = no_counts(alloc, system.rules().rules().len())?;
-    let (end, places) = run_in_pieces(&mut machine, &program, bounds, watch);
-    sum_by_rule(&mut by_rule, &numbers, machine.fired());
+    let (end, places) = run_in_pieces(&mut machine, program, bounds, watch);
+    sum_by_rule(&mut by_rule, numbers, machine.fired());
     Ok(Stopped {
         machine,
         given: first.given,

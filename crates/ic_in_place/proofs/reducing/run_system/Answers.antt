@@ -1,35 +1,17 @@
-use Rattle.std.proofs.Common.{rules, ◌≡◌, ◌<◌, ◌^◌, ℕ, List, length, map, ap, ◌∙◌, subst}
+use Rattle.std.proofs.Common.{◌≡◌, ℕ, List, length, map, ap, sym, ◌∙◌, subst}
 use Rattle.ic_rules.specs.RuleSet.{Rules}
-use Rattle.ic_machine.specs.Plan.{planned}
 use Rattle.ic_meaning.specs.Plans.{ArePlansOf}
-use Rattle.ic_in_place.specs.Summing.{IsSummed}
-use Rattle.ic_in_place.proofs.Stopping.{StopLaws, stopped_so}
 use Rattle.ic_in_place.proofs.reducing.run_system.Goals as goal
 
-pub returns : goal.returns
-returns g c =
-    let same : c.deref.result.now ≡ c.args.system.now.rules = c.deref.ensures ∙ c.rules.ensures.rules in
-    let laws : StopLaws = record {
-      reached = c.what_a_machine_holds_is_reached.ensures.reached;
-      used = c.what_a_machine_holds_is_reached.ensures.used;
-      begun = c.places_are_those_that_were_in_use.ensures.begun;
-      names = c.places_are_made_by_plans.ensures.names;
-    } in
+pub run_compiled-requires-clause-arities : goal.run_compiled-requires-clause-arities
+run_compiled-requires-clause-arities g c =
+    c.in_ok-program.ensures.arities ∙ ap (λ (r : Rules). map (λ x. x.arity) r.symbols) (c.deref.ensures ∙ c.rules.ensures.rules)
+
+pub run_compiled-requires-clause-numbers : goal.run_compiled-requires-clause-numbers
+run_compiled-requires-clause-numbers g c = ap length c.deref-2.ensures.value ∙ c.in_ok-program.ensures.numbers
+
+pub run_compiled-requires-clause-plans : goal.run_compiled-requires-clause-plans
+run_compiled-requires-clause-plans g c =
     let p = c.in_ok-program.program in
-    let numbers = c.in_ok-program.numbers.items in
-    let first = c.in_ok-first.first in
-    let run = c.run_in_pieces-end in
-    let by_rule = c.sum_by_rule.new.by_rule.items in
-    let counted : length c.in_ok-by_rule.by_rule.items ≡ length c.args.system.now.rules.rules =
-    c.in_ok-by_rule.ensures.len ∙ ap length (c.rules-3.ensures.rules ∙ ap (λ (r : Rules). r.rules) (c.deref-2.ensures ∙ c.rules-2.ensures.rules)) in
-    let summed : IsSummed (length c.args.system.now.rules.rules) numbers run.new.machine.counts by_rule =
-    subst (λ (n : ℕ). IsSummed n numbers run.new.machine.counts by_rule) counted
-    (subst (λ (ns : List ℕ). IsSummed (length c.in_ok-by_rule.by_rule.items) ns run.new.machine.counts by_rule) c.deref-3.ensures.value
-    (subst (λ (cs : List ℕ). IsSummed (length c.in_ok-by_rule.by_rule.items) c.deref-3.result.now cs by_rule) c.fired.ensures c.sum_by_rule.ensures)) in
-    let low : run.new.machine.interactions < 2 ^ 64 = search rules in
-    stopped_so laws c.args.system.now c.args.bounds numbers p first.given.items (planned first.plan) first.interface.items c.in_ok-machine.machine run.new.machine
-    run.result.0 run.result.1 c.systems_are_sound.ensures
-    (c.in_ok-program.ensures.arities ∙ ap (λ (r : Rules). map (λ x. x.arity) r.symbols) same) c.in_ok-program.ensures.sound
-    (subst (λ (r : Rules). ArePlansOf r numbers p) same c.in_ok-program.ensures.plans)
-    c.in_ok-first.ensures.start c.in_ok-first.ensures.stands c.in_ok-first.ensures.given c.in_ok-machine.ensures run.ensures.ends
-    run.ensures.nodes run.ensures.looked run.ensures.count run.ensures.enough run.ensures.places run.ensures.pairs run.ensures.watched by_rule summed c.in_ok-program.ensures.numbers low
+    let compiled = subst (λ (r : Rules). ArePlansOf r c.in_ok-program.numbers.items p) (c.deref.ensures ∙ c.rules.ensures.rules) c.in_ok-program.ensures.plans in
+    subst (λ (ns : List ℕ). ArePlansOf c.args.system.now.rules ns p) (sym c.deref-2.ensures.value) compiled
