@@ -24,7 +24,7 @@ pub record AreAlike (first second : List ℕ) : Type 0 where
   pub opened : (gate first ≡ 1) × (gate second ≡ 1)
   pub same : number first ≡ number second
 
--- No state is held, though a gate is open and the numbers are apart.
+-- No state is held, and the files are neither both shut nor alike.
 pub record AreDamaged (first second : List ℕ) : Type 0 where
   pub none : (state : List ℕ) → ¬ Hold state first second
   pub not_shut : ¬ (IsShut first × IsShut second)

@@ -90,7 +90,7 @@ fn look<D: Disk>(disk: &mut D) -> Result<Option<Head>, OpenCause>
 }
 
 // Which of two files has the newest state, and what its head says.
-#[derive(Clone, Copy, Debug)]
+#[derive(Clone, Copy)]
 pub(crate) struct Chosen {
     pub(crate) in_second: bool,
     pub(crate) head: Head,
@@ -99,7 +99,7 @@ pub(crate) struct Chosen {
 }
 
 // The newest state of two files.
-#[derive(Debug, Drop)]
+#[derive(Drop)]
 pub(crate) struct Found {
     pub(crate) in_second: bool,
     pub(crate) number: u64,

@@ -4,7 +4,7 @@
 pub const HEAD: u64 = 17;
 
 /// What the head of a file with an open gate says.
-#[derive(Clone, Copy, Debug)]
+#[derive(Clone, Copy)]
 pub(crate) struct Head {
     pub(crate) number: u64,
     pub(crate) size: u64,
