@@ -97,7 +97,7 @@ fn unread(fault: TextFault) -> KeepingFault
 }
 
 /// How a piece of a reduction has ended.
-#[derive(Clone, Copy, Debug)]
+#[derive(Clone, Copy)]
 struct Piece {
     end: End,
     places: u64,
@@ -366,7 +366,7 @@ fn stuck_of(
 }
 
 /// What is told of a state: its line, where that is asked for, and the pair that is stuck.
-#[derive(Debug, Drop)]
+#[derive(Drop)]
 struct Told {
     line: Vec<u8>,
     stuck: Option<Vec<u8>>,

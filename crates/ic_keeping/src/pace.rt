@@ -57,7 +57,7 @@ impl Pace {
 }
 
 /// When interactions of a piece were seen first, and when last.
-#[derive(Clone, Copy, Debug)]
+#[derive(Clone, Copy)]
 struct Span {
     first: u64,
     last: u64,

@@ -47,3 +47,18 @@ pub returns-in_err-system-clause-place : goal.returns-in_err-system-clause-place
 returns-in_err-system-clause-place c =
     let e = err_from_is_err_and c.from_residual.result c.from_residual.ensures.1 in
     rw (e.1, e.2) (placed-within Wide IsSystemPhrase system_words written_system c.args.text.now _ _ _ c.in_err-system.ensures.placed)
+
+pub returns-in_err-system-clause-refused : goal.returns-in_err-system-clause-refused
+returns-in_err-system-clause-refused c =
+    let e = err_from_is_err_and c.from_residual.result c.from_residual.ensures.1 in
+    rw (e.1, e.2) c.in_err-system.ensures.refused
+
+pub returns-in_err-by_rule-clause-refused : goal.returns-in_err-by_rule-clause-refused
+returns-in_err-by_rule-clause-refused c =
+    let e = err_from_is_err_and c.from_residual-in_err-by_rule.result c.from_residual-in_err-by_rule.ensures.1 in
+    rw (e.1, e.2) (λ other. absurd (other refl))
+
+pub returns-in_err-kept-clause-refused : goal.returns-in_err-kept-clause-refused
+returns-in_err-kept-clause-refused c =
+    let e = err_from_is_err_and c.from_residual-in_err-kept.result c.from_residual-in_err-kept.ensures.1 in
+    rw (e.1, e.2) (λ other. absurd (other refl))
