@@ -24,14 +24,14 @@ pub use stepping::run_by_workers;
 const MOST_PARTS: usize = 512;
 
 /// A part in which a word waits for a cut, with so many nodes below it, or at least as many.
-#[derive(Clone, Copy, Debug)]
+#[derive(Clone, Copy)]
 struct Waiting {
     part: usize,
     size: usize,
 }
 
 /// A part that has something to do, and the interactions of its last step.
-#[derive(Clone, Copy, Debug)]
+#[derive(Clone, Copy)]
 struct Due {
     last: u64,
     part: usize,

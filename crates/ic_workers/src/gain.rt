@@ -4,7 +4,7 @@ use crate::policy::Policy;
 use std::time::Clock;
 
 /// How much longer steps took than one thread would have.
-#[derive(Clone, Copy, Debug)]
+#[derive(Clone, Copy)]
 pub(crate) struct Gain {
     /// When the last step that was counted had ended, in nanoseconds.
     last: u64,
@@ -50,7 +50,7 @@ impl Gain {
 }
 
 /// How long threads ran in a step, in nanoseconds.
-#[derive(Clone, Copy, Debug)]
+#[derive(Clone, Copy)]
 pub(crate) struct Ran {
     /// All together.
     all: u64,

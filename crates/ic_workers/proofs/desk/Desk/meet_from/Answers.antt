@@ -39,3 +39,27 @@ pub returns-clause-come : goal.returns-clause-come
 returns-clause-come c =
     comes_on c.args.self.now c.told_in.new.self c.loop-told.self
     (comes_same c.args.self.now c.told_in.new.self c.told_in.ensures.slots c.told_in.ensures.made) c.loop-told.invariant.come
+
+pub meet_one-requires-clause-there : goal.meet_one-requires-clause-there
+meet_one-requires-clause-there c = c.loop-told.invariant.part
+
+pub returns-in_err-to-clause-made : goal.returns-in_err-to-clause-made
+returns-in_err-to-clause-made c = c.meet_one.ensures.made ∙ (c.loop-told.invariant.made ∙ c.told_in.ensures.made)
+
+pub returns-in_err-to-clause-len : goal.returns-in_err-to-clause-len
+returns-in_err-to-clause-len c = c.meet_one.ensures.len ∙ (c.loop-told.invariant.len ∙ slots_stay c.args.self.now c.told_in.new.self c.told_in.ensures.slots)
+
+pub returns-in_err-remember-clause-made : goal.returns-in_err-remember-clause-made
+returns-in_err-remember-clause-made c = c.meet_one.ensures.made ∙ (c.loop-told.invariant.made ∙ c.told_in.ensures.made)
+
+pub returns-in_err-remember-clause-len : goal.returns-in_err-remember-clause-len
+returns-in_err-remember-clause-len c = c.meet_one.ensures.len ∙ (c.loop-told.invariant.len ∙ slots_stay c.args.self.now c.told_in.new.self c.told_in.ensures.slots)
+
+pub returns-clause-made : goal.returns-clause-made
+returns-clause-made c = c.loop-told.invariant.made ∙ c.told_in.ensures.made
+
+pub returns-clause-len : goal.returns-clause-len
+returns-clause-len c = c.loop-told.invariant.len ∙ slots_stay c.args.self.now c.told_in.new.self c.told_in.ensures.slots
+
+pub returns-clause-came : goal.returns-clause-came
+returns-clause-came c = c.loop-told.invariant.there
