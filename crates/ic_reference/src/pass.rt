@@ -39,7 +39,7 @@ struct Passing {
 }
 
 impl Passing {
-    /// Nothing is noted yet, and there is room for each equation.
+    /// Nothing is noted yet.
     fn new(alloc: Global, interface: &[Term], equations: &[Equation]) -> Result<Passing, AllocError>
         ensures { IfOk result (λ p. (c : Configuration) → IsConfiguration c
             → map tree interface.now ≡ c.interface → map pair equations.now ≡ c.equations
@@ -47,12 +47,11 @@ impl Passing {
     {
         let containers = Containers::of(alloc, interface, equations)?;
         let bindings = Bindings::with_capacity(alloc, equations.len())?;
-        let kept = Vec::with_capacity(alloc, equations.len())?;
         Ok(Passing {
             containers,
             bindings,
-            kept,
-            chosen: Vec::with_capacity(alloc, equations.len())?,
+            kept: Vec::new(alloc),
+            chosen: Vec::new(alloc),
         })
     }
 

@@ -17,7 +17,7 @@ use std::alloc::{AllocError, Global};
 
 /// An equation: active, with the place of its rule and its sides turned so that the left symbol is
 /// the rule's left symbol, or not active.
-#[derive(Debug, Drop)]
+#[derive(Drop)]
 pub(crate) enum Oriented {
     Active {
         rule: usize,

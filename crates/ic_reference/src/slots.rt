@@ -8,7 +8,7 @@ use ic_term::Equation;
 use std::alloc::{AllocError, Global};
 
 /// A place of a list of equations while results come in.
-#[derive(Debug, Drop)]
+#[derive(Drop)]
 pub(crate) enum Slot {
     Kept(Equation),
     Awaited,

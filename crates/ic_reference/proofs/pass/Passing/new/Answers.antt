@@ -24,8 +24,8 @@ returns c = λ config valid terms pairs.
     λ y. made.places y ∙ (λ i. noted_from y 0 (pairs i) (terms i) None) in
     let nothing = passing-start config links look_up valid own noted in
     let C : List (Option Applicable) → Type 0 = λ chosen. IsPassing config [] [] links look_up chosen config.equations in
-    let E : List (ℕ × Tree) → Type 0 = λ es. IsPassing config [] es links look_up c.in_ok-with_capacity.field-0.items config.equations in
-    let K : List Equation → Type 0 = λ kept. IsPassing config (map pair kept) (waiting c.in_ok-bindings.bindings) links look_up c.in_ok-with_capacity.field-0.items config.equations in
+    let E : List (ℕ × Tree) → Type 0 = λ es. IsPassing config [] es links look_up c.new-2.result.items config.equations in
+    let K : List Equation → Type 0 = λ kept. IsPassing config (map pair kept) (waiting c.in_ok-bindings.bindings) links look_up c.new-2.result.items config.equations in
     record {
       linked = own-linked links own;
       size = made.length ∙ ap (λ n. n + 1) count;
@@ -33,5 +33,5 @@ returns c = λ config valid terms pairs.
       known = λ y p is.
           let both = placed-within y config.equations config.interface p (valid.twice y) (sym (noted y) ∙ is) in
           (omega (arith, both.0, made.length, count), omega (arith, both.1, made.length, count));
-      passing = transport K (sym c.in_ok-kept.ensures.items) (transport E (sym c.in_ok-bindings.ensures) (transport C (sym c.in_ok-with_capacity.ensures.items) nothing));
+      passing = transport K (sym c.new.ensures.items) (transport E (sym c.in_ok-bindings.ensures) (transport C (sym c.new-2.ensures.items) nothing));
     }
