@@ -81,14 +81,14 @@ pub record AreFollowed {D : Type 0} {ghosts : Ghosts D} (scripts : List (List Co
   pub counted : length a.ends.items ≡ runners
   pub may_be : All (EndMayBe workers) a.ends.items
 
--- They are, and the book began with the table that the disk holds.
+-- Scripts were followed, and the book began with the table that the disk holds.
 pub record IsStopped {D : Type 0} (ghosts : Ghosts D) (disk : D) (scripts : List (List Command))
     (runners workers : ℕ) (a : Attended D ghosts) : Type 0 where
   pub held : IsTrue (ghosts.keeps disk)
       → IsHeld (the_table (start_of a.book)) (ghosts.content disk)
   pub followed : AreFollowed scripts runners workers a
 
--- They are, but the book began with another table.
+-- Scripts were followed, but the book began with another table.
 pub record BeganOtherwise {D : Type 0} {ghosts : Ghosts D} (opening : List JobParts)
     (scripts : List (List Command)) (runners workers : ℕ) (a : Attended D ghosts) : Type 0 where
   pub other : start_of a.book ≢ opening

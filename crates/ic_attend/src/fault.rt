@@ -14,6 +14,7 @@ pub enum AttendFault<D: Disk> {
     NoThread(Attended<D>),
     /// A growth was refused before any thread was started.
     Memory(Book<D>),
-    /// The history is not the one that the threads were answered.
+    /// The history is not the one that the threads were answered, or a refusal isn't true of the book,
+    /// or the book began with another table than the one that was opened.
     Torn(Attended<D>),
 }
