@@ -4,6 +4,7 @@ pub mod WayLemmas
 pub mod NewLemmas
 pub mod LeadLemmas
 pub mod EndLemmas
+pub mod FaultLemmas
 pub mod KeepLemmas
 pub mod DueLemmas
 pub mod LeftLemmas

@@ -1,6 +1,6 @@
 -- What one thread refuses.
 use Rattle.std.proofs.Common.{◌≡◌, Bool, true, false, refl}
-use Rattle.std.specs.Prelude.{Result, Ok, Err, nat_eq, if◌then◌else◌}
+use Rattle.std.specs.Prelude.{Ok, Err, nat_eq, if◌then◌else◌}
 use Rattle.ic_round.specs.Rounds.{is_small, names_suffice}
 use Rattle.ic_flights.specs.Flight.{FlightParts}
 use Rattle.ic_flights.specs.Played.{PlayedParts, round_of}

@@ -1,9 +1,11 @@
 pub mod RunLemmas
+pub mod RefusalLemmas
 pub mod PageLemmas
 pub mod LineLemmas
 pub mod WriteLemmas
 pub mod ServeLemmas
 pub mod TurnLemmas
 pub mod StopLemmas
+pub mod CallLemmas
 pub mod ReadingLemmas
 pub mod AloneLemmas

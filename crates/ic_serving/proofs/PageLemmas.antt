@@ -125,7 +125,7 @@ module _ {D : Type 0} {ghosts : Ghosts D} where
   }
 
   module _ (count made place : ℕ) (first book : Book D ghosts) (p : PageInRun count made place first book) where
-    left : HasRoom (turns count 0 (table_of first)) first → length (log_of book) < MAX_ENTRIES
+    pub left : HasRoom (turns count 0 (table_of first)) first → length (log_of book) < MAX_ENTRIES
     left room = room_after (turns count 0 (table_of first)) p.events (turns (count - made) place (table_of book)) first book p.parted room (p.goes room)
 
     -- one round more, after which the page stays

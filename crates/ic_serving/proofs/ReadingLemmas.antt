@@ -1,6 +1,6 @@
 -- A line that is read so, and what was answered to it.
 use Rattle.std.proofs.Common.{false, ◌≡◌, ◌⊎◌, inl, inr, ℕ, List, [], Option, None, Some, Result, Ok, Err, refl, ◌∙◌}
-use Rattle.std.specs.Prelude.{IfOk, OnErr}
+use Rattle.std.specs.Prelude.{IfErr, IfOk, OnErr}
 use Rattle.std.specs.Result.{IsErrAnd}
 use Rattle.std.specs.Io.KnownBytes.{Keeps}
 use Rattle.ic_disk.specs.declared.disk.Disk.{Ghosts}
@@ -14,7 +14,7 @@ use Rattle.ic_serving.specs.declared.fault.ServeFault.{ServeFault}
 use Rattle.ic_serving.specs.declared.fault.ServeFault.TheVariants.{Write, Memory}
 use Rattle.ic_serving.specs.Booked.{last_kept, Begins}
 use Rattle.ic_serving.specs.Parts.{IsKeptWithin}
-use Rattle.ic_serving.specs.Faults.{MayCome}
+use Rattle.ic_serving.specs.Faults.{ComesFor, MayCome}
 use Rattle.ic_serving.specs.Served.{SaysOf}
 use Rattle.ic_serving.specs.Answered.{IsAnswered, IsBegun}
 use Rattle.ic_serving.specs.Moments.{FaultLeaves, Leaves, IsKeptInLine}
@@ -22,6 +22,7 @@ use Rattle.ic_serving.specs.inner.Reading.{IsAnsweredAs}
 use Rattle.ic_serving.specs.lemmas.Reaching.{SomeWay}
 use Rattle.ic_serving.proofs.LineLemmas.{begun_none}
 use Rattle.ic_serving.proofs.PageLemmas.{within_none}
+use Rattle.ic_serving.proofs.RefusalLemmas.{memory_comes}
 use Rattle.ic_serving.proofs.StopLemmas.{kept_in_line}
 use Rattle.ic_serving.specs.lemmas.Leaving.{leaves_more}
 
@@ -34,8 +35,15 @@ nothing_begun book es =
     let b = begun_none (table_of book) (last_kept book) es (table_of book) (last_kept book) refl (inl refl) in
     record { table = b.0; kept = b.1; page = λ room. within_none es book book (record { start = refl; log = refl }) }
 
-pub no_line_begun : {D : Type 0} {ghosts : Ghosts D} → SomeWay → (book : Book D ghosts) (line : List ℕ) → IsBegun line book book
-no_line_begun law book line = let r = law line in record { reading = r.0; read = r.1; begun = nothing_begun book (events (table_of book) r.0) }
+-- a line that can't be read, since memory ran out
+pub no_line_begun : {D V : Type 0} {ghosts : Ghosts D} → SomeWay → (book : Book D ghosts) (line : List ℕ) (result : Result V ServeFault) (fault : ServeFault)
+    → IsErrAnd result (λ x. x ≡ fault) → fault ≡ Memory → IfErr result (λ f. IsBegun line f book book)
+no_line_begun law book line (Ok v) fault is memory = tt
+no_line_begun law book line (Err e) fault is memory =
+    let equal : e ≡ fault = is in
+    let same : e ≡ Memory = equal ∙ memory in
+    let r = law line in
+    rw same (record { reading = r.0; read = r.1; comes = memory_comes (table_of book) r.0; begun = nothing_begun book (events (table_of book) r.0) })
 
 -- what is said of a reading is so of the line that is read so
 pub line_answered : {D : Type 0} {ghosts : Ghosts D} (line bytes : List ℕ) (r : Reading) (old new : Book D ghosts) → ReadsLine line r → IsAnsweredAs r bytes old new
@@ -58,9 +66,9 @@ if_answered line r old new (Ok v) items reads is = line_answered line (items v) 
 if_answered line r old new (Err e) items reads is = tt
 
 pub if_begun : {D V : Type 0} {ghosts : Ghosts D} (line : List ℕ) (r : Reading) (old new : Book D ghosts) (result : Result V ServeFault) → ReadsLine line r
-    → OnErr result (Begins (events (table_of old) r) old new) → OnErr result (IsBegun line old new)
-if_begun line r old new (Ok v) reads begun = tt
-if_begun line r old new (Err e) reads begun = record { reading = r; read = reads; begun = begun }
+    → OnErr result (Begins (events (table_of old) r) old new) → IfErr result (ComesFor (table_of old) r) → IfErr result (λ fault. IsBegun line fault old new)
+if_begun line r old new (Ok v) reads begun comes = tt
+if_begun line r old new (Err e) reads begun comes = record { reading = r; read = reads; comes = comes; begun = begun }
 
 pub leaves_in_line : {D : Type 0} {ghosts : Ghosts D} (line : List ℕ) (r : Reading) (old new : Book D ghosts) → ReadsLine line r
     → Leaves old new (IsKeptWithin (table_of old) (last_kept old) (events (table_of old) r)) → Leaves old new (IsKeptInLine (table_of old) (last_kept old) line)
@@ -75,9 +83,9 @@ keeps_then (Some xs) None new p q = absurd p
 keeps_then (Some xs) (Some ys) None p q = absurd q
 keeps_then (Some xs) (Some ys) (Some zs) p q = q ∙ p
 
-pub says_unbegun : (fault : ServeFault) (front more : List (List ℕ)) → (fault ≡ Memory) ⊎ (fault ≡ Write) → SaysOf fault front more
-says_unbegun fault front more (inl is) = rw is tt
-says_unbegun fault front more (inr is) = rw is tt
+pub says_unbegun : (fault : ServeFault) (t : List JobParts) (front more : List (List ℕ)) → (fault ≡ Memory) ⊎ (fault ≡ Write) → SaysOf fault t front more
+says_unbegun fault t front more (inl is) = rw is tt
+says_unbegun fault t front more (inr is) = rw is tt
 
 pub fault_unbegun : {T D : Type 0} {ghosts : Ghosts D} (r : Result T ServeFault) (fault : ServeFault) → IsErrAnd r (λ x. x ≡ fault) → (fault ≡ Memory) ⊎ (fault ≡ Write) → (first book : Book D ghosts)
     → ghosts.failures (disk_of book) ≡ ghosts.failures (disk_of first) → (is_broken first ≡ false → is_broken book ≡ false)

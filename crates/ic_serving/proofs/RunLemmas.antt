@@ -1,5 +1,5 @@
 -- The rounds of a run, one after the other.
-use Rattle.std.proofs.Common.{◌≡◌, ◌⊎◌, inl, inr, ℕ, zero, suc, ◌+◌, ◌-◌, ◌<◌, List, [], ◌∷◌, ◌++◌, None, Some, length, refl, sym, ap, subst, ◌∙◌, arith, append-nil, append_assoc, length-append, Result, Ok, Err}
+use Rattle.std.proofs.Common.{◌≡◌, ◌⊎◌, inl, inr, ℕ, zero, suc, ◌+◌, ◌-◌, ◌<◌, List, [], ◌∷◌, ◌++◌, None, Some, length, refl, sym, ap, subst, ◌∙◌, arith, append-nil, append_assoc, length-append, Option, Result, Ok, Err}
 use Rattle.std.specs.Prelude.{OnErr}
 use Rattle.std.specs.Option.{option_map_or}
 use Rattle.std.proofs.lemmas.List.Sums.{fold-append}
@@ -124,6 +124,22 @@ pub run_full : (t kept : List JobParts) (count made place : ℕ) (u w : List Job
 run_full t kept count made place u w r all =
     let none : count - made ≡ 0 = omega (arith, all) in
     subst (λ (n : ℕ). IsRun t kept count n u w) all (whole t kept count made place u w u w r (ap (λ n. turns n place u) none) refl refl)
+
+-- where no round is to be made in all, none is due
+no_rest : (front rest : List Event) → front ++ rest ≡ [] → rest ≡ []
+no_rest [] rest none = none
+no_rest (e ∷ front) rest none = let zero = ap length none in absurd (omega (arith, zero))
+
+not_due : (k place : ℕ) (u : List JobParts) (o : Option FlightParts) → due u place ≡ o → turns (suc k) place u ≡ [] → due u place ≡ None
+not_due k place u None is none = is
+not_due k place u (Some f) is none = let zero = ap length (sym (turns_next k place u f is) ∙ none) in absurd (omega (arith, zero))
+
+pub run_nothing : (t kept : List JobParts) (count made place : ℕ) (u w : List JobParts) → InRun t kept count made place u w → made < count
+    → turns count 0 t ≡ [] → due u place ≡ None
+run_nothing t kept count made place u w r less none =
+    let left : count - made ≡ suc (count - (made + 1)) = omega (arith, less) in
+    let over = no_rest r.events (turns (count - made) place u) (sym r.parted ∙ none) in
+    not_due (count - (made + 1)) place u (due u place) refl (ap (λ n. turns n place u) (sym left) ∙ over)
 
 -- a fault came
 pub run_begun : (t kept : List JobParts) (count made place : ℕ) (u w v x : List JobParts) → InRun t kept count made place u w → v ≡ u

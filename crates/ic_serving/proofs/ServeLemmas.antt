@@ -17,7 +17,7 @@ use Rattle.ic_serving.specs.declared.limits.TheConstants.{MAX_LINES}
 use Rattle.ic_serving.specs.declared.fault.ServeFault.{ServeFault}
 use Rattle.ic_serving.specs.declared.fault.ServeFault.TheVariants.{Read, Write, TooManyLines, Book, Pool, LongLine, Memory}
 use Rattle.ic_serving.specs.Parts.{IsPart, IsKeptWithin, IsInFirst}
-use Rattle.ic_serving.specs.Served.{OfLines, IsReadOut, MayBeServed, AreAnswered, AppendsFront, SaysOf, IsLeftBy, IsEnded, IsCut}
+use Rattle.ic_serving.specs.Served.{OfLines, IsReadOut, MayBeServed, AreAnswered, AppendsFront, ComesAtFirst, SaysOf, IsLeftBy, IsEnded, IsCut}
 use Rattle.ic_serving.specs.Faults.{MayCome, ComesInLine, CountsServe, StaysReady, fault_of_line}
 use Rattle.ic_lines.specs.declared.buffer.LineFault.{LineFault}
 use Rattle.ic_lines.specs.declared.buffer.LineFault.TheVariants as line_fault
@@ -179,7 +179,7 @@ over ls t u old mid new answered kept = subst (λ (xs : List (List ℕ)). AreAns
 -- ---- a fault
 
 pub ended_at : (fault : ServeFault) (all : Type 0) (ls more : List (List ℕ)) (t u v w : List JobParts) (old mid new : Option (List ℕ))
-    → AreAnswered ls t u old mid → Keeps mid new → SaysOf fault ls more → IsLeftBy fault u more v → (all → IsLeftBy fault u more w)
+    → AreAnswered ls t u old mid → Keeps mid new → SaysOf fault u ls more → IsLeftBy fault u more v → (all → IsLeftBy fault u more w)
     → IsEnded fault all ls more t v w old new
 ended_at fault all ls more t u v w old mid new answered kept says here keeps = record {
   between = u;
@@ -237,32 +237,33 @@ left_within (Pool p) u v ls of there = there
 left_within Memory u v ls of there = there
 left_within _ u v ls of there = absurd of
 
-pub says_book : (fault : ServeFault) (front more : List (List ℕ)) → ComesInLine fault → SaysOf fault front more
-says_book (Book b) front more of = tt
-says_book (Pool p) front more of = tt
-says_book Memory front more of = tt
-says_book _ front more of = absurd of
+pub says_book : (fault : ServeFault) (t : List JobParts) (front more : List (List ℕ)) → ComesInLine fault → ComesAtFirst t more fault → SaysOf fault t front more
+says_book (Book b) t front more of comes = comes
+says_book (Pool p) t front more of comes = comes
+says_book Memory t front more of comes = tt
+says_book _ t front more of comes = absurd of
 
 -- no line was taken, and these are to come
-pub record NotTaken (f : ServeFault) (rest : Option (List ℕ)) (front : List (List ℕ)) : Type 0 where
+pub record NotTaken (f : ServeFault) (t : List JobParts) (rest : Option (List ℕ)) (front : List (List ℕ)) : Type 0 where
   pub more : List (List ℕ)
   pub coming : AreToCome rest more
-  pub says : SaysOf f front more
+  pub says : SaysOf f t front more
 
-pub not_taken : (e : LineFault) (rest : Option (List ℕ)) (front : List (List ℕ)) → (e ≡ line_fault.LongLine → (length front < MAX_LINES) × HasLongLine rest) → NotTaken (fault_of_line e) rest front
-not_taken line_fault.LongLine rest front long =
+pub not_taken : (e : LineFault) (t : List JobParts) (rest : Option (List ℕ)) (front : List (List ℕ)) → (e ≡ line_fault.LongLine → (length front < MAX_LINES) × HasLongLine rest)
+    → NotTaken (fault_of_line e) t rest front
+not_taken line_fault.LongLine t rest front long =
     let is = long refl in
     let comes = comes_long rest is.1 in
     record { more = comes.line ∷ comes.more; coming = comes.coming; says = (is.0, comes.long) }
-not_taken _ rest front long = record { more = ahead rest; coming = is_ahead rest; says = tt }
+not_taken _ t rest front long = record { more = ahead rest; coming = is_ahead rest; says = tt }
 
 -- nor after the last line that may be served
-pub none_after : (e : LineFault) (f : ServeFault) (rest : Option (List ℕ)) (front : List (List ℕ)) → (e ≡ line_fault.LongLine → f ≡ TooManyLines) → (e ≢ line_fault.LongLine → f ≡ fault_of_line e)
-    → length front ≡ MAX_LINES → (e ≡ line_fault.LongLine → HasLongLine rest) → NotTaken f rest front
-none_after line_fault.LongLine f rest front many others full long =
+pub none_after : (e : LineFault) (f : ServeFault) (t : List JobParts) (rest : Option (List ℕ)) (front : List (List ℕ)) → (e ≡ line_fault.LongLine → f ≡ TooManyLines) → (e ≢ line_fault.LongLine → f ≡ fault_of_line e)
+    → length front ≡ MAX_LINES → (e ≡ line_fault.LongLine → HasLongLine rest) → NotTaken f t rest front
+none_after line_fault.LongLine f t rest front many others full long =
     let comes = comes_long rest (long refl) in
     record { more = comes.line ∷ comes.more; coming = comes.coming; says = (let is = many refl in rw is full) }
-none_after _ f rest front many others full long = let is = others (λ e. cc) in record { more = ahead rest; coming = is_ahead rest; says = rw is tt }
+none_after _ f t rest front many others full long = let is = others (λ e. cc) in record { more = ahead rest; coming = is_ahead rest; says = rw is tt }
 
 -- where all was kept, the table that was kept last is before the events or after a front of them
 pub kept_part : (u kept : List JobParts) (es : List Event) (w : List JobParts) → kept ≡ u → IsKeptWithin u kept es w → IsPart u es w

@@ -1,5 +1,5 @@
 -- What a crash in the midst of a call leaves, call by call.
-use Rattle.std.proofs.Common.{false, Result, Ok, Err, ◌≡◌, ◌≢◌, ◌⊎◌, inl, inr, ⊎_elim, ℕ, ◌≤◌, List, [], ◌∷◌, ◌++◌, Option, length, refl, sym, ap, subst, ◌∙◌, arith, append-nil}
+use Rattle.std.proofs.Common.{true, false, Result, Ok, Err, ◌≡◌, ◌≢◌, ◌⊎◌, inl, inr, ⊎_elim, ℕ, ◌≤◌, List, [], ◌∷◌, ◌++◌, Option, length, refl, sym, ap, subst, ◌∙◌, arith, append-nil}
 use Rattle.std.specs.Prelude.{IsTrue, IfErr}
 use Rattle.std.specs.Result.{IsErrAnd}
 use Rattle.std.specs.Io.KnownBytes.{Keeps}
@@ -7,7 +7,7 @@ use Rattle.std.proofs.lemmas.Bool.{cases_lt}
 use Rattle.ic_disk.specs.declared.disk.Disk.{Ghosts}
 use Rattle.ic_disk.specs.Images.{Within}
 use Rattle.ic_disk.specs.Time.{LeavesOnly, LeftSince}
-use Rattle.ic_disk.specs.lemmas.Moments.{started, then_runs, leaves_weaker}
+use Rattle.ic_disk.specs.lemmas.Moments.{leaves_weaker}
 use Rattle.ic_jobs.specs.declared.command.Command.{Command}
 use Rattle.ic_jobs.specs.declared.event.Entry.{Entry}
 use Rattle.ic_jobs.specs.declared.event.Event.{Event}
@@ -77,7 +77,7 @@ replay_more : (t : List JobParts) (h : List Entry) (e : Entry) → replay t (h +
 replay_more t [] e = refl
 replay_more t (x ∷ xs) e = replay_more (table_after t x.event) xs e
 
-all_or_not : (m n : ℕ) → (m ≡ n) ⊎ (m ≢ n)
+pub all_or_not : (m n : ℕ) → (m ≡ n) ⊎ (m ≢ n)
 all_or_not m n = ⊎_elim
     (λ less. inr (λ same. omega (arith, less, same)))
     (λ more. ⊎_elim (λ less. inr (λ same. omega (arith, less, same))) (λ fewer. inl (omega (arith, more, fewer))) (cases_lt n m))
@@ -158,6 +158,7 @@ module _ {D : Type 0} {ghosts : Ghosts D} where
     pub kept : IsAllKept first → IsAllKept book
     pub counted : ghosts.failures (disk_of book) ≡ ghosts.failures (disk_of first)
     pub ready : is_broken first ≡ false → is_broken book ≡ false
+    pub broken : is_broken first ≡ true → is_broken book ≡ true
     pub last : IsAllKept book ⊎ (last_kept book ≡ last_kept first)
     pub turns : AreAnsweredInTurn way.front first book
     pub moments : LeavesServed first book way.front
@@ -264,7 +265,7 @@ module _ {D : Type 0} {ghosts : Ghosts D} where
   -- where no line is taken
   pub serving_untaken : {T : Type 0} (r : Result T ServeFault) (fault : ServeFault) → IsErrAnd r (λ x. x ≡ fault) → SomeWay
       → (text rest : Option (List ℕ)) (n : ℕ) (first book : Book D ghosts) (old mid new : Option (List ℕ)) (more : List (List ℕ))
-      → (s : Serves text rest n first book old mid) → Keeps mid new → AreToCome rest more → SaysOf fault s.way.front more → (IsAllKept book → last_kept book ≡ table_of book) → IsByCalls book book
+      → (s : Serves text rest n first book old mid) → Keeps mid new → AreToCome rest more → SaysOf fault (table_of book) s.way.front more → (IsAllKept book → last_kept book ≡ table_of book) → IsByCalls book book
       → OfLines text (λ ls. IsServing r ls first book old new)
   serving_untaken r fault is law text rest n first book old mid new more s kept coming says whole idle =
       serving_err r fault is text rest s.way.front more first book book old new s.way.first coming

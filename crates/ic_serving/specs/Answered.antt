@@ -13,8 +13,10 @@ use Rattle.ic_book.specs.Book.{is_broken, number_of, log_of, table_of, IsUnchang
 use Rattle.ic_book.specs.declared.limits.TheConstants.{MAX_ENTRIES}
 use Rattle.ic_book.specs.Moves.{Move, answers, keeps}
 use Rattle.ic_book.specs.ByCalls.{IsByCalls}
+use Rattle.ic_serving.specs.declared.fault.ServeFault.{ServeFault}
 use Rattle.ic_serving.specs.Booked.{Begins, IsAllKept}
-use Rattle.ic_serving.specs.Grown.{GoesOn, HasRoom}
+use Rattle.ic_serving.specs.Faults.{ComesFor}
+use Rattle.ic_serving.specs.Grown.{CallsFew, GoesOn, HasRoom}
 
 -- what is kept where a line is answered: all, after a command and a run; a blank line and a refused
 -- one change nothing
@@ -73,9 +75,17 @@ pub record IsAnswered {D : Type 0} {ghosts : Ghosts D} (line bytes : List ℕ)
       → GoesOn (events (table_of old) reading) old new
   pub done : IsDoneFor reading bytes old new
 
--- a line was begun: a front of its events has come to the table
-pub record IsBegun {D : Type 0} {ghosts : Ghosts D} (line : List ℕ)
+-- a line was begun: a front of its events has come to the table, and then this fault came
+pub record IsBegun {D : Type 0} {ghosts : Ghosts D} (line : List ℕ) (fault : ServeFault)
     (old new : Book D ghosts) : Type 0 where
   pub reading : Reading
   pub read : ReadsLine line reading
+  pub comes : ComesFor (table_of old) reading fault
   pub begun : Begins (events (table_of old) reading) old new
+
+-- so few calls to the disk are made for the events that a line asks for
+pub record CallsFewFor {D : Type 0} {ghosts : Ghosts D} (line : List ℕ) (every : ℕ)
+    (old new : Book D ghosts) : Type 0 where
+  pub reading : Reading
+  pub read : ReadsLine line reading
+  pub calls : CallsFew (events (table_of old) reading) every old new

@@ -5,6 +5,10 @@ use Rattle.std.specs.Prelude.{◌≡◌, ◌-◌, ◌^◌, ℕ, Bool, true, fals
 use Rattle.ic_book.specs.Refusals.{CountsBook}
 use Rattle.ic_book.specs.declared.fault.BookFault.{BookFault}
 use Rattle.ic_book.specs.declared.fault.BookFault.TheVariants as book
+use Rattle.ic_commands.specs.declared.line.Line.TheVariants.{Blank, Command, Run}
+use Rattle.ic_jobs.specs.Job.{JobParts}
+use Rattle.ic_lines.specs.Answers.{Reading}
+use Rattle.ic_lines.specs.Turns.{turns}
 use Rattle.ic_pool.specs.declared.fault.PoolFault.{PoolFault}
 use Rattle.ic_pool.specs.declared.fault.PoolFault.TheVariants as pool
 use Rattle.ic_pool.specs.PoolFault.{is_of_workers}
@@ -64,6 +68,35 @@ ComesInLine (Book fault) = MayCome (Book fault)
 ComesInLine (Pool fault) = MayCome (Pool fault)
 ComesInLine LongLine = ⊥
 ComesInLine Memory = Unit {0}
+
+-- and of these, which come where no round is to be made: none of the pool
+abbrev pub ComesWithoutRound : ServeFault → Type 0
+ComesWithoutRound Read = ⊥
+ComesWithoutRound Write = ⊥
+ComesWithoutRound TooManyLines = ⊥
+ComesWithoutRound (Book fault) = MayCome (Book fault)
+ComesWithoutRound (Pool fault) = ⊥
+ComesWithoutRound LongLine = ⊥
+ComesWithoutRound Memory = Unit {0}
+
+-- Which of them come for what a line asks: where it asks for nothing only that memory ran out, and one
+-- of the pool only at a run that has a round to make.
+abbrev pub ComesFor : List JobParts → Reading → ServeFault → Type 0
+ComesFor t (Ok Blank) fault = fault ≡ Memory
+ComesFor t (Ok (Command command)) fault = ComesWithoutRound fault
+ComesFor t (Ok (Run count)) fault = ComesInLine fault
+    × (turns count 0 t ≡ [] → ComesWithoutRound fault)
+ComesFor t (Err refusal) fault = fault ≡ Memory
+
+-- which of them come over a book that is broken: of the book `Broken` alone, and none of the pool
+abbrev pub ComesBroken : ServeFault → Type 0
+ComesBroken Read = Unit {0}
+ComesBroken Write = Unit {0}
+ComesBroken TooManyLines = Unit {0}
+ComesBroken (Book fault) = fault ≡ book.Broken
+ComesBroken (Pool fault) = ⊥
+ComesBroken LongLine = Unit {0}
+ComesBroken Memory = Unit {0}
 
 -- which of them come where one thread makes each round: none of other threads and what they hand over
 abbrev pub ComesAlone : ServeFault → Type 0

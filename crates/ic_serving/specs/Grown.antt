@@ -1,12 +1,12 @@
 -- What a line adds to the history of a book.
-use Rattle.std.specs.Prelude.{◌≡◌, ◌+◌, ◌<◌, List, ◌++◌, length, map}
+use Rattle.std.specs.Prelude.{◌≡◌, ◌+◌, ◌*◌, ◌/◌, ◌<◌, ◌≤◌, ℕ, List, ◌++◌, length, map}
 use Rattle.std.specs.List.{AllByRecursion}
 use Rattle.ic_disk.specs.declared.disk.Disk.{Ghosts}
 use Rattle.ic_jobs.specs.declared.event.Event.{Event}
 use Rattle.ic_jobs.specs.declared.event.Entry.{Entry}
 use Rattle.ic_book.specs.declared.limits.TheConstants.{MAX_ENTRIES}
 use Rattle.ic_book.specs.declared.book.Book.{Book}
-use Rattle.ic_book.specs.Book.{start_of, log_of}
+use Rattle.ic_book.specs.Book.{start_of, log_of, disk_of}
 
 -- the page is the same: it begins with the same table, and has the same entries
 pub record IsSamePage {D : Type 0} {ghosts : Ghosts D} (old new : Book D ghosts) : Type 0 where
@@ -32,3 +32,10 @@ pub record GoesOnWithin {D : Type 0} {ghosts : Ghosts D} (es : List Event) (old 
 -- the log has room for so many events, and for one more
 abbrev pub HasRoom : {D : Type 0} {ghosts : Ghosts D} → List Event → Book D ghosts → Type 0
 HasRoom es book = length (log_of book) + length es < MAX_ENTRIES
+
+-- Where the log has such room, at most six calls to the disk are made for each `every` of these
+-- events, and six at their end.
+abbrev pub CallsFew : {D : Type 0} {ghosts : Ghosts D} → List Event → (every : ℕ)
+    → (old new : Book D ghosts) → Type 0
+CallsFew {D} {ghosts} es every old new = HasRoom es old
+    → ghosts.clock (disk_of new) ≤ ghosts.clock (disk_of old) + 6 * (length es / every + 1)

@@ -4,11 +4,14 @@ use Rattle.std.specs.List.{AllByRecursion}
 use Rattle.std.specs.Io.KnownBytes.{Appends}
 use Rattle.ic_jobs.specs.Job.{JobParts}
 use Rattle.ic_text.specs.declared.limits.TheConstants.{MAX_TEXT}
+use Rattle.ic_commands.specs.LineText.{ReadsLine}
+use Rattle.ic_lines.specs.Answers.{Reading}
 use Rattle.ic_lines.specs.Lines.{lines}
 use Rattle.ic_lines.specs.Serving.{IsServed}
 use Rattle.ic_serving.specs.declared.limits.TheConstants.{MAX_LINES}
 use Rattle.ic_serving.specs.declared.fault.ServeFault.{ServeFault}
 use Rattle.ic_serving.specs.declared.fault.ServeFault.TheVariants.{Read, Write, TooManyLines, Book, Pool, LongLine, Memory}
+use Rattle.ic_serving.specs.Faults.{ComesFor}
 use Rattle.ic_serving.specs.Parts.{IsInFirst}
 
 -- this is so of the lines of a reader's bytes, or where it doesn't tell them, of some lines
@@ -34,17 +37,29 @@ pub record AreAnswered (ls : List (List ℕ)) (t u : List JobParts)
   pub served : IsServed t ls answers u
   pub written : Appends old new answers
 
--- what a fault says of the lines that were answered and of those that weren't
-abbrev pub SaysOf : ServeFault → List (List ℕ) → List (List ℕ) → Type 0
-SaysOf Read front rest = Unit {0}
-SaysOf Write front rest = Unit {0}
-SaysOf (Book fault) front rest = Unit {0}
-SaysOf (Pool fault) front rest = Unit {0}
-SaysOf Memory front rest = Unit {0}
-SaysOf LongLine front [] = ⊥
-SaysOf LongLine front (line ∷ rest) = (length front < MAX_LINES) × (MAX_TEXT < length line)
-SaysOf TooManyLines front [] = ⊥
-SaysOf TooManyLines front (line ∷ rest) = length front ≡ MAX_LINES
+-- a fault comes at a line for what this asks of a table
+pub record ComesAt (t : List JobParts) (line : List ℕ) (fault : ServeFault) : Type 0 where
+  pub reading : Reading
+  pub read : ReadsLine line reading
+  pub comes : ComesFor t reading fault
+
+-- the same of the first of some lines; where there is none, it doesn't come
+abbrev pub ComesAtFirst : (t : List JobParts) (ls : List (List ℕ)) → ServeFault → Type 0
+ComesAtFirst t [] fault = ⊥
+ComesAtFirst t (line ∷ ls) fault = ComesAt t line fault
+
+-- what a fault says of the lines that were answered, which led to this table, and of those that
+-- weren't
+abbrev pub SaysOf : ServeFault → (t : List JobParts) (front rest : List (List ℕ)) → Type 0
+SaysOf Read t front rest = Unit {0}
+SaysOf Write t front rest = Unit {0}
+SaysOf (Book fault) t front rest = ComesAtFirst t rest (Book fault)
+SaysOf (Pool fault) t front rest = ComesAtFirst t rest (Pool fault)
+SaysOf Memory t front rest = Unit {0}
+SaysOf LongLine t front [] = ⊥
+SaysOf LongLine t front (line ∷ rest) = (length front < MAX_LINES) × (MAX_TEXT < length line)
+SaysOf TooManyLines t front [] = ⊥
+SaysOf TooManyLines t front (line ∷ rest) = length front ≡ MAX_LINES
 
 -- What a fault says of a table: some events of the next line may have come to it, and none where
 -- the line wasn't taken.
@@ -63,7 +78,7 @@ pub record IsEnded (fault : ServeFault) (all_kept : Type 0) (front rest : List (
     (t u kept : List JobParts) (old new : Option (List ℕ)) : Type 0 where
   pub between : List JobParts
   pub answered : AreAnswered front t between old new
-  pub says : SaysOf fault front rest
+  pub says : SaysOf fault between front rest
   pub in_line : IsLeftBy fault between rest u
   pub keeps : all_kept → IsLeftBy fault between rest kept
 

@@ -1,7 +1,7 @@
 //! Answering one line over a book.
 
-ghost use Rattle.std.specs.Prelude.{false, ◌≡◌, ◌≢◌, ◌<◌, ◌≤◌, ◌+◌, ◌-◌, ◌^◌, length, [], ◌∷◌, Ok, OnOk, OnErr, IfErr, IfOk};
-ghost use Rattle.ic_book.specs.Book.{is_broken, number_of, log_of, table_of};
+ghost use Rattle.std.specs.Prelude.{true, false, ◌≡◌, ◌≢◌, ◌<◌, ◌≤◌, ◌+◌, ◌-◌, ◌^◌, length, [], ◌∷◌, Ok, OnOk, OnErr, IfErr, IfOk};
+ghost use Rattle.ic_book.specs.Book.{is_broken, number_of, log_of, table_of, disk_of};
 ghost use Rattle.ic_book.specs.declared.limits.TheConstants.{MAX_ENTRIES};
 ghost use Rattle.ic_jobs.specs.declared.event.Event.TheVariants.{Command as by_command};
 ghost use Rattle.ic_commands.specs.declared.line.Line.TheVariants.{Command as Asks, Run};
@@ -13,10 +13,10 @@ ghost use Rattle.ic_lines.specs.Answers.{answer, after_line, events};
 ghost use Rattle.ic_serving.specs.Booked.{last_kept, unkept_of, Begins, IsAllKept};
 ghost use Rattle.ic_serving.specs.Parts.{IsKeptWithin};
 ghost use Rattle.ic_book.specs.Moves.{keeps};
-ghost use Rattle.ic_serving.specs.Answered.{EndsWith, IsAnswered, IsBegun, IsReplied};
-ghost use Rattle.ic_serving.specs.Grown.{GoesOn, HasRoom};
+ghost use Rattle.ic_serving.specs.Answered.{CallsFewFor, EndsWith, IsAnswered, IsBegun, IsReplied};
+ghost use Rattle.ic_serving.specs.Grown.{CallsFew, GoesOn, HasRoom};
 ghost use Rattle.ic_serving.specs.Moments.{FaultLeaves, Leaves, IsKeptInLine};
-ghost use Rattle.ic_serving.specs.Faults.{ComesAlone, ComesInLine};
+ghost use Rattle.ic_serving.specs.Faults.{ComesAlone, ComesBroken, ComesFor, ComesInLine, ComesWithoutRound};
 ghost use Rattle.ic_serving.specs.inner.Reading.{IsAnsweredAs};
 
 use crate::fault::ServeFault;
@@ -56,10 +56,13 @@ pub fn answer_line<T: Threads + Wait + Copy + Send + 'static, D: Disk>(
     requires workers { 1 ≤ workers }
     requires every { 1 ≤ every }
     ensures answered { IfOk result (λ bytes. IsAnswered line.now bytes.items book.old book.new) }
-    ensures begun { OnErr result (IsBegun line.now book.old book.new) }
+    ensures begun { IfErr result (λ fault. IsBegun line.now fault book.old book.new) }
     ensures fault { FaultLeaves ComesInLine result book.old book.new }
+    ensures broken { is_broken book.old ≡ true → IfErr result ComesBroken }
+    ensures still { is_broken book.old ≡ true → OnOk result (is_broken book.new ≡ true) }
     ensures alone { workers ≡ 1 → IfErr result ComesAlone }
     ensures few_unkept { IsAllKept book.old → unkept_of book.new ≤ every }
+    ensures few_calls { CallsFewFor line.now every book.old book.new }
 
     // A crash at any moment leaves the table that was kept before the line, or one within it.
     ensures crash { Leaves book.old book.new
@@ -110,9 +113,13 @@ pub(crate) fn answer_read<T: Threads + Wait + Copy + Send + 'static, D: Disk, G:
     requires every { 1 ≤ every }
     ensures answered { IfOk result (λ bytes. IsAnsweredAs reading bytes.items book.old book.new) }
     ensures begun { OnErr result (Begins (events (table_of book.old) reading) book.old book.new) }
+    ensures comes { IfErr result (ComesFor (table_of book.old) reading) }
     ensures fault { FaultLeaves ComesInLine result book.old book.new }
+    ensures broken { is_broken book.old ≡ true → IfErr result ComesBroken }
+    ensures still { is_broken book.old ≡ true → OnOk result (is_broken book.new ≡ true) }
     ensures alone { workers ≡ 1 → IfErr result ComesAlone }
     ensures few_unkept { IsAllKept book.old → unkept_of book.new ≤ every }
+    ensures few_calls { CallsFew (events (table_of book.old) reading) every book.old book.new }
     ensures crash { Leaves book.old book.new (IsKeptWithin (table_of book.old)
         (last_kept book.old) (events (table_of book.old) reading)) }
 {
@@ -151,8 +158,13 @@ pub fn answer_command<D: Disk>(
         → GoesOn (by_command command ∷ []) book.old book.new) }
     ensures begun { OnErr result (Begins (by_command command ∷ []) book.old book.new) }
     ensures fault { FaultLeaves ComesInLine result book.old book.new }
+    ensures comes { IfErr result ComesWithoutRound }
+    ensures broken { is_broken book.old ≡ true → IfErr result ComesBroken }
+    ensures unbroken { OnOk result (is_broken book.old ≡ false) }
     ensures alone { IfErr result ComesAlone }
     ensures few_unkept { unkept_of book.new ≤ unkept_of book.old + 1 }
+    ensures few_calls { length (log_of book.old) < MAX_ENTRIES
+        → D.clock (disk_of book.new) ≤ D.clock (disk_of book.old) + 6 }
     ensures crash { Leaves book.old book.new (IsKeptWithin (table_of book.old)
         (last_kept book.old) (by_command command ∷ [])) }
 {
@@ -186,8 +198,12 @@ fn answer_run<T: Threads + Wait + Copy + Send + 'static, D: Disk, G: Gate>(
         → GoesOn (turns count 0 (table_of book.old)) book.old book.new) }
     ensures begun { OnErr result (Begins (turns count 0 (table_of book.old)) book.old book.new) }
     ensures fault { FaultLeaves ComesInLine result book.old book.new }
+    ensures idle { turns count 0 (table_of book.old) ≡ [] → IfErr result ComesWithoutRound }
+    ensures broken { is_broken book.old ≡ true → IfErr result ComesBroken }
+    ensures unbroken { OnOk result (is_broken book.old ≡ false) }
     ensures alone { workers ≡ 1 → IfErr result ComesAlone }
     ensures few_unkept { IsAllKept book.old → unkept_of book.new ≤ every }
+    ensures few_calls { CallsFew (turns count 0 (table_of book.old)) every book.old book.new }
     ensures crash { Leaves book.old book.new (IsKeptWithin (table_of book.old)
         (last_kept book.old) (turns count 0 (table_of book.old))) }
 {

@@ -1,19 +1,19 @@
 //! One round over a book.
 
-ghost use Rattle.std.specs.Prelude.{false, ◌≡◌, ◌≢◌, ◌<◌, ◌≤◌, ◌+◌, [], ◌∷◌, ◌++◌, length, None, OnOk, OnErr, IfOk, IfErr, IfSome, IfNone};
+ghost use Rattle.std.specs.Prelude.{true, false, ◌≡◌, ◌≢◌, ◌↔◌, ◌⊎◌, ◌<◌, ◌≤◌, ◌+◌, ◌-◌, ◌^◌, [], ◌∷◌, ◌++◌, length, None, IsOk, IsErrOf, OnOk, OnErr, IfOk, IfErr, IfSome, IfNone};
 ghost use Rattle.ic_jobs.specs.declared.event.Event.TheVariants.{Round};
 ghost use Rattle.ic_jobs.specs.declared.reply.Reply.{Reply};
 ghost use Rattle.ic_jobs.specs.declared.limits.TheConstants.{MAX_JOBS};
 ghost use Rattle.ic_jobs.specs.Landing.{due, Awaits};
 ghost use Rattle.ic_book.specs.declared.limits.TheConstants.{MAX_ENTRIES};
-ghost use Rattle.ic_book.specs.Book.{is_broken, start_of, table_of, log_of, keeper_of, IsUnchanged};
+ghost use Rattle.ic_book.specs.Book.{is_broken, start_of, table_of, log_of, kept_of, number_of, keeper_of, disk_of, IsUnchanged};
 ghost use Rattle.ic_book.specs.Entries.{round_entry};
 ghost use Rattle.ic_serving.specs.Booked.{last_kept, unkept_of, IsAllKept, Advances, MakesRound, StaysPut};
 ghost use Rattle.ic_book.specs.ByCalls.{IsByCalls};
 ghost use Rattle.ic_book.specs.Moves.{keeps};
 ghost use Rattle.ic_book.specs.declared.fault.BookFault.TheVariants as of_book;
 ghost use Rattle.ic_serving.specs.Answered.{EndsWith};
-ghost use Rattle.ic_serving.specs.Faults.{ComesAlone, ComesInLine};
+ghost use Rattle.ic_serving.specs.Faults.{ComesAlone, ComesBroken, ComesInLine, ComesWithoutRound};
 ghost use Rattle.ic_serving.specs.Grown.{IsSamePage};
 ghost use Rattle.ic_serving.specs.Moments.{FaultLeaves, Leaves, IsKeptOrNow};
 
@@ -32,7 +32,11 @@ pub(crate) fn make_room<D: Disk>(alloc: Global, book: &mut Book<D>) -> Result<()
     ensures fault { FaultLeaves ComesInLine result book.old book.new }
     ensures alone { IfErr result ComesAlone }
     ensures fewer { unkept_of book.new ≤ unkept_of book.old }
+    ensures comes { IfErr result ComesWithoutRound }
+    ensures broken { is_broken book.old ≡ true → IfErr result ComesBroken }
+    ensures still { OnOk result (is_broken book.new ≡ is_broken book.old) }
     ensures spare { OnOk result (length (log_of book.new) < MAX_ENTRIES) }
+    ensures idle { length (log_of book.old) < MAX_ENTRIES → IsOk result }
     ensures room { length (log_of book.old) < MAX_ENTRIES → IsUnchanged book.old book.new }
     ensures crash { Leaves book.old book.new (IsKeptOrNow book.old) }
 {
@@ -44,7 +48,7 @@ pub(crate) fn make_room<D: Disk>(alloc: Global, book: &mut Book<D>) -> Result<()
     Ok(())
 }
 
-/// Keeps what isn't kept, for a loop of one's own.
+/// Keeps what isn't kept, for a loop of one's own. Where all is kept it makes no call to the disk.
 pub fn keep_all<D: Disk>(book: &mut Book<D>) -> Result<(), ServeFault>
     ensures table { table_of book.new ≡ table_of book.old }
     ensures kept { OnOk result (IsAllKept book.new) }
@@ -54,8 +58,16 @@ pub fn keep_all<D: Disk>(book: &mut Book<D>) -> Result<(), ServeFault>
     ensures unkept { OnErr result (last_kept book.new ≡ last_kept book.old) }
     ensures page { IsSamePage book.old book.new }
     ensures fault { FaultLeaves ComesInLine result book.old book.new }
+    ensures broken { IsErrOf result (ServeFault.Book of_book.Broken)
+        ↔ (is_broken book.old ≡ true) }
+    ensures worn { IsErrOf result (ServeFault.Book of_book.Worn)
+        ↔ ((is_broken book.old ≡ false) × (kept_of book.old < length (log_of book.old))
+        × (number_of book.old ≡ 2 ^ 64 - 1)) }
     ensures others { IfErr result (λ fault. fault ≢ ServeFault.Book of_book.Broken
         → fault ≢ ServeFault.Book of_book.Worn → fault ≡ ServeFault.Book of_book.Device) }
+    ensures ready { IsAllKept book.old → is_broken book.old ≡ false → IsOk result }
+    ensures idle { IsAllKept book.old → keeper_of book.new ≡ keeper_of book.old }
+    ensures calls { D.clock (disk_of book.new) ≤ D.clock (disk_of book.old) + 6 }
     ensures alone { IfErr result ComesAlone }
     ensures fewer { unkept_of book.new ≤ unkept_of book.old }
     ensures crash { Leaves book.old book.new (IsKeptOrNow book.old) }
@@ -82,9 +94,15 @@ pub fn make_round<T: Threads + Wait + Copy + Send + 'static, D: Disk>(
         MakesRound after here book.old book.new)) }
     ensures low { IfOk result (λ place. IfSome place (λ here. here < MAX_JOBS)) }
     ensures refused { OnErr result (StaysPut book.old book.new) }
+    ensures broken { IsErrOf result (ServeFault.Book of_book.Broken)
+        ↔ (is_broken book.old ≡ true) }
+    ensures nothing { due (table_of book.old) after ≡ None → IfErr result (λ fault.
+        (fault ≡ ServeFault.Book of_book.Broken) ⊎ (fault ≡ ServeFault.Book of_book.Memory)) }
     ensures fault { FaultLeaves ComesInLine result book.old book.new }
     ensures alone { workers ≡ 1 → IfErr result ComesAlone }
     ensures one { unkept_of book.new ≤ unkept_of book.old + 1 }
+    ensures still { length (log_of book.old) < MAX_ENTRIES
+        → keeper_of book.new ≡ keeper_of book.old }
     ensures crash { Leaves book.old book.new (IsKeptOrNow book.old) }
 {
     book.facts();

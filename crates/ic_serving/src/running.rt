@@ -1,7 +1,7 @@
 //! The rounds of a run over a book.
 
-ghost use Rattle.std.specs.Prelude.{false, ◌≡◌, ◌≢◌, ◌≤◌, ◌%◌, ◌⊎◌, IsOk, OnOk, OnErr, IfOk, IfErr, count_by, length};
-ghost use Rattle.ic_book.specs.Book.{is_broken, table_of};
+ghost use Rattle.std.specs.Prelude.{true, false, ◌≡◌, ◌≢◌, ◌↔◌, ◌⊎◌, ◌<◌, ◌≤◌, ◌+◌, ◌-◌, ◌*◌, ◌/◌, ◌%◌, ◌^◌, [], IsOk, IsErrOf, OnOk, OnErr, IfOk, IfErr, count_by, length};
+ghost use Rattle.ic_book.specs.Book.{is_broken, number_of, log_of, table_of, kept_of, keeper_of, disk_of};
 ghost use Rattle.ic_jobs.specs.State.{is_running};
 ghost use Rattle.ic_lines.specs.Turns.{turns, after_events};
 ghost use Rattle.ic_serving.specs.Booked.{last_kept, unkept_of, Begins, IsAllKept};
@@ -9,8 +9,8 @@ ghost use Rattle.ic_serving.specs.Parts.{IsKeptWithin};
 ghost use Rattle.ic_book.specs.Moves.{keeps};
 ghost use Rattle.ic_book.specs.declared.fault.BookFault.TheVariants as of_book;
 ghost use Rattle.ic_serving.specs.Answered.{EndsWith};
-ghost use Rattle.ic_serving.specs.Faults.{ComesAlone, ComesInLine};
-ghost use Rattle.ic_serving.specs.Grown.{IsSamePage, GoesOn, HasRoom};
+ghost use Rattle.ic_serving.specs.Faults.{ComesAlone, ComesBroken, ComesInLine, ComesWithoutRound};
+ghost use Rattle.ic_serving.specs.Grown.{CallsFew, IsSamePage, GoesOn, HasRoom};
 ghost use Rattle.ic_serving.specs.Moments.{FaultLeaves, Leaves, IsKeptOrNow};
 
 use crate::fault::ServeFault;
@@ -49,8 +49,12 @@ pub(crate) fn run<T: Threads + Wait + Copy + Send + 'static, D: Disk, G: Gate>(
         → GoesOn (turns count 0 (table_of book.old)) book.old book.new) }
     ensures begun { OnErr result (Begins (turns count 0 (table_of book.old)) book.old book.new) }
     ensures fault { FaultLeaves ComesInLine result book.old book.new }
+    ensures idle { turns count 0 (table_of book.old) ≡ [] → IfErr result ComesWithoutRound }
+    ensures broken { is_broken book.old ≡ true → IfErr result ComesBroken }
+    ensures unbroken { OnOk result (is_broken book.old ≡ false) }
     ensures alone { workers ≡ 1 → IfErr result ComesAlone }
     ensures few_unkept { IsAllKept book.old → unkept_of book.new ≤ every }
+    ensures few_calls { CallsFew (turns count 0 (table_of book.old)) every book.old book.new }
     ensures crash { Leaves book.old book.new (IsKeptWithin (table_of book.old)
         (last_kept book.old) (turns count 0 (table_of book.old))) }
 {
@@ -81,8 +85,14 @@ fn make_rounds<T: Threads + Wait + Copy + Send + 'static, D: Disk, G: Gate>(
         → GoesOn (turns count 0 (table_of book.old)) book.old book.new) }
     ensures begun { OnErr result (Begins (turns count 0 (table_of book.old)) book.old book.new) }
     ensures fault { FaultLeaves ComesInLine result book.old book.new }
+    ensures idle { turns count 0 (table_of book.old) ≡ [] → IfErr result ComesWithoutRound }
+    ensures broken { is_broken book.old ≡ true → IfErr result ComesBroken }
+    ensures still { is_broken book.old ≡ true → OnOk result (is_broken book.new ≡ true) }
     ensures alone { workers ≡ 1 → IfErr result ComesAlone }
     ensures few_unkept { IsAllKept book.old → unkept_of book.new ≤ every }
+    ensures few_calls { HasRoom (turns count 0 (table_of book.old)) book.old
+        → D.clock (disk_of book.new) ≤ D.clock (disk_of book.old)
+        + 6 * (length (turns count 0 (table_of book.old)) / every) }
     ensures crash { Leaves book.old book.new (IsKeptWithin (table_of book.old)
         (last_kept book.old) (turns count 0 (table_of book.old))) }
 {
@@ -124,8 +134,16 @@ pub fn keep_each<D: Disk>(book: &mut Book<D>, made: u64, every: u64) -> Result<(
     ensures unkept { OnErr result (last_kept book.new ≡ last_kept book.old) }
     ensures page { IsSamePage book.old book.new }
     ensures fault { FaultLeaves ComesInLine result book.old book.new }
+    ensures broken { made % every ≡ 0 → IsErrOf result (ServeFault.Book of_book.Broken)
+        ↔ (is_broken book.old ≡ true) }
+    ensures worn { made % every ≡ 0 → IsErrOf result (ServeFault.Book of_book.Worn)
+        ↔ ((is_broken book.old ≡ false) × (kept_of book.old < length (log_of book.old))
+        × (number_of book.old ≡ 2 ^ 64 - 1)) }
     ensures others { IfErr result (λ fault. fault ≢ ServeFault.Book of_book.Broken
         → fault ≢ ServeFault.Book of_book.Worn → fault ≡ ServeFault.Book of_book.Device) }
+    ensures ready { IsAllKept book.old → is_broken book.old ≡ false → IsOk result }
+    ensures still { IsAllKept book.old → keeper_of book.new ≡ keeper_of book.old }
+    ensures calls { D.clock (disk_of book.new) ≤ D.clock (disk_of book.old) + 6 }
     ensures alone { IfErr result ComesAlone }
     ensures fewer { unkept_of book.new ≤ unkept_of book.old }
     ensures crash { Leaves book.old book.new (IsKeptOrNow book.old) }

@@ -1,10 +1,11 @@
 //! Serving all lines of a reader over a book.
 
-ghost use Rattle.std.specs.Prelude.{◌≡◌, ◌≢◌, ◌≤◌, ◌⊎◌, IfOk, IfErr, OnOk};
+ghost use Rattle.std.specs.Prelude.{true, ◌≡◌, ◌≢◌, ◌≤◌, ◌⊎◌, [], IfOk, IfErr, OnOk};
 ghost use Rattle.std.specs.Io.KnownBytes.{Keeps};
 ghost use Rattle.ic_commands.specs.LineText.{ReadsLine};
 ghost use Rattle.ic_lines.specs.declared.buffer.LineFault.TheVariants.{LongLine};
-ghost use Rattle.ic_serving.specs.Faults.{ComesAlone, MayCome, fault_of_line};
+ghost use Rattle.ic_book.specs.Book.{is_broken};
+ghost use Rattle.ic_serving.specs.Faults.{ComesAlone, ComesBroken, MayCome, fault_of_line};
 ghost use Rattle.ic_serving.specs.Booked.{unkept_of, IsAllKept};
 ghost use Rattle.ic_serving.specs.Moments.{FaultLeaves};
 ghost use Rattle.ic_serving.specs.Served.{OfLines, IsReadOut};
@@ -50,6 +51,8 @@ pub fn serve_lines<T: Threads + Wait + Copy + Send + 'static, D: Disk, R: Read, 
         book.old book.new (W.contents writer.old) (W.contents writer.new)) }
     ensures over { OnOk result (IsReadOut (R.remaining reader.old) (R.remaining reader.new)) }
     ensures fault { FaultLeaves MayCome result book.old book.new }
+    ensures broken { is_broken book.old ≡ true → IfErr result ComesBroken }
+    ensures still { is_broken book.old ≡ true → OnOk result (is_broken book.new ≡ true) }
     ensures alone { workers ≡ 1 → IfErr result ComesAlone }
     ensures few_unkept { IsAllKept book.old → unkept_of book.new ≤ every }
 {
@@ -80,9 +83,12 @@ pub fn serve_watched<
         book.old book.new (W.contents writer.old) (W.contents writer.new)) }
     ensures over { OnOk result (IsReadOut (R.remaining reader.old) (R.remaining reader.new)) }
     ensures fault { FaultLeaves MayCome result book.old book.new }
+    ensures broken { is_broken book.old ≡ true → IfErr result ComesBroken }
+    ensures still { is_broken book.old ≡ true → OnOk result (is_broken book.new ≡ true) }
     ensures alone { workers ≡ 1 → IfErr result ComesAlone }
     ensures few_unkept { IsAllKept book.old → unkept_of book.new ≤ every }
 {
+    let mut lines = LineBuffer::new(alloc);
     let mut makers = Makers::new(alloc);
     let served = serve_with(
         rt,
@@ -93,13 +99,15 @@ pub fn serve_watched<
         workers,
         every,
         gate,
+        &mut lines,
         &mut makers,
     );
     makers.finish(rt);
     served
 }
 
-/// The same, by makers of rounds that outlast it.
+/// The same, by an empty buffer of lines and makers of rounds that outlast it. A buffer that was
+/// dropped at each `?` would make the proof long.
 fn serve_with<T: Threads + Wait + Copy + Send + 'static, D: Disk, R: Read, W: Write, G: Gate>(
     rt: &T,
     alloc: Global,
@@ -109,21 +117,24 @@ fn serve_with<T: Threads + Wait + Copy + Send + 'static, D: Disk, R: Read, W: Wr
     workers: usize,
     every: u64,
     gate: &G,
+    lines: &mut LineBuffer,
     makers: &mut Makers,
 ) -> Result<(), ServeFault>
     requires workers { 1 ≤ workers }
     requires every { 1 ≤ every }
+    requires empty { lines.old.ahead ≡ [] }
     ensures serving { OfLines (R.remaining reader.old) (λ ls. IsServing result ls
         book.old book.new (W.contents writer.old) (W.contents writer.new)) }
     ensures over { OnOk result (IsReadOut (R.remaining reader.old) (R.remaining reader.new)) }
     ensures fault { FaultLeaves MayCome result book.old book.new }
+    ensures broken { is_broken book.old ≡ true → IfErr result ComesBroken }
+    ensures still { is_broken book.old ≡ true → OnOk result (is_broken book.new ≡ true) }
     ensures alone { workers ≡ 1 → IfErr result ComesAlone }
     ensures few_unkept { IsAllKept book.old → unkept_of book.new ≤ every }
 {
     ic_commands::laws::one_line_reading();
     ic_lines::laws::lines_are_served_in_one_way();
     book.facts();
-    let mut lines = LineBuffer::new(alloc);
     for _ in 0..MAX_LINES {
         book.facts();
         if !lines.take_line(reader, writer)? {
@@ -172,6 +183,7 @@ fn after_the_last(fault: LineFault) -> ServeFault
     ensures long { fault ≡ LongLine → result ≡ ServeFault.TooManyLines }
     ensures others { fault ≢ LongLine → result ≡ fault_of_line fault }
     ensures causes { MayCome result }
+    ensures broken { ComesBroken result }
     ensures alone { ComesAlone result }
 {
     match fault {

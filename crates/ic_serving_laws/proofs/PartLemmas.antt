@@ -1,5 +1,5 @@
 -- Tables between the events of a line, and what faults say and leave.
-use Rattle.std.proofs.Common.{Bool, true, ◌≡◌, ◌⊎◌, inl, inr, ℕ, zero, suc, ◌<◌, ◌≤◌, List, [], ◌∷◌, ◌++◌, length, take, drop, refl, sym, ap, subst, ◌∙◌, arith, length-append}
+use Rattle.std.proofs.Common.{Bool, true, Ok, Err, ◌≡◌, ◌≢◌, ◌⊎◌, inl, inr, ℕ, zero, suc, ◌<◌, ◌≤◌, List, [], ◌∷◌, ◌++◌, length, take, drop, refl, sym, ap, subst, ◌∙◌, arith, length-append}
 use Rattle.std.proofs.lemmas.List.{take-append-drop, take_all}
 use Rattle.std.proofs.Math.Seq.{take-append_seam}
 use Rattle.ic_jobs.specs.Job.{JobParts}
@@ -12,7 +12,10 @@ use Rattle.ic_serving.specs.declared.fault.ServeFault.{ServeFault}
 use Rattle.ic_serving.specs.declared.fault.ServeFault.TheVariants.{Read, Write, TooManyLines, Book, Pool, LongLine, Memory}
 use Rattle.ic_serving.specs.Parts.{IsPart, IsKeptWithin, IsInLine, IsInFirst}
 use Rattle.ic_serving.specs.Moments.{IsKeptInLine}
-use Rattle.ic_serving.specs.Served.{SaysOf, IsLeftBy}
+use Rattle.ic_pool.specs.declared.fault.PoolFault.{PoolFault}
+use Rattle.ic_commands.specs.declared.line.Line.TheVariants.{Blank, Command as Asks, Run}
+use Rattle.ic_serving.specs.Faults.{ComesFor, ComesInLine, ComesWithoutRound}
+use Rattle.ic_serving.specs.Served.{ComesAt, ComesAtFirst, SaysOf, IsLeftBy}
 use Rattle.ic_serving.specs.Stopped.{IsReached, MayStand}
 
 -- ---- fronts of events
@@ -103,15 +106,36 @@ left_within law (Pool fault) t u ls left = left
 left_within law LongLine t u ls left = first_from law t u ls left
 left_within law Memory t u ls left = left
 
-pub says_long : (front rest : List (List ℕ)) → SaysOf LongLine front rest
+pub says_long : (t : List JobParts) (front rest : List (List ℕ)) → SaysOf LongLine t front rest
     → (line : List ℕ) × (more : List (List ℕ)) × (rest ≡ line ∷ more) × (length front < 1000000) × (262144 < length line)
-says_long front [] says = absurd says
-says_long front (line ∷ more) says = (line, more, refl, says.0, says.1)
+says_long t front [] says = absurd says
+says_long t front (line ∷ more) says = (line, more, refl, says.0, says.1)
 
-pub says_many : (front rest : List (List ℕ)) → SaysOf TooManyLines front rest
+pub says_many : (t : List JobParts) (front rest : List (List ℕ)) → SaysOf TooManyLines t front rest
     → (line : List ℕ) × (more : List (List ℕ)) × (rest ≡ line ∷ more) × (length front ≡ 1000000)
-says_many front [] says = absurd says
-says_many front (line ∷ more) says = (line, more, refl, says)
+says_many t front [] says = absurd says
+says_many t front (line ∷ more) says = (line, more, refl, says)
+
+pub without_round : (fault : ServeFault) → ComesWithoutRound fault → ComesInLine fault × ((of_pool : PoolFault) → fault ≢ Pool of_pool)
+without_round (Book f) comes = (comes, λ of_pool same. cc)
+without_round Memory comes = (tt, λ of_pool same. cc)
+without_round fault comes = absurd comes
+
+pub at_line : (t : List JobParts) (ls : List (List ℕ)) (fault : ServeFault) → ComesAtFirst t ls fault
+    → (line : List ℕ) × (more : List (List ℕ)) × (ls ≡ line ∷ more) × ComesAt t line fault
+at_line t [] fault comes = absurd comes
+at_line t (line ∷ more) fault comes = (line, more, refl, comes)
+
+-- for what a line asks that is read so
+pub comes_for : OneWay → (t : List JobParts) (line : List ℕ) (r : Reading) (fault : ServeFault) → ReadsLine line r → ComesAt t line fault → ComesFor t r fault
+comes_for law t line r fault reads at = subst (λ (x : Reading). ComesFor t x fault) (law line at.reading r at.read reads) at.comes
+
+pub asks_rounds : (t : List JobParts) (line : List ℕ) (r : Reading) (fault : PoolFault) → ReadsLine line r → ComesFor t r (Pool fault)
+    → (k : ℕ) × ReadsLine line (Ok (Run k)) × (turns k 0 t ≢ [])
+asks_rounds t line (Ok Blank) fault reads comes = (let bad : Pool fault ≡ Memory = comes in cc)
+asks_rounds t line (Ok (Asks c)) fault reads comes = absurd comes
+asks_rounds t line (Ok (Run k)) fault reads comes = (k, reads, comes.1)
+asks_rounds t line (Err why) fault reads comes = (let bad : Pool fault ≡ Memory = comes in cc)
 
 -- ---- stops
 

@@ -1,6 +1,6 @@
 //! Laws of the definitions that say how many calls to its disk a keep makes, what it writes and when it is refused.
 
-ghost use Rattle.std.specs.Prelude.{◌≡◌, ◌↔◌, ◌≤◌, ◌+◌, ◌-◌, ◌^◌, ℕ, List, Result, Ok, Err, IsErrOf, length, true, false};
+ghost use Rattle.std.specs.Prelude.{◌≡◌, ◌↔◌, ◌<◌, ◌≤◌, ◌+◌, ◌-◌, ◌*◌, ◌/◌, ◌^◌, ℕ, List, Result, Ok, Err, IsErrOf, length, true, false};
 ghost use Rattle.ic_disk.specs.Content.{laid};
 ghost use Rattle.ic_frames.specs.declared.faults.KeepFault.{KeepFault};
 ghost use Rattle.ic_frames.specs.declared.faults.KeepFault.TheVariants.{Device, Worn};
@@ -11,6 +11,9 @@ ghost use Rattle.ic_frames.specs.Places.{place};
 ghost use Rattle.ic_book.specs.declared.fault.BookFault.{BookFault};
 ghost use Rattle.ic_book.specs.Book.{disk_of, kept_of, log_of};
 ghost use Rattle.ic_book.specs.Calls.{KeepsAll};
+ghost use Rattle.ic_commands.specs.declared.line.Line.TheVariants.{Run};
+ghost use Rattle.ic_commands.specs.LineText.{ReadsLine};
+ghost use Rattle.ic_serving.specs.Answered.{CallsFewFor};
 
 use ic_book::Book;
 use ic_disk::Disk;
@@ -29,6 +32,19 @@ pub fn a_keep_makes_few_calls<D: Disk>(old: &Book<D>, new: &Book<D>)
 {
     let _ = old;
     let _ = new;
+}
+
+/// Where the log has room for K entries and one more, a `run` of K rounds makes at most six calls to
+/// the disk for each `every` of them, and six at the end.
+pub fn a_run_makes_few_calls<D: Disk>(before: &Book<D>, after: &Book<D>)
+    ensures { (line : List ℕ) (k every : ℕ) → 1 ≤ every → ReadsLine line (Ok (Run k))
+        → CallsFewFor line every before.now after.now → length (log_of before.now) + k < 65536
+        → D.clock (disk_of after.now) ≤ D.clock (disk_of before.now) + 6 * (k / every + 1) }
+{
+    ic_commands::laws::one_line_reading();
+    ic_lines::laws::runs_are_rounds_in_turn();
+    let _ = before;
+    let _ = after;
 }
 
 /// A keep of frames makes at most six calls to the disk, and over a closed slot at most four.

@@ -4,6 +4,7 @@ ghost use Rattle.std.specs.Prelude.{IsTrue, false, ◌-◌, ◌^◌, ◌≡◌, 
 ghost use Rattle.std.specs.List.{AllByRecursion};
 ghost use Rattle.std.specs.Io.KnownBytes.{Appends};
 ghost use Rattle.ic_disk.specs.Time.{LeavesOnly, OneMore};
+ghost use Rattle.ic_pool.specs.declared.fault.PoolFault.{PoolFault};
 ghost use Rattle.ic_pool.specs.declared.fault.PoolFault.TheVariants as pool_fault;
 ghost use Rattle.ic_jobs.specs.declared.command.Command.{Command};
 ghost use Rattle.ic_jobs.specs.declared.event.Entry.{Entry};
@@ -20,6 +21,7 @@ ghost use Rattle.ic_lines.specs.Answers.{Reading, events};
 ghost use Rattle.ic_lines.specs.Lines.{lines};
 ghost use Rattle.ic_lines.specs.Turns.{turns, after_events};
 ghost use Rattle.ic_lines.specs.Serving.{IsServed};
+ghost use Rattle.ic_book.specs.declared.fault.BookFault.{BookFault};
 ghost use Rattle.ic_book.specs.declared.fault.BookFault.TheVariants as book_fault;
 ghost use Rattle.ic_disk.specs.Images.{Within};
 ghost use Rattle.ic_frames.specs.Fields.{IsMade};
@@ -29,7 +31,7 @@ ghost use Rattle.ic_serving.specs.declared.fault.ServeFault.{ServeFault};
 ghost use Rattle.ic_serving.specs.declared.fault.ServeFault.TheVariants.{Read, Write, TooManyLines, Book as by_book, Pool, LongLine, Memory};
 ghost use Rattle.ic_serving.specs.Answered.{IsAnswered, IsBegun};
 ghost use Rattle.ic_serving.specs.Booked.{last_kept, unkept_of, IsAllKept};
-ghost use Rattle.ic_serving.specs.Faults.{fault_of_line, ComesAlone, ComesInLine, MayCome, CountsServe, StaysReady};
+ghost use Rattle.ic_serving.specs.Faults.{fault_of_line, ComesAlone, ComesBroken, ComesInLine, ComesWithoutRound, MayCome, CountsServe, StaysReady};
 ghost use Rattle.ic_serving.specs.Grown.{GoesOn, GoesOnWithin, HasRoom};
 ghost use Rattle.ic_serving.specs.Moments.{Leaves, IsKeptInLine};
 ghost use Rattle.ic_serving.specs.Parts.{IsPart, IsKeptWithin, IsInLine, IsInFirst};
@@ -99,12 +101,16 @@ pub fn answers_are_appended()
 
 /// `LongLine` says that fewer than 1,000,000 lines are answered and that the line after them has
 /// more than 262,144 bytes, and `TooManyLines` that 1,000,000 are answered and one more is to come.
-/// Some faults of the book and of the pool never come, and by one worker none of other threads.
+/// Some faults of the book and of the pool never come, by one worker none of other threads, and
+/// where no round is to be made none of the pool. Over a broken book comes none of the pool, and of
+/// the book `Broken` alone.
 pub fn faults_say()
-    ensures long_line { (front rest : List (List ℕ)) → SaysOf LongLine front rest
+    ensures long_line { (t : List JobParts) (front rest : List (List ℕ))
+        → SaysOf LongLine t front rest
         → (line : List ℕ) × (more : List (List ℕ)) × (rest ≡ line ∷ more)
         × (length front < 1000000) × (262144 < length line) }
-    ensures too_many_lines { (front rest : List (List ℕ)) → SaysOf TooManyLines front rest
+    ensures too_many_lines { (t : List JobParts) (front rest : List (List ℕ))
+        → SaysOf TooManyLines t front rest
         → (line : List ℕ) × (more : List (List ℕ)) × (rest ≡ line ∷ more)
         × (length front ≡ 1000000) }
     ensures in_line { (fault : ServeFault) → ComesInLine fault
@@ -115,6 +121,11 @@ pub fn faults_say()
         ∷ Pool pool_fault.NamesOut ∷ []) }
     ensures alone { AllByRecursion (λ fault. ¬ ComesAlone fault) (Pool pool_fault.NoThread
         ∷ Pool pool_fault.Lost ∷ Pool pool_fault.Stranger ∷ []) }
+    ensures no_round { (fault : ServeFault) → ComesWithoutRound fault
+        → ComesInLine fault × ((of_pool : PoolFault) → fault ≢ Pool of_pool) }
+    ensures broken { (fault : BookFault) → ComesBroken (by_book fault)
+        → fault ≡ book_fault.Broken }
+    ensures broken_pool { (fault : PoolFault) → ¬ ComesBroken (Pool fault) }
     ensures of_line { map fault_of_line
         (line_fault.Read ∷ line_fault.Write ∷ line_fault.LongLine ∷ line_fault.Memory ∷ [])
         ≡ Read ∷ Write ∷ LongLine ∷ Memory ∷ [] }
@@ -155,6 +166,42 @@ pub fn a_fault_ends_a_serving()
         → (line : List ℕ) × (more : List (List ℕ)) × (answers : List ℕ)
         × (rest ≡ line ∷ more) × (length front ≡ 1000000)
         × IsServed t front answers u × Appends old new answers × (all ≡ true → kept ≡ u) }
+{
+    ic_commands::laws::one_line_reading();
+}
+
+/// A fault comes for what a line asks. Where this is nothing, memory ran out. None of the pool comes
+/// at a command, and one at a run only where a round is due.
+pub fn a_fault_comes_for_what_a_line_asks<D: Disk>(before: &Book<D>, after: &Book<D>)
+    ensures blank { (line : List ℕ) (fault : ServeFault) → ReadsLine line (Ok Blank)
+        → IsBegun line fault before.now after.now → fault ≡ Memory }
+    ensures refused { (line : List ℕ) (why : TextFault) (fault : ServeFault)
+        → ReadsLine line (Err why) → IsBegun line fault before.now after.now → fault ≡ Memory }
+    ensures command { (line : List ℕ) (c : Command) (fault : PoolFault)
+        → ReadsLine line (Ok (Asks c)) → ¬ IsBegun line (Pool fault) before.now after.now }
+    ensures run { (line : List ℕ) (k : ℕ) (fault : PoolFault) → ReadsLine line (Ok (Run k))
+        → IsBegun line (Pool fault) before.now after.now
+        → turns k 0 (table_of before.now) ≢ [] }
+{
+    ic_commands::laws::one_line_reading();
+    let _ = before;
+    let _ = after;
+}
+
+/// A fault of the book ends a serving at a line that asks for something, and one of the pool at a run
+/// for which a round is due.
+pub fn a_serving_ends_for_what_a_line_asks()
+    ensures book { (fault : BookFault) (all : Bool) (front rest : List (List ℕ))
+        (t u kept : List JobParts) (old new : Option (List ℕ))
+        → IsEnded (by_book fault) (all ≡ true) front rest t u kept old new
+        → (line : List ℕ) × (more : List (List ℕ)) × (rest ≡ line ∷ more)
+        × (¬ ReadsLine line (Ok Blank)) × ((why : TextFault) → ¬ ReadsLine line (Err why)) }
+    ensures pool { (fault : PoolFault) (all : Bool) (front rest : List (List ℕ))
+        (t u kept : List JobParts) (old new : Option (List ℕ))
+        → IsEnded (Pool fault) (all ≡ true) front rest t u kept old new
+        → (line : List ℕ) × (more : List (List ℕ)) × (k : ℕ) × (answers : List ℕ)
+        × (v : List JobParts) × (rest ≡ line ∷ more) × ReadsLine line (Ok (Run k))
+        × IsServed t front answers v × (turns k 0 v ≢ []) }
 {
     ic_commands::laws::one_line_reading();
 }
@@ -236,9 +283,10 @@ pub fn a_line_is_answered_as_it_is_served<D: Disk>(before: &Book<D>, after: &Boo
         → IsAnswered line bytes before.now after.now → IsAllKept after.now }
     ensures run { (line bytes : List ℕ) (k : ℕ) → ReadsLine line (Ok (Run k))
         → IsAnswered line bytes before.now after.now → IsAllKept after.now }
-    ensures begun { (line : List ℕ) → IsBegun line before.now after.now
+    ensures begun { (line : List ℕ) (fault : ServeFault) → IsBegun line fault before.now after.now
         → IsInLine (table_of before.now) line (table_of after.now) }
-    ensures kept_within { (line : List ℕ) → IsBegun line before.now after.now
+    ensures kept_within { (line : List ℕ) (fault : ServeFault)
+        → IsBegun line fault before.now after.now
         → IsKeptInLine (table_of before.now) (last_kept before.now) line (last_kept after.now) }
     ensures within { (t kept u : List JobParts) (line : List ℕ) → IsKeptInLine t kept line u
         ↔ ((u ≡ kept) ⊎ IsInLine t line u) }
@@ -260,8 +308,8 @@ pub fn an_answered_line_tells_of_its_book<D: Disk>(before: &Book<D>, after: &Boo
         → IsAnswered line bytes before.now after.now
         → HasRoom (events (table_of before.now) a) before.now
         → GoesOn (events (table_of before.now) a) before.now after.now }
-    ensures begun_page { (line : List ℕ) (a : Reading) → ReadsLine line a
-        → IsBegun line before.now after.now
+    ensures begun_page { (line : List ℕ) (fault : ServeFault) (a : Reading) → ReadsLine line a
+        → IsBegun line fault before.now after.now
         → HasRoom (events (table_of before.now) a) before.now
         → GoesOnWithin (events (table_of before.now) a) before.now after.now }
 {

@@ -11,6 +11,7 @@ use Rattle.ic_serving.specs.lemmas.Unkept.{due_within, none_unkept, one_within}
 use Rattle.ic_batch.specs.Way.{goes_on, AreWays, IsKeptOr}
 use Rattle.ic_batch.proofs.DueLemmas.{DueLaws}
 use Rattle.ic_batch.proofs.LeadLemmas.{leads_on}
+use Rattle.ic_batch.proofs.FaultLemmas.{fault_after}
 use Rattle.ic_batch.proofs.LoopLemmas.{wraps}
 use Rattle.ic_batch.proofs.LeftLemmas.{fewer_left, left_in}
 use Rattle.ic_batch.proofs.RoundLemmas.{GoesAt, one_round}
@@ -115,3 +116,8 @@ loop-place-smaller g c =
     c.loop-place.invariant.leads in
     subst (λ (u : List JobParts). left_in c.args.most u < left_in c.args.most (table_of c.loop-place.book)) (sym c.keep_each.ensures.table)
     (fewer_left c.args.most (table_of c.loop-place.book) (table_of c.make_round.new.book) (subst IsTable c.table.ensures c.jobs.ensures.sound) round.made)
+
+pub returns-in_err-keep_each-clause-fault : goal.returns-in_err-keep_each-clause-fault
+returns-in_err-keep_each-clause-fault g c = fault_after c.from_residual-in_err-keep_each.result c.in_err-keep_each.field-0.0 c.from_residual-in_err-keep_each.ensures.1
+    c.args.book.now c.make_round.new.book c.keep_each.new.book (c.in_ok-make_round.ensures.fault.counted ∙ c.loop-place.invariant.counted)
+    (λ is. c.in_ok-make_round.ensures.fault.ready (c.loop-place.invariant.ready is)) c.in_err-keep_each.ensures.fault

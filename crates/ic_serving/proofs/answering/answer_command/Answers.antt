@@ -1,7 +1,7 @@
-use Rattle.std.proofs.Common.{◌≡◌, ◌-◌, ◌^◌, Bool, true, false, inl, inr, Err, refl, ap, ◌∙◌, [], ◌∷◌, arith}
+use Rattle.std.proofs.Common.{◌≡◌, ◌-◌, ◌^◌, false, inl, inr, Err, refl, ap, ◌∙◌, [], ◌∷◌, arith}
 use Rattle.ic_jobs.specs.declared.event.Event.TheVariants.{Command as by_command}
 use Rattle.ic_jobs.specs.History.{table_after}
-use Rattle.ic_book.specs.Book.{is_broken, number_of, table_of, start_of, log_of, kept_of, IsUnchanged}
+use Rattle.ic_book.specs.Book.{is_broken, number_of, table_of, start_of, log_of, kept_of, disk_of, IsUnchanged}
 use Rattle.ic_slots.specs.declared.keeper.Keeper.{Keeper}
 use Rattle.ic_slots.specs.Keeper as keeper_parts
 use Rattle.ic_book.specs.Entries.{command_entry}
@@ -18,6 +18,8 @@ use Rattle.ic_serving.proofs.StopLemmas.{kept_or_now, leaves_still, leaves_comma
 use Rattle.ic_serving.specs.lemmas.Leaving.{leaves_more}
 use Rattle.ic_book.specs.Moves.{answers}
 use Rattle.ic_lines.specs.Lines.{ended}
+use Rattle.ic_serving.proofs.CallLemmas.{clock_same, same_few, then_six}
+use Rattle.ic_serving.proofs.RefusalLemmas.{err_broken, not_true}
 use Rattle.ic_serving.proofs.TurnLemmas.{ends_then}
 use Rattle.ic_serving.proofs.answering.answer_command.Goals as goal
 
@@ -117,10 +119,6 @@ pub returns-clause-page : goal.returns-clause-page
 returns-clause-page g c = λ room. command_goes c.args.command c.in_ok-reply.reply c.args.book.now c.make_room.new.book c.command.new.self
     (c.in_ok-make_room.ensures.stays.page (one_room c.args.book.now c.args.command room)) c.command.ensures.start c.in_ok-reply.ensures.step.answered.page.0.adds.entry
 
-not_true : (b : Bool) → ¬ (b ≡ true) → b ≡ false
-not_true true other = absurd (other refl)
-not_true false other = refl
-
 pub returns-clause-fresh : goal.returns-clause-fresh
 returns-clause-fresh g c = λ room worn.
     let same : IsUnchanged c.args.book.now c.make_room.new.book = c.make_room.ensures.room room in
@@ -176,3 +174,31 @@ pub returns-clause-few_unkept : goal.returns-clause-few_unkept
 returns-clause-few_unkept g c =
     let none = none_unkept c.command.new.self c.in_ok-reply.ensures.step.answered.page.1 in
     omega (arith, none)
+
+pub returns-in_err-reply-clause-broken : goal.returns-in_err-reply-clause-broken
+returns-in_err-reply-clause-broken g c = λ is.
+    err_broken c.from_residual-in_err-reply.result c.in_err-reply.field-0.0 c.from_residual-in_err-reply.ensures.1
+    (c.in_err-reply.ensures.fault.broken.1 (c.in_ok-make_room.ensures.still ∙ is))
+
+pub returns-clause-unbroken : goal.returns-clause-unbroken
+returns-clause-unbroken g c = not_true (is_broken c.args.book.now) (λ is. (let bad = c.in_ok-reply.ensures.fault.broken.1 (c.in_ok-make_room.ensures.still ∙ is) in cc))
+
+pub returns-in_err-make_room-clause-few_calls : goal.returns-in_err-make_room-clause-few_calls
+returns-in_err-make_room-clause-few_calls g c = λ room. same_few (g.D.Disk.clock (disk_of c.args.book.now)) (g.D.Disk.clock (disk_of c.make_room.new.book))
+    (clock_same c.args.book.now c.make_room.new.book (c.make_room.ensures.room room).same_keeper)
+
+pub returns-in_err-reply-clause-few_calls : goal.returns-in_err-reply-clause-few_calls
+returns-in_err-reply-clause-few_calls g c = λ room. then_six (g.D.Disk.clock (disk_of c.args.book.now)) (g.D.Disk.clock (disk_of c.make_room.new.book)) (g.D.Disk.clock (disk_of c.command.new.self))
+    (clock_same c.args.book.now c.make_room.new.book (c.make_room.ensures.room room).same_keeper) c.command.ensures.calls
+
+pub returns-in_err-print_reply-clause-few_calls : goal.returns-in_err-print_reply-clause-few_calls
+returns-in_err-print_reply-clause-few_calls g c = λ room. then_six (g.D.Disk.clock (disk_of c.args.book.now)) (g.D.Disk.clock (disk_of c.make_room.new.book)) (g.D.Disk.clock (disk_of c.command.new.self))
+    (clock_same c.args.book.now c.make_room.new.book (c.make_room.ensures.room room).same_keeper) c.command.ensures.calls
+
+pub returns-in_err-ended-clause-few_calls : goal.returns-in_err-ended-clause-few_calls
+returns-in_err-ended-clause-few_calls g c = λ room. then_six (g.D.Disk.clock (disk_of c.args.book.now)) (g.D.Disk.clock (disk_of c.make_room.new.book)) (g.D.Disk.clock (disk_of c.command.new.self))
+    (clock_same c.args.book.now c.make_room.new.book (c.make_room.ensures.room room).same_keeper) c.command.ensures.calls
+
+pub returns-clause-few_calls : goal.returns-clause-few_calls
+returns-clause-few_calls g c = λ room. then_six (g.D.Disk.clock (disk_of c.args.book.now)) (g.D.Disk.clock (disk_of c.make_room.new.book)) (g.D.Disk.clock (disk_of c.command.new.self))
+    (clock_same c.args.book.now c.make_room.new.book (c.make_room.ensures.room room).same_keeper) c.command.ensures.calls

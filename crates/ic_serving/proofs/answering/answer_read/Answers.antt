@@ -1,19 +1,21 @@
-use Rattle.std.proofs.Common.{rules, ◌≡◌, ◌≢◌, ◌<◌, ◌-◌, ◌^◌, ℕ, List, length, false, refl, inl, [], ◌∷◌, Result, Ok, Err}
+use Rattle.std.proofs.Common.{rules, ◌≡◌, ◌≢◌, ◌<◌, ◌+◌, ◌-◌, ◌*◌, ◌/◌, ◌^◌, ℕ, List, length, true, false, refl, inl, [], ◌∷◌, Result, Ok, Err}
 use Rattle.std.specs.Prelude.{IfOk, OnOk}
 use Rattle.ic_jobs.specs.declared.command.Command.{Command}
 use Rattle.ic_book.specs.declared.limits.TheConstants.{MAX_ENTRIES}
 use Rattle.ic_serving.specs.declared.fault.ServeFault.{ServeFault}
 use Rattle.ic_disk.specs.declared.disk.Disk.{Ghosts}
 use Rattle.ic_book.specs.declared.book.Book.{Book}
-use Rattle.ic_book.specs.Book.{is_broken, number_of, log_of, table_of}
+use Rattle.ic_book.specs.Book.{is_broken, number_of, log_of, table_of, disk_of}
 use Rattle.ic_text.specs.declared.fault.TextFault.{TextFault}
 use Rattle.ic_lines.specs.Answers.{answer, after_line, events}
 use Rattle.ic_serving.specs.Booked.{last_kept, IsAllKept}
 use Rattle.ic_serving.specs.Grown.{GoesOn, HasRoom}
 use Rattle.ic_book.specs.lemmas.Chains.{by_nothing}
-use Rattle.ic_serving.proofs.PageLemmas.{goes_none}
+use Rattle.ic_serving.proofs.PageLemmas.{goes_none, one_room}
 use Rattle.ic_serving.proofs.RunLemmas.{on_err}
 use Rattle.ic_serving.proofs.ReadingLemmas.{nothing_begun, nothing_come}
+use Rattle.ic_serving.proofs.CallLemmas.{at_least, six_more}
+use Rattle.ic_serving.proofs.RefusalLemmas.{command_comes, memory_broken, on_ok, on_unbroken, refused_comes, run_comes}
 use Rattle.ic_jobs.specs.declared.event.Event.TheVariants.{Command as by_command}
 use Rattle.ic_commands.specs.declared.line.Line.TheVariants.{Blank, Command as Asks, Run}
 use Rattle.ic_lines.specs.Turns.{turns}
@@ -127,3 +129,47 @@ returns-in-Err-clause-crash g c = leaves_nothing c.args.book.now (IsKeptWithin (
 
 pub returns-in-Err-clause-fault : goal.returns-in-Err-clause-fault
 returns-in-Err-clause-fault g c = fault_memory c.answer_refused.result c.args.book.now c.answer_refused.ensures.fault
+
+pub returns-in-Ok-Command-clause-comes : goal.returns-in-Ok-Command-clause-comes
+returns-in-Ok-Command-clause-comes g c =
+    let is : c.args.reading ≡ Ok (Asks c.in-Ok-Command.command) = cc in
+    rw is (command_comes c.answer_command.result (table_of c.args.book.now) c.in-Ok-Command.command c.answer_command.ensures.comes)
+
+pub returns-in-Ok-Run-clause-comes : goal.returns-in-Ok-Run-clause-comes
+returns-in-Ok-Run-clause-comes g c =
+    let is : c.args.reading ≡ Ok (Run c.in-Ok-Run.count) = cc in
+    rw is (run_comes c.answer_run.result (table_of c.args.book.now) c.in-Ok-Run.count c.answer_run.ensures.fault.causes c.answer_run.ensures.idle)
+
+pub returns-in-Err-clause-comes : goal.returns-in-Err-clause-comes
+returns-in-Err-clause-comes g c =
+    let is : c.args.reading ≡ Err c.in-Err.fault = cc in
+    rw is (refused_comes c.answer_refused.result (table_of c.args.book.now) c.in-Err.fault c.answer_refused.ensures.fault)
+
+pub returns-in-Ok-Command-clause-still : goal.returns-in-Ok-Command-clause-still
+returns-in-Ok-Command-clause-still g c = on_unbroken c.answer_command.result (is_broken c.args.book.now) (is_broken c.answer_command.new.book ≡ true) c.answer_command.ensures.unbroken
+
+pub returns-in-Ok-Run-clause-still : goal.returns-in-Ok-Run-clause-still
+returns-in-Ok-Run-clause-still g c = on_unbroken c.answer_run.result (is_broken c.args.book.now) (is_broken c.answer_run.new.book ≡ true) c.answer_run.ensures.unbroken
+
+pub returns-in-Err-clause-broken : goal.returns-in-Err-clause-broken
+returns-in-Err-clause-broken g c = λ is. memory_broken c.answer_refused.result c.answer_refused.ensures.fault
+
+pub returns-in-Err-clause-still : goal.returns-in-Err-clause-still
+returns-in-Err-clause-still g c = on_ok c.answer_refused.result (is_broken c.args.book.now ≡ true)
+
+pub returns-in-Ok-Blank-clause-few_calls : goal.returns-in-Ok-Blank-clause-few_calls
+returns-in-Ok-Blank-clause-few_calls g c = λ room. at_least (g.D.Disk.clock (disk_of c.args.book.now)) (6 * (length (events (table_of c.args.book.now) c.args.reading) / c.args.every + 1))
+
+pub returns-in-Err-clause-few_calls : goal.returns-in-Err-clause-few_calls
+returns-in-Err-clause-few_calls g c = λ room. at_least (g.D.Disk.clock (disk_of c.args.book.now)) (6 * (length (events (table_of c.args.book.now) c.args.reading) / c.args.every + 1))
+
+pub returns-in-Ok-Run-clause-few_calls : goal.returns-in-Ok-Run-clause-few_calls
+returns-in-Ok-Run-clause-few_calls g c =
+    let is : c.args.reading ≡ Ok (Run c.in-Ok-Run.count) = cc in
+    rw is c.answer_run.ensures.few_calls
+
+pub returns-in-Ok-Command-clause-few_calls : goal.returns-in-Ok-Command-clause-few_calls
+returns-in-Ok-Command-clause-few_calls g c =
+    let is : c.args.reading ≡ Ok (Asks c.in-Ok-Command.command) = cc in
+    rw is (λ room. six_more (length (by_command c.in-Ok-Command.command ∷ []) / c.args.every) (g.D.Disk.clock (disk_of c.args.book.now)) (g.D.Disk.clock (disk_of c.answer_command.new.book))
+    (c.answer_command.ensures.few_calls (one_room c.args.book.now c.in-Ok-Command.command room)))

@@ -5,7 +5,7 @@ use Rattle.ic_lines.specs.Answers.{events}
 use Rattle.ic_lines.specs.Taking.{to_come, TakesLine}
 use Rattle.ic_book.specs.Book.{is_broken, number_of, table_of, disk_of, start_of, log_of, kept_of}
 use Rattle.ic_serving.specs.Booked.{last_kept, Begins, IsAllKept}
-use Rattle.ic_serving.specs.Faults.{fault_of_line}
+use Rattle.ic_serving.specs.Faults.{ComesBroken, fault_of_line}
 use Rattle.ic_serving.specs.declared.fault.ServeFault.TheVariants.{TooManyLines}
 use Rattle.ic_serving.specs.declared.limits.TheConstants.{MAX_LINES}
 use Rattle.ic_serving.specs.Answered.{IsAnswered}
@@ -17,14 +17,16 @@ use Rattle.ic_serving.proofs.TurnLemmas.{turns_more}
 use Rattle.ic_serving.proofs.ReadingLemmas.{fault_unbegun, keeps_then, leaves_in_line, line_answered, says_unbegun}
 use Rattle.ic_serving.proofs.ServeLemmas.{read_out, under_first, under_more, ahead, is_ahead, first_more, taken, ended_at, cut_after, kept_part, left_within, says_book, not_taken, none_after, not_write, counts_after, ready_after}
 use Rattle.ic_serving.proofs.StopLemmas.{stops_first, stops_more, stops_longer, serving_over, serving_err, serving_untaken, fault_after, fault_untaken, fault_unwritten, still_all, still_last}
+use Rattle.ic_serving.proofs.RefusalLemmas.{err_comes, line_broken, of_either}
 use Rattle.ic_serving.proofs.serving.serve_with.Goals as goal
 
 pub loop-init : goal.loop-init
 loop-init g c = record {
-  way = under_first (g.R.Read.remaining c.args.reader.now) c.new-lines.result (table_of c.args.book.now) (g.W.Write.contents c.args.writer.now) c.new-lines.ensures.ahead;
+  way = under_first (g.R.Read.remaining c.args.reader.now) c.args.lines.now (table_of c.args.book.now) (g.W.Write.contents c.args.writer.now) c.requires.empty;
   kept = λ all. all;
   counted = refl;
   ready = λ is. is;
+  broken = λ is. is;
   last = inr refl;
   turns = refl;
   moments = stops_first c.one_line_reading.ensures.total c.args.book.now (g.met.D.Disk.left_is_image _) c.facts.ensures.either c.facts.ensures.history.replayed
@@ -36,7 +38,7 @@ pub returns-in_err-take_line-clause-serving : goal.returns-in_err-take_line-clau
 returns-in_err-take_line-clause-serving g c =
     let rest = to_come c.loop.lines (g.R.Read.remaining c.loop.reader) in
     let last = kept_all (start_of c.loop.book) (table_of c.loop.book) (log_of c.loop.book) (kept_of c.loop.book) c.facts-in-loop.ensures.history.replayed in
-    let none = not_taken c.in_err-take_line.field-0.0 rest c.loop.invariant.way.front
+    let none = not_taken c.in_err-take_line.field-0.0 (table_of c.loop.book) rest c.loop.invariant.way.front
     (λ is. (omega (arith, c.loop-test.true, c.loop.invariant.way.counted), c.in_err-take_line.ensures.long (ap (λ e. Err e) is))) in
     serving_untaken c.from_residual.result (fault_of_line c.in_err-take_line.field-0.0) c.from_residual.ensures.1 c.one_line_reading.ensures.total (g.R.Read.remaining c.args.reader.now) rest c.loop.counter
     c.args.book.now c.loop.book (g.W.Write.contents c.args.writer.now) (g.W.Write.contents c.loop.writer) (g.W.Write.contents c.take_line.new.writer) none.more
@@ -68,7 +70,7 @@ returns-in_err-reading-clause-serving g c =
     keeps_then (g.W.Write.contents c.loop.writer) (g.W.Write.contents c.take_line.new.writer) (g.W.Write.contents c.begin_line.new.writer) c.take_line.ensures.kept c.begin_line.ensures.kept in
     serving_untaken c.from_residual-in_err-reading.result c.in_err-reading.field-0.0 c.from_residual-in_err-reading.ensures.1 c.one_line_reading.ensures.total (g.R.Read.remaining c.args.reader.now) rest c.loop.counter
     c.args.book.now c.loop.book (g.W.Write.contents c.args.writer.now) (g.W.Write.contents c.loop.writer) (g.W.Write.contents c.begin_line.new.writer) more
-    c.loop.invariant flushed (taken c.take_line.new.self.line rest next takes) (says_unbegun c.in_err-reading.field-0.0 c.loop.invariant.way.front more c.in_err-reading.ensures.fault)
+    c.loop.invariant flushed (taken c.take_line.new.self.line rest next takes) (says_unbegun c.in_err-reading.field-0.0 (table_of c.loop.book) c.loop.invariant.way.front more c.in_err-reading.ensures.fault)
     last (by_nothing c.loop.book c.facts-in-loop.ensures.step)
 
 pub returns-in_err-reading-clause-fault : goal.returns-in_err-reading-clause-fault
@@ -96,7 +98,8 @@ returns-in_err-answer-clause-serving g c =
     c.loop.invariant.way.first (taken c.take_line.new.self.line rest next takes)
     (λ other. ended_at c.in_err-answer.field-0.0 (IsAllKept c.args.book.now) c.loop.invariant.way.front (c.take_line.new.self.line ∷ ahead next)
     (table_of c.args.book.now) (table_of c.loop.book) (table_of c.answer_read.new.book) (last_kept c.answer_read.new.book) (g.W.Write.contents c.args.writer.now) (g.W.Write.contents c.loop.writer) (g.W.Write.contents c.begin_line.new.writer)
-    c.loop.invariant.way.answered flushed (says_book c.in_err-answer.field-0.0 c.loop.invariant.way.front (c.take_line.new.self.line ∷ ahead next) sort)
+    c.loop.invariant.way.answered flushed (says_book c.in_err-answer.field-0.0 (table_of c.loop.book) c.loop.invariant.way.front (c.take_line.new.self.line ∷ ahead next) sort
+    (record { reading = c.in_ok-reading.reading; read = reads; comes = c.in_err-answer.ensures.comes }))
     (left_within c.in_err-answer.field-0.0 (table_of c.loop.book) (table_of c.answer_read.new.book) (c.take_line.new.self.line ∷ ahead next) sort
     (record { reading = c.in_ok-reading.reading; read = reads; part = begun.table }))
     (λ all. left_within c.in_err-answer.field-0.0 (table_of c.loop.book) (last_kept c.answer_read.new.book) (c.take_line.new.self.line ∷ ahead next) sort
@@ -180,6 +183,7 @@ loop-preserved g c =
       kept = λ all. still_all c.loop.book c.answer_read.new.book (kept_or_same c.in_ok-reading.reading c.loop.book c.answer_read.new.book is.kept) (c.loop.invariant.kept all);
       counted = c.in_ok-answer.ensures.fault.counted ∙ c.loop.invariant.counted;
       ready = λ is. c.in_ok-answer.ensures.fault.ready (c.loop.invariant.ready is);
+      broken = λ is. c.in_ok-answer.ensures.still (c.loop.invariant.broken is);
       last = still_last c.args.book.now c.loop.book c.answer_read.new.book (kept_or_same c.in_ok-reading.reading c.loop.book c.answer_read.new.book is.kept) c.loop.invariant.last;
       turns = turns_more c.loop.invariant.way.front c.take_line.new.self.line c.in_ok-answer.answer.items c.args.book.now c.loop.book c.answer_read.new.book c.loop.invariant.turns
           answered;
@@ -209,19 +213,19 @@ returns-in-Ok-false-clause-over g c =
     read_out (g.R.Read.remaining c.args.reader.now) (to_come c.loop.lines (g.R.Read.remaining c.loop.reader)) c.loop.invariant.way.front
     c.take_line-2.new.self (g.R.Read.remaining c.take_line-2.new.reader) c.loop.invariant.way.first (c.take_line-2.ensures.end none) (c.take_line-2.ensures.stays none)
 
-pub returns-clause-serving : goal.returns-clause-serving
-returns-clause-serving g c =
+pub returns-in-Err-clause-serving : goal.returns-in-Err-clause-serving
+returns-in-Err-clause-serving g c =
     let rest = to_come c.loop.lines (g.R.Read.remaining c.loop.reader) in
     let last = kept_all (start_of c.loop.book) (table_of c.loop.book) (log_of c.loop.book) (kept_of c.loop.book) c.facts-2.ensures.history.replayed in
     let full : c.loop.counter ≡ MAX_LINES = omega arith in
-    let none = none_after c.in-Err.fault c.after_the_last.result rest c.loop.invariant.way.front c.after_the_last.ensures.long c.after_the_last.ensures.others
+    let none = none_after c.in-Err.fault c.after_the_last.result (table_of c.loop.book) rest c.loop.invariant.way.front c.after_the_last.ensures.long c.after_the_last.ensures.others
     (c.loop.invariant.way.counted ∙ full) (λ is. c.take_line-2.ensures.long (c.in-Err.is ∙ ap (λ e. Err e) is)) in
     serving_untaken {T = Unit {0}} (Err c.after_the_last.result) c.after_the_last.result refl c.one_line_reading.ensures.total (g.R.Read.remaining c.args.reader.now) rest c.loop.counter
     c.args.book.now c.loop.book (g.W.Write.contents c.args.writer.now) (g.W.Write.contents c.loop.writer) (g.W.Write.contents c.take_line-2.new.writer) none.more
     c.loop.invariant c.take_line-2.ensures.kept none.coming none.says last (by_nothing c.loop.book c.facts-2.ensures.step)
 
-pub returns-clause-fault : goal.returns-clause-fault
-returns-clause-fault g c = record {
+pub returns-in-Err-clause-fault : goal.returns-in-Err-clause-fault
+returns-in-Err-clause-fault g c = record {
   causes = c.after_the_last.ensures.causes;
   counted = counts_after c.in-Err.fault c.after_the_last.result (g.D.Disk.failures (disk_of c.args.book.now)) (g.D.Disk.failures (disk_of c.loop.book))
       c.after_the_last.ensures.long c.after_the_last.ensures.others c.loop.invariant.counted;
@@ -229,3 +233,25 @@ returns-clause-fault g c = record {
   breaks = λ is. ready_after c.in-Err.fault c.after_the_last.result (is_broken c.loop.book) (number_of c.loop.book)
       c.after_the_last.ensures.long c.after_the_last.ensures.others (c.loop.invariant.ready is);
 }
+
+pub returns-in_err-take_line-clause-broken : goal.returns-in_err-take_line-clause-broken
+returns-in_err-take_line-clause-broken g c = λ is. err_comes c.from_residual.result (fault_of_line c.in_err-take_line.field-0.0) ComesBroken c.from_residual.ensures.1
+    (line_broken c.in_err-take_line.field-0.0)
+
+pub returns-in_err-reading-clause-broken : goal.returns-in_err-reading-clause-broken
+returns-in_err-reading-clause-broken g c = λ is. err_comes c.from_residual-in_err-reading.result c.in_err-reading.field-0.0 ComesBroken c.from_residual-in_err-reading.ensures.1
+    (of_either c.in_err-reading.field-0.0 c.in_err-reading.ensures.fault)
+
+pub returns-in_err-answer-clause-broken : goal.returns-in_err-answer-clause-broken
+returns-in_err-answer-clause-broken g c = λ is. err_comes c.from_residual-in_err-answer.result c.in_err-answer.field-0.0 ComesBroken c.from_residual-in_err-answer.ensures.1
+    (c.in_err-answer.ensures.broken (c.loop.invariant.broken is))
+
+pub returns-in_err-write_answer-clause-broken : goal.returns-in_err-write_answer-clause-broken
+returns-in_err-write_answer-clause-broken g c = λ is. err_comes c.from_residual-in_err-write_answer.result c.in_err-write_answer.field-0.0 ComesBroken
+    c.from_residual-in_err-write_answer.ensures.1 (of_either c.in_err-write_answer.field-0.0 (inr c.in_err-write_answer.ensures.fault))
+
+pub returns-then-not-branch-clause-still : goal.returns-then-not-branch-clause-still
+returns-then-not-branch-clause-still g c = c.loop.invariant.broken
+
+pub returns-in-Ok-false-clause-still : goal.returns-in-Ok-false-clause-still
+returns-in-Ok-false-clause-still g c = c.loop.invariant.broken

@@ -20,11 +20,11 @@ pub returns-clause-kept : goal.returns-clause-kept
 returns-clause-kept g c = λ line bytes is. kept_or_same is.reading c.args.before.now c.args.after.now is.kept
 
 pub returns-clause-begun : goal.returns-clause-begun
-returns-clause-begun g c = λ line is.
+returns-clause-begun g c = λ line fault is.
     line_from (table_of c.args.before.now) (table_of c.args.after.now) line is.reading is.read is.begun.table
 
 pub returns-clause-kept_within : goal.returns-clause-kept_within
-returns-clause-kept_within g c = λ line is.
+returns-clause-kept_within g c = λ line fault is.
     kept_from (table_of c.args.before.now) (last_kept c.args.before.now) (last_kept c.args.after.now) line is.reading is.read is.begun.kept
 
 pub returns-clause-within : goal.returns-clause-within

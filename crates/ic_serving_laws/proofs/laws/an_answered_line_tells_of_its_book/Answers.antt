@@ -12,7 +12,7 @@ returns-clause-page g c = λ line bytes a reads is.
     (c.one_line_reading.ensures.answer line is.reading a is.read reads) is.page
 
 pub returns-clause-begun_page : goal.returns-clause-begun_page
-returns-clause-begun_page g c = λ line a reads is.
+returns-clause-begun_page g c = λ line fault a reads is.
     subst (λ (r : Reading). HasRoom (events (table_of c.args.before.now) r) c.args.before.now → GoesOnWithin (events (table_of c.args.before.now) r) c.args.before.now c.args.after.now)
     (c.one_line_reading.ensures.answer line is.reading a is.read reads) is.begun.page
 

@@ -1,4 +1,4 @@
-use Rattle.ic_serving_laws.proofs.PartLemmas.{says_long, says_many}
+use Rattle.ic_serving_laws.proofs.PartLemmas.{says_long, says_many, without_round}
 use Rattle.ic_serving_laws.proofs.laws.faults_say.Goals as goal
 
 pub returns-clause-long_line : goal.returns-clause-long_line
@@ -12,3 +12,12 @@ returns-clause-never c = (λ h. h, (λ h. h, (λ h. h, (λ h. h, (λ h. h, tt)))
 
 pub returns-clause-alone : goal.returns-clause-alone
 returns-clause-alone c = (λ h. cc, (λ h. cc, (λ h. cc, tt)))
+
+pub returns-clause-no_round : goal.returns-clause-no_round
+returns-clause-no_round c = without_round
+
+pub returns-clause-broken : goal.returns-clause-broken
+returns-clause-broken c = λ fault h. h
+
+pub returns-clause-broken_pool : goal.returns-clause-broken_pool
+returns-clause-broken_pool c = λ fault h. h

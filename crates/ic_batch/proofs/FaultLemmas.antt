@@ -1,0 +1,25 @@
+-- A call over a book, after others that went well, and its fault.
+use Rattle.std.proofs.Common.{◌≡◌, false, ℕ, Result, Ok, Err, subst}
+use Rattle.std.specs.Result.{IsErrAnd}
+use Rattle.ic_disk.specs.declared.disk.Disk.{Ghosts}
+use Rattle.ic_book.specs.declared.book.Book.{Book}
+use Rattle.ic_book.specs.Book.{disk_of, is_broken}
+use Rattle.ic_serving.specs.declared.fault.ServeFault.{ServeFault}
+use Rattle.ic_serving.specs.declared.fault.ServeFault.TheVariants.{Read}
+use Rattle.ic_serving.specs.Faults.{ComesInLine, CountsServe}
+use Rattle.ic_serving.specs.Moments.{FaultLeaves}
+
+-- what is counted is said of the fault alone
+counts_as : (T U : Type 0) (fault : ServeFault) (old new : ℕ) → CountsServe {T = T} (Err fault) old new → CountsServe {T = U} (Err fault) old new
+counts_as T U Read old new is = is
+counts_as T U _ old new is = is
+
+pub fault_after : {T U D : Type 0} {ghosts : Ghosts D} (r : Result T ServeFault) (fault : ServeFault) → IsErrAnd r (λ x. x ≡ fault) → (first book new : Book D ghosts)
+    → ghosts.failures (disk_of book) ≡ ghosts.failures (disk_of first) → (is_broken first ≡ false → is_broken book ≡ false)
+    → FaultLeaves {T = U} ComesInLine (Err fault) book new → FaultLeaves ComesInLine r first new
+fault_after (Ok v) fault is first book new counted ready left = absurd is
+fault_after {T} {U} {D} {ghosts} (Err e) fault is first book new counted ready left =
+    let same : e ≡ fault = is in
+    let counts : CountsServe {T = T} (Err fault) (ghosts.failures (disk_of first)) (ghosts.failures (disk_of new)) =
+    subst (λ n. CountsServe {T = T} (Err fault) n (ghosts.failures (disk_of new))) counted (counts_as U T fault (ghosts.failures (disk_of book)) (ghosts.failures (disk_of new)) left.counted) in
+    rw same (record { causes = left.causes; counted = counts; ready = λ whole. tt; breaks = λ whole. left.breaks (ready whole) })
