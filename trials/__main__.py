@@ -55,7 +55,7 @@ def tried(name):
     return name, time.monotonic() - began, how, text
 
 
-# How long all trials may take at most, in seconds: then the runner says so, and fails.
+# How long all trials may take at most, in seconds, once the gate proves nothing more: then the runner says so, and fails.
 AT_MOST = 1800
 
 
@@ -70,6 +70,9 @@ def at_once():
 
 
 def give_up(counts):
+    while os.path.exists(os.environ.get("COMING", "")):
+        time.sleep(1)
+    time.sleep(AT_MOST)
     print(f"trials: stopped after {AT_MOST} seconds\n{counts['ok']} passed, {counts['FAILED'] + 1} failed", flush=True)
     # They hold the pipe to the gate, which waits for its end.
     for worker in multiprocessing.active_children():
@@ -88,9 +91,7 @@ def main(words):
         prepare()
     counts = {"ok": 0, "FAILED": 0, "skipped": 0}
     failed, reasons = [], set()
-    watch = threading.Timer(AT_MOST, give_up, [counts])
-    watch.daemon = True
-    watch.start()
+    threading.Thread(target=give_up, args=[counts], daemon=True).start()
     # Processes are forked: one that is started anew doesn't find `tried` in a folder that is run.
     with ProcessPoolExecutor(at_once(), mp_context=multiprocessing.get_context("fork")) as pool:
         for done in as_completed([pool.submit(tried, name) for name in found(words)]):

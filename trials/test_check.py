@@ -30,7 +30,7 @@ def fields_of(path, finding):
 
 
 class Check(Trial):
-    seconds = 8
+    seconds = 18
     rooms = IN_MEMORY
 
     def put(self, *texts):

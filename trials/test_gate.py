@@ -6,9 +6,10 @@ import re
 import shutil
 import subprocess
 
-from program import TOP, Trial
+from program import PATIENCE, TOP, Trial
 
-# Stands for `rt ci`: proves a library in a copy, and the program here half a second after it, if no variable has it fail.
+# Stands for `rt ci`: proves a library in a copy, and the program here half a second after it, if no variable has it fail. It
+# tells so once that is tried.
 RT = """#!/bin/sh
 echo "$*" >>"$CALLS"
 mkdir -p $TMPDIR/rt-copy-$$-x/repo/crates/ic_low/out
@@ -16,7 +17,9 @@ sleep 1.2
 echo "rt: ic_low proved"
 sleep 0.5
 mkdir -p crates/icserve/out
-sleep 2.2
+sleep 1
+[ -n "$FAILS" ] || install gate crates/icserve/out/icserve
+[ -n "$FAILS" ] || for _ in $(seq 60); do [ -e tried ] || sleep 0.5; done
 [ -n "$FAILS" ] || { echo "rt: icserve proved"; echo "9 passed, 0 failed"; exit; }
 printf '== icserve\\n./src/main.rt:3:1: error: a type\\nfn main: not proved\\nrt: icserve NOT PROVED\\nrt: FAILED: icserve\\n'
 echo "6 passed, 1 failed"
@@ -29,7 +32,8 @@ if sys.argv[1:] == ["--without-program"]:
     print("3 passed, 0 failed")
     sys.exit()
 told = open("crates/icserve/out/sources").read() if os.path.exists("crates/icserve/out/sources") else ""
-print(f"trials: SEED={os.environ['SEED']}")
+print(f"trials: SEED={os.environ['SEED']}, {'before' if os.path.exists(os.environ['COMING']) else 'after'} the end")
+open("tried", "w").close()
 print("trials: test_a.A.test_b: " + ("ok, 0.1 s" if told else "FAILED, 0.1 s: Traceback"))
 print("1 passed, 0 failed" if told else "0 passed, 1 failed")
 sys.exit(not told)
@@ -39,7 +43,7 @@ LAYOUT = "print('docs/a.md:3: a sentence of 41 words')\nprint('layout: sentences
 
 
 class Gate(Trial):
-    seconds, needs_program = 5, False
+    seconds, needs_program = 12, False
 
     def setUp(self):
         super().setUp()
@@ -59,14 +63,14 @@ class Gate(Trial):
         """Runs the gate, which must end so: its lines."""
         env = {**os.environ, "PATH": f"{self.room}/tools:{os.environ['PATH']}", "TMPDIR": str(self.room), "CALLS": f"{self.room}/calls"}
         env.pop("SEED", None)
-        ran = subprocess.run([self.room / "gate"], cwd="/", env={**env, **variables}, capture_output=True, text=True, timeout=60)
+        ran = subprocess.run([self.room / "gate"], cwd="/", env={**env, **variables}, capture_output=True, text=True, timeout=PATIENCE)
         self.equals("./gate", f"status; it said {ran.stdout}{ran.stderr}", status, ran.returncode)
         return ran.stdout.splitlines()
 
     def test_it_sums_its_parts_and_tells_how_long_each_proof_took(self):
         lines = self.gate(0)
         self.equals("./gate", "its last line", "22 passed, 0 failed", lines[-1])
-        self.equals("./gate", f"whether the trials draw by one seed: {lines}", True, "trials: SEED=1" in lines)
+        self.equals("./gate", f"whether the trials draw by one seed, as soon as the program is there: {lines}", True, "trials: SEED=1, before the end" in lines)
         told = [it[1] for it in (re.fullmatch(r"gate: +(.*)", line) for line in lines) if it]
         if int(subprocess.check_output(["stat", "-c", "%W", self.room])) > 0:
             wanted = ["N s  icserve, N s after ic_low", "N s  ic_low, N s after the gate began", "N processor minutes in N minutes"]

@@ -36,7 +36,7 @@ def nested(nodes):
 
 
 class Places(Trial):
-    seconds = 6
+    seconds = 15
 
     def tells(self, word, text):
         """Fails unless a text that this word refuses has the place of the model told, and another nothing."""

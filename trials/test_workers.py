@@ -150,6 +150,7 @@ class Threads(Trial):
     """What is made and asked for by the threads of a reduction, as the shim sees it."""
 
     rooms = IN_MEMORY
+    seconds = 5
     text = f"{FIB}<r|F(r)={numeral(22)}>"
 
     def setUp(self):
