@@ -1,12 +1,13 @@
 //! The line of progress, as a terminal is sent it.
 
-ghost use Rattle.std.specs.Prelude.{◌≡◌, IfOk};
+ghost use Rattle.std.specs.Prelude.{◌≡◌, ◌++◌, Some, IfOk, OnOk};
 ghost use Rattle.ic_progress.specs.Progress.{a_second, pace_text, progress_line, reducing_line};
 
+use ic_text::put_decimal;
 use std::alloc::{AllocError, Global};
 
 /// At which pace rounds land, and how many jobs are running.
-#[derive(Clone, Copy, Debug)]
+#[derive(Clone, Copy)]
 pub(crate) struct Pace {
     pub rounds_a_second: u64,
     pub jobs_running: u64,
@@ -27,11 +28,20 @@ pub(crate) fn progress_line(
 ) -> Result<Vec<u8>, AllocError>
     ensures { IfOk result (λ line. line.items ≡ progress_line events pace) }
 {
-    let mut line = b"\revents ".to_vec(alloc)?;
-    line.extend_from_slice(events.to_string(alloc)?.as_bytes())?;
-    line.extend_from_slice(&pace_text(alloc, pace)?)?;
-    line.extend_from_slice(b"\x1b[K")?;
+    let mut line = Vec::new(alloc);
+    put_progress(events, pace, &mut line)?;
     Ok(line)
+}
+
+/// Appends it.
+fn put_progress(events: u64, pace: Option<Pace>, line: &mut Vec<u8>) -> Result<(), AllocError>
+    ensures { OnOk result (line.new.items ≡ line.old.items ++ progress_line events pace) }
+{
+    line.extend_from_slice(b"\revents ")?;
+    put_decimal(events, line)?;
+    put_pace(pace, line)?;
+    line.extend_from_slice(b"\x1b[K")?;
+    Ok(())
 }
 
 /// What a terminal is sent of so many interactions, so many a second and so many places, in place of
@@ -44,26 +54,48 @@ pub(crate) fn reducing_line(
 ) -> Result<Vec<u8>, AllocError>
     ensures { IfOk result (λ line. line.items ≡ reducing_line interactions a_second places) }
 {
-    let mut line = b"\rinteractions ".to_vec(alloc)?;
-    line.extend_from_slice(interactions.to_string(alloc)?.as_bytes())?;
-    line.extend_from_slice(b", a second ")?;
-    line.extend_from_slice(a_second.to_string(alloc)?.as_bytes())?;
-    line.extend_from_slice(b", places ")?;
-    line.extend_from_slice(places.to_string(alloc)?.as_bytes())?;
-    line.extend_from_slice(b"\x1b[K")?;
+    let mut line = Vec::new(alloc);
+    put_reducing(interactions, a_second, places, &mut line)?;
     Ok(line)
 }
 
-/// What the line says of the pace.
-fn pace_text(alloc: Global, pace: Option<Pace>) -> Result<Vec<u8>, AllocError>
-    ensures { IfOk result (λ text. text.items ≡ pace_text pace) }
+/// Appends it.
+fn put_reducing(
+    interactions: u64,
+    a_second: u64,
+    places: u64,
+    line: &mut Vec<u8>,
+) -> Result<(), AllocError>
+    ensures { OnOk result
+        (line.new.items ≡ line.old.items ++ reducing_line interactions a_second places) }
 {
-    let Some(pace) = pace else {
-        return Ok(Vec::new(alloc));
-    };
-    let mut text = b", rounds a second ".to_vec(alloc)?;
-    text.extend_from_slice(pace.rounds_a_second.to_string(alloc)?.as_bytes())?;
-    text.extend_from_slice(b", jobs running ")?;
-    text.extend_from_slice(pace.jobs_running.to_string(alloc)?.as_bytes())?;
-    Ok(text)
+    line.extend_from_slice(b"\rinteractions ")?;
+    put_decimal(interactions, line)?;
+    line.extend_from_slice(b", a second ")?;
+    put_decimal(a_second, line)?;
+    line.extend_from_slice(b", places ")?;
+    put_decimal(places, line)?;
+    line.extend_from_slice(b"\x1b[K")?;
+    Ok(())
+}
+
+/// Appends what the line says of the pace.
+fn put_pace(pace: Option<Pace>, line: &mut Vec<u8>) -> Result<(), AllocError>
+    ensures { OnOk result (line.new.items ≡ line.old.items ++ pace_text pace) }
+{
+    match pace {
+        Some(pace) => put_rounds(pace, line),
+        None => Ok(()),
+    }
+}
+
+/// Appends the pace.
+fn put_rounds(pace: Pace, line: &mut Vec<u8>) -> Result<(), AllocError>
+    ensures { OnOk result (line.new.items ≡ line.old.items ++ pace_text (Some pace)) }
+{
+    line.extend_from_slice(b", rounds a second ")?;
+    put_decimal(pace.rounds_a_second, line)?;
+    line.extend_from_slice(b", jobs running ")?;
+    put_decimal(pace.jobs_running, line)?;
+    Ok(())
 }

@@ -28,7 +28,7 @@ trait Tells {
 
 /// When the line was last rewritten, or work began after a pause; how many of what is counted there
 /// were by then; and whether there is a line.
-#[derive(Clone, Copy, Debug)]
+#[derive(Clone, Copy)]
 struct Shown {
     at: Instant,
     count: u64,
@@ -191,7 +191,7 @@ impl Watch for Watching<'_> {
 }
 
 /// How far a net has come.
-#[derive(Clone, Copy, Debug)]
+#[derive(Clone, Copy)]
 struct Seen {
     interactions: u64,
     places: u64,
