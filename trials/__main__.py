@@ -1,7 +1,7 @@
-"""Runs the trials of the built program, as many side by side as there are processors: python3 trials [WORD..], where only
-those are run in whose name each word stands. Those of files `test_.._long` take many minutes, and are run only where a word
-has `long`: python3 trials cluster_long. The word --without-program takes those that need no built program, and --with-program
-the others. The last line is `N passed, M failed`."""
+"""Runs the trials of the built program, as many side by side as there are processors: python3 trials [WORD..], where those are
+run in whose name one of the words stands. If a word stands in no name, none is run. Those of files `test_.._long` take many
+minutes, and are run only by a word that has `long`: python3 trials cluster_long. The word --without-program takes those that
+need no built program, and --with-program the others. The last line is `N passed, M failed`."""
 
 import multiprocessing
 import os
@@ -32,14 +32,19 @@ def trials_in(suite):
 KINDS = {"--with-program": True, "--without-program": False}
 
 
+def fits(word, name):
+    """Whether a word takes the trial of this name."""
+    return word in name and ("long" in word or "_long." not in name)
+
+
 def found(words):
-    """The names of the trials, those that take longest first."""
+    """The names of the trials, those that take longest first, and the words that take none."""
     all_of_them = list(trials_in(unittest.defaultTestLoader.discover(str(HERE), top_level_dir=str(HERE))))
     all_of_them.sort(key=lambda it: -getattr(it, "seconds", 1))
-    are_long = any("long" in word for word in words)
     kinds, parts = [KINDS[it] for it in words if it in KINDS], [it for it in words if it not in KINDS]
     names = [it.id() for it in all_of_them if all(getattr(it, "needs_program", True) == kind for kind in kinds)]
-    return [it for it in names if (are_long or "_long." not in it) and all(part in it for part in parts)]
+    taken = [name for name in names if any(fits(part, name) for part in parts or [""])]
+    return taken, [part for part in parts if not any(fits(part, name) for name in names)]
 
 
 def tried(name):
@@ -81,11 +86,19 @@ def give_up(counts):
 
 
 def main(words):
+    if "--help" in words or "-h" in words:
+        print(__doc__)
+        return 0
     print(f"trials: {PROGRAM}, SEED={SEED} (set it to draw the same again)", flush=True)
     tries_it = "--without-program" not in words
     if tries_it and not os.access(PROGRAM, os.X_OK):
         print("trials: it isn't there: make prove makes it, and so does ./gate. make trials tries the one that ./icserve runs")
         print("0 passed, 1 failed")
+        return 1
+    names, strange = found(words)
+    if strange:
+        print(*(f"trials: no trial is taken by {word}: python3 trials --help tells which words take which" for word in strange), sep="\n")
+        print(f"0 passed, {len(strange)} failed")
         return 1
     if tries_it:
         prepare()
@@ -94,7 +107,7 @@ def main(words):
     threading.Thread(target=give_up, args=[counts], daemon=True).start()
     # Processes are forked: one that is started anew doesn't find `tried` in a folder that is run.
     with ProcessPoolExecutor(at_once(), mp_context=multiprocessing.get_context("fork")) as pool:
-        for done in as_completed([pool.submit(tried, name) for name in found(words)]):
+        for done in as_completed([pool.submit(tried, name) for name in names]):
             name, seconds, how, text = done.result()
             counts[how] += 1
             text = "as above" if how == "skipped" and text in reasons else text
