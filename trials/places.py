@@ -19,6 +19,8 @@ COMMANDS = (b"submit", b"pause", b"resume", b"cancel", b"fetch", b"list", b"run"
 NAMES = "a name is a letter a to z, maybe with a number from 1 on, and a symbol begins with A to Z or 0 to 9; `icserve expand` takes long names"
 SYMBOLS = "a symbol has letters and digits only"
 RULE_SYMBOLS = "both symbols of a rule begin with A to Z or 0 to 9"
+ONCE = "stands once; write it once more, or in its place an eraser, as Era (`icserve expand` writes its rules)"
+THRICE = "stands here for the third time; `icserve expand` writes rules that copy"
 EXPANDED = "`icserve expand` writes the rules for which copy and erase stand"
 FORMS = {"configuration": "<INTERFACE|EQUATIONS>", "system": "{RULES} <INTERFACE|EQUATIONS>"}
 NO_ARGUMENTS = "a name has no arguments: names begin with a to z, and symbols, which may have them, with A to Z or 0 to 9"
@@ -173,9 +175,8 @@ def fault_of_names_and_rules(reader):
         if at is not None:
             text = next(text for place, text, *_ in left + right if place == at).decode()
             is_once = [it[1].decode() for it in left + right].count(text) == 1
-            often, does = ("stands once", "erase") if is_once else ("stands here for the third time", "copy")
-            told = f"{text} {often}; `icserve expand` writes rules that {does}"
-            return "namecount", at, f"rule {number}: in a rule each name stands exactly twice: {told}"
+            told = ONCE if is_once else THRICE
+            return "namecount", at, f"rule {number}: in a rule each name stands exactly twice: {text} {told}"
     seen = {}
     for at, text, form, _ in reader.words[reader.before :]:
         seen[text] = seen.get(text, 0) + (form is NAME)

@@ -220,7 +220,8 @@ IsOfArities {P} IsOne words written text at symbol before here =
 
 -- how often a name that is told stands in a rule, and what makes it stand twice
 abbrev pub count_words : Bool → List ℕ
-count_words false = codes " stands once; `icserve expand` writes rules that erase"
+count_words false = codes " stands once; write it once more, or in its place an eraser, as Era "
+    ++ codes "(`icserve expand` writes its rules)"
 count_words true = codes " stands here for the third time; `icserve expand` writes rules that copy"
 
 -- what is amiss where a name stands in a rule for the only time, or again and for the third time

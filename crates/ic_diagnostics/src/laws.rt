@@ -266,7 +266,8 @@ pub fn miscounts_are_told()
     ensures once { sentence System (codes "{A(x)><B} <x|>") (NameCount 0) 3 Nothing
         ≡ codes "rule " ++ decimal 1
         ++ codes ": in a rule each name stands exactly twice: x stands once; "
-        ++ codes "`icserve expand` writes rules that erase" }
+        ++ codes "write it once more, or in its place an eraser, as Era "
+        ++ codes "(`icserve expand` writes its rules)" }
     ensures third { sentence System (codes "{A(x)><B(x);C(x1,x)><D(x1,S(x),x)} <|>") (NameCount 1) 31 Nothing
         ≡ codes "rule " ++ decimal 2
         ++ codes ": in a rule each name stands exactly twice: x stands here for the third time; "

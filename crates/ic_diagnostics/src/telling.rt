@@ -319,7 +319,8 @@ fn count_words(again: bool) -> &'static [u8]
     if again {
         b" stands here for the third time; `icserve expand` writes rules that copy"
     } else {
-        b" stands once; `icserve expand` writes rules that erase"
+        b" stands once; write it once more, or in its place an eraser, as Era \
+(`icserve expand` writes its rules)"
     }
 }
 
