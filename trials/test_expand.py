@@ -8,12 +8,13 @@ from program import IN_MEMORY, SEED, TOP, Trial, run
 
 MOST = 16_777_216
 SENTENCES = {
-    "text": "a text begins with { or <; lines for serve aren't expanded",
+    "text": "a text begins with { or <, and a comment with #; lines for serve aren't expanded",
     "word": "copy and erase need a symbol: A to Z or 0 to 9, and then letters and digits",
-    "symbol": "copy and erase need a symbol that stands in a term, and this one stands in none",
+    "symbol": "copy and erase need a symbol that stands in a term, and this one stands in none: write it where it has to copy or erase",
     "copier": "copy needs a symbol with two arguments, and this one has COUNT where it stands first",
     "eraser": "erase needs a symbol without arguments, and this one has COUNT where it stands first",
-    "rules": "no rule is left for which this stands: each is given before",
+    "again": "an earlier copy or erase has this symbol",
+    "rules": "no rule is left for which this stands: each is given, or an earlier copy or erase stands for it",
     "end": "; or } is looked for here",
 }
 
@@ -72,8 +73,10 @@ REFUSED = {
     "a name": ("{copy d} <|D(a,b)=D(a,b)>", (1, 7), "word"),
     "a word with a line": ("{erase E_1} <|E=E>", (1, 8), "word"),
     "nothing": ("{copy ;A><B} <|D(a,b)=D(a,b)>", (1, 7), "word"),
-    "twice": ("{copy D;\n  copy D} <|D(a,b)=Z>", (2, 8), "rules"),
+    "twice": ("{copy D;\n  copy D} <|D(a,b)=Z>", (2, 8), "again"),
     "all given": ("{E><E;A><E;erase E} <|A=E>", (1, 18), "rules"),
+    "all given after it": ("{E><A;erase E;E><E} <|E=A>", (1, 13), "rules"),
+    "all given or stood for": ("{erase E;D(a,b)><D(a,b);copy D} <|D(a,b)=E>", (1, 30), "rules"),
     "arguments": ("{copy D(x,y)} <|D(a,b)=Z>", (1, 8), "end"),
     "a rule": ("{erase E >< E} <|E=Z>", (1, 10), "end"),
     "the end of rules": ("{erase E <|E=Z>", (1, 10), "end"),
@@ -187,7 +190,7 @@ def model(text):
                 if len(it) <= 32 and arity <= 15 and frozenset((piece, it)) not in given and it not in earlier
             ]
             if not others:
-                raise Refused(at, "rules")
+                raise Refused(at, "again" if piece in earlier else "rules")
             earlier.append(piece)
             out.append(b";".join(rule(spot, piece, *it) for it in others))
         elif spot == "given" and piece not in b";}":

@@ -16,6 +16,7 @@ use Rattle.ic_expand.specs.declared.spot.Spot.TheVariants.{Elsewhere, Asked, Giv
 use Rattle.ic_expand.specs.Begins.{blanks_before, is_begun}
 use Rattle.ic_expand.specs.Comments.{uncommented}
 use Rattle.ic_expand.specs.Pieces.{first_byte, pieces}
+use Rattle.ic_expand.specs.Names.{is_among}
 use Rattle.ic_expand.specs.Spots.{after}
 use Rattle.ic_expand.specs.Expanding.{Sheet, arity_in, before_text, body_expanded, expanded, has_symbol, is_end, lack_of, piece_text, refusal, refused_at, sheet_of, unless_refused, unless_some, wanted, with_generic, written, written_pieces}
 use Rattle.ic_expand.specs.Streams.{told_text}
@@ -27,9 +28,10 @@ abbrev Inner : List ℕ → Option Reason → Type 0
 Inner text None = Unit {0}
 Inner text (Some reason) = told_text reason text ≡ uncommented text
 
-inner_some : (text : List ℕ) (ts : List Symbol) → Inner text (unless_some ts)
-inner_some text [] = refl
-inner_some text (t ∷ ts) = tt
+inner_some : (text : List ℕ) (again : Bool) (ts : List Symbol) → Inner text (unless_some again ts)
+inner_some text true [] = refl
+inner_some text false [] = refl
+inner_some text again (t ∷ ts) = tt
 
 inner_unknown : (text : List ℕ) (b : Bool) → Inner text (Some (cond b NoSymbol NotSymbol))
 inner_unknown text true = refl
@@ -46,7 +48,7 @@ inner_by text false o p one other = other
 
 inner_at : (text : List ℕ) (sheet : Sheet) (earlier : List (List ℕ)) (spot : Spot) (p : List ℕ) → Inner text (refused_at sheet earlier spot p)
 inner_at text sheet earlier (Asked kind) p =
-    inner_by text (has_symbol sheet.symbols kind p) (unless_some (wanted sheet earlier p)) (Some (lack_of kind p (arity_in sheet.symbols p))) (inner_some text (wanted sheet earlier p)) (inner_lack text kind p (arity_in sheet.symbols p))
+    inner_by text (has_symbol sheet.symbols kind p) (unless_some (is_among p earlier) (wanted sheet earlier p)) (Some (lack_of kind p (arity_in sheet.symbols p))) (inner_some text (is_among p earlier) (wanted sheet earlier p)) (inner_lack text kind p (arity_in sheet.symbols p))
 inner_at text sheet earlier Given p = inner_by text (is_end (first_byte p)) None (Some NoEnd) tt refl
 inner_at text sheet earlier _ p = tt
 

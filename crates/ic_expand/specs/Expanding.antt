@@ -5,7 +5,7 @@ use Rattle.std.specs.Str.{bytes_eq}
 use Rattle.ic_text.specs.Token.{is_blank}
 use Rattle.ic_term.specs.Symbol.{Symbol, is_symbol_text}
 use Rattle.ic_expand.specs.declared.fault.Reason.{Reason}
-use Rattle.ic_expand.specs.declared.fault.Reason.TheVariants.{TextBytes, NoText, NotSymbol, NoSymbol, NoCopier, NoEraser, NoRules, NoEnd}
+use Rattle.ic_expand.specs.declared.fault.Reason.TheVariants.{TextBytes, NoText, NotSymbol, NoSymbol, NoCopier, NoEraser, Again, NoRules, NoEnd}
 use Rattle.ic_expand.specs.declared.fault.ExpandFault.{ExpandFault}
 use Rattle.ic_expand.specs.declared.fault.ExpandFault.TheVariants.{Refused}
 use Rattle.ic_expand.specs.declared.limits.TheConstants.{MAX_RICH_TEXT}
@@ -19,7 +19,7 @@ use Rattle.ic_expand.specs.Comments.{uncommented}
 use Rattle.ic_expand.specs.Pieces.{first_byte, pieces}
 use Rattle.ic_expand.specs.Spots.{after, after_first}
 use Rattle.ic_expand.specs.Reading.{pairs_of, symbols_of}
-use Rattle.ic_expand.specs.Names.{names_of, spare_of, told_word}
+use Rattle.ic_expand.specs.Names.{is_among, names_of, spare_of, told_word}
 use Rattle.ic_expand.specs.Generic.{arity_of, generic_rule, in_row, is_wanted}
 
 -- what a text says of its symbols, of the rules that it gives, and of its names
@@ -76,10 +76,10 @@ lack_of kind p None = unknown p
 lack_of Copier p (Some n) = NoCopier n
 lack_of Eraser p (Some n) = NoEraser n
 
--- why there are no rules, if there are none
-abbrev pub unless_some : List Symbol → Option Reason
-unless_some [] = Some NoRules
-unless_some (t ∷ ts) = None
+-- why there are no rules, if there are none: an earlier line is of the same symbol, or none is left
+abbrev pub unless_some : (again : Bool) → List Symbol → Option Reason
+unless_some again [] = Some (if again then Again else NoRules)
+unless_some again (t ∷ ts) = None
 
 -- a generic rule ends with `;` or `}`
 abbrev pub is_end : ℕ → Bool
@@ -88,7 +88,7 @@ is_end b = b == 59 || b == 125
 -- why a piece is refused that is no blank, if it is
 abbrev pub refused_at : Sheet → (earlier : List (List ℕ)) → Spot → List ℕ → Option Reason
 refused_at sheet earlier (Asked kind) p = if has_symbol sheet.symbols kind p
-    then unless_some (wanted sheet earlier p)
+    then unless_some (is_among p earlier) (wanted sheet earlier p)
     else Some (lack_of kind p (arity_in sheet.symbols p))
 refused_at sheet earlier Given p = if is_end (first_byte p) then None else Some NoEnd
 refused_at sheet earlier spot p = None

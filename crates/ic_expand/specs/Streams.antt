@@ -11,7 +11,7 @@ use Rattle.ic_diagnostics.specs.Lines.{place_lines}
 use Rattle.ic_expand.specs.Comments.{uncommented}
 use Rattle.ic_expand.specs.Expanding.{expanded}
 use Rattle.ic_expand.specs.declared.fault.Reason.{Reason}
-use Rattle.ic_expand.specs.declared.fault.Reason.TheVariants.{TextBytes, NoText, NotSymbol, NoSymbol, NoCopier, NoEraser, NoRules, NoEnd}
+use Rattle.ic_expand.specs.declared.fault.Reason.TheVariants.{TextBytes, NoText, NotSymbol, NoSymbol, NoCopier, NoEraser, Again, NoRules, NoEnd}
 use Rattle.ic_expand.specs.declared.fault.ExpandFault.TheVariants.{Refused}
 use Rattle.ic_expand.specs.declared.limits.TheConstants.{MAX_RICH_TEXT}
 
@@ -23,6 +23,7 @@ text_fault NotSymbol = Syntax
 text_fault NoSymbol = Syntax
 text_fault (NoCopier n) = Syntax
 text_fault (NoEraser n) = Syntax
+text_fault Again = Syntax
 text_fault NoRules = Syntax
 text_fault NoEnd = Syntax
 
@@ -33,16 +34,20 @@ counted words n = words ++ decimal n ++ codes " where it stands first"
 -- what is amiss at the place of a refusal
 abbrev pub reason_sentence : Reason → List ℕ
 reason_sentence TextBytes = codes "a text has at most 16777216 bytes"
-reason_sentence NoText = codes "a text begins with { or <; lines for serve aren't expanded"
+reason_sentence NoText =
+    codes "a text begins with { or <, and a comment with #; lines for serve aren't expanded"
 reason_sentence NotSymbol =
     codes "copy and erase need a symbol: A to Z or 0 to 9, and then letters and digits"
 reason_sentence NoSymbol =
-    codes "copy and erase need a symbol that stands in a term, and this one stands in none"
+    codes "copy and erase need a symbol that stands in a term, and this one stands in none: "
+    ++ codes "write it where it has to copy or erase"
 reason_sentence (NoCopier n) =
     counted (codes "copy needs a symbol with two arguments, and this one has ") n
 reason_sentence (NoEraser n) =
     counted (codes "erase needs a symbol without arguments, and this one has ") n
-reason_sentence NoRules = codes "no rule is left for which this stands: each is given before"
+reason_sentence Again = codes "an earlier copy or erase has this symbol"
+reason_sentence NoRules = codes "no rule is left for which this stands: "
+    ++ codes "each is given, or an earlier copy or erase stands for it"
 reason_sentence NoEnd = codes "; or } is looked for here"
 
 -- the text in which the place of a refusal is: that without comments, but for one that is too long
@@ -53,6 +58,7 @@ told_text NotSymbol text = uncommented text
 told_text NoSymbol text = uncommented text
 told_text (NoCopier n) text = uncommented text
 told_text (NoEraser n) text = uncommented text
+told_text Again text = uncommented text
 told_text NoRules text = uncommented text
 told_text NoEnd text = uncommented text
 

@@ -20,7 +20,9 @@ pub enum Reason {
     NoCopier(usize),
     /// The symbol after `erase` has so many arguments where it stands first, and not none.
     NoEraser(usize),
-    /// Each rule for which this `copy` or `erase` would stand is given already.
+    /// An earlier `copy` or `erase` has the symbol.
+    Again,
+    /// Each rule for which this `copy` or `erase` would stand is given, or an earlier one stands for it.
     NoRules,
     /// After the symbol of a `copy` or an `erase` neither `;` nor `}` stands.
     NoEnd,

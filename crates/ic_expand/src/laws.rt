@@ -13,7 +13,7 @@ ghost use Rattle.ic_expand.specs.declared.names.Spelling.{Spelling};
 ghost use Rattle.ic_expand.specs.declared.names.Spelling.TheVariants.{Short, Long};
 ghost use Rattle.ic_expand.specs.declared.fault.ExpandFault.TheVariants.{Refused};
 ghost use Rattle.ic_expand.specs.declared.fault.Reason.{Reason};
-ghost use Rattle.ic_expand.specs.declared.fault.Reason.TheVariants.{NoCopier, NoEnd, NoEraser, NoRules, NoSymbol, NoText, NotSymbol, TextBytes};
+ghost use Rattle.ic_expand.specs.declared.fault.Reason.TheVariants.{Again, NoCopier, NoEnd, NoEraser, NoRules, NoSymbol, NoText, NotSymbol, TextBytes};
 ghost use Rattle.ic_expand.specs.declared.spot.Kind.{Kind};
 ghost use Rattle.ic_expand.specs.declared.spot.Spot.TheVariants.{Elsewhere};
 ghost use Rattle.ic_expand.specs.Begins.{is_begun};
@@ -100,8 +100,11 @@ pub fn arguments_are_copied_in_their_order()
 pub fn refusals_by_hand()
     ensures copier { expanded (codes "{ copy A } <|A(x,y,z)=B>") ≡ Err (Refused (NoCopier 3) 7) }
     ensures eraser { expanded (codes "{ erase A } <|A(x,y)=B>") ≡ Err (Refused (NoEraser 2) 8) }
-    ensures twice { expanded (codes "{ copy D; copy D } <|D(x,y)=B>") ≡ Err (Refused NoRules 15) }
+    ensures twice { expanded (codes "{ copy D; copy D } <|D(x,y)=B>") ≡ Err (Refused Again 15) }
     ensures given { expanded (codes "{ E><E; erase E } <|E=E>") ≡ Err (Refused NoRules 14) }
+    ensures later { expanded (codes "{ erase E; E><E } <|E=E>") ≡ Err (Refused NoRules 8) }
+    ensures stood_for { expanded (codes "{ erase E; D(a,b)><D(a,b); copy D } <|D(x,y)=E>")
+        ≡ Err (Refused NoRules 32) }
     ensures unended { expanded (codes "{ copy D E><F } <|D(x,y)=E>") ≡ Err (Refused NoEnd 9) }
     ensures line { expanded (codes " submit a {} <|>") ≡ Err (Refused NoText 1) }
     ensures long { (text : List ℕ) → MAX_RICH_TEXT < length text
@@ -180,5 +183,6 @@ pub fn refusals_are_told_with_their_place()
     ensures one { expanded (codes "{ # two\n copy Dup }") ≡ Err (Refused NoSymbol 9) }
     ensures lines { refusal_lines (codes "{ # two\n copy Dup }") NoSymbol 9
         ≡ codes "line 2, column 7\n     copy Dup }\n          ^\n"
-        ++ codes "copy and erase need a symbol that stands in a term, and this one stands in none\n" }
+        ++ codes "copy and erase need a symbol that stands in a term, and this one stands in none: "
+        ++ codes "write it where it has to copy or erase\n" }
 {}

@@ -93,7 +93,7 @@ fn is_given(one: &[u8], other: &[u8], pairs: &[Pair]) -> bool
 }
 
 /// Whether a word is one of these.
-fn is_among(word: &[u8], words: &[Vec<u8>]) -> bool
+pub(crate) fn is_among(word: &[u8], words: &[Vec<u8>]) -> bool
     ensures { result ≡ is_among word.now (map (λ w. w.items) words.now) }
 {
     for known in words {

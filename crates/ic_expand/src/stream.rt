@@ -124,6 +124,7 @@ fn refusal_lines(
         | Reason::NoSymbol
         | Reason::NoCopier(_)
         | Reason::NoEraser(_)
+        | Reason::Again
         | Reason::NoRules
         | Reason::NoEnd => {
             let body = without_comments(alloc, text)?;
@@ -138,6 +139,14 @@ const COPIERS: &[u8] = b"copy needs a symbol with two arguments, and this one ha
 /// What is said before that of a symbol that is no eraser.
 const ERASERS: &[u8] = b"erase needs a symbol without arguments, and this one has ";
 
+/// What is said of a symbol that no term has.
+const IN_NO_TERM: &[u8] = b"copy and erase need a symbol that stands in a term, \
+and this one stands in none: write it where it has to copy or erase";
+
+/// What is said where no rule is left.
+const NONE_LEFT: &[u8] = b"no rule is left for which this stands: \
+each is given, or an earlier copy or erase stands for it";
+
 /// What is said after that number.
 const FIRST: &[u8] = b" where it stands first";
 
@@ -150,7 +159,7 @@ fn reason_sentence(alloc: Global, reason: Reason) -> Result<Vec<u8>, AllocError>
         Reason::NoText => {
             Vec::from_slice(
                 alloc,
-                b"a text begins with { or <; lines for serve aren't expanded",
+                b"a text begins with { or <, and a comment with #; lines for serve aren't expanded",
             )
         }
         Reason::NotSymbol => {
@@ -159,20 +168,11 @@ fn reason_sentence(alloc: Global, reason: Reason) -> Result<Vec<u8>, AllocError>
                 b"copy and erase need a symbol: A to Z or 0 to 9, and then letters and digits",
             )
         }
-        Reason::NoSymbol => {
-            Vec::from_slice(
-                alloc,
-                b"copy and erase need a symbol that stands in a term, and this one stands in none",
-            )
-        }
+        Reason::NoSymbol => Vec::from_slice(alloc, IN_NO_TERM),
         Reason::NoCopier(count) => counted(alloc, COPIERS, count),
         Reason::NoEraser(count) => counted(alloc, ERASERS, count),
-        Reason::NoRules => {
-            Vec::from_slice(
-                alloc,
-                b"no rule is left for which this stands: each is given before",
-            )
-        }
+        Reason::Again => Vec::from_slice(alloc, b"an earlier copy or erase has this symbol"),
+        Reason::NoRules => Vec::from_slice(alloc, NONE_LEFT),
         Reason::NoEnd => Vec::from_slice(alloc, b"; or } is looked for here"),
     }
 }
@@ -198,6 +198,7 @@ fn text_fault(reason: Reason) -> TextFault
         | Reason::NoSymbol
         | Reason::NoCopier(_)
         | Reason::NoEraser(_)
+        | Reason::Again
         | Reason::NoRules
         | Reason::NoEnd => TextFault::Syntax,
     }

@@ -2,6 +2,7 @@
 
 ghost use Rattle.std.specs.Prelude.{◌≡◌, ◌≢◌, ◌++◌, true, IfErr, IfOk, OnOk, Ok, Err, map};
 ghost use Rattle.ic_expand.specs.Generic.{in_row};
+ghost use Rattle.ic_expand.specs.Names.{is_among};
 ghost use Rattle.ic_expand.specs.Spots.{after_first};
 ghost use Rattle.ic_expand.specs.Expanding.{arity_in, expanded, has_symbol, kept_word, lack_of, piece_text, refusal, rules_of, sheet_of, unknown, unless_some, wanted, with_generic, written_pieces};
 ghost use Rattle.ic_expand.specs.Pieces.{pieces};
@@ -15,7 +16,7 @@ use crate::limits::MAX_RICH_TEXT;
 use crate::names::{Spelling, names_of, put_word, spare_of};
 use crate::pieces::{first_byte, split_piece};
 use crate::reading::{Pair, Use, pairs_of, symbols_of};
-use crate::rules::{is_wanted, rules_with};
+use crate::rules::{is_among, is_wanted, rules_with};
 use crate::spot::{Kind, Spot, after_first};
 use ic_term::is_symbol;
 use ic_text::is_blank;
@@ -96,7 +97,7 @@ impl Sheet {
 
     /// Why a copier or an eraser gets no rules, if it gets none.
     fn lacks_rules(&self, earlier: &[Vec<u8>], generic: &[u8]) -> Option<Reason>
-        ensures { result ≡ unless_some
+        ensures { result ≡ unless_some (is_among generic.now (map (λ w. w.items) earlier.now))
             (wanted (sheet_in self.now) (map (λ w. w.items) earlier.now) generic.now) }
     {
         for symbol in &self.symbols {
@@ -104,7 +105,11 @@ impl Sheet {
                 return None;
             }
         }
-        Some(Reason::NoRules)
+        if is_among(generic, earlier) {
+            Some(Reason::Again)
+        } else {
+            Some(Reason::NoRules)
+        }
     }
 
     /// Why a piece is refused, if it is.

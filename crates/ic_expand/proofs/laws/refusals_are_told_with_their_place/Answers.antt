@@ -5,7 +5,7 @@ use Rattle.ic_diagnostics.specs.Lines.{place_lines}
 use Rattle.ic_streams.specs.declared.fault.StreamFault.{StreamFault}
 use Rattle.ic_streams.specs.declared.fault.StreamFault.TheVariants.{Memory, Read, Round, Text, Write}
 use Rattle.ic_expand.specs.declared.fault.Reason.{Reason}
-use Rattle.ic_expand.specs.declared.fault.Reason.TheVariants.{NoCopier, NoEnd, NoEraser, NoRules, NoSymbol, NoText, NotSymbol, TextBytes}
+use Rattle.ic_expand.specs.declared.fault.Reason.TheVariants.{Again, NoCopier, NoEnd, NoEraser, NoRules, NoSymbol, NoText, NotSymbol, TextBytes}
 use Rattle.ic_expand.specs.Comments.{uncommented}
 use Rattle.ic_expand.specs.Streams.{Told, ToldAt, reason_sentence, refusal_lines}
 use Rattle.ic_expand.proofs.laws.refusals_are_told_with_their_place.Goals as goal
@@ -34,6 +34,7 @@ without_comments text NotSymbol at other = refl
 without_comments text NoSymbol at other = refl
 without_comments text (NoCopier n) at other = refl
 without_comments text (NoEraser n) at other = refl
+without_comments text Again at other = refl
 without_comments text NoRules at other = refl
 without_comments text NoEnd at other = refl
 

@@ -19,6 +19,12 @@ returns-clause-twice c = refl
 pub returns-clause-given : goal.returns-clause-given
 returns-clause-given c = refl
 
+pub returns-clause-later : goal.returns-clause-later
+returns-clause-later c = refl
+
+pub returns-clause-stood_for : goal.returns-clause-stood_for
+returns-clause-stood_for c = refl
+
 pub returns-clause-unended : goal.returns-clause-unended
 returns-clause-unended c = refl
 

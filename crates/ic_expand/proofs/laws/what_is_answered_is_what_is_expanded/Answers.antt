@@ -5,7 +5,7 @@ use Rattle.ic_streams.specs.declared.fault.StreamFault.TheVariants.{Memory, Read
 use Rattle.ic_expand.specs.declared.fault.ExpandFault.{ExpandFault}
 use Rattle.ic_expand.specs.declared.fault.ExpandFault.TheVariants as expand
 use Rattle.ic_expand.specs.declared.fault.Reason.{Reason}
-use Rattle.ic_expand.specs.declared.fault.Reason.TheVariants.{NoCopier, NoEnd, NoEraser, NoRules, NoSymbol, NoText, NotSymbol, TextBytes}
+use Rattle.ic_expand.specs.declared.fault.Reason.TheVariants.{Again, NoCopier, NoEnd, NoEraser, NoRules, NoSymbol, NoText, NotSymbol, TextBytes}
 use Rattle.ic_expand.specs.Expanding.{expanded}
 use Rattle.ic_expand.specs.Streams.{Expands, text_fault}
 use Rattle.ic_expand.proofs.laws.what_is_answered_is_what_is_expanded.Goals as goal
@@ -40,6 +40,7 @@ is_syntax NotSymbol other = refl
 is_syntax NoSymbol other = refl
 is_syntax (NoCopier n) other = refl
 is_syntax (NoEraser n) other = refl
+is_syntax Again other = refl
 is_syntax NoRules other = refl
 is_syntax NoEnd other = refl
 
