@@ -23,6 +23,7 @@ from systems import ACKERMANN, church, numeral  # noqa: E402
 FIGURES = ["--stats", "--format", "json"]
 HEAD = 17
 IMAGES = 3
+SECOND = "it is the second file of a reduction: name the first one, without .2"
 STRANGER = "it keeps no reduction: `--resume F` takes a file F that `--keep F` made"
 
 
@@ -41,6 +42,8 @@ def seen(place, content):
         return f"file {place}: missing", -1
     gate, number, size = content[0] == 1, *struct.unpack(">2Q", content[1:HEAD])
     head = f"file {place}: {'open' if gate else 'closed'}, number {number}, size {size}"
+    if len(content) < HEAD + size:
+        return f"{head}, cut short", number if gate else -1
     if content[HEAD : HEAD + 8] != b"ICKEPT01":
         return f"{head}, no state", number if gate else -1
     _, interactions, ended, rules, words, millis = struct.unpack(">6Q", content[HEAD + 8 : HEAD + 56])
@@ -62,14 +65,14 @@ def torn(draw, old, new):
 
 def second_missing(path):
     """What is told of a file of a reduction whose second file isn't there."""
-    what = f"{path}: it can't be resumed without its second file, {path}.2"
-    return f"{what}: bring that back, or name the first file if this is the second one; if that is lost, `head -c 17 /dev/zero > F.2` makes it anew"
+    what = f"{path}: its second file, {path}.2, is missing: bring it back"
+    return f"{what}; if it is lost, `head -c 17 /dev/zero > {path}.2` makes it anew"
 
 
 def first_missing(path):
     """What is told of a file that isn't there, where the second file of its reduction is."""
     what = f"{path}: its second file, {path}.2, holds a reduction: bring the first one back"
-    return f"{what}; if it is lost, `head -c 17 /dev/zero > F` makes it anew, and `icserve reduce --resume F` goes on"
+    return f"{what}; if it is lost, `head -c 17 /dev/zero > {path}` makes it anew"
 
 
 def turned(state):
@@ -161,14 +164,29 @@ class Keep(Stops):
             run("reduce", "--resume", self.file, "--steps", most)
             told = self.inspected()
             self.equals(self.file, "what is told", (most, most == total), (told["interactions"], told["ended"]))
-        # A file whose second one isn't there, as F.2 itself.
-        for path in (self.second, self.file):
+
+    def test_a_file_without_its_second_one_is_told_of(self):
+        """The second file itself has none. It isn't told to be one where the first isn't there."""
+        run("reduce", "--keep", self.file, "--steps", 9, given=ackermann(2))
+        run("reduce", "--resume", self.file, "--steps", 30)
+        first, second = self.contents()
+        for path, contents in ((self.second, [first, second]), (self.second, [None, second]), (self.second, [b"text", second]), (self.file, [first, None])):
+            self.clear()
+            self.put(contents)
+            is_second = path == self.second and contents[0] == first
+            hint = f"{path}: {SECOND}" if is_second else second_missing(path)
             lines = [seen(1, path.read_bytes())[0], "file 2: missing", "held: file 1"]
-            self.runs("inspect", "--disk", path, out=lines, err=[second_missing(path)])
+            self.runs("inspect", "--disk", path, out=lines, err=[hint])
             ran = run("reduce", "--resume", path)
-            told = f"{path}.2: open: no such file or folder\n{second_missing(path)}\n"
+            told = f"{hint}\n" if is_second else f"{path}.2: open: no such file or folder\n{hint}\n"
             self.equals(ran.command, "the end", (3, b"icserve: device\n", told), (ran.status, ran.err, ran.after.decode()))
-            self.second.unlink(missing_ok=True)
+            self.equals(self.file, "what the files hold", contents, self.contents())
+        # A second file in which nothing is kept yet.
+        self.put([first, bytes(HEAD)])
+        ran = run("reduce", "--resume", self.second)
+        self.equals(ran.command, "what is told", f"{self.second}: {SECOND}\n", ran.after.decode())
+        # It is as is told.
+        self.agree(run("reduce", "--resume", self.file, *FIGURES), self.whole(ackermann(2)))
 
     def test_a_second_file_is_told_of_where_the_first_is_lost(self):
         run("reduce", "--keep", self.file, "--steps", 9, given=ackermann(2))
@@ -211,6 +229,36 @@ class Keep(Stops):
                 lines = [f"file {it + 1}: cut off" if it == place else seen(it + 1, whole[it])[0] for it in (0, 1)]
                 self.runs("inspect", "--disk", self.file, out=[*lines, "held: damaged"])
                 self.refuses("reduce", "--resume", self.file, line="damaged", status=3)
+
+    def test_inspect_tells_that_a_state_is_cut_short(self):
+        """That of the newest file is refused, and that of the other isn't looked at."""
+        run("reduce", "--keep", self.file, "--steps", 9, given=ackermann(2))
+        run("reduce", "--resume", self.file, "--steps", 30)
+        whole = self.contents()
+        newest = max((0, 1), key=lambda it: seen(it, whole[it])[1])
+        for place in (0, 1):
+            for cut in (HEAD + 8, HEAD + 56, len(whole[place]) - 1):
+                self.put(whole[it][:cut] if it == place else whole[it] for it in (0, 1))
+                lines = [seen(it, content)[0] for it, content in enumerate(self.contents(), 1)]
+                self.equals(self.file, f"whether a state is cut short: {lines}", True, lines[place].endswith(", cut short"))
+                held = "damaged" if place == newest else f"file {newest + 1}"
+                self.runs("inspect", "--disk", self.file, out=[*lines, f"held: {held}"])
+                told = [json.loads(it) for it in run("inspect", "--disk", self.file, "--format", "json").out.splitlines()]
+                self.equals(self.file, "objects", ("cut short", held), (told[place]["body"], told[2]["held"]))
+                if place == newest:
+                    self.refuses("reduce", "--resume", self.file, line="damaged", status=3)
+                else:
+                    self.agree(run("reduce", "--resume", self.file, *FIGURES), self.whole(ackermann(2)))
+
+    def test_inspect_tells_that_the_newest_file_has_no_state(self):
+        run("reduce", "--keep", self.file, "--steps", 9, given=ackermann(2))
+        run("reduce", "--resume", self.file, "--steps", 30)
+        whole = self.contents()
+        newest = max((0, 1), key=lambda it: seen(it, whole[it])[1])
+        self.put(laid(whole[it], HEAD, b"nothing!") if it == newest else whole[it] for it in (0, 1))
+        lines = [seen(it, content)[0] for it, content in enumerate(self.contents(), 1)]
+        self.runs("inspect", "--disk", self.file, out=[*lines, "held: damaged"])
+        self.refuses("reduce", "--resume", self.file, line="damaged", status=3)
 
     def test_what_is_not_asked_for_is_not_printed(self):
         self.runs("reduce", "--keep", self.file, "--quiet-answer", given=ackermann(2))

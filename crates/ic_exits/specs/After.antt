@@ -71,15 +71,15 @@ not_as_kept path = around_second path (codes "something else has changed it or i
 
 -- of a file without the second one
 abbrev pub no_second : (path : List ℕ) → List ℕ
-no_second path = around_second path (codes "it can't be resumed without its second file, ")
-    (codes ": bring that back, or name the first file if this is the second one; "
-    ++ codes "if that is lost, `head -c 17 /dev/zero > F.2` makes it anew")
+no_second path = around_second path (codes "its second file, ")
+    (around_second path (codes ", is missing: bring it back; if it is lost, `head -c 17 /dev/zero > ")
+    (codes "` makes it anew"))
 
 -- of a file that isn't there, beside the second one of a reduction
 abbrev pub no_first : (path : List ℕ) → List ℕ
 no_first path = around_second path (codes "its second file, ")
-    (codes ", holds a reduction: bring the first one back; if it is lost, "
-    ++ codes "`head -c 17 /dev/zero > F` makes it anew, and `icserve reduce --resume F` goes on")
+    (codes ", holds a reduction: bring the first one back; if it is lost, `head -c 17 /dev/zero > "
+    ++ (shown_path path ++ codes "` makes it anew"))
 
 -- the line that says this of the file of a path
 abbrev pub shown_of : (path words : List ℕ) → List ℕ

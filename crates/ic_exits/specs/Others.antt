@@ -26,28 +26,42 @@ of_text =
 abbrev pub of_stranger : List ℕ
 of_stranger = codes "it keeps no reduction: `--resume F` takes a file F that `--keep F` made"
 
+-- of the second file of a reduction
+abbrev pub of_second : List ℕ
+of_second = codes "it is the second file of a reduction: name the first one, without .2"
+
 -- of a file that is another than it was taken for
 abbrev pub other_words : Other → List ℕ
 other_words other.Reduction = of_reduction
 other_words other.Text = of_text
 other_words other.Stranger = of_stranger
+other_words other.Second = of_second
 
 -- whether it is a file of a reduction
 abbrev pub is_reduction : Other → Bool
 is_reduction other.Reduction = true
 is_reduction other.Text = false
 is_reduction other.Stranger = false
+is_reduction other.Second = false
 
 -- whether it is one that no `--keep` made
 abbrev pub is_stranger : Other → Bool
 is_stranger other.Reduction = false
 is_stranger other.Text = false
 is_stranger other.Stranger = true
+is_stranger other.Second = false
+
+-- whether it was taken for the first file of a reduction
+abbrev pub is_no_first : Other → Bool
+is_no_first other.Reduction = false
+is_no_first other.Text = false
+is_no_first other.Stranger = true
+is_no_first other.Second = true
 
 -- whether a disk that isn't opened for this cause may be such a file: a text has no slot
 abbrev pub may_be : OpenCause → Other → Bool
 may_be opening.Device is = false
-may_be opening.NoSlot is = not (is_stranger is)
+may_be opening.NoSlot is = not (is_no_first is)
 may_be opening.TwoAlike is = is_reduction is
 may_be opening.Damaged is = is_reduction is
 may_be opening.Memory is = false
@@ -62,10 +76,10 @@ is_of_contents opening.Memory = false
 
 -- whether a failure comes where the file is this
 abbrev pub comes_of : Failure → Other → Bool
-comes_of NotEmpty is = not (is_stranger is)
+comes_of NotEmpty is = not (is_no_first is)
 comes_of (Open cause) is = may_be cause is
 comes_of (Attend (scripts.Open cause)) is = may_be cause is
-comes_of (Disk fault) is = is_stranger is
+comes_of (Disk fault) is = is_no_first is
 comes_of (Kept (keeping.Open cause)) is = is_stranger is && is_of_contents cause
 comes_of _ is = false
 

@@ -34,6 +34,10 @@ const NOT_EMPTY: &[u8] =
 /// What is said of a file that no server has left so.
 const NOT_AS_LEFT: &[u8] = b"something else has changed the file, or it was copied in part";
 
+/// What is said of the second file of a reduction, before the path of the first one, which isn't there.
+const LOST_FIRST: &[u8] = b", holds a reduction: bring the first one back; \
+if it is lost, `head -c 17 /dev/zero > ";
+
 /// What is said of a disk that has no room.
 const NO_ROOM: &[u8] = b"it has jobs of other names, and no disk has more than 32";
 
@@ -402,26 +406,23 @@ fn taken_words(difference: Difference) -> &'static [u8]
 pub fn second_missing(alloc: Global, path: &[u8]) -> Result<Vec<u8>, AllocError>
     ensures { IfOk result (λ line. line.items ≡ shown_of path.now (no_second path.now)) }
 {
-    said_of_both(
+    let made = around_second(
         alloc,
         path,
-        b"it can't be resumed without its second file, ",
-        b": bring that back, or name the first file if this is the second one; \
-if that is lost, `head -c 17 /dev/zero > F.2` makes it anew",
-    )
+        b", is missing: bring it back; if it is lost, `head -c 17 /dev/zero > ",
+        b"` makes it anew",
+    )?;
+    said_of_both(alloc, path, b"its second file, ", &made)
 }
 
 /// The line that says of the file of this path, which isn't there, that the second file of its reduction is.
 pub fn first_missing(alloc: Global, path: &[u8]) -> Result<Vec<u8>, AllocError>
     ensures { IfOk result (λ line. line.items ≡ shown_of path.now (no_first path.now)) }
 {
-    said_of_both(
-        alloc,
-        path,
-        b"its second file, ",
-        b", holds a reduction: bring the first one back; if it is lost, \
-`head -c 17 /dev/zero > F` makes it anew, and `icserve reduce --resume F` goes on",
-    )
+    let mut made = LOST_FIRST.to_vec(alloc)?;
+    made.extend_from_slice(&shown_path(alloc, path)?)?;
+    made.extend_from_slice(b"` makes it anew")?;
+    said_of_both(alloc, path, b"its second file, ", &made)
 }
 
 /// The line that says this of the file of a path, with the path of its second file between.
@@ -434,11 +435,25 @@ fn said_of_both(
     ensures { IfOk result
         (λ line. line.items ≡ shown_of path.now (around_second path.now before.now after.now)) }
 {
+    let words = around_second(alloc, path, before, after)?;
+    said_of(alloc, path, &words)
+}
+
+/// These words, with the path of the second file of a reduction between.
+fn around_second(
+    alloc: Global,
+    path: &[u8],
+    before: &[u8],
+    after: &[u8],
+) -> Result<Vec<u8>, AllocError>
+    ensures { IfOk result
+        (λ words. words.items ≡ around_second path.now before.now after.now) }
+{
     let mut words = before.to_vec(alloc)?;
     words.extend_from_slice(&shown_path(alloc, path)?)?;
     words.extend_from_slice(b".2")?;
     words.extend_from_slice(after)?;
-    said_of(alloc, path, &words)
+    Ok(words)
 }
 
 /// The line that says this of the file of a path.

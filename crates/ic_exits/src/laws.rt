@@ -327,13 +327,13 @@ pub fn endings_of_kept_reductions_are()
           call = c;
           reason = reason.Missing;
         })) ++ shown_path path ++ codes ": "
-        ++ codes "it can't be resumed without its second file, " ++ shown_path path
-        ++ codes ".2: bring that back, or name the first file if this is the second one; "
-        ++ codes "if that is lost, `head -c 17 /dev/zero > F.2` makes it anew" ++ 10 ∷ [] }
+        ++ codes "its second file, " ++ shown_path path ++ codes ".2, is missing: bring it back; "
+        ++ codes "if it is lost, `head -c 17 /dev/zero > " ++ shown_path path
+        ++ codes ".2` makes it anew" ++ 10 ∷ [] }
     ensures no_first_file { (path : List ℕ) → shown_of path (no_first path) ≡ shown_path path
         ++ codes ": " ++ codes "its second file, " ++ shown_path path ++ codes ".2, holds a reduction: "
-        ++ codes "bring the first one back; if it is lost, `head -c 17 /dev/zero > F` makes it anew, "
-        ++ codes "and `icserve reduce --resume F` goes on" ++ 10 ∷ [] }
+        ++ codes "bring the first one back; if it is lost, `head -c 17 /dev/zero > " ++ shown_path path
+        ++ codes "` makes it anew" ++ 10 ∷ [] }
 {}
 
 /// Nothing is told where answers can't be written since nobody reads standard output any more. Of each
@@ -492,8 +492,9 @@ pub fn nothing_is_told_after_these()
 {}
 
 /// Of a file that is known to be another than it was taken for it is told alone what it is, where that is why the failure
-/// came. A text is told so where it has no slot, or would be written over, and a file that no `--keep` made where it was to be
-/// resumed. Where nothing is known, or another failure came, it is told what is told else.
+/// came. A text is told so where it has no slot, or would be written over. A file that no `--keep` made is told so where it was
+/// to be resumed, and the second file of a reduction where it was taken for the first one. Where nothing is known, or another
+/// failure came, it is told what is told else.
 pub fn other_files_are_told_to_be_so()
     ensures reduction { (path : List ℕ) (cause : Option Cause)
         → lines_or_other NotEmpty path cause (Some other.Reduction) ≡ shown_path path ++ codes ": "
@@ -535,6 +536,16 @@ pub fn other_files_are_told_to_be_so()
         ≡ map (λ failure. lines_after failure path cause)
         (NotEmpty ∷ Open opening.NoSlot ∷ Open opening.Damaged ∷ Kept keeping.NotEmpty
         ∷ Kept (keeping.Open opening.Device) ∷ Kept (keeping.Open opening.Memory) ∷ []) }
+    ensures second { (fault : DiskFault) (path : List ℕ) (cause : Option Cause)
+        → lines_or_other (Disk fault) path cause (Some other.Second) ≡ shown_path path ++ codes ": "
+        ++ codes "it is the second file of a reduction: name the first one, without .2" ++ 10 ∷ [] }
+    ensures no_seconds { (why : OpenCause) (path : List ℕ) (cause : Option Cause)
+        → map (λ failure. lines_or_other failure path cause (Some other.Second))
+        (NotEmpty ∷ Open opening.NoSlot ∷ Open opening.Damaged ∷ Kept keeping.NotEmpty
+        ∷ Kept (keeping.Open why) ∷ [])
+        ≡ map (λ failure. lines_after failure path cause)
+        (NotEmpty ∷ Open opening.NoSlot ∷ Open opening.Damaged ∷ Kept keeping.NotEmpty
+        ∷ Kept (keeping.Open why) ∷ []) }
     ensures disks { (fault : DiskFault) (path : List ℕ) (cause : Option Cause)
         → map (λ is. lines_or_other (Disk fault) path cause (Some is))
         (other.Reduction ∷ other.Text ∷ [])

@@ -2,7 +2,7 @@
 
 ghost use Rattle.std.specs.Prelude.{◌≡◌, IfOk};
 ghost use Rattle.ic_exits.specs.After.{shown_of};
-ghost use Rattle.ic_exits.specs.Others.{comes_of, is_of_contents, is_reduction, is_stranger, lines_or_other, may_be, other_words};
+ghost use Rattle.ic_exits.specs.Others.{comes_of, is_no_first, is_of_contents, is_reduction, is_stranger, lines_or_other, may_be, other_words};
 
 use crate::Failure;
 use crate::after::said_of;
@@ -23,15 +23,20 @@ const TEXT: &[u8] =
 /// What is said of a file that no `--keep` made.
 const STRANGER: &[u8] = b"it keeps no reduction: `--resume F` takes a file F that `--keep F` made";
 
-/// What a file is that was taken for a disk, or for a file of a reduction.
+/// What is said of the second file of a reduction.
+const SECOND: &[u8] = b"it is the second file of a reduction: name the first one, without .2";
+
+/// What a file is that was taken for a disk, or for the first file of a reduction.
 #[derive(Clone, Copy, Debug, PartialEq, Eq)]
 pub enum Other {
     /// One of the two files in which a reduction is kept.
     Reduction,
     /// A text.
     Text,
-    /// A file that was taken for one of a reduction, and that no `--keep` made.
+    /// A file that was taken for the first one of a reduction, and that no `--keep` made.
     Stranger,
+    /// The second file of a reduction, which was taken for the first one.
+    Second,
 }
 
 impl Other {
@@ -50,6 +55,7 @@ impl Other {
             Other::Reduction => REDUCTION,
             Other::Text => TEXT,
             Other::Stranger => STRANGER,
+            Other::Second => SECOND,
         }
     }
 }
@@ -84,10 +90,10 @@ impl Failure {
         ensures { result ≡ comes_of self.now other }
     {
         match self {
-            Failure::NotEmpty => !is_stranger(other),
+            Failure::NotEmpty => !is_no_first(other),
             Failure::Open(cause) => may_be(*cause, other),
             Failure::Attend(ScriptsFault::Open(cause)) => may_be(*cause, other),
-            Failure::Disk(_) => is_stranger(other),
+            Failure::Disk(_) => is_no_first(other),
             Failure::Kept(KeepingFault::Open(cause)) => is_stranger(other)
                 && is_of_contents(*cause),
             _ => false,
@@ -100,7 +106,7 @@ fn may_be(cause: OpenCause, other: Other) -> bool
     ensures { result ≡ may_be cause other }
 {
     match cause {
-        OpenCause::NoSlot => !is_stranger(other),
+        OpenCause::NoSlot => !is_no_first(other),
         OpenCause::TwoAlike | OpenCause::Damaged => is_reduction(other),
         OpenCause::Device | OpenCause::Memory => false,
     }
@@ -122,7 +128,7 @@ fn is_reduction(other: Other) -> bool
 {
     match other {
         Other::Reduction => true,
-        Other::Text | Other::Stranger => false,
+        Other::Text | Other::Stranger | Other::Second => false,
     }
 }
 
@@ -132,6 +138,16 @@ fn is_stranger(other: Other) -> bool
 {
     match other {
         Other::Stranger => true,
+        Other::Reduction | Other::Text | Other::Second => false,
+    }
+}
+
+/// Whether it is a file that was taken for the first one of a reduction.
+fn is_no_first(other: Other) -> bool
+    ensures { result ≡ is_no_first other }
+{
+    match other {
+        Other::Stranger | Other::Second => true,
         Other::Reduction | Other::Text => false,
     }
 }

@@ -1,12 +1,12 @@
 //! The program's word `inspect`: what a disk's file holds, or two files in which a reduction is kept, on standard output.
 
 use crate::kept;
-use crate::others::other_at;
+use crate::others::{is_second, other_at};
 use crate::standing::stand_ins;
 use ic_args::ReportFormat;
 use ic_causes::{NotedFile, NotedFiles, NotedOutput, Notes, Target};
 use ic_disk::{DiskFault, open_plain};
-use ic_exits::{Failure, second_missing};
+use ic_exits::{Failure, Other, second_missing};
 use ic_frames::{HEAD, SECOND_AT};
 use ic_inspect::{InspectFault, Layout, read_slots};
 use std::fs::OpenOptions;
@@ -93,7 +93,12 @@ fn look(rt: &HostRuntime, path: &str, layout: Layout, notes: &Notes) -> Result<b
 
 /// Tells on standard error that no reduction goes on with the file of this path alone.
 fn tell_alone(rt: &HostRuntime, path: &str) {
-    if let Ok(line) = second_missing(rt.alloc(), path.as_bytes()) {
+    let told = if is_second(rt, path) {
+        Other::Second.line(rt.alloc(), path.as_bytes())
+    } else {
+        second_missing(rt.alloc(), path.as_bytes())
+    };
+    if let Ok(line) = told {
         let _ = rt.stderr().write_all(&line);
     }
 }

@@ -10,6 +10,7 @@ use ic_kept::{Front, HEAD, front_of};
 use ic_output::write_flushed;
 use ic_state::{StateFault, StateHead, head_of};
 use std::alloc::AllocError;
+use std::fs::OpenFile;
 use std::io::{self, ErrorKind, Read};
 
 /// How many first bytes of a file are looked at: its head, and the first numbers of its state.
@@ -18,11 +19,18 @@ const FRONT: u64 = HEAD + 56;
 /// With what a state begins.
 const FORMAT: &[u8] = b"ICKEPT01";
 
-/// The first bytes of both files; those of the second where it is there.
+/// The first bytes of a file, and how many bytes it has.
+#[derive(Drop)]
+struct Opening {
+    bytes: Vec<u8>,
+    len: u64,
+}
+
+/// How both files begin; the second where it is there.
 #[derive(Drop)]
 pub(crate) struct Fronts {
-    first: Vec<u8>,
-    second: Option<Vec<u8>>,
+    first: Opening,
+    second: Option<Opening>,
 }
 
 impl Fronts {
@@ -37,12 +45,13 @@ impl Fronts {
 enum Seen {
     Missing,
     CutOff,
+    CutShort(Front),
     NoState(Front),
     State(Front, StateHead),
 }
 
-/// The first bytes of the file of this path and of its second file, if a state stands in the first, or in the second where the
-/// first has no more than a head.
+/// How the file of this path and its second file begin, if a state stands in the first, or in the second where the first has
+/// no more than a head.
 pub(crate) fn read_fronts(
     rt: &HostRuntime,
     path: &str,
@@ -53,7 +62,7 @@ pub(crate) fn read_fronts(
         let second = read_second(rt, path, notes)?;
         return Ok(Some(Fronts { first, second }));
     }
-    if first.len() as u64 > HEAD {
+    if first.len > HEAD {
         return Ok(None);
     }
     let Ok(Some(second)) = read_second(rt, path, notes) else {
@@ -66,11 +75,11 @@ pub(crate) fn read_fronts(
     Ok(Some(Fronts { first, second }))
 }
 
-/// The first bytes of the second file of this path, if it is there.
-fn read_second(rt: &HostRuntime, path: &str, notes: &Notes) -> Result<Option<Vec<u8>>, Failure> {
+/// How the second file of this path begins, if it is there.
+fn read_second(rt: &HostRuntime, path: &str, notes: &Notes) -> Result<Option<Opening>, Failure> {
     let second = format!(in rt.alloc(); "{path}.2").map_err(|_| memory())?;
     match read_front(rt, second.as_str(), Target::Second, notes) {
-        Ok(bytes) => Ok(Some(bytes)),
+        Ok(opening) => Ok(Some(opening)),
         Err(failure) => {
             if is_missing(notes.last()) {
                 return Ok(None);
@@ -80,9 +89,9 @@ fn read_second(rt: &HostRuntime, path: &str, notes: &Notes) -> Result<Option<Vec
     }
 }
 
-/// Whether a state stands in a file that begins with these bytes.
-fn has_format(bytes: &[u8]) -> bool {
-    match bytes.get(HEAD as usize..) {
+/// Whether a state stands in a file that begins so.
+fn has_format(opening: &Opening) -> bool {
+    match opening.bytes.get(HEAD as usize..) {
         Some(state) => state.starts_with(FORMAT),
         None => false,
     }
@@ -100,33 +109,41 @@ fn memory() -> Failure {
     Failure::Inspect(InspectFault::Memory)
 }
 
-/// The first bytes of the file of this path.
+/// How the file of this path begins. Its length is asked for after its head is read, since a keep may go on meanwhile, and a
+/// state is whole once its head is there.
 fn read_front(
     rt: &HostRuntime,
     path: &str,
     target: Target,
     notes: &Notes,
-) -> Result<Vec<u8>, Failure> {
+) -> Result<Opening, Failure> {
     let file = open_to_read_as(rt, path, target, notes).map_err(|_| Failure::Disk(DiskFault))?;
     let mut bytes = Vec::new(rt.alloc());
     match file.at(0).take(FRONT).read_to_end(&mut bytes) {
-        Ok(_) => Ok(bytes),
-        Err(error) if error.kind() == ErrorKind::OutOfMemory => Err(memory()),
+        Ok(_) => {}
+        Err(error) if error.kind() == ErrorKind::OutOfMemory => return Err(memory()),
+        Err(_) => return Err(Failure::Inspect(InspectFault::Read)),
+    }
+    match file.metadata() {
+        Ok(about) => Ok(Opening {
+            bytes,
+            len: about.len(),
+        }),
         Err(_) => Err(Failure::Inspect(InspectFault::Read)),
     }
 }
 
-/// Whether both are the same bytes.
+/// Whether both begin with the same bytes.
 pub(crate) fn are_same(one: &Fronts, other: &Fronts) -> bool {
     let seconds = match (&one.second, &other.second) {
-        (Some(one), Some(other)) => one.as_slice() == other.as_slice(),
+        (Some(one), Some(other)) => one.bytes.as_slice() == other.bytes.as_slice(),
         (None, None) => true,
         _ => false,
     };
-    one.first.as_slice() == other.first.as_slice() && seconds
+    one.first.bytes.as_slice() == other.first.bytes.as_slice() && seconds
 }
 
-/// Prints what the files hold, by their first bytes.
+/// Prints what the files hold, by how they begin.
 pub(crate) fn tell(
     rt: &HostRuntime,
     fronts: &Fronts,
@@ -142,7 +159,7 @@ pub(crate) fn tell(
 fn lines_of(rt: &HostRuntime, fronts: &Fronts, format: ReportFormat) -> Result<String, AllocError> {
     let first = see(rt, &fronts.first)?;
     let second = match &fronts.second {
-        Some(bytes) => see(rt, bytes)?,
+        Some(opening) => see(rt, opening)?,
         None => Seen::Missing,
     };
     let mut lines = String::new(rt.alloc());
@@ -160,14 +177,17 @@ fn held_line(rt: &HostRuntime, held: &str, format: ReportFormat) -> Result<Strin
     }
 }
 
-/// What is seen of a file that begins with these bytes.
-fn see(rt: &HostRuntime, bytes: &[u8]) -> Result<Seen, AllocError> {
-    let Some(front) = front_of(bytes) else {
+/// What is seen of a file that begins so.
+fn see(rt: &HostRuntime, opening: &Opening) -> Result<Seen, AllocError> {
+    let Some(front) = front_of(&opening.bytes) else {
         return Ok(Seen::CutOff);
     };
-    let Some(state) = bytes.get(HEAD as usize..) else {
+    let Some(state) = opening.bytes.get(HEAD as usize..) else {
         return Ok(Seen::CutOff);
     };
+    if opening.len.saturating_sub(HEAD) < front.size {
+        return Ok(Seen::CutShort(front));
+    }
     match head_of(rt.alloc(), state) {
         Ok(head) => Ok(Seen::State(front, head)),
         Err(StateFault::NotAState) => Ok(Seen::NoState(front)),
@@ -197,6 +217,10 @@ fn words_of(rt: &HostRuntime, place: u32, seen: Seen) -> Result<String, AllocErr
     match seen {
         Seen::Missing => format!(in rt.alloc(); "file {place}: missing\n"),
         Seen::CutOff => format!(in rt.alloc(); "file {place}: cut off\n"),
+        Seen::CutShort(front) => {
+            let front = front_words(rt, place, front)?;
+            format!(in rt.alloc(); "{front}, cut short\n")
+        }
         Seen::NoState(front) => {
             let front = front_words(rt, place, front)?;
             format!(in rt.alloc(); "{front}, no state\n")
@@ -228,6 +252,10 @@ fn object_of(rt: &HostRuntime, place: u32, seen: Seen) -> Result<String, AllocEr
     match seen {
         Seen::Missing => format!(in rt.alloc(); "{{\"file\":{place},\"state\":\"missing\"}}\n"),
         Seen::CutOff => format!(in rt.alloc(); "{{\"file\":{place},\"state\":\"cut off\"}}\n"),
+        Seen::CutShort(front) => {
+            let front = front_members(rt, place, front)?;
+            format!(in rt.alloc(); "{{{front},\"body\":\"cut short\"}}\n")
+        }
         Seen::NoState(front) => {
             let front = front_members(rt, place, front)?;
             format!(in rt.alloc(); "{{{front}}}\n")
@@ -264,12 +292,21 @@ fn is_cut_off(seen: Seen) -> bool {
 /// The number of a file whose gate is open.
 fn open_number(seen: Seen) -> Option<u64> {
     match seen {
-        Seen::State(front, _) | Seen::NoState(front) if front.opened => Some(front.number),
+        Seen::State(front, _) if front.opened => Some(front.number),
+        Seen::NoState(front) | Seen::CutShort(front) if front.opened => Some(front.number),
         _ => None,
     }
 }
 
-/// Which file has the state that is kept, by the heads of both.
+/// The newest file by this name, if it has a state.
+fn held_in(seen: Seen, name: &'static str) -> &'static str {
+    match seen {
+        Seen::State(_, _) => name,
+        Seen::Missing | Seen::CutOff | Seen::CutShort(_) | Seen::NoState(_) => "damaged",
+    }
+}
+
+/// Which file has the state that is kept, by the heads and the lengths of both.
 fn held_of(first: Seen, second: Seen) -> &'static str {
     if is_cut_off(first) || is_cut_off(second) {
         return "damaged";
@@ -277,8 +314,8 @@ fn held_of(first: Seen, second: Seen) -> &'static str {
     match (open_number(first), open_number(second)) {
         (None, None) => "no slot",
         (Some(one), Some(other)) if one == other => "two alike",
-        (Some(_), None) => "file 1",
-        (Some(one), Some(other)) if one > other => "file 1",
-        _ => "file 2",
+        (Some(_), None) => held_in(first, "file 1"),
+        (Some(one), Some(other)) if one > other => held_in(first, "file 1"),
+        _ => held_in(second, "file 2"),
     }
 }

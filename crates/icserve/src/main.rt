@@ -23,7 +23,7 @@ mod texts;
 use crate::answers::Answers;
 use crate::input::{Input, open_text, told_of};
 use crate::keeping::KeptIn;
-use crate::others::{has_second, is_stranger, other_at};
+use crate::others::{has_second, no_first_at, other_at};
 use crate::reducing::{Wanted, threads_for};
 use crate::session::Session;
 use crate::standing::stand_ins;
@@ -34,7 +34,7 @@ use ic_by_rounds::Workers;
 use ic_causes::{Cause, NotedFile, NotedFiles, NotedInput, NotedOutput, Notes, Reason, Target};
 use ic_diagnostics::{once_telling, settle_telling};
 use ic_disk::{Disk, DiskFault, FileDisk};
-use ic_exits::{Failure, Other, first_missing, opening_failure};
+use ic_exits::{Failure, first_missing, opening_failure};
 use ic_in_place::{Asked, Bounds};
 use ic_jobs::Command;
 use ic_keeping::KeepingFault;
@@ -726,8 +726,8 @@ fn tell_failure(
     tell(rt, &line);
     let other = if is_of_disk(failure) {
         other_at(rt, path)
-    } else if is_of_resumed(failure, notes.last()) && is_stranger(rt, path) {
-        Some(Other::Stranger)
+    } else if is_of_resumed(failure, notes.last()) {
+        no_first_at(rt, path)
     } else {
         None
     };

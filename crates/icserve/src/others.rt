@@ -34,9 +34,31 @@ pub(crate) fn has_second(rt: &HostRuntime, path: &str) -> bool {
     }
 }
 
+/// What the file of this path is, where that is known and it isn't the first file of a reduction.
+pub(crate) fn no_first_at(rt: &HostRuntime, path: &str) -> Option<Other> {
+    if is_stranger(rt, path) {
+        Some(Other::Stranger)
+    } else if is_second(rt, path) {
+        Some(Other::Second)
+    } else {
+        None
+    }
+}
+
+/// Whether the file of this path is known to be the second one of a reduction: its path is that of a first one, and then `.2`.
+pub(crate) fn is_second(rt: &HostRuntime, path: &str) -> bool {
+    let Some(first) = path.strip_suffix(".2") else {
+        return false;
+    };
+    match front_of(rt, first) {
+        Some(front) => is_of_reduction(&front),
+        None => false,
+    }
+}
+
 /// Whether the file of this path is known to be none that keeps a reduction: its first byte is no gate, or after its head
 /// stands a table of jobs.
-pub(crate) fn is_stranger(rt: &HostRuntime, path: &str) -> bool {
+fn is_stranger(rt: &HostRuntime, path: &str) -> bool {
     match front_of(rt, path) {
         Some(front) => !is_of_reduction(&front) && (has_no_gate(&front) || holds_table(&front)),
         None => false,
