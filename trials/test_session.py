@@ -9,7 +9,7 @@ import threading
 from checked import lines_of, seen_of_line, spot
 from known import LOOP, TWO
 from places import told_at
-from program import IN_MEMORY, OF_BAD, TOP, Server, Trial, as_bytes, as_lines, run
+from program import IN_MEMORY, OF_BAD, TOP, Server, Trial, as_bytes, as_lines, grows_to, run
 from test_drawn_serving import job_names, session, small_systems
 from test_progress import Terminal
 from worked_rows import expanded, rows
@@ -74,6 +74,15 @@ class Session(Trial):
         ran = run("serve", "--disk", self.jobs, "--explain", given=lines)
         self.equals(ran.command, "what is told", (0, as_lines(told)), (ran.status, ran.err))
         self.serves(self.jobs, "list", ["jobs sum:done:0 two:done:2 over:halted:0"])
+
+    def test_lines_that_were_read_are_told_of_where_a_fault_ends_the_serving(self):
+        given = f"lists\nsubmit two {TWO.text}\nfetch one two\nli"
+        ran = run("serve", "--disk", self.jobs, "--explain", given=given, **grows_to(0))
+        lines = ran.err.decode().splitlines()
+        self.equals(ran.command, "status, standard output and lines", (4, b"bad syntax\n", 4), (ran.status, ran.out, len(lines)))
+        self.equals(ran.command, "what is told", [TOLD[0], TOLD[1], "icserve: device"], lines[:3])
+        ran = run("serve", "--disk", self.jobs, given=given, **grows_to(0))
+        self.equals(ran.command, "whether lines are told of without the option", False, b"line 1" in ran.err + ran.after)
 
     def test_without_the_option_it_is_told_once_that_there_is_one(self):
         self.serves(self.jobs, f"submit bad {TWO.text}", ["accepted"])

@@ -575,9 +575,14 @@ fn serve_session<T: Threads + Wait + Copy + Send + 'static>(
 ) -> Result<(), Failure> {
     let book = open(rt, path, notes)?;
     let mut session = Session::new(rt, NotedInput::new(rt.reader(), notes), explains);
-    serve(rt, threads, book, &mut session, making, explains, notes).map_err(Failure::Serve)?;
-    session.end();
-    Ok(())
+    let served = serve(rt, threads, book, &mut session, making, explains, notes);
+    let served = served.map_err(Failure::Serve);
+    match &served {
+        Ok(()) => session.end(),
+        Err(failure) if failure.is_silent(notes.last()) => {}
+        Err(_) => session.end_at_fault(),
+    }
+    served
 }
 
 /// Serves the lines of an input over the book, and closes it. Answers to lines that were read together are

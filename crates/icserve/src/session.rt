@@ -16,8 +16,8 @@ const MARK: &[u8] = b"?\n";
 
 /// The lines of a session, as they are read. Before it reads on, and at its end, standard error is told of those that
 /// are refused, where that is asked for or standard error is a terminal. Whoever serves the lines has answered them and
-/// flushed the answers by then. Where standard input is a terminal too, it shows a prompt, and a line that asks for help
-/// is served as a blank one, which isn't answered.
+/// flushed the answers by then, but maybe not at a fault. Where standard input is a terminal too, it shows a prompt, and
+/// a line that asks for help is served as a blank one, which isn't answered.
 #[derive(Drop)]
 pub(crate) struct Session<'a, R> {
     rt: &'a HostRuntime,
@@ -48,6 +48,17 @@ impl<'a, R> Session<'a, R> {
     pub(crate) fn end(&mut self) {
         let count = self.kept.len();
         self.tell(count);
+    }
+
+    /// Tells of the lines that were read whole, where a fault has ended the serving. Some of them may not be answered.
+    pub(crate) fn end_at_fault(&mut self) {
+        let count = self.whole();
+        self.tell(count);
+    }
+
+    /// How many bytes the lines have that were read whole and aren't told of.
+    fn whole(&self) -> usize {
+        self.kept.len().saturating_sub(last_line(&self.kept).len())
     }
 
     /// Tells of the first lines, which have so many bytes. Where memory runs out no more is told.
@@ -107,8 +118,8 @@ fn blank(line: &mut [u8]) {
 
 impl<R: Read> Read for Session<'_, R> {
     fn read(&mut self, buf: &mut [u8]) -> io::Result<usize> {
-        let whole = self.kept.len().saturating_sub(last_line(&self.kept).len());
-        self.tell(whole);
+        let count = self.whole();
+        self.tell(count);
         self.prompt();
         let count = self.input.read(buf)?;
         let asks_help = self.asks_help(&buf[..count]);
