@@ -363,6 +363,9 @@ Options:
       --format <FORMAT>  Lines (text), or JSON objects, one a line (json) [default: text]
   -h, --help             Print help
 
+F may be a disk, of which the two slots are told, or the first file of a reduction that
+icserve reduce --keep F keeps: then file 1 is F, and file 2 is F.2.
+
 Example:
   $ icserve create --disk jobs.disk
   $ icserve inspect --disk jobs.disk
@@ -415,6 +418,7 @@ Options:
   -h, --help         Print help
 
 It may be stopped at any moment and called again with the same words.
+A greater K is faster; after a stop more rounds may have to be made again.
 
 Example:
   $ echo 'submit two {Add(x,x)><Z; Add(S(x),y)><S(Add(x,y))} <r|Add(r,S(Z))=S(Z)>' > lines
