@@ -20,6 +20,8 @@ NAMES = "a name is a letter a to z, maybe with a number from 1 on, and a symbol 
 SYMBOLS = "a symbol has letters and digits only"
 RULE_SYMBOLS = "both symbols of a rule begin with A to Z or 0 to 9"
 ONCE = "stands once; write it once more, or in its place an eraser, as Era (`icserve expand` writes its rules)"
+BOTH = "stand once; write one name for both, or an eraser in the place of each, as Era (`icserve expand` writes its rules)"
+MOST_LOOKED = 4_096
 THRICE = "stands here for the third time; `icserve expand` writes rules that copy"
 EXPANDED = "`icserve expand` writes the rules for which copy and erase stand"
 FORMS = {"configuration": "<INTERFACE|EQUATIONS>", "system": "{RULES} <INTERFACE|EQUATIONS>"}
@@ -46,6 +48,7 @@ class Reader:
     """Goes through the tokens of a text as far as a text goes on."""
 
     def __init__(self, text):
+        self.text = text
         self.tokens = [(it.start(), it.group()) for it in TOKEN.finditer(text)] + [(len(text), b"")]
         self.at = 0
         self.words, self.terms, self.sides = [], [], []
@@ -162,6 +165,15 @@ def miscounted(words):
         before[text] += 1
 
 
+def other_alone(text, at, words):
+    """The first name beside that at a place which stands once among the words of its rule, or None; of a long rule none is told."""
+    before, after = re.split(rb"[{;]", text[:at])[-1], re.split(rb"[;}]", text[at:])[0]
+    if max(len(before), len(after)) > MOST_LOOKED:
+        return None
+    counts = Counter(it[1] for it in words)
+    return next((it[1] for it in words if it[2] is NAME and counts[it[1]] == 1 and it[0] != at), None)
+
+
 def renamed(words):
     """Words with their names numbered in the order in which they first occur."""
     numbers = {}
@@ -175,7 +187,8 @@ def fault_of_names_and_rules(reader):
         if at is not None:
             text = next(text for place, text, *_ in left + right if place == at).decode()
             is_once = [it[1].decode() for it in left + right].count(text) == 1
-            told = ONCE if is_once else THRICE
+            other = other_alone(reader.text, at, left + right)
+            told = f"and {other.decode()} {BOTH}" if is_once and other else ONCE if is_once else THRICE
             return "namecount", at, f"rule {number}: in a rule each name stands exactly twice: {text} {told}"
     seen = {}
     for at, text, form, _ in reader.words[reader.before :]:

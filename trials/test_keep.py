@@ -251,11 +251,11 @@ class Keep(Stops):
                     self.agree(run("reduce", "--resume", self.file, *FIGURES), self.whole(ackermann(2)))
 
     def test_inspect_tells_that_the_newest_file_has_no_state(self):
+        """That is the second one: if the first file has neither a state nor a head alone, it isn't taken for one of a reduction."""
         run("reduce", "--keep", self.file, "--steps", 9, given=ackermann(2))
-        run("reduce", "--resume", self.file, "--steps", 30)
-        whole = self.contents()
-        newest = max((0, 1), key=lambda it: seen(it, whole[it])[1])
-        self.put(laid(whole[it], HEAD, b"nothing!") if it == newest else whole[it] for it in (0, 1))
+        first, second = self.contents()
+        self.equals(self.file, "whether the second file is the newest", True, seen(2, second)[1] > seen(1, first)[1])
+        self.put([first, laid(second, HEAD, b"nothing!")])
         lines = [seen(it, content)[0] for it, content in enumerate(self.contents(), 1)]
         self.runs("inspect", "--disk", self.file, out=[*lines, "held: damaged"])
         self.refuses("reduce", "--resume", self.file, line="damaged", status=3)

@@ -1,6 +1,6 @@
 -- What is told is told one a line.
 use Rattle.std.proofs.Common.{◌≡◌, ℕ, zero, suc, ◌+◌, ◌/◌, ◌%◌, Bool, true, false, ◌||◌, List, [], ◌∷◌, ◌++◌, Option, None, Some, IsTrue, codes, map, refl, sym, ap, ◌∙◌, append_assoc, arith, subst}
-use Rattle.std.specs.Prelude.{◌==◌, ◌&&◌, nat_lt, slice_get, take, drop, if◌then◌else◌}
+use Rattle.std.specs.Prelude.{◌==◌, ◌&&◌, length, nat_le, nat_lt, not, slice_get, take, drop, if◌then◌else◌}
 use Rattle.std.specs.Char.{is_ascii_alphanumeric, is_ascii_digit, is_ascii_uppercase}
 use Rattle.std.specs.Cmp.{unsigned_Decides}
 use Rattle.std.specs.Fmt.{decimal, digits, digits_onto, digit_glyph}
@@ -24,8 +24,9 @@ use Rattle.ic_text.specs.declared.misread.Limit.{Limit as Bound}
 use Rattle.ic_text.specs.declared.misread.Limit.TheVariants as bound
 use Rattle.ic_causes.specs.Causes.{is_printable, shown_byte, shown_path}
 use Rattle.ic_diagnostics.specs.Lines.{column, last_line, line_number, told_at}
-use Rattle.ic_diagnostics.specs.Sights.{first_word, is_again, is_joined, opens_comment, opens_order_mark, sight_at}
-use Rattle.ic_diagnostics.specs.Telling.{after_in_config, after_in_system, after_mark, argument_sentence, config_sentence, count_words, limit_sentence, namecount_sentence, of_rule, opened, order_mark_sentence, plain_sentence, sentence, sight_sentence, stand_sentence, syntax_sentence, system_sentence, wants_term}
+use Rattle.ic_diagnostics.specs.Sights.{alone_in, first_word, is_again, is_alone, is_joined, opens_comment, opens_order_mark, other_alone, rule_front, rule_rest, sight_at}
+use Rattle.ic_diagnostics.specs.Telling.{after_in_config, after_in_system, after_mark, argument_sentence, config_sentence, count_end, limit_sentence, named_other, namecount_sentence, of_rule, often_at, opened, order_mark_sentence, plain_sentence, sentence, sight_sentence, stand_sentence, syntax_sentence, system_sentence, wants_term}
+use Rattle.ic_diagnostics.specs.declared.sights.TheConstants.{MAX_LOOKED}
 use Rattle.ic_diagnostics.specs.declared.sights.Sight.{Sight}
 use Rattle.ic_diagnostics.specs.declared.sights.Sight.TheVariants.{Argument, After, AfterMark}
 use Rattle.ic_diagnostics.specs.declared.stands.Stand.{Stand}
@@ -180,9 +181,32 @@ word_free (b ∷ bs) = by_byte (is_word_byte b) refl (word_free bs)
     by_byte true is free = or_from (b == 10) (has_feed (first_word bs)) (no_feed_by is_word_byte refl b is) free
     by_byte false is free = refl
 
-count_free : (again : Bool) → has_feed (count_words again) ≡ false
-count_free false = refl
-count_free true = refl
+-- the other name of a rule that stands once has none
+alone_free : (rule word : List ℕ) (goes_on : Bool) (text : List ℕ) → has_feed (alone_in rule word goes_on text) ≡ false
+alone_free rule word goes_on [] = refl
+alone_free rule word goes_on (b ∷ bs) =
+    either_free (not goes_on && is_alone rule word (first_word (b ∷ bs))) (first_word (b ∷ bs)) (alone_in rule word (is_word_byte b) bs) (word_free (b ∷ bs)) (alone_free rule word (is_word_byte b) bs)
+
+other_free : (text : List ℕ) (at : ℕ) → has_feed (other_alone text at) ≡ false
+other_free text at =
+    let front = rule_front (take at text) in
+    let rest = rule_rest (drop at text) in
+    let rule = front ++ rest in
+    let word = first_word (drop at text) in
+    either_free (nat_le (length front) MAX_LOOKED && nat_le (length rest) MAX_LOOKED) (alone_in rule word false rule) [] (alone_free rule word false rule) refl
+
+end_free : (again alone : Bool) → has_feed (count_end again alone) ≡ false
+end_free true alone = refl
+end_free false true = refl
+end_free false false = refl
+
+often_free : (text : List ℕ) (at : ℕ) → has_feed (often_at text at) ≡ false
+often_free text at =
+    let again = is_again text at in
+    let other = other_alone text at in
+    let named : has_feed (named_other again other) ≡ false =
+    either_free (again || length other == 0) [] (codes " and " ++ other) refl (both_free (codes " and ") other refl (other_free text at)) in
+    both_free (named_other again other) (count_end again (length other == 0)) named (end_free again (length other == 0))
 
 rule_free : (i : ℕ) (words : List ℕ) → has_feed words ≡ false → has_feed (of_rule i words) ≡ false
 rule_free i words free =
@@ -190,18 +214,18 @@ rule_free i words free =
     both_free (numbered ++ codes ": ") words
     (both_free numbered (codes ": ") (both_free (codes "rule ") (decimal (i + 1)) refl (decimal_free (i + 1))) refl) free
 
-sight_free : (kind : Kind) (fault : TextFault) (detail : Detail) (text : List ℕ) (again : Bool) (sight : Sight)
-    → has_feed (sight_sentence kind fault detail (first_word text) again sight) ≡ false
-sight_free kind (NameCount i) Nothing text again sight =
-    rule_free i (namecount_sentence (first_word text) again)
-    (all_free (codes "in a rule each name stands exactly twice: " ∷ first_word text ∷ count_words again ∷ []) (refl, (word_free text, (count_free again, tt))))
-sight_free kind (Twice i) Nothing text again sight = rule_free i (plain_sentence kind (Twice i) sight) (plain_free kind (Twice i) sight)
-sight_free kind (Lopsided i) Nothing text again sight = rule_free i (plain_sentence kind (Lopsided i) sight) (plain_free kind (Lopsided i) sight)
-sight_free kind fault (Passed limit) text again sight = limit_free limit
-sight_free kind fault (Arities first here) text again sight =
+sight_free : (kind : Kind) (fault : TextFault) (detail : Detail) (text often : List ℕ) (sight : Sight) → has_feed often ≡ false
+    → has_feed (sight_sentence kind fault detail (first_word text) often sight) ≡ false
+sight_free kind (NameCount i) Nothing text often sight free =
+    rule_free i (namecount_sentence (first_word text) often)
+    (all_free (codes "in a rule each name stands exactly twice: " ∷ first_word text ∷ often ∷ []) (refl, (word_free text, (free, tt))))
+sight_free kind (Twice i) Nothing text often sight free = rule_free i (plain_sentence kind (Twice i) sight) (plain_free kind (Twice i) sight)
+sight_free kind (Lopsided i) Nothing text often sight free = rule_free i (plain_sentence kind (Lopsided i) sight) (plain_free kind (Lopsided i) sight)
+sight_free kind fault (Passed limit) text often sight free = limit_free limit
+sight_free kind fault (Arities first here) text often sight free =
     all_free (codes "a symbol has one arity: " ∷ first_word text ∷ codes " has " ∷ decimal here ∷ codes " here and " ∷ decimal first ∷ codes " where it stands first" ∷ [])
     (refl, (word_free text, (refl, (decimal_free here, (refl, (decimal_free first, (refl, tt)))))))
-sight_free kind fault Nothing text again sight = plain_free kind fault sight
+sight_free kind fault Nothing text often sight free = plain_free kind fault sight
 
 fault_free : (fault : TextFault) → has_feed (fault_text fault) ≡ false
 fault_free (NameCount i) = both_free (codes "bad namecount ") (decimal (i + 1)) refl (decimal_free (i + 1))
@@ -238,7 +262,7 @@ pub one_fault : (file : List ℕ) (kind : Kind) (text : List ℕ) (place : Optio
     → IsOneLine (told_fault file kind text place fault detail)
 one_fault file kind text None fault detail free = one_of_parts (file ∷ colon ∷ fault_text fault ∷ []) (free, (refl, (fault_free fault, tt)))
 one_fault file kind text (Some at) fault detail free =
-    placed_free file 0 text at fault (sentence kind text fault at detail) free (sight_free kind fault detail (drop at text) (is_again text at) (sight_at text at))
+    placed_free file 0 text at fault (sentence kind text fault at detail) free (sight_free kind fault detail (drop at text) (often_at text at) (sight_at text at) (often_free text at))
 
 due_free : (rest : List ℕ) (due : Due) → has_feed (due_sentence rest due) ≡ false
 due_free rest due.Command = either_free (opens_text rest) whole_text_sentence (sought_sentence due.Command) refl refl
@@ -256,7 +280,7 @@ line_words_free line fault at (Sought due) =
     either_free (opens_comment (drop at line)) line_comment_sentence marked refl
     (either_free (opens_order_mark line) order_mark_sentence last refl (either_free is_named job_name_sentence (due_sentence (drop at line) due) refl (due_free (drop at line) due)))
 line_words_free line fault at (Beyond limit) = line_limit_free limit
-line_words_free line fault at (Within detail) = sight_free System fault detail (drop at line) (is_again line at) (sight_at line at)
+line_words_free line fault at (Within detail) = sight_free System fault detail (drop at line) (often_at line at) (sight_at line at) (often_free line at)
 
 pub one_line_fault : (file : List ℕ) (number : ℕ) (line : List ℕ) (at : ℕ) (fault : TextFault) (detail : LineDetail) → has_feed file ≡ false
     → IsOneLine (told_line_fault file number line at fault detail)

@@ -1,6 +1,6 @@
 -- What stands where a text doesn't go on, as far as it tells what is amiss (this
 -- project's choice).
-use Rattle.std.specs.Prelude.{ℕ, ◌-◌, ◌==◌, List, [], ◌∷◌, Bool, true, false, ◌&&◌, ◌||◌, not, Option, None, Some, codes, length, nat_eq, nat_le, slice_get, take, drop, if◌then◌else◌}
+use Rattle.std.specs.Prelude.{ℕ, ◌+◌, ◌-◌, ◌==◌, List, [], ◌∷◌, ◌++◌, Bool, true, false, ◌&&◌, ◌||◌, not, Option, None, Some, codes, length, nat_eq, nat_le, slice_get, take, drop, if◌then◌else◌}
 use Rattle.std.specs.Char.{is_ascii_digit, is_ascii_lowercase, is_ascii_uppercase}
 use Rattle.std.specs.List.{list_all, list_any, starts_with}
 use Rattle.std.specs.Str.{bytes_eq}
@@ -8,6 +8,7 @@ use Rattle.ic_text.specs.Name.{is_numeral}
 use Rattle.ic_text.specs.Token.{is_blank, is_word_byte}
 use Rattle.ic_diagnostics.specs.Lines.{trimmed}
 use Rattle.ic_diagnostics.specs.declared.sights.Sight.{Sight}
+use Rattle.ic_diagnostics.specs.declared.sights.TheConstants.{MAX_LOOKED}
 use Rattle.ic_diagnostics.specs.declared.sights.Sight.TheVariants.{Blank, End, SystemMark, ConfigMark, CommandWord, Comment, OrderMark, NoName, NoSymbol, Small, Expanded, Applied, Empty, Ended, Trailing, Listed, Equated, Late, Argument, After, Crossing, Crossed, Front, AfterMark}
 use Rattle.ic_diagnostics.specs.declared.stands.Spot.{Spot}
 use Rattle.ic_diagnostics.specs.declared.stands.Stand.{Stand}
@@ -303,3 +304,42 @@ stands_in word goes_on (b ∷ bs) =
 -- the word at a place stands in its rule before the place, too
 abbrev pub is_again : List ℕ → ℕ → Bool
 is_again text at = stands_in (first_word (drop at text)) false (rule_front (take at text))
+
+-- a byte with which a rule ends
+abbrev pub closes_rule : ℕ → Bool
+closes_rule b = b == 59 || b == 125
+
+-- as much of a rule as stands at the front of a text
+abbrev pub rule_rest : List ℕ → List ℕ
+rule_rest [] = []
+rule_rest (b ∷ bs) = if closes_rule b then [] else b ∷ rule_rest bs
+
+-- how often a word stands in a text, of which the first byte may go on with a word that stands before it
+abbrev pub times_in : (word : List ℕ) → (goes_on : Bool) → List ℕ → ℕ
+times_in word goes_on [] = 0
+times_in word goes_on (b ∷ bs) =
+    (if not goes_on && bytes_eq (first_word (b ∷ bs)) word then 1 else 0)
+    + times_in word (is_word_byte b) bs
+
+-- a word other than this one begins as names do, and stands once in a rule
+abbrev pub is_alone : (rule word other : List ℕ) → Bool
+is_alone rule word other =
+    begins_as_name other && (not (bytes_eq other word) && times_in other false rule == 1)
+
+-- the first such word of a part of the rule, or nothing
+abbrev pub alone_in : (rule word : List ℕ) → (goes_on : Bool) → List ℕ → List ℕ
+alone_in rule word goes_on [] = []
+alone_in rule word goes_on (b ∷ bs) =
+    if not goes_on && is_alone rule word (first_word (b ∷ bs)) then first_word (b ∷ bs)
+    else alone_in rule word (is_word_byte b) bs
+
+-- the same of the whole rule, of which two parts are given; a long one isn't looked through
+abbrev pub alone_beside : (before after word : List ℕ) → List ℕ
+alone_beside before after word =
+    if nat_le (length before) MAX_LOOKED && nat_le (length after) MAX_LOOKED
+    then alone_in (before ++ after) word false (before ++ after) else []
+
+-- beside the name at a place, the first other one that stands once in its rule
+abbrev pub other_alone : List ℕ → ℕ → List ℕ
+other_alone text at =
+    alone_beside (rule_front (take at text)) (rule_rest (drop at text)) (first_word (drop at text))

@@ -1,5 +1,5 @@
 -- What is told of a refused text beside its refusal (this project's choice).
-use Rattle.std.specs.Prelude.{◌≡◌, ℕ, ◌+◌, List, [], ◌∷◌, ◌++◌, Option, None, Some, Err, codes, drop, slice_get, ◌==◌, Bool, true, false, ◌||◌, if◌then◌else◌}
+use Rattle.std.specs.Prelude.{◌≡◌, ℕ, ◌+◌, List, [], ◌∷◌, ◌++◌, Option, None, Some, Err, codes, drop, length, slice_get, ◌==◌, Bool, true, false, ◌||◌, if◌then◌else◌}
 use Rattle.std.specs.Fmt.{decimal}
 use Rattle.std.specs.List.{concat}
 use Rattle.ic_text.specs.declared.fault.TextFault.{TextFault}
@@ -27,7 +27,7 @@ use Rattle.ic_diagnostics.specs.declared.sights.Sight.TheVariants.{Blank, End, S
 use Rattle.ic_diagnostics.specs.declared.stands.Stand.{Stand}
 use Rattle.ic_diagnostics.specs.declared.stands.Stand.TheVariants as standing
 use Rattle.ic_diagnostics.specs.Lines.{place_lines}
-use Rattle.ic_diagnostics.specs.Sights.{first_word, is_again, sight_at}
+use Rattle.ic_diagnostics.specs.Sights.{first_word, is_again, other_alone, sight_at}
 
 -- what names and symbols are, where a word is neither
 abbrev pub name_sentence : List ℕ
@@ -218,42 +218,59 @@ IsOfArities {P} IsOne words written text at symbol before here =
     × (slice_get (all_words (written phrase)) word
     ≡ Some (record { text = symbol; arity = here }))
 
--- how often a name that is told stands in a rule, and what makes it stand twice
-abbrev pub count_words : Bool → List ℕ
-count_words false = codes " stands once; write it once more, or in its place an eraser, as Era "
-    ++ codes "(`icserve expand` writes its rules)"
-count_words true = codes " stands here for the third time; `icserve expand` writes rules that copy"
+-- the other name that is told, where there is one
+abbrev pub named_other : (again : Bool) → (other : List ℕ) → List ℕ
+named_other again other = if again || length other == 0 then [] else codes " and " ++ other
 
--- what is amiss where a name stands in a rule for the only time, or again and for the third time
-abbrev pub namecount_sentence : (name : List ℕ) → (again : Bool) → List ℕ
-namecount_sentence name again =
-    concat (codes "in a rule each name stands exactly twice: " ∷ name ∷ count_words again ∷ [])
+-- how often names that are told stand in a rule, and what makes each stand twice: one for the third
+-- time, one alone, or two
+abbrev pub count_end : (again alone : Bool) → List ℕ
+count_end true alone =
+    codes " stands here for the third time; `icserve expand` writes rules that copy"
+count_end false true = codes " stands once; write it once more, or in its place an eraser, as Era "
+    ++ codes "(`icserve expand` writes its rules)"
+count_end false false = codes " stand once; write one name for both, "
+    ++ codes "or an eraser in the place of each, as Era (`icserve expand` writes its rules)"
+
+-- what is said of a name after it, by whether it stands for the third time, and by the other one
+abbrev pub count_words : (again : Bool) → (other : List ℕ) → List ℕ
+count_words again other = named_other again other ++ count_end again (length other == 0)
+
+-- the same of the name at a place
+abbrev pub often_at : List ℕ → ℕ → List ℕ
+often_at text at = count_words (is_again text at) (other_alone text at)
+
+-- what is amiss where a name doesn't stand in a rule twice, but as often as these words say
+abbrev pub namecount_sentence : (name often : List ℕ) → List ℕ
+namecount_sentence name often =
+    concat (codes "in a rule each name stands exactly twice: " ∷ name ∷ often ∷ [])
 
 -- what is amiss with the rule of this place, from 0, with its number, from 1
 abbrev pub of_rule : ℕ → List ℕ → List ℕ
 of_rule i words = codes "rule " ++ decimal (i + 1) ++ codes ": " ++ words
 
--- what is amiss at the place of a refusal of which no more is known, by the word there, by whether it
--- stands in its rule before the place, and by whatever else stands there
-abbrev pub place_sentence : Kind → TextFault → List ℕ → Bool → Sight → List ℕ
-place_sentence kind (NameCount i) word again sight = of_rule i (namecount_sentence word again)
-place_sentence kind (Twice i) word again sight = of_rule i (plain_sentence kind (Twice i) sight)
-place_sentence kind (Lopsided i) word again sight =
+-- what is amiss at the place of a refusal of which no more is known, by the word there, by how often it
+-- stands in its rule, and by whatever else stands there
+abbrev pub place_sentence : Kind → TextFault → (word often : List ℕ) → Sight → List ℕ
+place_sentence kind (NameCount i) word often sight = of_rule i (namecount_sentence word often)
+place_sentence kind (Twice i) word often sight = of_rule i (plain_sentence kind (Twice i) sight)
+place_sentence kind (Lopsided i) word often sight =
     of_rule i (plain_sentence kind (Lopsided i) sight)
-place_sentence kind fault word again sight = plain_sentence kind fault sight
+place_sentence kind fault word often sight = plain_sentence kind fault sight
 
 -- the same of any refusal with these limits
-abbrev pub sight_sentence_within : Limits → Kind → TextFault → Detail → List ℕ → Bool → Sight → List ℕ
-sight_sentence_within limits kind fault Nothing word again sight =
-    place_sentence kind fault word again sight
-sight_sentence_within limits kind fault (Passed limit) word again sight =
+abbrev pub sight_sentence_within : Limits → Kind → TextFault → Detail → (word often : List ℕ) → Sight
+    → List ℕ
+sight_sentence_within limits kind fault Nothing word often sight =
+    place_sentence kind fault word often sight
+sight_sentence_within limits kind fault (Passed limit) word often sight =
     limit_sentence_within limits limit
-sight_sentence_within limits kind fault (Arities before here) word again sight =
+sight_sentence_within limits kind fault (Arities before here) word often sight =
     arity_sentence word before here
 
 abbrev pub sentence_within : Limits → Kind → List ℕ → TextFault → ℕ → Detail → List ℕ
 sentence_within limits kind text fault at detail = sight_sentence_within limits kind fault detail
-    (first_word (drop at text)) (is_again text at) (sight_at text at)
+    (first_word (drop at text)) (often_at text at) (sight_at text at)
 
 -- the lines that tell of a refusal, where its place is told
 abbrev pub told_lines_within : Limits → Kind → List ℕ → TextFault → Option ℕ → Detail → List ℕ
@@ -297,9 +314,9 @@ AppendedWithin limits Answers kind old new (Text fault) before after =
 AppendedWithin limits Answers kind old new fault before after = after ≡ before
 
 -- the same with the limits of what is served
-abbrev pub sight_sentence : Kind → TextFault → Detail → List ℕ → Bool → Sight → List ℕ
-sight_sentence kind fault detail word again sight =
-    sight_sentence_within Served kind fault detail word again sight
+abbrev pub sight_sentence : Kind → TextFault → Detail → (word often : List ℕ) → Sight → List ℕ
+sight_sentence kind fault detail word often sight =
+    sight_sentence_within Served kind fault detail word often sight
 
 abbrev pub sentence : Kind → List ℕ → TextFault → ℕ → Detail → List ℕ
 sentence kind text fault at detail = sentence_within Served kind text fault at detail

@@ -29,9 +29,9 @@ ghost use Rattle.ic_streams.specs.Streams.{OfText, Rounds, Settles};
 ghost use Rattle.ic_streams.specs.declared.fault.StreamFault.TheVariants.{Text};
 ghost use Rattle.ic_diagnostics.specs.declared.telling.Kind.{Kind};
 ghost use Rattle.ic_diagnostics.specs.declared.telling.Kind.TheVariants.{Config, System};
-ghost use Rattle.ic_diagnostics.specs.Sights.{command_words, first_word, is_again};
+ghost use Rattle.ic_diagnostics.specs.Sights.{command_words, first_word};
 ghost use Rattle.ic_diagnostics.specs.Telling.{Appended, IsOfArities, IsToldOf, applied_sentence, arity_sentence, comment_sentence, expanded_sentence, limit_sentence};
-ghost use Rattle.ic_diagnostics.specs.Telling.{limit_sentence_within, name_sentence, namecount_sentence, of_rule, sentence, small_sentence, symbol_sentence};
+ghost use Rattle.ic_diagnostics.specs.Telling.{limit_sentence_within, name_sentence, namecount_sentence, of_rule, often_at, sentence, small_sentence, symbol_sentence};
 ghost use Rattle.ic_diagnostics.specs.Lines.{IsMarked, begins_with_feed, column, feed, first_line, head_of, is_ascii, is_feed, is_printable, last_line, line_number, margin, picture_of, place_lines, shown, shown_after, shown_before, told_at};
 
 /// A line feed ends a line and begins one. The last line is what follows the last line feed.
@@ -260,8 +260,8 @@ pub fn comments_are_told()
         ∷ comment_sentence ∷ [] }
 {}
 
-/// A name that stands in a rule for the only time, or for the third time, is told with that. What stands in another rule
-/// doesn't count. With what is amiss in a rule its number is told, from 1.
+/// A name that stands in a rule for the only time, or for the third time, is told with that, and a second name that stands
+/// there once beside the first. What stands in another rule doesn't count. With what is amiss in a rule its number is told, from 1.
 pub fn miscounts_are_told()
     ensures once { sentence System (codes "{A(x)><B} <x|>") (NameCount 0) 3 Nothing
         ≡ codes "rule " ++ decimal 1
@@ -273,7 +273,12 @@ pub fn miscounts_are_told()
         ++ codes ": in a rule each name stands exactly twice: x stands here for the third time; "
         ++ codes "`icserve expand` writes rules that copy" }
     ensures again { (text : List ℕ) (at i : ℕ) → sentence System text (NameCount i) at Nothing
-        ≡ of_rule i (namecount_sentence (first_word (drop at text)) (is_again text at)) }
+        ≡ of_rule i (namecount_sentence (first_word (drop at text)) (often_at text at)) }
+    ensures both { sentence System (codes "{M(r,y)><S(M(x,y))} <r|>") (NameCount 0) 3 Nothing
+        ≡ codes "rule " ++ decimal 1
+        ++ codes ": in a rule each name stands exactly twice: r and x stand once; "
+        ++ codes "write one name for both, or an eraser in the place of each, as Era "
+        ++ codes "(`icserve expand` writes its rules)" }
     ensures twice { (text : List ℕ) (at i : ℕ) → sentence System text (Twice i) at Nothing
         ≡ codes "rule " ++ decimal (i + 1)
         ++ codes ": a rule before this one is of the same two symbols" }

@@ -1,15 +1,17 @@
 //! What stands where a text doesn't go on.
 
-ghost use Rattle.std.specs.Prelude.{◌≡◌, ◌≤◌, false, length};
+ghost use Rattle.std.specs.Prelude.{◌≡◌, ◌≤◌, IfOk, false, length};
 ghost use Rattle.std.specs.List.{list_all};
 ghost use Rattle.ic_text.specs.Token.{is_blank};
 ghost use Rattle.ic_diagnostics.specs.Sights.{after_word, begins_rule, begins_word, empties, end_sight, ends_list, ends_rules, ends_term, first_byte, first_word, front_sight, has_dash, inner_sight, is_command, is_dashed, is_in_rule, is_joined};
 ghost use Rattle.ic_diagnostics.specs.Sights.{begins_as_name, is_applied, is_equated, is_in_interface, is_late, is_listed, is_misnamed, is_over, is_no_name, is_no_symbol, is_on_side, is_small, is_spread, is_stray, marked_sight, opens, opens_applied, opens_spread};
+ghost use Rattle.ic_diagnostics.specs.Sights.{alone_in, closes_rule, is_alone, other_alone, rule_rest, times_in};
 ghost use Rattle.ic_diagnostics.specs.Sights.{is_again, is_second, is_symbol, is_term_due, joins, last_byte, last_word, mark_sight, opens_comment, opens_order_mark, opens_term, rule_front, sight_at, stands_in, term_sight};
 
 use crate::lines::trimmed;
 use crate::stands::{Spot, Stand, spot_of};
 use ic_text::{is_blank, is_numeral, is_word_byte};
+use std::alloc::{AllocError, Global};
 
 /// What stands at a place of a text, as far as it tells what is amiss there.
 #[derive(Clone, Copy, Debug, PartialEq, Eq)]
@@ -630,4 +632,78 @@ pub(crate) fn is_again(text: &[u8], at: usize) -> bool
 {
     let (front, rest) = text.split_at(at);
     stands_in(first_word(rest), rule_front(front))
+}
+
+/// How many bytes of a rule are looked through at most, before a place and from it on.
+pub const MAX_LOOKED: usize = 4_096;
+
+/// Whether a rule ends with a byte.
+fn closes_rule(byte: u8) -> bool
+    ensures { result ≡ closes_rule byte }
+{
+    byte == b';' || byte == b'}'
+}
+
+/// As much of a rule as stands at the front of a text.
+fn rule_rest(text: &[u8]) -> &[u8]
+    ensures { result.now ≡ rule_rest text.now }
+{
+    for (place, byte) in text.iter().enumerate() {
+        if closes_rule(*byte) {
+            return &text[..place];
+        }
+    }
+    text
+}
+
+/// How often a word stands in a text.
+fn times_in(word: &[u8], text: &[u8]) -> usize
+    ensures { result ≡ times_in word.now false text.now }
+{
+    let mut count = 0;
+    let mut goes_on = false;
+    for (place, byte) in text.iter().enumerate() {
+        if !goes_on && first_word(&text[place..]) == word {
+            count += 1;
+        }
+        goes_on = is_word_byte(*byte);
+    }
+    count
+}
+
+/// Whether a word other than this one begins as names do, and stands once in a rule.
+fn is_alone(rule: &[u8], word: &[u8], other: &[u8]) -> bool
+    ensures { result ≡ is_alone rule.now word.now other.now }
+{
+    begins_as_name(other) && other != word && times_in(other, rule) == 1
+}
+
+/// The first such word of a rule, or nothing.
+fn alone_in<'r>(rule: &'r [u8], word: &[u8]) -> &'r [u8]
+    ensures { result.now ≡ alone_in rule.now word.now false rule.now }
+{
+    let mut goes_on = false;
+    for (place, byte) in rule.iter().enumerate() {
+        let other = first_word(&rule[place..]);
+        if !goes_on && is_alone(rule, word, other) {
+            return other;
+        }
+        goes_on = is_word_byte(*byte);
+    }
+    &rule[..0]
+}
+
+/// Beside the name at a place, the first other one that stands once in its rule, or nothing. A long rule isn't looked through.
+pub(crate) fn other_alone(alloc: Global, text: &[u8], at: usize) -> Result<Vec<u8>, AllocError>
+    requires { at ≤ length text.now }
+    ensures { IfOk result (λ word. word.items ≡ other_alone text.now at) }
+{
+    let (front, rest) = text.split_at(at);
+    let (before, after) = (rule_front(front), rule_rest(rest));
+    if before.len() > MAX_LOOKED || after.len() > MAX_LOOKED {
+        return Ok(Vec::new(alloc));
+    }
+    let mut rule = before.to_vec(alloc)?;
+    rule.extend_from_slice(after)?;
+    alone_in(&rule, first_word(rest)).to_vec(alloc)
 }

@@ -1,14 +1,14 @@
 //! What is told of a refused text beside its refusal.
 
-ghost use Rattle.std.specs.Prelude.{◌≡◌, ◌≤◌, IfOk, IfSome, drop, false, length, true};
+ghost use Rattle.std.specs.Prelude.{◌≡◌, ◌≤◌, ◌++◌, IfOk, IfSome, OnOk, drop, false, length, true};
 ghost use Rattle.ic_text.specs.declared.limits.Limits.TheVariants.{Wide};
-ghost use Rattle.ic_diagnostics.specs.Sights.{first_word, is_again, sight_at};
-ghost use Rattle.ic_diagnostics.specs.Telling.{after_in_config, after_in_system, after_mark, argument_sentence, arity_sentence, config_sentence, count_words};
-ghost use Rattle.ic_diagnostics.specs.Telling.{limit_sentence, limit_sentence_within, namecount_sentence, of_rule, place_sentence, plain_sentence, sentence, sentence_within};
+ghost use Rattle.ic_diagnostics.specs.Sights.{first_word, sight_at};
+ghost use Rattle.ic_diagnostics.specs.Telling.{after_in_config, after_in_system, after_mark, argument_sentence, arity_sentence, config_sentence, count_end, named_other};
+ghost use Rattle.ic_diagnostics.specs.Telling.{limit_sentence, limit_sentence_within, namecount_sentence, of_rule, often_at, place_sentence, plain_sentence, sentence, sentence_within};
 ghost use Rattle.ic_diagnostics.specs.Telling.{stand_sentence, syntax_sentence, system_sentence, told_lines, told_lines_within};
 
 use crate::lines::place_lines;
-use crate::sights::{Sight, first_word, is_again, sight_at};
+use crate::sights::{Sight, first_word, is_again, other_alone, sight_at};
 use crate::stands::Stand;
 use ic_text::{Detail, Limit, Limits, Misread, TextFault, put_decimal};
 use std::alloc::{AllocError, Global};
@@ -302,24 +302,44 @@ fn arity_sentence(
     Ok(sentence)
 }
 
-/// What is amiss where a name stands in a rule for the only time, or again and for the third time.
-fn namecount_sentence(alloc: Global, name: &[u8], again: bool) -> Result<Vec<u8>, AllocError>
-    ensures { IfOk result (λ words. words.items ≡ namecount_sentence name.now again) }
+/// What is amiss where the name at a place doesn't stand in its rule twice.
+fn namecount_sentence(alloc: Global, text: &[u8], at: usize) -> Result<Vec<u8>, AllocError>
+    requires { at ≤ length text.now }
+    ensures { IfOk result (λ words. words.items
+        ≡ namecount_sentence (first_word (drop at text.now)) (often_at text.now at)) }
 {
+    let other = other_alone(alloc, text, at)?;
+    let again = is_again(text, at);
+    let (_, rest) = text.split_at(at);
     let mut sentence = Vec::from_slice(alloc, b"in a rule each name stands exactly twice: ")?;
-    sentence.extend_from_slice(name)?;
-    sentence.extend_from_slice(count_words(again))?;
+    sentence.extend_from_slice(first_word(rest))?;
+    put_other(again, &other, &mut sentence)?;
+    sentence.extend_from_slice(count_end(again, other.is_empty()))?;
     Ok(sentence)
 }
 
-/// How often a name that is told stands in a rule, and what makes it stand twice.
-fn count_words(again: bool) -> &'static [u8]
-    ensures { result.now ≡ count_words again }
+/// Appends the other name that is told, where there is one.
+fn put_other(again: bool, other: &[u8], out: &mut Vec<u8>) -> Result<(), AllocError>
+    ensures { OnOk result (out.new.items ≡ out.old.items ++ named_other again other.now) }
+{
+    if again || other.is_empty() {
+        return Ok(());
+    }
+    out.extend_from_slice(b" and ")?;
+    out.extend_from_slice(other)
+}
+
+/// How often names that are told stand in a rule, and what makes each stand twice.
+fn count_end(again: bool, alone: bool) -> &'static [u8]
+    ensures { result.now ≡ count_end again alone }
 {
     if again {
         b" stands here for the third time; `icserve expand` writes rules that copy"
-    } else {
+    } else if alone {
         b" stands once; write it once more, or in its place an eraser, as Era \
+(`icserve expand` writes its rules)"
+    } else {
+        b" stand once; write one name for both, or an eraser in the place of each, as Era \
 (`icserve expand` writes its rules)"
     }
 }
@@ -334,11 +354,11 @@ fn place_sentence(
 ) -> Result<Vec<u8>, AllocError>
     requires { at ≤ length text.now }
     ensures { IfOk result (λ words. words.items ≡ place_sentence kind fault
-        (first_word (drop at text.now)) (is_again text.now at) (sight_at text.now at)) }
+        (first_word (drop at text.now)) (often_at text.now at) (sight_at text.now at)) }
 {
     match fault {
         TextFault::NameCount(rule) => {
-            let words = namecount_sentence(alloc, first_word(&text[at..]), is_again(text, at))?;
+            let words = namecount_sentence(alloc, text, at)?;
             of_rule(alloc, rule, &words)
         }
         TextFault::Twice(rule) => {
