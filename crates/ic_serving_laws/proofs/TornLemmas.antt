@@ -1,6 +1,6 @@
 -- What is so where an attendance is torn.
-use Rattle.std.proofs.Common.{◌≡◌, ◌⊎◌, inl, inr, ℕ, List, [], ◌∷◌}
-use Rattle.std.specs.List.{AllZip}
+use Rattle.std.proofs.Common.{◌≡◌, ◌≢◌, ◌⊎◌, inl, inr, ℕ, List, [], ◌∷◌, length}
+use Rattle.std.specs.List.{All, AllZip}
 use Rattle.ic_disk.specs.declared.disk.Disk.{Ghosts}
 use Rattle.ic_jobs.specs.declared.command.Command.{Command}
 use Rattle.ic_jobs.specs.Job.{JobParts}
@@ -8,6 +8,7 @@ use Rattle.ic_book.specs.Book.{start_of}
 use Rattle.ic_attend.specs.declared.attended.Attended.{Attended}
 use Rattle.ic_attend.specs.declared.attended.ClientRun.{ClientRun}
 use Rattle.ic_attend.specs.Clients.{Follows, KeepsTo}
+use Rattle.ic_attend.specs.Ends.{EndMayBe}
 use Rattle.ic_attend.specs.Faults.{AreFollowed, BeganOtherwise, Differs}
 
 -- clients that keep to their scripts follow them
