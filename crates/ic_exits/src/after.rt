@@ -1,7 +1,8 @@
 //! What is told after the line of a failure: why a disk's file doesn't serve, or standard input can't
 //! be read, which round is refused, or how far a net has come that was reduced in place.
 
-ghost use Rattle.std.specs.Prelude.{◌≡◌, IfOk};
+ghost use Rattle.std.specs.Prelude.{◌≡◌, ◌++◌, IfOk};
+ghost use Rattle.ic_causes.specs.Causes.{shown_path};
 ghost use Rattle.ic_exits.specs.After.{book_lines, create_lines, ends_without_reader, is_of_writing, is_silent, lines_after, open_lines, scripts_lines};
 ghost use Rattle.ic_exits.specs.After.{batch_lines, input_lines, inspect_lines, nodes_words, overgrown_lines, reached_lines, reached_text, round_lines};
 ghost use Rattle.ic_exits.specs.After.{around_second, disk_lines, finds_no_second, found_lines, keep_lines, kept_lines};
@@ -33,10 +34,6 @@ const NOT_EMPTY: &[u8] =
 
 /// What is said of a file that no server has left so.
 const NOT_AS_LEFT: &[u8] = b"something else has changed the file, or it was copied in part";
-
-/// What is said of the second file of a reduction, before the path of the first one, which isn't there.
-const LOST_FIRST: &[u8] = b", holds a reduction: bring the first one back; \
-if it is lost, `head -c 17 /dev/zero > ";
 
 /// What is said of a disk that has no room.
 const NO_ROOM: &[u8] = b"it has jobs of other names, and no disk has more than 32";
@@ -419,9 +416,12 @@ pub fn second_missing(alloc: Global, path: &[u8]) -> Result<Vec<u8>, AllocError>
 pub fn first_missing(alloc: Global, path: &[u8]) -> Result<Vec<u8>, AllocError>
     ensures { IfOk result (λ line. line.items ≡ shown_of path.now (no_first path.now)) }
 {
-    let mut made = LOST_FIRST.to_vec(alloc)?;
-    made.extend_from_slice(&shown_path(alloc, path)?)?;
-    made.extend_from_slice(b"` makes it anew")?;
+    let made = around_path(
+        alloc,
+        path,
+        b", holds a reduction: bring the first one back; if it is lost, `head -c 17 /dev/zero > ",
+        b"` makes it anew",
+    )?;
     said_of_both(alloc, path, b"its second file, ", &made)
 }
 
@@ -437,6 +437,22 @@ fn said_of_both(
 {
     let words = around_second(alloc, path, before, after)?;
     said_of(alloc, path, &words)
+}
+
+/// These words, with a path between.
+fn around_path(
+    alloc: Global,
+    path: &[u8],
+    before: &[u8],
+    after: &[u8],
+) -> Result<Vec<u8>, AllocError>
+    ensures { IfOk result
+        (λ words. words.items ≡ before.now ++ (shown_path path.now ++ after.now)) }
+{
+    let mut words = before.to_vec(alloc)?;
+    words.extend_from_slice(&shown_path(alloc, path)?)?;
+    words.extend_from_slice(after)?;
+    Ok(words)
 }
 
 /// These words, with the path of the second file of a reduction between.

@@ -46,7 +46,7 @@ ghost use Rattle.ic_batch.specs.declared.fault.Difference.TheVariants as differe
 ghost use Rattle.ic_causes.specs.declared.cause.FileCall.{FileCall};
 ghost use Rattle.ic_causes.specs.declared.cause.Reason.TheVariants as reason;
 ghost use Rattle.ic_exits.specs.Endings.{status_of, check_ending, failure_line, failure_of_dump, idle_line, opening_failure, reduce_ending, stuck_line};
-ghost use Rattle.ic_exits.specs.After.{is_silent, lines_after, no_first, shown_of};
+ghost use Rattle.ic_exits.specs.After.{is_silent, lines_after, no_first, no_second, shown_of};
 ghost use Rattle.ic_exits.specs.JobLines.{refused_job_line};
 ghost use Rattle.ic_exits.specs.Others.{lines_or_other};
 ghost use Rattle.ic_exits.specs.declared.others.Other.{Other};
@@ -326,9 +326,10 @@ pub fn endings_of_kept_reductions_are()
           target = target.Second;
           call = c;
           reason = reason.Missing;
-        })) ++ shown_path path ++ codes ": "
-        ++ codes "its second file, " ++ shown_path path ++ codes ".2, is missing: bring it back; "
-        ++ codes "if it is lost, `head -c 17 /dev/zero > " ++ shown_path path
+        })) ++ shown_of path (no_second path) }
+    ensures no_second { (path : List ℕ) → shown_of path (no_second path) ≡ shown_path path
+        ++ codes ": " ++ codes "its second file, " ++ shown_path path ++ codes ".2, is missing: "
+        ++ codes "bring it back; if it is lost, `head -c 17 /dev/zero > " ++ shown_path path
         ++ codes ".2` makes it anew" ++ 10 ∷ [] }
     ensures no_first_file { (path : List ℕ) → shown_of path (no_first path) ≡ shown_path path
         ++ codes ": " ++ codes "its second file, " ++ shown_path path ++ codes ".2, holds a reduction: "
