@@ -1,6 +1,6 @@
 //! What a trace shows of the rounds of a text.
 
-ghost use Rattle.std.specs.Prelude.{◌≡◌, ℕ, suc, List, [], ◌∷◌, ◌++◌, Ok, Err, codes};
+ghost use Rattle.std.specs.Prelude.{◌≡◌, ℕ, suc, List, [], ◌∷◌, ◌++◌, Ok, Err, codes, length};
 ghost use Rattle.std.specs.Fmt.{decimal};
 ghost use Rattle.std.specs.List.{concat};
 ghost use Rattle.ic_term.specs.Configuration.{configuration_nodes};
@@ -10,7 +10,7 @@ ghost use Rattle.ic_text.specs.SystemText.{ReadsSystem};
 ghost use Rattle.ic_text.specs.declared.fault.TextFault.{TextFault};
 ghost use Rattle.ic_streams.specs.declared.fault.StreamFault.TheVariants.{Round, Text};
 ghost use Rattle.ic_by_rounds.specs.Objects.{row_object};
-ghost use Rattle.ic_by_rounds.specs.Pictures.{shown_as};
+ghost use Rattle.ic_by_rounds.specs.Pictures.{counted, greatest, most_nodes, shown_as, sums_of};
 ghost use Rattle.ic_by_rounds.specs.Reducing.{IsReducedBy};
 ghost use Rattle.ic_by_rounds.specs.Tables.{head_line, row_line};
 ghost use Rattle.ic_by_rounds.specs.Traces.{TracedAs, Traces};
@@ -92,4 +92,15 @@ pub fn a_picture_by_hand()
         ∷ codes "<text x='400' y='440' text-anchor='middle'>rounds</text>\n"
         ∷ codes "<text x='720' y='420' text-anchor='end'>2</text>\n"
         ∷ codes "</svg>\n" ∷ []) }
+{}
+
+/// What the title of a picture counts is counted in its rows, and one is told as one.
+pub fn a_picture_counts_its_rows()
+    ensures rounds { (before : ℕ) (rows : List Row) → (sums_of before rows).rounds ≡ length rows }
+    ensures greatest { (before : ℕ) (rows : List Row)
+        → (sums_of before rows).greatest ≡ greatest (λ row. row.pairs) rows }
+    ensures nodes { (before : ℕ) (rows : List Row)
+        → (sums_of before rows).nodes ≡ most_nodes before rows }
+    ensures one { (one several : List ℕ) → counted 1 one several ≡ codes "1" ++ one }
+    ensures none { (one several : List ℕ) → counted 0 one several ≡ codes "0" ++ several }
 {}

@@ -75,11 +75,15 @@ no_second path = around_second path (codes "its second file, ")
     (around_second path (codes ", is missing: bring it back; if it is lost, `head -c 17 /dev/zero > ")
     (codes "` makes it anew"))
 
+-- words with a path between
+abbrev pub around_path : (path before after : List ℕ) → List ℕ
+around_path path before after = before ++ (shown_path path ++ after)
+
 -- of a file that isn't there, beside the second one of a reduction
 abbrev pub no_first : (path : List ℕ) → List ℕ
 no_first path = around_second path (codes "its second file, ")
-    (codes ", holds a reduction: bring the first one back; if it is lost, `head -c 17 /dev/zero > "
-    ++ (shown_path path ++ codes "` makes it anew"))
+    (around_path path (codes ", holds a reduction: bring the first one back; if it is lost, `head -c 17 /dev/zero > ")
+    (codes "` makes it anew"))
 
 -- the line that says this of the file of a path
 abbrev pub shown_of : (path words : List ℕ) → List ℕ

@@ -1,11 +1,10 @@
 //! What is told after the line of a failure: why a disk's file doesn't serve, or standard input can't
 //! be read, which round is refused, or how far a net has come that was reduced in place.
 
-ghost use Rattle.std.specs.Prelude.{◌≡◌, ◌++◌, IfOk};
-ghost use Rattle.ic_causes.specs.Causes.{shown_path};
+ghost use Rattle.std.specs.Prelude.{◌≡◌, IfOk};
 ghost use Rattle.ic_exits.specs.After.{book_lines, create_lines, ends_without_reader, is_of_writing, is_silent, lines_after, open_lines, scripts_lines};
 ghost use Rattle.ic_exits.specs.After.{batch_lines, input_lines, inspect_lines, nodes_words, overgrown_lines, reached_lines, reached_text, round_lines};
-ghost use Rattle.ic_exits.specs.After.{around_second, disk_lines, finds_no_second, found_lines, keep_lines, kept_lines};
+ghost use Rattle.ic_exits.specs.After.{around_path, around_second, disk_lines, finds_no_second, found_lines, keep_lines, kept_lines};
 ghost use Rattle.ic_exits.specs.After.{no_first, no_second, not_as_kept};
 ghost use Rattle.ic_exits.specs.After.{serve_lines, shown_of, stream_lines, taken_words};
 
@@ -446,8 +445,7 @@ fn around_path(
     before: &[u8],
     after: &[u8],
 ) -> Result<Vec<u8>, AllocError>
-    ensures { IfOk result
-        (λ words. words.items ≡ before.now ++ (shown_path path.now ++ after.now)) }
+    ensures { IfOk result (λ words. words.items ≡ around_path path.now before.now after.now) }
 {
     let mut words = before.to_vec(alloc)?;
     words.extend_from_slice(&shown_path(alloc, path)?)?;
