@@ -120,7 +120,7 @@ abbrev pub HasNoRoom : List NewJob → List JobParts → Type 0
 HasNoRoom jobs t = MAX_JOBS < length t + length (missing t jobs)
 
 -- A call to the book, a round, a growth or the writer failed. Each failure of the disk is counted, and
--- only that of a sync breaks the book.
+-- breaks the book.
 pub record Fails {D : Type 0} {ghosts : Ghosts D} (fault : ServeFault) (old new : Book D ghosts)
     : Type 0 where
   pub comes : (fault ≡ Write) ⊎ ComesInLine fault

@@ -1,12 +1,12 @@
--- What one thread refuses.
-use Rattle.std.proofs.Common.{◌≡◌, Bool, true, false, refl}
-use Rattle.std.specs.Prelude.{Ok, Err, nat_eq, if◌then◌else◌}
+-- What one thread refuses, and what is refused where no round can be made.
+use Rattle.std.proofs.Common.{◌≡◌, ◌⊎◌, inl, inr, Bool, true, false, refl}
+use Rattle.std.specs.Prelude.{Ok, Err, IsTrue, nat_eq, if◌then◌else◌}
 use Rattle.ic_round.specs.Rounds.{is_small, names_suffice}
-use Rattle.ic_flights.specs.Flight.{FlightParts}
+use Rattle.ic_flights.specs.Flight.{FlightParts, is_blocked}
 use Rattle.ic_flights.specs.Played.{PlayedParts, round_of}
 use Rattle.ic_flights.specs.declared.limits.TheConstants.{MAX_ROUNDS}
 use Rattle.ic_pool.specs.Played.{played}
-use Rattle.ic_pool.specs.PoolFault.{Answers, is_of_workers}
+use Rattle.ic_pool.specs.PoolFault.{Answers, OfWorkers, is_of_workers}
 use Rattle.ic_pool.specs.declared.fault.PoolFault.{PoolFault}
 use Rattle.ic_pool.specs.declared.fault.PoolFault.TheVariants.{NoWorkers, Overgrown, NamesOut, NoThread, Memory, Lost, Stranger, RoundsOut}
 
@@ -37,3 +37,10 @@ one_thread_refuses f Memory answers = refl
 one_thread_refuses f Lost answers = absurd (never f Lost refl answers)
 one_thread_refuses f Stranger answers = absurd (never f Stranger refl answers)
 one_thread_refuses f RoundsOut answers = refl
+
+-- nor is a flight of which no round can be made
+pub blocked_refuses : (f : FlightParts) (fault : PoolFault) → (fault ≡ Memory) ⊎ IsTrue (is_of_workers fault)
+    → Answers (Err fault) (played f) ⊎ ((is_blocked f ≡ false) × OfWorkers {T = PlayedParts} (Err fault)) → IsTrue (is_blocked f) → fault ≡ Memory
+blocked_refuses f fault (inl memory) answers blocked = memory
+blocked_refuses f fault (inr theirs) (inl answers) blocked = let other : is_of_workers fault ≡ false = one_thread_refuses f fault answers in cc
+blocked_refuses f fault (inr theirs) (inr free) blocked = let other : is_blocked f ≡ false = free.0 in cc

@@ -21,7 +21,7 @@ use Rattle.ic_book.specs.Calls.{TellsBroken, TellsWorn}
 use Rattle.ic_serving.specs.declared.fault.ServeFault.{ServeFault}
 use Rattle.ic_serving.specs.declared.fault.ServeFault.TheVariants.{Write, Book as by_book, Memory}
 use Rattle.ic_serving.specs.Booked.{IsAllKept}
-use Rattle.ic_serving.specs.Faults.{ComesBroken, ComesFor, ComesInLine, ComesWithoutRound, StaysReady, fault_of_line}
+use Rattle.ic_serving.specs.Faults.{ComesBroken, ComesFor, ComesInLine, ComesUnmade, ComesWithoutRound, StaysReady, fault_of_line}
 
 pub not_true : (b : Bool) → ¬ (b ≡ true) → b ≡ false
 not_true true other = absurd (other refl)
@@ -97,6 +97,16 @@ of_keep e others = (let bad = others (λ s. cc) (λ s. cc) in cc)
 pub of_due : (e : ServeFault) → (e ≡ by_book of_book.Broken) ⊎ (e ≡ by_book of_book.Memory) → ComesWithoutRound e
 of_due e (inl is) = rw is tt
 of_due e (inr is) = rw is tt
+
+-- what comes where nothing is to be made also comes where a job is to be halted
+pub not_unmade : (e : ServeFault) → ComesWithoutRound e → ComesUnmade e
+not_unmade (by_book f) comes = comes
+not_unmade Memory comes = tt
+not_unmade e comes = absurd comes
+
+pub due_unmade : {T : Type 0} (r : Result T ServeFault) → IfErr r (λ x. (x ≡ by_book of_book.Broken) ⊎ (x ≡ by_book of_book.Memory)) → IfErr r ComesUnmade
+due_unmade (Ok v) is = tt
+due_unmade (Err e) is = not_unmade e (of_due e is)
 
 -- a fault that is handed on
 pub err_comes : {T : Type 0} (r : Result T ServeFault) (e : ServeFault) (P : ServeFault → Type 0) → IsErrAnd r (λ x. x ≡ e) → P e → IfErr r P

@@ -69,7 +69,7 @@ ComesInLine (Pool fault) = MayCome (Pool fault)
 ComesInLine LongLine = ⊥
 ComesInLine Memory = Unit {0}
 
--- and of these, which come where no round is to be made: none of the pool
+-- and of these, which come where no round and no halt is to be made: none of the pool
 abbrev pub ComesWithoutRound : ServeFault → Type 0
 ComesWithoutRound Read = ⊥
 ComesWithoutRound Write = ⊥
@@ -79,8 +79,18 @@ ComesWithoutRound (Pool fault) = ⊥
 ComesWithoutRound LongLine = ⊥
 ComesWithoutRound Memory = Unit {0}
 
+-- which of them come where a round can't be made: of the pool only that memory ran out
+abbrev pub ComesUnmade : ServeFault → Type 0
+ComesUnmade Read = ⊥
+ComesUnmade Write = ⊥
+ComesUnmade TooManyLines = ⊥
+ComesUnmade (Book fault) = MayCome (Book fault)
+ComesUnmade (Pool fault) = fault ≡ pool.Memory
+ComesUnmade LongLine = ⊥
+ComesUnmade Memory = Unit {0}
+
 -- Which of them come for what a line asks: where it asks for nothing only that memory ran out, and one
--- of the pool only at a run that has a round to make.
+-- of the pool only at a run that has a round or a halt to make.
 abbrev pub ComesFor : List JobParts → Reading → ServeFault → Type 0
 ComesFor t (Ok Blank) fault = fault ≡ Memory
 ComesFor t (Ok (Command command)) fault = ComesWithoutRound fault

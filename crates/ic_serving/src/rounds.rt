@@ -1,6 +1,7 @@
 //! One round over a book.
 
-ghost use Rattle.std.specs.Prelude.{true, false, ◌≡◌, ◌≢◌, ◌↔◌, ◌⊎◌, ◌<◌, ◌≤◌, ◌+◌, ◌-◌, ◌^◌, [], ◌∷◌, ◌++◌, length, None, IsOk, IsErrOf, OnOk, OnErr, IfOk, IfErr, IfSome, IfNone};
+ghost use Rattle.std.specs.Prelude.{true, false, ◌≡◌, ◌≢◌, ◌↔◌, ◌⊎◌, ◌<◌, ◌≤◌, ◌+◌, ◌-◌, ◌^◌, [], ◌∷◌, ◌++◌, length, None, Some, IsTrue, IsOk, IsErrOf, OnOk, OnErr, IfOk, IfErr, IfSome, IfNone};
+ghost use Rattle.ic_flights.specs.Flight.{FlightParts, is_blocked};
 ghost use Rattle.ic_jobs.specs.declared.event.Event.TheVariants.{Round};
 ghost use Rattle.ic_jobs.specs.declared.reply.Reply.{Reply};
 ghost use Rattle.ic_jobs.specs.declared.limits.TheConstants.{MAX_JOBS};
@@ -13,7 +14,7 @@ ghost use Rattle.ic_book.specs.ByCalls.{IsByCalls};
 ghost use Rattle.ic_book.specs.Moves.{keeps};
 ghost use Rattle.ic_book.specs.declared.fault.BookFault.TheVariants as of_book;
 ghost use Rattle.ic_serving.specs.Answered.{EndsWith};
-ghost use Rattle.ic_serving.specs.Faults.{ComesAlone, ComesBroken, ComesInLine, ComesWithoutRound};
+ghost use Rattle.ic_serving.specs.Faults.{ComesAlone, ComesBroken, ComesInLine, ComesUnmade, ComesWithoutRound};
 ghost use Rattle.ic_serving.specs.Grown.{IsSamePage};
 ghost use Rattle.ic_serving.specs.Moments.{FaultLeaves, Leaves, IsKeptOrNow};
 
@@ -98,6 +99,8 @@ pub fn make_round<T: Threads + Wait + Copy + Send + 'static, D: Disk>(
         ↔ (is_broken book.old ≡ true) }
     ensures nothing { due (table_of book.old) after ≡ None → IfErr result (λ fault.
         (fault ≡ ServeFault.Book of_book.Broken) ⊎ (fault ≡ ServeFault.Book of_book.Memory)) }
+    ensures blocked { (flight : FlightParts) → due (table_of book.old) after ≡ Some flight
+        → IsTrue (is_blocked flight) → IfErr result ComesUnmade }
     ensures fault { FaultLeaves ComesInLine result book.old book.new }
     ensures alone { workers ≡ 1 → IfErr result ComesAlone }
     ensures one { unkept_of book.new ≤ unkept_of book.old + 1 }
@@ -136,6 +139,7 @@ fn land_or_halt<T: Threads + Wait + Copy + Send + 'static, D: Disk>(
         × (log_of book.new ≡ log_of book.old ++ round_entry flight.now.name reply ∷ [])) }
     ensures start { start_of book.new ≡ start_of book.old }
     ensures refused { OnErr result (IsUnchanged book.old book.new) }
+    ensures blocked { IsTrue (is_blocked flight.now) → IfErr result ComesUnmade }
     ensures fault { FaultLeaves ComesInLine result book.old book.new }
     ensures alone { workers ≡ 1 → IfErr result ComesAlone }
     ensures one { unkept_of book.new ≤ unkept_of book.old + 1 }
@@ -144,6 +148,7 @@ fn land_or_halt<T: Threads + Wait + Copy + Send + 'static, D: Disk>(
 {
     book.facts();
     ic_pool::laws::refused_flights_are_blocked();
+    ic_pool::laws::workers_answer_so();
     let played = match makers.play(rt, alloc, flight, workers) {
         Ok(played) => played,
         Err(fault) => {

@@ -1,10 +1,10 @@
-use Rattle.std.proofs.Common.{subst, sym, ◌∙◌}
+use Rattle.std.proofs.Common.{subst, sym, ◌∙◌, Err}
 use Rattle.ic_flights.specs.Played.{PlayedParts}
 use Rattle.ic_jobs.specs.Landing.{Awaits}
 use Rattle.ic_book.specs.Book.{table_of}
 use Rattle.ic_jobs.specs.declared.reply.Reply.TheVariants.{Moved, Halted}
 use Rattle.ic_book.specs.lemmas.Chains.{by_nothing, by_round}
-use Rattle.ic_serving.proofs.AloneLemmas.{one_thread_refuses}
+use Rattle.ic_serving.proofs.AloneLemmas.{blocked_refuses, one_thread_refuses}
 use Rattle.ic_serving.proofs.rounds.land_or_halt.Goals as goal
 
 pub land_awaited-requires : goal.land_awaited-requires
@@ -32,3 +32,9 @@ returns-clause-done g c = by_round _ Moved c.land_awaited.result c.args.book.now
 
 pub returns-then-not-is_of_flight-clause-alone : goal.returns-then-not-is_of_flight-clause-alone
 returns-then-not-is_of_flight-clause-alone g c = λ one. one_thread_refuses c.args.flight.now c.in-Err.fault (c.in-Err.ensures.alone one)
+
+pub returns-then-not-is_of_flight-clause-blocked : goal.returns-then-not-is_of_flight-clause-blocked
+returns-then-not-is_of_flight-clause-blocked g c = λ blocked. blocked_refuses c.args.flight.now c.in-Err.fault
+    (c.refused_flights_are_blocked.ensures.others c.args.workers c.args.flight.now c.in-Err.fault c.requires.workers c.in-Err.ensures.answer
+    (sym c.is_of_flight.ensures ∙ c.if-not-is_of_flight.true))
+    ((c.workers_answer_so.ensures.some c.args.workers c.args.flight.now (Err c.in-Err.fault) c.requires.workers).0 c.in-Err.ensures.answer) blocked

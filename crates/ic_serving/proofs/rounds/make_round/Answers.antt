@@ -6,9 +6,10 @@ use Rattle.ic_jobs.specs.Table.{IsTable}
 use Rattle.ic_book.specs.Book.{is_broken, number_of, table_of}
 use Rattle.ic_book.specs.declared.fault.BookFault.TheVariants.{Broken}
 use Rattle.ic_serving.specs.Moments.{IsKeptOrNow}
+use Rattle.ic_serving.specs.Faults.{ComesUnmade}
 use Rattle.ic_book.specs.lemmas.Chains.{by_nothing}
 use Rattle.ic_serving.proofs.PageLemmas.{makes_round}
-use Rattle.ic_serving.proofs.RefusalLemmas.{err_due, err_told, not_true, whole_told}
+use Rattle.ic_serving.proofs.RefusalLemmas.{due_unmade, err_comes, err_due, err_told, not_true, not_unmade, whole_told}
 use Rattle.ic_serving.proofs.StopLemmas.{leaves_still}
 use Rattle.ic_serving.specs.lemmas.Leaving.{leaves_nothing}
 use Rattle.ic_serving.proofs.rounds.make_round.Goals as goal
@@ -63,6 +64,22 @@ returns-in_err-make_room-clause-broken g c =
 pub returns-in_err-make_room-clause-nothing : goal.returns-in_err-make_room-clause-nothing
 returns-in_err-make_room-clause-nothing g c = λ none.
     let is : due (table_of c.args.book.now) c.args.after ≡ Some c.in-Some.flight = sym c.in_ok-flight.ensures.due ∙ c.in-Some.is in cc
+
+pub returns-in_err-flight-clause-blocked : goal.returns-in_err-flight-clause-blocked
+returns-in_err-flight-clause-blocked g c = λ flight is blocked.
+    due_unmade c.from_residual.result (err_due c.from_residual.result c.in_err-flight.field-0.0 c.from_residual.ensures.1 c.in_err-flight.ensures.memory)
+
+pub returns-in_err-make_room-clause-blocked : goal.returns-in_err-make_room-clause-blocked
+returns-in_err-make_room-clause-blocked g c = λ flight is blocked.
+    err_comes c.from_residual-in_err-make_room.result c.in_err-make_room.field-0.0 ComesUnmade c.from_residual-in_err-make_room.ensures.1
+    (not_unmade c.in_err-make_room.field-0.0 c.in_err-make_room.ensures.comes)
+
+pub returns-in_err-land_or_halt-clause-blocked : goal.returns-in_err-land_or_halt-clause-blocked
+returns-in_err-land_or_halt-clause-blocked g c = λ flight is blocked.
+    let here : due (table_of c.args.book.now) c.args.after ≡ Some c.in-Some.flight = sym c.in_ok-flight.ensures.due ∙ c.in-Some.is in
+    let same : flight ≡ c.in-Some.flight = cc in
+    err_comes c.from_residual-in_err-land_or_halt.result c.in_err-land_or_halt.field-0.0 ComesUnmade c.from_residual-in_err-land_or_halt.ensures.1
+    (c.in_err-land_or_halt.ensures.blocked (rw (sym same) blocked))
 
 pub returns-in_err-land_or_halt-clause-broken : goal.returns-in_err-land_or_halt-clause-broken
 returns-in_err-land_or_halt-clause-broken g c =
