@@ -120,7 +120,8 @@ class Progress(Trial):
     def test_a_line_is_wiped_before_an_answer_or_a_fault_is_written(self):
         """Standard output and error are one terminal: after the answer of a run that showed a line stands no line."""
         status, _, _, shown, _ = self.shows(["serve", "--disk", self.jobs], [*LONG, "x" * 262_145])
-        wanted = as_lines([*ANSWERS, "icserve: long line"])
+        told = f"line {len(LONG) + 1}, column 262145: bad limit: a line has at most 262144 bytes"
+        wanted = as_lines([*ANSWERS, told, "icserve: long line"])
         self.equals(self.command, "status", 4, status)
         self.agrees(self.command, "what stands on the terminal", wanted, LINE.sub(b"", shown).replace(WIPED, b""))
         self.equals(self.command, f"a line came: {shown}", True, len(LINE.findall(shown)) > 0)
