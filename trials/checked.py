@@ -23,7 +23,7 @@ SOUGHT = {
     "budget": "a budget or { is looked for here",
     "system": "{ is looked for here",
     "number": "a number is looked for here",
-    "nothing": "the line ends before this",
+    "nothing": "the line should end before this",
 }
 PASSED = {
     "name": "a job's name has at most 16 bytes",

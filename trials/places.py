@@ -30,7 +30,7 @@ NO_ARGUMENTS = "a name has no arguments: names begin with a to z, and symbols, w
 TERM = "a term is looked for here"
 AFTER = {"(": TERM, ",": TERM, "=": TERM, "|": "a term or > is looked for here"}
 AFTER_OF = {
-    "configuration": {"<": "a term or | is looked for here", ">": "nothing is looked for after a configuration"},
+    "configuration": {"<": "a term or | is looked for here", ">": "nothing may follow a configuration"},
     "system": {"{": "a symbol or } is looked for here", ";": "a symbol is looked for here", "}": "< is looked for here"},
 }
 AFTER_OF["system"] |= AFTER_OF["configuration"]

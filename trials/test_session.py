@@ -22,7 +22,7 @@ END = "the end of the input ends a session: at a terminal, Ctrl-D"
 REFUSED = ["lists", f"submit two {TWO.text}", "fetch one two", "", "run 1001", "list", "submit a {A(x,x)><A} <|>", " run 007"]
 TOLD = [
     "line 1, column 1: bad syntax: a command is looked for here: submit, copy, pause, resume, cancel, fetch, list or run; a file with one text begins with { or <",
-    "line 3, column 11: bad syntax: the line ends before this",
+    "line 3, column 11: bad syntax: the line should end before this",
     "line 5, column 5: bad limit: a run makes at most 1000 rounds",
     "line 7, column 19: bad arity: a symbol has one arity: A has 0 here and 2 where it stands first",
     "line 8, column 6: bad syntax: a number is looked for here",

@@ -113,7 +113,7 @@ after_mark_free other b free =
 in_config_free : (b : ℕ) → has_feed (after_in_config b) ≡ false
 in_config_free b =
     let other = codes "no configuration goes on with this" in
-    let over = codes "nothing is looked for after a configuration" in
+    let over = codes "nothing may follow a configuration" in
     either_free (b == 60) (codes "a term or | is looked for here") (if b == 62 then over else after_mark other b) refl
     (either_free (b == 62) over (after_mark other b) refl (after_mark_free other b refl))
 
@@ -123,7 +123,7 @@ in_system_free b =
     let symbol = codes "a symbol is looked for here" in
     let less = codes "< is looked for here" in
     let term = codes "a term or | is looked for here" in
-    let over = codes "nothing is looked for after a configuration" in
+    let over = codes "nothing may follow a configuration" in
     let fifth = if b == 62 then over else after_mark other b in
     let fourth = if b == 60 then term else fifth in
     let third = if b == 125 then less else fourth in

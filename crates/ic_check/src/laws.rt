@@ -341,7 +341,7 @@ pub fn sentences_tell_what_is_looked_for()
     ensures budget { sought_sentence due.Budget ≡ codes "a budget or { is looked for here" }
     ensures system { sought_sentence due.System ≡ codes "{ is looked for here" }
     ensures number { sought_sentence due.Number ≡ codes "a number is looked for here" }
-    ensures nothing { sought_sentence due.Nothing ≡ codes "the line ends before this" }
+    ensures nothing { sought_sentence due.Nothing ≡ codes "the line should end before this" }
     ensures submit_name { AllByRecursion (λ line. line_sentence line Syntax 8 (Sought due.Budget)
         ≡ codes "a job's name has small letters, digits and - only")
         (codes "submit a_b {} <|>" ∷ codes "submit a' {} <|>" ∷ []) }
@@ -452,7 +452,7 @@ pub fn refusals_are_told_so()
         → (at : ℕ) × (detail : LineDetail) × IsLinePlace line fault at detail
         × (told ≡ refusal_line number line fault at detail) }
     ensures example { refusal_line 7 (codes "fetch a b") Syntax 8 (Sought due.Nothing)
-        ≡ codes "line 7, column 9: bad syntax: the line ends before this" ++ 10 ∷ [] }
+        ≡ codes "line 7, column 9: bad syntax: the line should end before this" ++ 10 ∷ [] }
     ensures help { refusal_line 1 (codes "help run") Syntax 0 (Sought due.Command)
         ≡ codes "line 1, column 1: bad syntax: " ++ lines_sentence ++ 10 ∷ [] }
     ensures quit { map (λ line. refusal_line 1 line Syntax 0 (Sought due.Command))

@@ -173,7 +173,7 @@ fn sought_sentence(due: Due) -> &'static [u8]
         Due::Budget => b"a budget or { is looked for here",
         Due::System => b"{ is looked for here",
         Due::Number => b"a number is looked for here",
-        Due::Nothing => b"the line ends before this",
+        Due::Nothing => b"the line should end before this",
         Due::SubmitName | Due::OldName | Due::NewName | Due::VerbName => {
             b"a job's name is looked for here: a small letter, then small letters, digits and -"
         }

@@ -47,7 +47,7 @@ after_mark other b = if wants_term b then codes "a term is looked for here"
 -- after such a mark; after a term it isn't told
 abbrev pub after_in_config : ℕ → List ℕ
 after_in_config b = if b == 60 then codes "a term or | is looked for here"
-    else (if b == 62 then codes "nothing is looked for after a configuration"
+    else (if b == 62 then codes "nothing may follow a configuration"
     else after_mark (codes "no configuration goes on with this") b)
 
 -- the same of a system, after `{`, `;` or `}`, or after a mark of its configuration
@@ -56,7 +56,7 @@ after_in_system b = if b == 123 then codes "a symbol or } is looked for here"
     else (if b == 59 then codes "a symbol is looked for here"
     else (if b == 125 then codes "< is looked for here"
     else (if b == 60 then codes "a term or | is looked for here"
-    else (if b == 62 then codes "nothing is looked for after a configuration"
+    else (if b == 62 then codes "nothing may follow a configuration"
     else after_mark (codes "no system goes on with this") b))))
 
 -- the words of what is looked for; where a symbol stands before it, its arguments are, too

@@ -164,7 +164,7 @@ pub fn what_is_looked_for_is_told()
     ensures equations { sentence Config (codes "<| ;") Syntax 3 Nothing
         ≡ codes "a term or > is looked for here" }
     ensures over { sentence Config (codes "<|>Z") Syntax 3 Nothing
-        ≡ codes "nothing is looked for after a configuration" }
+        ≡ codes "nothing may follow a configuration" }
     ensures rules { sentence System (codes "{,") Syntax 1 Nothing
         ≡ codes "a symbol or } is looked for here" }
     ensures rule { sentence System (codes "{A><B;<") Syntax 6 Nothing

@@ -75,7 +75,7 @@ fn after_in_config(byte: u8) -> &'static [u8]
     if byte == b'<' {
         b"a term or | is looked for here"
     } else if byte == b'>' {
-        b"nothing is looked for after a configuration"
+        b"nothing may follow a configuration"
     } else {
         after_mark(b"no configuration goes on with this", byte)
     }
@@ -94,7 +94,7 @@ fn after_in_system(byte: u8) -> &'static [u8]
     } else if byte == b'<' {
         b"a term or | is looked for here"
     } else if byte == b'>' {
-        b"nothing is looked for after a configuration"
+        b"nothing may follow a configuration"
     } else {
         after_mark(b"no system goes on with this", byte)
     }
