@@ -180,6 +180,14 @@ pub fn refusals_are_told_with_their_place()
         ≡ codes "copy needs a symbol with two arguments, and this one has 3 where it stands first" }
     ensures eraser { reason_sentence (NoEraser 2)
         ≡ codes "erase needs a symbol without arguments, and this one has 2 where it stands first" }
+    ensures again { reason_sentence Again ≡ codes "an earlier copy or erase has this symbol" }
+    ensures none_left { reason_sentence NoRules ≡ codes "no rule is left for which this stands: "
+        ++ codes "each is given, or an earlier copy or erase stands for it" }
+    ensures symbol { reason_sentence NotSymbol
+        ≡ codes "copy and erase need a symbol: A to Z or 0 to 9, and then letters and digits" }
+    ensures text { reason_sentence NoText ≡ codes "a text begins with { or <, and a comment with #; "
+        ++ codes "lines for serve aren't expanded" }
+    ensures end { reason_sentence NoEnd ≡ codes "; or } is looked for here" }
     ensures one { expanded (codes "{ # two\n copy Dup }") ≡ Err (Refused NoSymbol 9) }
     ensures lines { refusal_lines (codes "{ # two\n copy Dup }") NoSymbol 9
         ≡ codes "line 2, column 7\n     copy Dup }\n          ^\n"
