@@ -548,6 +548,14 @@ pub fn other_files_are_told_to_be_so()
         ≡ map (λ failure. lines_after failure path cause)
         (NotEmpty ∷ Open opening.NoSlot ∷ Open opening.Damaged ∷ Kept keeping.NotEmpty
         ∷ Kept (keeping.Open why) ∷ []) }
+    ensures resumed { (why : OpenCause) (path : List ℕ) (cause : Option Cause)
+        → map (λ is. lines_or_other (Kept (keeping.Open why)) path cause (Some is))
+        (other.Reduction ∷ other.Text ∷ [])
+        ≡ map (λ failure. lines_after failure path cause)
+        (Kept (keeping.Open why) ∷ Kept (keeping.Open why) ∷ []) }
+    ensures unsound { (is : Other) (path : List ℕ) (cause : Option Cause)
+        → lines_or_other (Kept keeping.Unsound) path cause (Some is)
+        ≡ lines_after (Kept keeping.Unsound) path cause }
     ensures disks { (fault : DiskFault) (path : List ℕ) (cause : Option Cause)
         → map (λ is. lines_or_other (Disk fault) path cause (Some is))
         (other.Reduction ∷ other.Text ∷ [])
