@@ -136,6 +136,14 @@ class Keep(Stops):
         text.write_text(ackermann(3))
         self.agree(run("reduce", "--keep", self.file, *FIGURES, text), whole)
 
+    def test_the_time_of_what_has_ended_stays(self):
+        """It is that in which it went on, and not the time in which it is read again."""
+        words = ["--quiet-answer", *FIGURES]
+        ended = run("reduce", "--keep", self.file, *words, given=church(18))
+        for _ in range(2):
+            again = run("reduce", "--resume", self.file, *words)
+            self.equals(again.command, "milliseconds", figures(ended)["milliseconds"], figures(again)["milliseconds"])
+
     def test_a_stuck_pair_is_told(self):
         text = "{A(B(x))><B(x)} <r|A(r)=B(C),D=E(z)>"
         whole = run("reduce", "--workers", 1, given=text)
@@ -212,13 +220,47 @@ class Keep(Stops):
         run("reduce", "--resume", self.file, "--steps", 30)
         whole = self.contents()
         # What the other file has is at most one keep older.
-        for place, kept in ((0, {9, 30}), (1, {9, 30})):
-            self.put(bytes(HEAD) if it == place else whole[it] for it in (0, 1))
+        for place, zeros, kept in ((0, HEAD, {9, 30}), (1, HEAD, {9, 30}), (0, 60, {9, 30}), (1, 60, {9, 30})):
+            self.put(bytes(zeros) if it == place else whole[it] for it in (0, 1))
             held = [f"file {place + 1}: closed, number 0, size 0, no state"] * 2
             held[1 - place] = seen(2 - place, whole[1 - place])[0]
             self.runs("inspect", "--disk", self.file, out=[*held, f"held: file {2 - place}"])
             self.equals(self.file, "interactions that are kept", True, self.kept() in kept)
             self.agree(run("reduce", "--resume", self.file, *FIGURES), self.whole(ackermann(2)))
+
+    def test_a_damaged_file_is_made_anew_as_its_refusal_tells(self):
+        run("reduce", "--keep", self.file, "--steps", 9, given=ackermann(2))
+        run("reduce", "--resume", self.file, "--steps", 30)
+        whole = self.contents()
+        newest = max((0, 1), key=lambda it: seen(it, whole[it])[1])
+        for cut in (0, HEAD - 1, 30, len(whole[newest]) - 1):
+            self.put(whole[it][:cut] if it == newest else whole[it] for it in (0, 1))
+            ran = run("reduce", "--resume", self.file)
+            self.equals(ran.command, "the end", (3, b"icserve: damaged\n"), (ran.status, ran.err))
+            self.equals(ran.command, "whether its cure is told", True, b"`head -c 17 /dev/zero`" in ran.after)
+            (self.file, self.second)[newest].write_bytes(bytes(HEAD))
+            self.equals(self.file, "interactions that are kept", 9, self.kept())
+            self.agree(run("reduce", "--resume", self.file, *FIGURES), self.whole(ackermann(2)))
+
+    def test_a_text_or_a_disk_of_jobs_beside_a_whole_file_is_not_written_over(self):
+        run("reduce", "--keep", self.file, "--steps", 9, given=ackermann(2))
+        run("reduce", "--resume", self.file, "--steps", 30)
+        whole = self.contents()
+        others = [(b"{A(B(x))><B(x)} <|A(B(C))=D>\n", "a text"), (self.disk("jobs").read_bytes(), "a disk of jobs")]
+        for place, (other, what) in ((place, other) for place in (0, 1) for other in others):
+            put = [other if it == place else whole[it] for it in (0, 1)]
+            self.put(put)
+            lines = [f"file {it + 1}: {what}" if it == place else seen(it + 1, whole[it])[0] for it in (0, 1)]
+            if (place, what) != (0, "a disk of jobs"):
+                self.runs("inspect", "--disk", self.file, out=[*lines, "held: damaged"])
+                told = [json.loads(it) for it in run("inspect", "--disk", self.file, "--format", "json").out.splitlines()]
+                self.equals(self.file, "objects", (what, "damaged"), (told[place]["state"], told[2]["held"]))
+            for most in (0, 100_000):
+                ran = run("reduce", "--resume", self.file, "--steps", most)
+                self.equals(ran.command, "the end", (3, b"", b"icserve: damaged\n"), (ran.status, ran.out, ran.err))
+                is_told = ran.after.decode() == f"{self.file}: {STRANGER}\n"
+                self.equals(ran.command, f"whether {self.file} is told to keep no reduction", place == 0, is_told)
+            self.equals(self.file, "what the files hold", put, self.contents())
 
     def test_inspect_tells_that_a_file_is_cut_off_where_it_is_refused(self):
         run("reduce", "--keep", self.file, "--steps", 9, given=ackermann(2))
@@ -251,14 +293,16 @@ class Keep(Stops):
                     self.agree(run("reduce", "--resume", self.file, *FIGURES), self.whole(ackermann(2)))
 
     def test_inspect_tells_that_the_newest_file_has_no_state(self):
-        """That is the second one: if the first file has neither a state nor a head alone, it isn't taken for one of a reduction."""
         run("reduce", "--keep", self.file, "--steps", 9, given=ackermann(2))
-        first, second = self.contents()
-        self.equals(self.file, "whether the second file is the newest", True, seen(2, second)[1] > seen(1, first)[1])
-        self.put([first, laid(second, HEAD, b"nothing!")])
-        lines = [seen(it, content)[0] for it, content in enumerate(self.contents(), 1)]
-        self.runs("inspect", "--disk", self.file, out=[*lines, "held: damaged"])
-        self.refuses("reduce", "--resume", self.file, line="damaged", status=3)
+        for newest in (1, 0):
+            whole = self.contents()
+            self.equals(self.file, "the newest file", newest, max((0, 1), key=lambda it: seen(it, whole[it])[1]))
+            self.put(laid(whole[it], HEAD, b"nothing!") if it == newest else whole[it] for it in (0, 1))
+            lines = [seen(it, content)[0] for it, content in enumerate(self.contents(), 1)]
+            self.runs("inspect", "--disk", self.file, out=[*lines, "held: damaged"])
+            self.refuses("reduce", "--resume", self.file, line="damaged", status=3)
+            self.put(whole)
+            run("reduce", "--resume", self.file, "--steps", 30)
 
     def test_what_is_not_asked_for_is_not_printed(self):
         self.runs("reduce", "--keep", self.file, "--quiet-answer", given=ackermann(2))

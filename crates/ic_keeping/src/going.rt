@@ -200,8 +200,11 @@ fn take_in(
     add_all(&mut state.by_rule, &reduced.by_rule).ok_or(KeepingFault::Limit)?;
     state.terms = reduced.terms as u64;
     state.words = reduced.words;
+    // No time is added where what has ended is read once more.
+    if !state.ended {
+        state.millis = state.millis.saturating_add(all);
+    }
     state.ended = is_quiet(reduced.end);
-    state.millis = state.millis.saturating_add(all);
     Ok(Piece {
         end: reduced.end,
         places: reduced.places,

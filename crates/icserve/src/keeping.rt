@@ -1,5 +1,6 @@
 //! The program's word `reduce` where what is reached is kept in two files.
 
+use crate::others::is_another;
 use crate::reducing::{Wanted, tell_end, time_since};
 use crate::{NotedDisk, open_disk, open_disk_as};
 use ic_causes::{Cause, NotedOutput, Notes, Reason, Target, shown_path};
@@ -10,6 +11,7 @@ use ic_in_place::{Asked, Bounds, Outcome};
 use ic_keeping::{Clock, Ended, KeepingFault, Pace, begin, begun, live};
 use ic_kept::Keeper;
 use ic_progress::Watching;
+use ic_slots::OpenCause;
 use ic_state::State;
 use ic_streams::{StreamFault, read_text_within, write_line};
 use ic_text::Limits;
@@ -177,7 +179,8 @@ fn check_empty(disk: &mut NotedDisk<'_>) -> Result<(), Failure> {
     }
 }
 
-/// The disks in the two files of a path.
+/// The disks in the two files of a path. None is opened to go on where one file is known to be another, since a keep would
+/// write over it.
 fn open_both<'a>(
     rt: &HostRuntime,
     path: &str,
@@ -185,7 +188,15 @@ fn open_both<'a>(
 ) -> Result<(NotedDisk<'a>, NotedDisk<'a>), Failure> {
     let first = open_disk(rt, path, false, notes)?;
     let second = open_second(rt, path, false, notes)?;
+    if is_another(rt, path) || is_another(rt, second_of(rt, path)?.as_str()) {
+        return Err(Failure::Kept(KeepingFault::Open(OpenCause::Damaged)));
+    }
     Ok((first, second))
+}
+
+/// The path of the second file of a path.
+fn second_of(rt: &HostRuntime, path: &str) -> Result<String, Failure> {
+    format!(in rt.alloc(); "{path}.2").map_err(|_| Failure::Kept(KeepingFault::Memory))
 }
 
 /// Opens the disk in the second file of a path, which with `create` is made where it is missing.
@@ -195,9 +206,7 @@ fn open_second<'a>(
     create: bool,
     notes: &'a Notes,
 ) -> Result<NotedDisk<'a>, Failure> {
-    let second = format!(in rt.alloc(); "{path}.2").map_err(|_| Failure::Kept(
-        KeepingFault::Memory,
-    ))?;
+    let second = second_of(rt, path)?;
     open_disk_as(rt, second.as_str(), Target::Second, create, notes)
 }
 

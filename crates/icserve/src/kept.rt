@@ -1,6 +1,7 @@
 //! What `inspect` tells of two files in which a reduction is kept.
 
 use crate::inspecting::open_to_read_as;
+use crate::others::{Another, another, holds_table, is_of_reduction};
 use ic_args::ReportFormat;
 use ic_causes::{Cause, NotedOutput, Notes, Reason, Target};
 use ic_disk::DiskFault;
@@ -15,9 +16,6 @@ use std::io::{self, ErrorKind, Read};
 
 /// How many first bytes of a file are looked at: its head, and the first numbers of its state.
 const FRONT: u64 = HEAD + 56;
-
-/// With what a state begins.
-const FORMAT: &[u8] = b"ICKEPT01";
 
 /// The first bytes of a file, and how many bytes it has.
 #[derive(Drop)]
@@ -45,30 +43,31 @@ impl Fronts {
 enum Seen {
     Missing,
     CutOff,
+    Another(Another),
     CutShort(Front),
     NoState(Front),
     State(Front, StateHead),
 }
 
-/// How the file of this path and its second file begin, if a state stands in the first, or in the second where the first has
-/// no more than a head.
+/// How the file of this path and its second file begin, if a state stands in the first, or in the second where the first
+/// isn't a disk of jobs.
 pub(crate) fn read_fronts(
     rt: &HostRuntime,
     path: &str,
     notes: &Notes,
 ) -> Result<Option<Fronts>, Failure> {
     let first = read_front(rt, path, Target::File, notes)?;
-    if has_format(&first) {
+    if is_of_reduction(&first.bytes) {
         let second = read_second(rt, path, notes)?;
         return Ok(Some(Fronts { first, second }));
     }
-    if first.len > HEAD {
+    if holds_table(&first.bytes) {
         return Ok(None);
     }
     let Ok(Some(second)) = read_second(rt, path, notes) else {
         return Ok(None);
     };
-    if !has_format(&second) {
+    if !is_of_reduction(&second.bytes) {
         return Ok(None);
     }
     let second = Some(second);
@@ -86,14 +85,6 @@ fn read_second(rt: &HostRuntime, path: &str, notes: &Notes) -> Result<Option<Ope
             }
             Err(failure)
         }
-    }
-}
-
-/// Whether a state stands in a file that begins so.
-fn has_format(opening: &Opening) -> bool {
-    match opening.bytes.get(HEAD as usize..) {
-        Some(state) => state.starts_with(FORMAT),
-        None => false,
     }
 }
 
@@ -185,6 +176,9 @@ fn see(rt: &HostRuntime, opening: &Opening) -> Result<Seen, AllocError> {
     let Some(state) = opening.bytes.get(HEAD as usize..) else {
         return Ok(Seen::CutOff);
     };
+    if let Some(is) = another(&opening.bytes) {
+        return Ok(Seen::Another(is));
+    }
     if opening.len.saturating_sub(HEAD) < front.size {
         return Ok(Seen::CutShort(front));
     }
@@ -217,6 +211,10 @@ fn words_of(rt: &HostRuntime, place: u32, seen: Seen) -> Result<String, AllocErr
     match seen {
         Seen::Missing => format!(in rt.alloc(); "file {place}: missing\n"),
         Seen::CutOff => format!(in rt.alloc(); "file {place}: cut off\n"),
+        Seen::Another(is) => {
+            let is = is.words();
+            format!(in rt.alloc(); "file {place}: {is}\n")
+        }
         Seen::CutShort(front) => {
             let front = front_words(rt, place, front)?;
             format!(in rt.alloc(); "{front}, cut short\n")
@@ -252,6 +250,10 @@ fn object_of(rt: &HostRuntime, place: u32, seen: Seen) -> Result<String, AllocEr
     match seen {
         Seen::Missing => format!(in rt.alloc(); "{{\"file\":{place},\"state\":\"missing\"}}\n"),
         Seen::CutOff => format!(in rt.alloc(); "{{\"file\":{place},\"state\":\"cut off\"}}\n"),
+        Seen::Another(is) => {
+            let is = is.words();
+            format!(in rt.alloc(); "{{\"file\":{place},\"state\":\"{is}\"}}\n")
+        }
         Seen::CutShort(front) => {
             let front = front_members(rt, place, front)?;
             format!(in rt.alloc(); "{{{front},\"body\":\"cut short\"}}\n")
@@ -284,9 +286,9 @@ fn head_members(rt: &HostRuntime, head: StateHead) -> Result<String, AllocError>
     )
 }
 
-/// Whether a file is shorter than its head.
-fn is_cut_off(seen: Seen) -> bool {
-    matches!(seen, Seen::CutOff)
+/// Whether a file is shorter than its head, or another one.
+fn is_no_file(seen: Seen) -> bool {
+    matches!(seen, Seen::CutOff | Seen::Another(_))
 }
 
 /// The number of a file whose gate is open.
@@ -302,13 +304,14 @@ fn open_number(seen: Seen) -> Option<u64> {
 fn held_in(seen: Seen, name: &'static str) -> &'static str {
     match seen {
         Seen::State(_, _) => name,
-        Seen::Missing | Seen::CutOff | Seen::CutShort(_) | Seen::NoState(_) => "damaged",
+        Seen::Missing | Seen::CutOff | Seen::Another(_) | Seen::CutShort(_) | Seen::NoState(_) =>
+            "damaged",
     }
 }
 
 /// Which file has the state that is kept, by the heads and the lengths of both.
 fn held_of(first: Seen, second: Seen) -> &'static str {
-    if is_cut_off(first) || is_cut_off(second) {
+    if is_no_file(first) || is_no_file(second) {
         return "damaged";
     }
     match (open_number(first), open_number(second)) {

@@ -4,12 +4,54 @@ use crate::inspecting::open_to_read;
 use ic_causes::Notes;
 use ic_exits::Other;
 use ic_frames::HEAD;
+use ic_kept::HEAD as KEPT_HEAD;
 use ic_state::FORMAT;
 use std::io::Read;
 
 /// How many bytes of a file are looked at: the 17 of the head of a file that keeps a reduction, and the 8 with which its
 /// state begins.
 const FRONT: u64 = 25;
+
+/// What a file is that keeps no reduction, and that a keep would write over.
+#[derive(Clone, Copy)]
+pub(crate) enum Another {
+    /// A text.
+    Text,
+    /// A disk with a table of jobs.
+    Jobs,
+}
+
+impl Another {
+    /// It in words.
+    pub(crate) fn words(self) -> &'static str {
+        match self {
+            Another::Text => "a text",
+            Another::Jobs => "a disk of jobs",
+        }
+    }
+}
+
+/// Whether the file of this path is known to be a text or a disk of jobs.
+pub(crate) fn is_another(rt: &HostRuntime, path: &str) -> bool {
+    match front_of(rt, path) {
+        Some(front) => another(&front).is_some(),
+        None => false,
+    }
+}
+
+/// What a file is that begins with these bytes, where that is known and it keeps no reduction. No stop of a keep leaves
+/// a head of bytes of texts alone, since its number has bytes of zero.
+pub(crate) fn another(front: &[u8]) -> Option<Another> {
+    if is_of_reduction(front) {
+        None
+    } else if is_text(front) {
+        Some(Another::Text)
+    } else if holds_table(front) {
+        Some(Another::Jobs)
+    } else {
+        None
+    }
+}
 
 /// What the file of this path is, where that is known and it is no disk.
 pub(crate) fn other_at(rt: &HostRuntime, path: &str) -> Option<Other> {
@@ -71,14 +113,25 @@ fn has_no_gate(front: &[u8]) -> bool {
 }
 
 /// Whether the first slot of a disk that begins with these bytes holds a table of jobs.
-fn holds_table(front: &[u8]) -> bool {
+pub(crate) fn holds_table(front: &[u8]) -> bool {
     front.len() > HEAD && front[HEAD..].starts_with(b"ICT")
 }
 
-/// Whether a file that begins with these bytes keeps a reduction.
-fn is_of_reduction(front: &[u8]) -> bool {
+/// Whether a file that begins with these bytes keeps a reduction: after its head stands that which a state begins with.
+pub(crate) fn is_of_reduction(front: &[u8]) -> bool {
     let form = FORMAT.to_be_bytes();
-    front.ends_with(form.as_slice()) && front.len() as u64 == FRONT
+    match front.get(KEPT_HEAD as usize..) {
+        Some(state) => state.starts_with(form.as_slice()),
+        None => false,
+    }
+}
+
+/// Whether bytes of texts stand in place of the head of a file that keeps a reduction.
+fn is_text(front: &[u8]) -> bool {
+    match front.get(..KEPT_HEAD as usize) {
+        Some(head) => head.iter().all(|byte| is_of_texts(*byte)),
+        None => false,
+    }
 }
 
 /// The bytes with which the file of this path begins, or none where it can't be read.
