@@ -1,4 +1,5 @@
 pub mod RunLemmas
+pub mod MadeLemmas
 pub mod RefusalLemmas
 pub mod PageLemmas
 pub mod LineLemmas

@@ -43,7 +43,7 @@ no_line_begun law book line (Err e) fault is memory =
     let equal : e ≡ fault = is in
     let same : e ≡ Memory = equal ∙ memory in
     let r = law line in
-    rw same (record { reading = r.0; read = r.1; comes = memory_comes (table_of book) r.0; begun = nothing_begun book (events (table_of book) r.0) })
+    rw same (record { reading = r.0; read = r.1; comes = memory_comes (table_of book) r.0 (table_of book); begun = nothing_begun book (events (table_of book) r.0) })
 
 -- what is said of a reading is so of the line that is read so
 pub line_answered : {D : Type 0} {ghosts : Ghosts D} (line bytes : List ℕ) (r : Reading) (old new : Book D ghosts) → ReadsLine line r → IsAnsweredAs r bytes old new
@@ -66,7 +66,7 @@ if_answered line r old new (Ok v) items reads is = line_answered line (items v) 
 if_answered line r old new (Err e) items reads is = tt
 
 pub if_begun : {D V : Type 0} {ghosts : Ghosts D} (line : List ℕ) (r : Reading) (old new : Book D ghosts) (result : Result V ServeFault) → ReadsLine line r
-    → OnErr result (Begins (events (table_of old) r) old new) → IfErr result (ComesFor (table_of old) r) → IfErr result (λ fault. IsBegun line fault old new)
+    → OnErr result (Begins (events (table_of old) r) old new) → IfErr result (ComesFor (table_of old) r (table_of new)) → IfErr result (λ fault. IsBegun line fault old new)
 if_begun line r old new (Ok v) reads begun comes = tt
 if_begun line r old new (Err e) reads begun comes = record { reading = r; read = reads; comes = comes; begun = begun }
 
@@ -83,9 +83,9 @@ keeps_then (Some xs) None new p q = absurd p
 keeps_then (Some xs) (Some ys) None p q = absurd q
 keeps_then (Some xs) (Some ys) (Some zs) p q = q ∙ p
 
-pub says_unbegun : (fault : ServeFault) (t : List JobParts) (front more : List (List ℕ)) → (fault ≡ Memory) ⊎ (fault ≡ Write) → SaysOf fault t front more
-says_unbegun fault t front more (inl is) = rw is tt
-says_unbegun fault t front more (inr is) = rw is tt
+pub says_unbegun : (fault : ServeFault) (t left : List JobParts) (front more : List (List ℕ)) → (fault ≡ Memory) ⊎ (fault ≡ Write) → SaysOf fault t left front more
+says_unbegun fault t left front more (inl is) = rw is tt
+says_unbegun fault t left front more (inr is) = rw is tt
 
 pub fault_unbegun : {T D : Type 0} {ghosts : Ghosts D} (r : Result T ServeFault) (fault : ServeFault) → IsErrAnd r (λ x. x ≡ fault) → (fault ≡ Memory) ⊎ (fault ≡ Write) → (first book : Book D ghosts)
     → ghosts.failures (disk_of book) ≡ ghosts.failures (disk_of first) → (is_broken first ≡ false → is_broken book ≡ false)

@@ -21,6 +21,7 @@ use Rattle.ic_book.specs.Calls.{TellsBroken, TellsWorn}
 use Rattle.ic_serving.specs.declared.fault.ServeFault.{ServeFault}
 use Rattle.ic_serving.specs.declared.fault.ServeFault.TheVariants.{Write, Book as by_book, Memory}
 use Rattle.ic_serving.specs.Booked.{IsAllKept}
+use Rattle.ic_serving.specs.Parts.{IsBeforeRound}
 use Rattle.ic_serving.specs.Faults.{ComesBroken, ComesFor, ComesInLine, ComesUnmade, ComesWithoutRound, StaysReady, fault_of_line}
 
 pub not_true : (b : Bool) → ¬ (b ≡ true) → b ≡ false
@@ -115,24 +116,27 @@ err_comes (Err x) e P is comes = let same : x ≡ e = is in subst P (sym same) c
 
 -- ---- for what a line asks
 
-pub memory_comes : (t : List JobParts) (reading : Reading) → ComesFor t reading Memory
-memory_comes t (Ok Blank) = refl
-memory_comes t (Ok (Command command)) = tt
-memory_comes t (Ok (Run count)) = (tt, λ none. tt)
-memory_comes t (Err refusal) = refl
+pub memory_comes : (t : List JobParts) (reading : Reading) (left : List JobParts) → ComesFor t reading left Memory
+memory_comes t (Ok Blank) left = refl
+memory_comes t (Ok (Command command)) left = tt
+memory_comes t (Ok (Run count)) left = (tt, λ none. tt, inl tt)
+memory_comes t (Err refusal) left = refl
 
-pub command_comes : {T : Type 0} (r : Result T ServeFault) (t : List JobParts) (c : Asked) → IfErr r ComesWithoutRound → IfErr r (ComesFor t (Ok (Command c)))
-command_comes (Ok v) t c comes = tt
-command_comes (Err e) t c comes = comes
+pub command_comes : {T : Type 0} (r : Result T ServeFault) (t : List JobParts) (c : Asked) (left : List JobParts) → IfErr r ComesWithoutRound
+    → IfErr r (ComesFor t (Ok (Command c)) left)
+command_comes (Ok v) t c left comes = tt
+command_comes (Err e) t c left comes = comes
 
-pub run_comes : {T : Type 0} (r : Result T ServeFault) (t : List JobParts) (count : ℕ) → IfErr r ComesInLine → (turns count 0 t ≡ [] → IfErr r ComesWithoutRound)
-    → IfErr r (ComesFor t (Ok (Run count)))
-run_comes (Ok v) t count comes none = tt
-run_comes (Err e) t count comes none = (comes, none)
+pub run_comes : {T : Type 0} (r : Result T ServeFault) (t : List JobParts) (count : ℕ) (left : List JobParts) → IfErr r ComesInLine
+    → (turns count 0 t ≡ [] → IfErr r ComesWithoutRound) → IfErr r (λ e. ComesUnmade e ⊎ IsBeforeRound t (turns count 0 t) left)
+    → IfErr r (ComesFor t (Ok (Run count)) left)
+run_comes (Ok v) t count left comes none made = tt
+run_comes (Err e) t count left comes none made = (comes, none, made)
 
-pub refused_comes : {T : Type 0} (r : Result T ServeFault) (t : List JobParts) (fault : TextFault) → IfErr r (λ e. e ≡ Memory) → IfErr r (ComesFor t (Err fault))
-refused_comes (Ok v) t fault comes = tt
-refused_comes (Err e) t fault comes = comes
+pub refused_comes : {T : Type 0} (r : Result T ServeFault) (t : List JobParts) (fault : TextFault) (left : List JobParts) → IfErr r (λ e. e ≡ Memory)
+    → IfErr r (ComesFor t (Err fault) left)
+refused_comes (Ok v) t fault left comes = tt
+refused_comes (Err e) t fault left comes = comes
 
 -- ---- over a broken book
 

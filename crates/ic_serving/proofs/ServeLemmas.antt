@@ -179,7 +179,7 @@ over ls t u old mid new answered kept = subst (λ (xs : List (List ℕ)). AreAns
 -- ---- a fault
 
 pub ended_at : (fault : ServeFault) (all : Type 0) (ls more : List (List ℕ)) (t u v w : List JobParts) (old mid new : Option (List ℕ))
-    → AreAnswered ls t u old mid → Keeps mid new → SaysOf fault u ls more → IsLeftBy fault u more v → (all → IsLeftBy fault u more w)
+    → AreAnswered ls t u old mid → Keeps mid new → SaysOf fault u v ls more → IsLeftBy fault u more v → (all → IsLeftBy fault u more w)
     → IsEnded fault all ls more t v w old new
 ended_at fault all ls more t u v w old mid new answered kept says here keeps = record {
   between = u;
@@ -237,17 +237,18 @@ left_within (Pool p) u v ls of there = there
 left_within Memory u v ls of there = there
 left_within _ u v ls of there = absurd of
 
-pub says_book : (fault : ServeFault) (t : List JobParts) (front more : List (List ℕ)) → ComesInLine fault → ComesAtFirst t more fault → SaysOf fault t front more
-says_book (Book b) t front more of comes = comes
-says_book (Pool p) t front more of comes = comes
-says_book Memory t front more of comes = tt
-says_book _ t front more of comes = absurd of
+pub says_book : (fault : ServeFault) (t left : List JobParts) (front more : List (List ℕ)) → ComesInLine fault → ComesAtFirst t more left fault
+    → SaysOf fault t left front more
+says_book (Book b) t left front more of comes = comes
+says_book (Pool p) t left front more of comes = comes
+says_book Memory t left front more of comes = tt
+says_book _ t left front more of comes = absurd of
 
 -- no line was taken, and these are to come
 pub record NotTaken (f : ServeFault) (t : List JobParts) (rest : Option (List ℕ)) (front : List (List ℕ)) : Type 0 where
   pub more : List (List ℕ)
   pub coming : AreToCome rest more
-  pub says : SaysOf f t front more
+  pub says : SaysOf f t t front more
 
 pub not_taken : (e : LineFault) (t : List JobParts) (rest : Option (List ℕ)) (front : List (List ℕ)) → (e ≡ line_fault.LongLine → (length front < MAX_LINES) × HasLongLine rest)
     → NotTaken (fault_of_line e) t rest front

@@ -265,7 +265,7 @@ module _ {D : Type 0} {ghosts : Ghosts D} where
   -- where no line is taken
   pub serving_untaken : {T : Type 0} (r : Result T ServeFault) (fault : ServeFault) → IsErrAnd r (λ x. x ≡ fault) → SomeWay
       → (text rest : Option (List ℕ)) (n : ℕ) (first book : Book D ghosts) (old mid new : Option (List ℕ)) (more : List (List ℕ))
-      → (s : Serves text rest n first book old mid) → Keeps mid new → AreToCome rest more → SaysOf fault (table_of book) s.way.front more → (IsAllKept book → last_kept book ≡ table_of book) → IsByCalls book book
+      → (s : Serves text rest n first book old mid) → Keeps mid new → AreToCome rest more → SaysOf fault (table_of book) (table_of book) s.way.front more → (IsAllKept book → last_kept book ≡ table_of book) → IsByCalls book book
       → OfLines text (λ ls. IsServing r ls first book old new)
   serving_untaken r fault is law text rest n first book old mid new more s kept coming says whole idle =
       serving_err r fault is text rest s.way.front more first book book old new s.way.first coming

@@ -80,7 +80,7 @@ pub record IsBegun {D : Type 0} {ghosts : Ghosts D} (line : List ℕ) (fault : S
     (old new : Book D ghosts) : Type 0 where
   pub reading : Reading
   pub read : ReadsLine line reading
-  pub comes : ComesFor (table_of old) reading fault
+  pub comes : ComesFor (table_of old) reading (table_of new) fault
   pub begun : Begins (events (table_of old) reading) old new
 
 -- so few calls to the disk are made for the events that a line asks for

@@ -1,7 +1,7 @@
 -- Which faults a serving has, what they are made of, and what they say of the book.
 use Rattle.ic_lines.specs.declared.buffer.LineFault.{LineFault}
 use Rattle.ic_lines.specs.declared.buffer.LineFault.TheVariants as line
-use Rattle.std.specs.Prelude.{◌≡◌, ◌-◌, ◌^◌, ℕ, Bool, true, false, List, [], ◌∷◌, Result, Ok, Err}
+use Rattle.std.specs.Prelude.{◌≡◌, ◌⊎◌, ◌-◌, ◌^◌, ℕ, Bool, true, false, List, [], ◌∷◌, Result, Ok, Err}
 use Rattle.ic_book.specs.Refusals.{CountsBook}
 use Rattle.ic_book.specs.declared.fault.BookFault.{BookFault}
 use Rattle.ic_book.specs.declared.fault.BookFault.TheVariants as book
@@ -14,6 +14,7 @@ use Rattle.ic_pool.specs.declared.fault.PoolFault.TheVariants as pool
 use Rattle.ic_pool.specs.PoolFault.{is_of_workers}
 use Rattle.ic_serving.specs.declared.fault.ServeFault.{ServeFault}
 use Rattle.ic_serving.specs.declared.fault.ServeFault.TheVariants.{Read, Write, TooManyLines, Book, Pool, LongLine, Memory}
+use Rattle.ic_serving.specs.Parts.{IsBeforeRound}
 
 -- the lasting numbers of the faults
 abbrev pub serve_fault_number : ServeFault → ℕ
@@ -79,7 +80,8 @@ ComesWithoutRound (Pool fault) = ⊥
 ComesWithoutRound LongLine = ⊥
 ComesWithoutRound Memory = Unit {0}
 
--- which of them come where a round can't be made: of the pool only that memory ran out
+-- which of them come where a round can't be made, and its job is halted: of the pool only that
+-- memory ran out
 abbrev pub ComesUnmade : ServeFault → Type 0
 ComesUnmade Read = ⊥
 ComesUnmade Write = ⊥
@@ -89,14 +91,16 @@ ComesUnmade (Pool fault) = fault ≡ pool.Memory
 ComesUnmade LongLine = ⊥
 ComesUnmade Memory = Unit {0}
 
--- Which of them come for what a line asks: where it asks for nothing only that memory ran out, and one
--- of the pool only at a run that has a round or a halt to make.
-abbrev pub ComesFor : List JobParts → Reading → ServeFault → Type 0
-ComesFor t (Ok Blank) fault = fault ≡ Memory
-ComesFor t (Ok (Command command)) fault = ComesWithoutRound fault
-ComesFor t (Ok (Run count)) fault = ComesInLine fault
+-- Which of them come for what a line asks, and leave this table. Where it asks for nothing, only
+-- that memory ran out. One of the pool comes only at a run that has a round or a halt to make.
+-- Unless memory ran out, it comes at a round that can be made: this table is the one before it.
+abbrev pub ComesFor : (t : List JobParts) → Reading → (left : List JobParts) → ServeFault → Type 0
+ComesFor t (Ok Blank) left fault = fault ≡ Memory
+ComesFor t (Ok (Command command)) left fault = ComesWithoutRound fault
+ComesFor t (Ok (Run count)) left fault = ComesInLine fault
     × (turns count 0 t ≡ [] → ComesWithoutRound fault)
-ComesFor t (Err refusal) fault = fault ≡ Memory
+    × (ComesUnmade fault ⊎ IsBeforeRound t (turns count 0 t) left)
+ComesFor t (Err refusal) left fault = fault ≡ Memory
 
 -- which of them come over a book that is broken: of the book `Broken` alone, and none of the pool
 abbrev pub ComesBroken : ServeFault → Type 0

@@ -1,7 +1,9 @@
 -- Tables between the events of a line.
-use Rattle.std.specs.Prelude.{◌≡◌, ◌⊎◌, ℕ, List, [], ◌∷◌, ◌++◌}
+use Rattle.std.specs.Prelude.{◌≡◌, ◌⊎◌, ℕ, List, [], ◌∷◌, ◌++◌, Some}
 use Rattle.ic_jobs.specs.Job.{JobParts}
 use Rattle.ic_jobs.specs.declared.event.Event.{Event}
+use Rattle.ic_jobs.specs.declared.reply.Reply.TheVariants.{Moved}
+use Rattle.ic_jobs.specs.History.{reply_to}
 use Rattle.ic_commands.specs.LineText.{ReadsLine}
 use Rattle.ic_lines.specs.Turns.{after_events}
 use Rattle.ic_lines.specs.Answers.{Reading, events}
@@ -12,6 +14,15 @@ pub record IsPart (t : List JobParts) (es : List Event) (u : List JobParts) : Ty
   pub rest : List Event
   pub parted : es ≡ front ++ rest
   pub leaves : u ≡ after_events t front
+
+-- this table is the one before a round among some events: it answers the round by `Moved`
+pub record IsBeforeRound (t : List JobParts) (es : List Event) (u : List JobParts) : Type 0 where
+  pub before : List Event
+  pub event : Event
+  pub after : List Event
+  pub parted : es ≡ before ++ event ∷ after
+  pub leaves : u ≡ after_events t before
+  pub made : reply_to u event ≡ Some Moved
 
 -- the table that was kept before them, or the one after a front of them
 abbrev pub IsKeptWithin : (t kept : List JobParts) (es : List Event) (u : List JobParts) → Type 0

@@ -37,29 +37,31 @@ pub record AreAnswered (ls : List (List ℕ)) (t u : List JobParts)
   pub served : IsServed t ls answers u
   pub written : Appends old new answers
 
--- a fault comes at a line for what this asks of a table
-pub record ComesAt (t : List JobParts) (line : List ℕ) (fault : ServeFault) : Type 0 where
+-- a fault comes at a line for what this asks of a table, and leaves this one
+pub record ComesAt (t : List JobParts) (line : List ℕ) (left : List JobParts)
+    (fault : ServeFault) : Type 0 where
   pub reading : Reading
   pub read : ReadsLine line reading
-  pub comes : ComesFor t reading fault
+  pub comes : ComesFor t reading left fault
 
 -- the same of the first of some lines; where there is none, it doesn't come
-abbrev pub ComesAtFirst : (t : List JobParts) (ls : List (List ℕ)) → ServeFault → Type 0
-ComesAtFirst t [] fault = ⊥
-ComesAtFirst t (line ∷ ls) fault = ComesAt t line fault
+abbrev pub ComesAtFirst : (t : List JobParts) (ls : List (List ℕ)) (left : List JobParts)
+    → ServeFault → Type 0
+ComesAtFirst t [] left fault = ⊥
+ComesAtFirst t (line ∷ ls) left fault = ComesAt t line left fault
 
--- what a fault says of the lines that were answered, which led to this table, and of those that
--- weren't
-abbrev pub SaysOf : ServeFault → (t : List JobParts) (front rest : List (List ℕ)) → Type 0
-SaysOf Read t front rest = Unit {0}
-SaysOf Write t front rest = Unit {0}
-SaysOf (Book fault) t front rest = ComesAtFirst t rest (Book fault)
-SaysOf (Pool fault) t front rest = ComesAtFirst t rest (Pool fault)
-SaysOf Memory t front rest = Unit {0}
-SaysOf LongLine t front [] = ⊥
-SaysOf LongLine t front (line ∷ rest) = (length front < MAX_LINES) × (MAX_TEXT < length line)
-SaysOf TooManyLines t front [] = ⊥
-SaysOf TooManyLines t front (line ∷ rest) = length front ≡ MAX_LINES
+-- what a fault says of the lines that were answered, which led to one table, of the table that is
+-- left, and of the lines that weren't answered
+abbrev pub SaysOf : ServeFault → (t left : List JobParts) (front rest : List (List ℕ)) → Type 0
+SaysOf Read t left front rest = Unit {0}
+SaysOf Write t left front rest = Unit {0}
+SaysOf (Book fault) t left front rest = ComesAtFirst t rest left (Book fault)
+SaysOf (Pool fault) t left front rest = ComesAtFirst t rest left (Pool fault)
+SaysOf Memory t left front rest = Unit {0}
+SaysOf LongLine t left front [] = ⊥
+SaysOf LongLine t left front (line ∷ rest) = (length front < MAX_LINES) × (MAX_TEXT < length line)
+SaysOf TooManyLines t left front [] = ⊥
+SaysOf TooManyLines t left front (line ∷ rest) = length front ≡ MAX_LINES
 
 -- What a fault says of a table: some events of the next line may have come to it, and none where
 -- the line wasn't taken.
@@ -78,7 +80,7 @@ pub record IsEnded (fault : ServeFault) (all_kept : Type 0) (front rest : List (
     (t u kept : List JobParts) (old new : Option (List ℕ)) : Type 0 where
   pub between : List JobParts
   pub answered : AreAnswered front t between old new
-  pub says : SaysOf fault between front rest
+  pub says : SaysOf fault between u front rest
   pub in_line : IsLeftBy fault between rest u
   pub keeps : all_kept → IsLeftBy fault between rest kept
 

@@ -2,3 +2,4 @@
 pub mod Reaching
 pub mod Leaving
 pub mod Unkept
+pub mod Making

@@ -1,6 +1,6 @@
 //! Answering one line over a book.
 
-ghost use Rattle.std.specs.Prelude.{true, false, ◌≡◌, ◌≢◌, ◌<◌, ◌≤◌, ◌+◌, ◌-◌, ◌^◌, length, [], ◌∷◌, Ok, OnOk, OnErr, IfErr, IfOk};
+ghost use Rattle.std.specs.Prelude.{true, false, ◌≡◌, ◌≢◌, ◌⊎◌, ◌<◌, ◌≤◌, ◌+◌, ◌-◌, ◌^◌, length, [], ◌∷◌, Ok, OnOk, OnErr, IfErr, IfOk};
 ghost use Rattle.ic_book.specs.Book.{is_broken, number_of, log_of, table_of, disk_of};
 ghost use Rattle.ic_book.specs.declared.limits.TheConstants.{MAX_ENTRIES};
 ghost use Rattle.ic_jobs.specs.declared.event.Event.TheVariants.{Command as by_command};
@@ -11,12 +11,12 @@ ghost use Rattle.ic_lines.specs.Turns.{turns};
 ghost use Rattle.ic_commands.specs.LineText.{ReadsLine};
 ghost use Rattle.ic_lines.specs.Answers.{answer, after_line, events};
 ghost use Rattle.ic_serving.specs.Booked.{last_kept, unkept_of, Begins, IsAllKept};
-ghost use Rattle.ic_serving.specs.Parts.{IsKeptWithin};
+ghost use Rattle.ic_serving.specs.Parts.{IsBeforeRound, IsKeptWithin};
 ghost use Rattle.ic_book.specs.Moves.{keeps};
 ghost use Rattle.ic_serving.specs.Answered.{CallsFewFor, EndsWith, IsAnswered, IsBegun, IsReplied};
 ghost use Rattle.ic_serving.specs.Grown.{CallsFew, GoesOn, HasRoom};
 ghost use Rattle.ic_serving.specs.Moments.{FaultLeaves, Leaves, IsKeptInLine};
-ghost use Rattle.ic_serving.specs.Faults.{ComesAlone, ComesBroken, ComesFor, ComesInLine, ComesWithoutRound};
+ghost use Rattle.ic_serving.specs.Faults.{ComesAlone, ComesBroken, ComesFor, ComesInLine, ComesUnmade, ComesWithoutRound};
 ghost use Rattle.ic_serving.specs.inner.Reading.{IsAnsweredAs};
 
 use crate::fault::ServeFault;
@@ -113,7 +113,7 @@ pub(crate) fn answer_read<T: Threads + Wait + Copy + Send + 'static, D: Disk, G:
     requires every { 1 ≤ every }
     ensures answered { IfOk result (λ bytes. IsAnsweredAs reading bytes.items book.old book.new) }
     ensures begun { OnErr result (Begins (events (table_of book.old) reading) book.old book.new) }
-    ensures comes { IfErr result (ComesFor (table_of book.old) reading) }
+    ensures comes { IfErr result (ComesFor (table_of book.old) reading (table_of book.new)) }
     ensures fault { FaultLeaves ComesInLine result book.old book.new }
     ensures broken { is_broken book.old ≡ true → IfErr result ComesBroken }
     ensures still { is_broken book.old ≡ true → OnOk result (is_broken book.new ≡ true) }
@@ -199,6 +199,8 @@ fn answer_run<T: Threads + Wait + Copy + Send + 'static, D: Disk, G: Gate>(
     ensures begun { OnErr result (Begins (turns count 0 (table_of book.old)) book.old book.new) }
     ensures fault { FaultLeaves ComesInLine result book.old book.new }
     ensures idle { turns count 0 (table_of book.old) ≡ [] → IfErr result ComesWithoutRound }
+    ensures unmade { IfErr result (λ fault. ComesUnmade fault ⊎ IsBeforeRound
+        (table_of book.old) (turns count 0 (table_of book.old)) (table_of book.new)) }
     ensures broken { is_broken book.old ≡ true → IfErr result ComesBroken }
     ensures unbroken { OnOk result (is_broken book.old ≡ false) }
     ensures alone { workers ≡ 1 → IfErr result ComesAlone }

@@ -5,11 +5,11 @@ ghost use Rattle.ic_book.specs.Book.{is_broken, number_of, log_of, table_of, kep
 ghost use Rattle.ic_jobs.specs.State.{is_running};
 ghost use Rattle.ic_lines.specs.Turns.{turns, after_events};
 ghost use Rattle.ic_serving.specs.Booked.{last_kept, unkept_of, Begins, IsAllKept};
-ghost use Rattle.ic_serving.specs.Parts.{IsKeptWithin};
+ghost use Rattle.ic_serving.specs.Parts.{IsBeforeRound, IsKeptWithin};
 ghost use Rattle.ic_book.specs.Moves.{keeps};
 ghost use Rattle.ic_book.specs.declared.fault.BookFault.TheVariants as of_book;
 ghost use Rattle.ic_serving.specs.Answered.{EndsWith};
-ghost use Rattle.ic_serving.specs.Faults.{ComesAlone, ComesBroken, ComesInLine, ComesWithoutRound};
+ghost use Rattle.ic_serving.specs.Faults.{ComesAlone, ComesBroken, ComesInLine, ComesUnmade, ComesWithoutRound};
 ghost use Rattle.ic_serving.specs.Grown.{CallsFew, IsSamePage, GoesOn, HasRoom};
 ghost use Rattle.ic_serving.specs.Moments.{FaultLeaves, Leaves, IsKeptOrNow};
 
@@ -50,6 +50,8 @@ pub(crate) fn run<T: Threads + Wait + Copy + Send + 'static, D: Disk, G: Gate>(
     ensures begun { OnErr result (Begins (turns count 0 (table_of book.old)) book.old book.new) }
     ensures fault { FaultLeaves ComesInLine result book.old book.new }
     ensures idle { turns count 0 (table_of book.old) ≡ [] → IfErr result ComesWithoutRound }
+    ensures unmade { IfErr result (λ fault. ComesUnmade fault ⊎ IsBeforeRound
+        (table_of book.old) (turns count 0 (table_of book.old)) (table_of book.new)) }
     ensures broken { is_broken book.old ≡ true → IfErr result ComesBroken }
     ensures unbroken { OnOk result (is_broken book.old ≡ false) }
     ensures alone { workers ≡ 1 → IfErr result ComesAlone }
@@ -86,6 +88,8 @@ fn make_rounds<T: Threads + Wait + Copy + Send + 'static, D: Disk, G: Gate>(
     ensures begun { OnErr result (Begins (turns count 0 (table_of book.old)) book.old book.new) }
     ensures fault { FaultLeaves ComesInLine result book.old book.new }
     ensures idle { turns count 0 (table_of book.old) ≡ [] → IfErr result ComesWithoutRound }
+    ensures unmade { IfErr result (λ fault. ComesUnmade fault ⊎ IsBeforeRound
+        (table_of book.old) (turns count 0 (table_of book.old)) (table_of book.new)) }
     ensures broken { is_broken book.old ≡ true → IfErr result ComesBroken }
     ensures still { is_broken book.old ≡ true → OnOk result (is_broken book.new ≡ true) }
     ensures alone { workers ≡ 1 → IfErr result ComesAlone }
@@ -97,8 +101,10 @@ fn make_rounds<T: Threads + Wait + Copy + Send + 'static, D: Disk, G: Gate>(
         (last_kept book.old) (turns count 0 (table_of book.old))) }
 {
     book.facts();
+    ic_jobs::laws::what_is_due_is_awaited();
     let mut place = 0;
     for made in 0..count {
+        let _jobs = book.table().jobs();
         match make_round(rt, alloc, book, place, workers, makers)? {
             None => return Ok(made),
             Some(last) => place = last + 1,

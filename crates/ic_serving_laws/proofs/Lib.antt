@@ -1,5 +1,6 @@
 pub mod CallLemmas
 pub mod PartLemmas
+pub mod RoundLemmas
 pub mod ServedLemmas
 pub mod ServingLemmas
 pub mod WordLemmas

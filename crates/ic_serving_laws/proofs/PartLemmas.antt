@@ -10,11 +10,12 @@ use Rattle.ic_lines.specs.Turns.{turns, after_events}
 use Rattle.ic_lines.specs.Answers.{Reading, events}
 use Rattle.ic_serving.specs.declared.fault.ServeFault.{ServeFault}
 use Rattle.ic_serving.specs.declared.fault.ServeFault.TheVariants.{Read, Write, TooManyLines, Book, Pool, LongLine, Memory}
-use Rattle.ic_serving.specs.Parts.{IsPart, IsKeptWithin, IsInLine, IsInFirst}
+use Rattle.ic_serving.specs.Parts.{IsBeforeRound, IsPart, IsKeptWithin, IsInLine, IsInFirst}
 use Rattle.ic_serving.specs.Moments.{IsKeptInLine}
 use Rattle.ic_pool.specs.declared.fault.PoolFault.{PoolFault}
+use Rattle.ic_pool.specs.declared.fault.PoolFault.TheVariants as pool
 use Rattle.ic_commands.specs.declared.line.Line.TheVariants.{Blank, Command as Asks, Run}
-use Rattle.ic_serving.specs.Faults.{ComesFor, ComesInLine, ComesWithoutRound}
+use Rattle.ic_serving.specs.Faults.{ComesFor, ComesInLine, ComesUnmade, ComesWithoutRound}
 use Rattle.ic_serving.specs.Served.{ComesAt, ComesAtFirst, SaysOf, IsLeftBy}
 use Rattle.ic_serving.specs.Stopped.{IsReached, MayStand}
 
@@ -106,36 +107,43 @@ left_within law (Pool fault) t u ls left = left
 left_within law LongLine t u ls left = first_from law t u ls left
 left_within law Memory t u ls left = left
 
-pub says_long : (t : List JobParts) (front rest : List (List ℕ)) → SaysOf LongLine t front rest
+pub says_long : (t left : List JobParts) (front rest : List (List ℕ)) → SaysOf LongLine t left front rest
     → (line : List ℕ) × (more : List (List ℕ)) × (rest ≡ line ∷ more) × (length front < 1000000) × (262144 < length line)
-says_long t front [] says = absurd says
-says_long t front (line ∷ more) says = (line, more, refl, says.0, says.1)
+says_long t left front [] says = absurd says
+says_long t left front (line ∷ more) says = (line, more, refl, says.0, says.1)
 
-pub says_many : (t : List JobParts) (front rest : List (List ℕ)) → SaysOf TooManyLines t front rest
+pub says_many : (t left : List JobParts) (front rest : List (List ℕ)) → SaysOf TooManyLines t left front rest
     → (line : List ℕ) × (more : List (List ℕ)) × (rest ≡ line ∷ more) × (length front ≡ 1000000)
-says_many t front [] says = absurd says
-says_many t front (line ∷ more) says = (line, more, refl, says)
+says_many t left front [] says = absurd says
+says_many t left front (line ∷ more) says = (line, more, refl, says)
 
 pub without_round : (fault : ServeFault) → ComesWithoutRound fault → ComesInLine fault × ((of_pool : PoolFault) → fault ≢ Pool of_pool)
 without_round (Book f) comes = (comes, λ of_pool same. cc)
 without_round Memory comes = (tt, λ of_pool same. cc)
 without_round fault comes = absurd comes
 
-pub at_line : (t : List JobParts) (ls : List (List ℕ)) (fault : ServeFault) → ComesAtFirst t ls fault
-    → (line : List ℕ) × (more : List (List ℕ)) × (ls ≡ line ∷ more) × ComesAt t line fault
-at_line t [] fault comes = absurd comes
-at_line t (line ∷ more) fault comes = (line, more, refl, comes)
+pub unmade : (fault : ServeFault) → ComesUnmade fault → ComesInLine fault
+unmade (Book f) comes = comes
+unmade (Pool f) comes = rw comes tt
+unmade Memory comes = tt
+unmade fault comes = absurd comes
+
+pub at_line : (t : List JobParts) (ls : List (List ℕ)) (left : List JobParts) (fault : ServeFault) → ComesAtFirst t ls left fault
+    → (line : List ℕ) × (more : List (List ℕ)) × (ls ≡ line ∷ more) × ComesAt t line left fault
+at_line t [] left fault comes = absurd comes
+at_line t (line ∷ more) left fault comes = (line, more, refl, comes)
 
 -- for what a line asks that is read so
-pub comes_for : OneWay → (t : List JobParts) (line : List ℕ) (r : Reading) (fault : ServeFault) → ReadsLine line r → ComesAt t line fault → ComesFor t r fault
-comes_for law t line r fault reads at = subst (λ (x : Reading). ComesFor t x fault) (law line at.reading r at.read reads) at.comes
+pub comes_for : OneWay → (t : List JobParts) (line : List ℕ) (r : Reading) (left : List JobParts) (fault : ServeFault) → ReadsLine line r → ComesAt t line left fault
+    → ComesFor t r left fault
+comes_for law t line r left fault reads at = subst (λ (x : Reading). ComesFor t x left fault) (law line at.reading r at.read reads) at.comes
 
-pub asks_rounds : (t : List JobParts) (line : List ℕ) (r : Reading) (fault : PoolFault) → ReadsLine line r → ComesFor t r (Pool fault)
-    → (k : ℕ) × ReadsLine line (Ok (Run k)) × (turns k 0 t ≢ [])
-asks_rounds t line (Ok Blank) fault reads comes = (let bad : Pool fault ≡ Memory = comes in cc)
-asks_rounds t line (Ok (Asks c)) fault reads comes = absurd comes
-asks_rounds t line (Ok (Run k)) fault reads comes = (k, reads, comes.1)
-asks_rounds t line (Err why) fault reads comes = (let bad : Pool fault ≡ Memory = comes in cc)
+pub asks_rounds : (t : List JobParts) (line : List ℕ) (r : Reading) (left : List JobParts) (fault : PoolFault) → ReadsLine line r → ComesFor t r left (Pool fault)
+    → (k : ℕ) × ReadsLine line (Ok (Run k)) × (turns k 0 t ≢ []) × ((fault ≡ pool.Memory) ⊎ IsBeforeRound t (turns k 0 t) left)
+asks_rounds t line (Ok Blank) left fault reads comes = (let bad : Pool fault ≡ Memory = comes in cc)
+asks_rounds t line (Ok (Asks c)) left fault reads comes = absurd comes
+asks_rounds t line (Ok (Run k)) left fault reads comes = (k, reads, comes.1, comes.2)
+asks_rounds t line (Err why) left fault reads comes = (let bad : Pool fault ≡ Memory = comes in cc)
 
 -- ---- stops
 

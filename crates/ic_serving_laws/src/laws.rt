@@ -4,14 +4,18 @@ ghost use Rattle.std.specs.Prelude.{IsTrue, false, ◌-◌, ◌^◌, ◌≡◌, 
 ghost use Rattle.std.specs.List.{AllByRecursion};
 ghost use Rattle.std.specs.Io.KnownBytes.{Appends};
 ghost use Rattle.ic_disk.specs.Time.{LeavesOnly, OneMore};
+ghost use Rattle.ic_flights.specs.Flight.{FlightParts, is_blocked};
 ghost use Rattle.ic_pool.specs.declared.fault.PoolFault.{PoolFault};
 ghost use Rattle.ic_pool.specs.declared.fault.PoolFault.TheVariants as pool_fault;
 ghost use Rattle.ic_jobs.specs.declared.command.Command.{Command};
 ghost use Rattle.ic_jobs.specs.declared.event.Entry.{Entry};
 ghost use Rattle.ic_jobs.specs.declared.event.Event.{Event};
-ghost use Rattle.ic_jobs.specs.declared.event.Event.TheVariants.{Command as by_command};
+ghost use Rattle.ic_jobs.specs.declared.event.Event.TheVariants.{Command as by_command, Round};
+ghost use Rattle.ic_jobs.specs.declared.reply.Reply.TheVariants.{Moved, Halted};
 ghost use Rattle.ic_jobs.specs.Job.{JobParts};
-ghost use Rattle.ic_jobs.specs.History.{table_after, replay};
+ghost use Rattle.ic_jobs.specs.History.{table_after, replay, IsLegal};
+ghost use Rattle.ic_jobs.specs.Landing.{due};
+ghost use Rattle.ic_jobs.specs.Table.{IsTable};
 ghost use Rattle.ic_slots.specs.Held.{HoldsTable};
 ghost use Rattle.ic_text.specs.declared.fault.TextFault.{TextFault};
 ghost use Rattle.ic_commands.specs.declared.line.Line.TheVariants.{Blank, Command as Asks, Run};
@@ -31,10 +35,10 @@ ghost use Rattle.ic_serving.specs.declared.fault.ServeFault.{ServeFault};
 ghost use Rattle.ic_serving.specs.declared.fault.ServeFault.TheVariants.{Read, Write, TooManyLines, Book as by_book, Pool, LongLine, Memory};
 ghost use Rattle.ic_serving.specs.Answered.{IsAnswered, IsBegun};
 ghost use Rattle.ic_serving.specs.Booked.{last_kept, unkept_of, IsAllKept};
-ghost use Rattle.ic_serving.specs.Faults.{fault_of_line, ComesAlone, ComesBroken, ComesInLine, ComesWithoutRound, MayCome, CountsServe, StaysReady};
+ghost use Rattle.ic_serving.specs.Faults.{fault_of_line, ComesAlone, ComesBroken, ComesInLine, ComesUnmade, ComesWithoutRound, MayCome, CountsServe, StaysReady};
 ghost use Rattle.ic_serving.specs.Grown.{GoesOn, GoesOnWithin, HasRoom};
 ghost use Rattle.ic_serving.specs.Moments.{Leaves, IsKeptInLine};
-ghost use Rattle.ic_serving.specs.Parts.{IsPart, IsKeptWithin, IsInLine, IsInFirst};
+ghost use Rattle.ic_serving.specs.Parts.{IsBeforeRound, IsPart, IsKeptWithin, IsInLine, IsInFirst};
 ghost use Rattle.ic_serving.specs.Served.{OfLines, MayBeServed, AreAnswered, AppendsFront, SaysOf, IsLeftBy, IsEnded, IsCut};
 ghost use Rattle.ic_serving.specs.Serving.{IsServing};
 ghost use Rattle.ic_serving.specs.Stopped.{IsReached, MayStand};
@@ -50,6 +54,33 @@ pub fn a_part_is_a_front()
     ensures kept { (t kept u : List JobParts) (es : List Event) → IsKeptWithin t kept es u
         ↔ ((u ≡ kept) ⊎ IsPart t es u) }
 {}
+
+/// A table is the one before a round among events where a front of them leads to it, and it answers
+/// the next of them by `Moved`. So in a legal history the entries before one that says `Moved` lead
+/// to it, and there is none in a history that only halts jobs. In a run it is the table now, where
+/// the job whose turn it is isn't blocked, or one in what is left of the run after that turn.
+pub fn tables_before_rounds_are()
+    ensures none { (t u : List JobParts) → ¬ IsBeforeRound t [] u }
+    ensures part { (t u : List JobParts) (es : List Event)
+        → IsBeforeRound t es u → IsPart t es u }
+    ensures joined { (t u : List JobParts) (es more : List Event)
+        → IsBeforeRound t (es ++ more) u
+        ↔ (IsBeforeRound t es u ⊎ IsBeforeRound (after_events t es) more u) }
+    ensures history { (t u : List JobParts) (h : List Entry) → IsLegal t h
+        → IsBeforeRound t (map (λ (e : Entry). e.event) h) u
+        ↔ ((front : List Entry) × (e : Entry) × (rest : List Entry) × (h ≡ front ++ e ∷ rest)
+        × (e.reply ≡ Moved) × (u ≡ replay t front)) }
+    ensures halts { (t u : List JobParts) (h : List Entry) → IsLegal t h
+        → AllByRecursion (λ (e : Entry). e.reply ≡ Halted) h
+        → ¬ IsBeforeRound t (map (λ (e : Entry). e.event) h) u }
+    ensures run { (k place : ℕ) (t u v : List JobParts) (f : FlightParts) → IsTable t
+        → due t place ≡ Some f → v ≡ table_after t (Round f.name)
+        → IsBeforeRound t (turns (k + 1) place t) u
+        ↔ (((u ≡ t) × (is_blocked f ≡ false)) ⊎ IsBeforeRound v (turns k (f.place + 1) v) u) }
+{
+    ic_jobs::laws::what_is_due_is_awaited();
+    ic_lines::laws::runs_are_rounds_in_turn();
+}
 
 /// Within a run are the tables that runs of at most as many rounds leave; within a command the
 /// table before it and the one after it; within a blank or refused line only the table before it.
@@ -102,15 +133,16 @@ pub fn answers_are_appended()
 /// `LongLine` says that fewer than 1,000,000 lines are answered and that the line after them has
 /// more than 262,144 bytes, and `TooManyLines` that 1,000,000 are answered and one more is to come.
 /// Some faults of the book and of the pool never come, by one worker none of other threads, and
-/// where no round and no halt is to be made none of the pool. Over a broken book comes none of the
-/// pool, and of the book `Broken` alone.
+/// where no round and no halt is to be made none of the pool. Where only halts are, that memory ran
+/// out is all that comes of the pool. Over a broken book comes none of the pool, and of the book
+/// `Broken` alone.
 pub fn faults_say()
-    ensures long_line { (t : List JobParts) (front rest : List (List ℕ))
-        → SaysOf LongLine t front rest
+    ensures long_line { (t left : List JobParts) (front rest : List (List ℕ))
+        → SaysOf LongLine t left front rest
         → (line : List ℕ) × (more : List (List ℕ)) × (rest ≡ line ∷ more)
         × (length front < 1000000) × (262144 < length line) }
-    ensures too_many_lines { (t : List JobParts) (front rest : List (List ℕ))
-        → SaysOf TooManyLines t front rest
+    ensures too_many_lines { (t left : List JobParts) (front rest : List (List ℕ))
+        → SaysOf TooManyLines t left front rest
         → (line : List ℕ) × (more : List (List ℕ)) × (rest ≡ line ∷ more)
         × (length front ≡ 1000000) }
     ensures in_line { (fault : ServeFault) → ComesInLine fault
@@ -123,6 +155,9 @@ pub fn faults_say()
         ∷ Pool pool_fault.Lost ∷ Pool pool_fault.Stranger ∷ []) }
     ensures no_round { (fault : ServeFault) → ComesWithoutRound fault
         → ComesInLine fault × ((of_pool : PoolFault) → fault ≢ Pool of_pool) }
+    ensures unmade { (fault : ServeFault) → ComesUnmade fault → ComesInLine fault }
+    ensures unmade_pool { (fault : PoolFault) → ComesUnmade (Pool fault)
+        ↔ (fault ≡ pool_fault.Memory) }
     ensures broken { (fault : BookFault) → ComesBroken (by_book fault)
         → fault ≡ book_fault.Broken }
     ensures broken_pool { (fault : PoolFault) → ¬ ComesBroken (Pool fault) }
@@ -171,7 +206,8 @@ pub fn a_fault_ends_a_serving()
 }
 
 /// A fault comes for what a line asks. Where this is nothing, memory ran out. None of the pool comes
-/// at a command, and one at a run only where a round is due.
+/// at a command, and one at a run only where a round is due. Unless memory ran out, it comes at a
+/// round that can be made, and leaves the table before that round.
 pub fn a_fault_comes_for_what_a_line_asks<D: Disk>(before: &Book<D>, after: &Book<D>)
     ensures blank { (line : List ℕ) (fault : ServeFault) → ReadsLine line (Ok Blank)
         → IsBegun line fault before.now after.now → fault ≡ Memory }
@@ -182,6 +218,10 @@ pub fn a_fault_comes_for_what_a_line_asks<D: Disk>(before: &Book<D>, after: &Boo
     ensures run { (line : List ℕ) (k : ℕ) (fault : PoolFault) → ReadsLine line (Ok (Run k))
         → IsBegun line (Pool fault) before.now after.now
         → turns k 0 (table_of before.now) ≢ [] }
+    ensures round { (line : List ℕ) (k : ℕ) (fault : PoolFault) → ReadsLine line (Ok (Run k))
+        → IsBegun line (Pool fault) before.now after.now → (fault ≡ pool_fault.Memory)
+        ⊎ IsBeforeRound (table_of before.now) (turns k 0 (table_of before.now))
+        (table_of after.now) }
 {
     ic_commands::laws::one_line_reading();
     let _ = before;
@@ -189,7 +229,8 @@ pub fn a_fault_comes_for_what_a_line_asks<D: Disk>(before: &Book<D>, after: &Boo
 }
 
 /// A fault of the book ends a serving at a line that asks for something, and one of the pool at a run
-/// for which a round is due.
+/// for which a round is due. Unless memory ran out, this comes at a round that can be made, and the
+/// table before that round is left.
 pub fn a_serving_ends_for_what_a_line_asks()
     ensures book { (fault : BookFault) (all : Bool) (front rest : List (List ℕ))
         (t u kept : List JobParts) (old new : Option (List ℕ))
@@ -201,7 +242,8 @@ pub fn a_serving_ends_for_what_a_line_asks()
         → IsEnded (Pool fault) (all ≡ true) front rest t u kept old new
         → (line : List ℕ) × (more : List (List ℕ)) × (k : ℕ) × (answers : List ℕ)
         × (v : List JobParts) × (rest ≡ line ∷ more) × ReadsLine line (Ok (Run k))
-        × IsServed t front answers v × (turns k 0 v ≢ []) }
+        × IsServed t front answers v × (turns k 0 v ≢ [])
+        × ((fault ≡ pool_fault.Memory) ⊎ IsBeforeRound v (turns k 0 v) u) }
 {
     ic_commands::laws::one_line_reading();
 }

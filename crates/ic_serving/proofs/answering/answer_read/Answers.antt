@@ -133,17 +133,18 @@ returns-in-Err-clause-fault g c = fault_memory c.answer_refused.result c.args.bo
 pub returns-in-Ok-Command-clause-comes : goal.returns-in-Ok-Command-clause-comes
 returns-in-Ok-Command-clause-comes g c =
     let is : c.args.reading ≡ Ok (Asks c.in-Ok-Command.command) = cc in
-    rw is (command_comes c.answer_command.result (table_of c.args.book.now) c.in-Ok-Command.command c.answer_command.ensures.comes)
+    rw is (command_comes c.answer_command.result (table_of c.args.book.now) c.in-Ok-Command.command (table_of c.answer_command.new.book) c.answer_command.ensures.comes)
 
 pub returns-in-Ok-Run-clause-comes : goal.returns-in-Ok-Run-clause-comes
 returns-in-Ok-Run-clause-comes g c =
     let is : c.args.reading ≡ Ok (Run c.in-Ok-Run.count) = cc in
-    rw is (run_comes c.answer_run.result (table_of c.args.book.now) c.in-Ok-Run.count c.answer_run.ensures.fault.causes c.answer_run.ensures.idle)
+    rw is (run_comes c.answer_run.result (table_of c.args.book.now) c.in-Ok-Run.count (table_of c.answer_run.new.book) c.answer_run.ensures.fault.causes
+    c.answer_run.ensures.idle c.answer_run.ensures.unmade)
 
 pub returns-in-Err-clause-comes : goal.returns-in-Err-clause-comes
 returns-in-Err-clause-comes g c =
     let is : c.args.reading ≡ Err c.in-Err.fault = cc in
-    rw is (refused_comes c.answer_refused.result (table_of c.args.book.now) c.in-Err.fault c.answer_refused.ensures.fault)
+    rw is (refused_comes c.answer_refused.result (table_of c.args.book.now) c.in-Err.fault (table_of c.args.book.now) c.answer_refused.ensures.fault)
 
 pub returns-in-Ok-Command-clause-still : goal.returns-in-Ok-Command-clause-still
 returns-in-Ok-Command-clause-still g c = on_unbroken c.answer_command.result (is_broken c.args.book.now) (is_broken c.answer_command.new.book ≡ true) c.answer_command.ensures.unbroken

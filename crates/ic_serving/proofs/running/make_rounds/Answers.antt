@@ -1,14 +1,16 @@
-use Rattle.std.proofs.Common.{◌≡◌, ◌+◌, ◌-◌, ◌*◌, ◌/◌, [], None, length, inl, inr, ap, refl, ◌∙◌, arith}
+use Rattle.std.proofs.Common.{◌≡◌, ◌⊎◌, ◌+◌, ◌-◌, ◌*◌, ◌/◌, [], None, length, inl, inr, ap, refl, ◌∙◌, arith}
 use Rattle.ic_jobs.specs.Landing.{due}
+use Rattle.ic_jobs.specs.Table.{IsTable}
 use Rattle.ic_book.specs.Book.{table_of, start_of, log_of, kept_of, disk_of, IsUnchanged}
 use Rattle.ic_serving.specs.Booked.{last_kept, unkept_of, MakesRound}
-use Rattle.ic_serving.proofs.RefusalLemmas.{err_comes, is_broken_told, of_due, of_keep}
+use Rattle.ic_serving.proofs.RefusalLemmas.{err_comes, is_broken_told, not_unmade, of_due, of_keep}
+use Rattle.ic_serving.proofs.MadeLemmas.{run_unmade}
 use Rattle.ic_serving.proofs.RunLemmas.{IsRun, at_first, run_full, one_more, keep_or_not, kept_same, run_idle, run_begun, run_nothing, turns_over, on_err}
 use Rattle.ic_serving.proofs.CallLemmas.{at_least, calls_ended, calls_step, clock_same, clock_stays, run_few}
 use Rattle.ic_serving.proofs.PageLemmas.{left, page_first, page_more, page_whole, page_within}
 use Rattle.ic_lines.specs.Turns.{turns}
-use Rattle.ic_serving.specs.Parts.{IsKeptWithin}
-use Rattle.ic_serving.specs.Faults.{ComesBroken, ComesWithoutRound}
+use Rattle.ic_serving.specs.Parts.{IsBeforeRound, IsKeptWithin}
+use Rattle.ic_serving.specs.Faults.{ComesBroken, ComesUnmade, ComesWithoutRound}
 use Rattle.ic_book.specs.lemmas.Chains.{by_nothing}
 use Rattle.ic_serving.proofs.StopLemmas.{leaves_in_run}
 use Rattle.ic_serving.specs.lemmas.Leaving.{leaves_nothing}
@@ -174,6 +176,22 @@ returns-in_err-make_round-clause-idle g c = λ none.
 pub returns-in_err-keep_each-clause-idle : goal.returns-in_err-keep_each-clause-idle
 returns-in_err-keep_each-clause-idle g c = λ none. err_comes c.from_residual-in_err-keep_each.result c.in_err-keep_each.field-0.0 ComesWithoutRound
     c.from_residual-in_err-keep_each.ensures.1 (of_keep c.in_err-keep_each.field-0.0 c.in_err-keep_each.ensures.others)
+
+pub returns-in_err-make_round-clause-unmade : goal.returns-in_err-make_round-clause-unmade
+returns-in_err-make_round-clause-unmade g c =
+    let sound : IsTable (table_of c.loop-made.book) = rw c.table.ensures at c.jobs-jobs.ensures.sound in
+    err_comes c.from_residual.result c.in_err-make_round.field-0.0
+    (λ fault. ComesUnmade fault ⊎ IsBeforeRound (table_of c.args.book.now) (turns c.args.count 0 (table_of c.args.book.now)) (table_of c.make_round.new.book))
+    c.from_residual.ensures.1
+    (run_unmade c.what_is_due_is_awaited.ensures.due (table_of c.args.book.now) (last_kept c.args.book.now) c.args.count c.loop-made.made c.loop-made.place
+    (table_of c.loop-made.book) (last_kept c.loop-made.book) (table_of c.make_round.new.book) c.in_err-make_round.field-0.0 c.loop-made.invariant.run c.loop-made-test.true
+    sound c.in_err-make_round.ensures.refused.table c.in_err-make_round.ensures.nothing c.in_err-make_round.ensures.blocked)
+
+pub returns-in_err-keep_each-clause-unmade : goal.returns-in_err-keep_each-clause-unmade
+returns-in_err-keep_each-clause-unmade g c = err_comes c.from_residual-in_err-keep_each.result c.in_err-keep_each.field-0.0
+    (λ fault. ComesUnmade fault ⊎ IsBeforeRound (table_of c.args.book.now) (turns c.args.count 0 (table_of c.args.book.now)) (table_of c.keep_each.new.book))
+    c.from_residual-in_err-keep_each.ensures.1
+    (inl (not_unmade c.in_err-keep_each.field-0.0 (of_keep c.in_err-keep_each.field-0.0 c.in_err-keep_each.ensures.others)))
 
 pub returns-in_err-make_round-clause-broken : goal.returns-in_err-make_round-clause-broken
 returns-in_err-make_round-clause-broken g c = λ is. err_comes c.from_residual.result c.in_err-make_round.field-0.0 ComesBroken c.from_residual.ensures.1

@@ -1,13 +1,13 @@
-use Rattle.std.proofs.Common.{◌/◌, length}
+use Rattle.std.proofs.Common.{◌/◌, ◌⊎◌, inl, length}
 use Rattle.ic_book.specs.Book.{is_broken, table_of, disk_of}
 use Rattle.ic_lines.specs.Turns.{turns}
 use Rattle.ic_serving.specs.Booked.{last_kept}
-use Rattle.ic_serving.specs.Faults.{ComesBroken, ComesWithoutRound}
+use Rattle.ic_serving.specs.Faults.{ComesBroken, ComesUnmade, ComesWithoutRound}
 use Rattle.ic_serving.proofs.CallLemmas.{calls_end, calls_more}
-use Rattle.ic_serving.proofs.RefusalLemmas.{err_comes, is_broken_told, not_true, of_keep}
+use Rattle.ic_serving.proofs.RefusalLemmas.{err_comes, is_broken_told, not_true, not_unmade, of_keep}
 use Rattle.ic_serving.proofs.RunLemmas.{run_ended, on_err}
 use Rattle.ic_serving.proofs.PageLemmas.{goes_same, within_all}
-use Rattle.ic_serving.specs.Parts.{IsKeptWithin}
+use Rattle.ic_serving.specs.Parts.{IsBeforeRound, IsKeptWithin}
 use Rattle.ic_serving.specs.Moments.{IsKeptOrNow}
 use Rattle.ic_serving.proofs.StopLemmas.{kept_or_all}
 use Rattle.ic_serving.specs.lemmas.Leaving.{leaves_then}
@@ -51,6 +51,12 @@ returns-clause-made g c = ends_then keeps c.args.book.now c.make_rounds.new.book
 pub returns-in_err-keep_all-clause-idle : goal.returns-in_err-keep_all-clause-idle
 returns-in_err-keep_all-clause-idle g c = λ none. err_comes c.from_residual-in_err-keep_all.result c.in_err-keep_all.field-0.0 ComesWithoutRound
     c.from_residual-in_err-keep_all.ensures.1 (of_keep c.in_err-keep_all.field-0.0 c.in_err-keep_all.ensures.others)
+
+pub returns-in_err-keep_all-clause-unmade : goal.returns-in_err-keep_all-clause-unmade
+returns-in_err-keep_all-clause-unmade g c = err_comes c.from_residual-in_err-keep_all.result c.in_err-keep_all.field-0.0
+    (λ fault. ComesUnmade fault ⊎ IsBeforeRound (table_of c.args.book.now) (turns c.args.count 0 (table_of c.args.book.now)) (table_of c.keep_all.new.book))
+    c.from_residual-in_err-keep_all.ensures.1
+    (inl (not_unmade c.in_err-keep_all.field-0.0 (of_keep c.in_err-keep_all.field-0.0 c.in_err-keep_all.ensures.others)))
 
 pub returns-in_err-keep_all-clause-broken : goal.returns-in_err-keep_all-clause-broken
 returns-in_err-keep_all-clause-broken g c = λ is. err_comes c.from_residual-in_err-keep_all.result c.in_err-keep_all.field-0.0 ComesBroken

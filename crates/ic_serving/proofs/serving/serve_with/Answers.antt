@@ -70,7 +70,7 @@ returns-in_err-reading-clause-serving g c =
     keeps_then (g.W.Write.contents c.loop.writer) (g.W.Write.contents c.take_line.new.writer) (g.W.Write.contents c.begin_line.new.writer) c.take_line.ensures.kept c.begin_line.ensures.kept in
     serving_untaken c.from_residual-in_err-reading.result c.in_err-reading.field-0.0 c.from_residual-in_err-reading.ensures.1 c.one_line_reading.ensures.total (g.R.Read.remaining c.args.reader.now) rest c.loop.counter
     c.args.book.now c.loop.book (g.W.Write.contents c.args.writer.now) (g.W.Write.contents c.loop.writer) (g.W.Write.contents c.begin_line.new.writer) more
-    c.loop.invariant flushed (taken c.take_line.new.self.line rest next takes) (says_unbegun c.in_err-reading.field-0.0 (table_of c.loop.book) c.loop.invariant.way.front more c.in_err-reading.ensures.fault)
+    c.loop.invariant flushed (taken c.take_line.new.self.line rest next takes) (says_unbegun c.in_err-reading.field-0.0 (table_of c.loop.book) (table_of c.loop.book) c.loop.invariant.way.front more c.in_err-reading.ensures.fault)
     last (by_nothing c.loop.book c.facts-in-loop.ensures.step)
 
 pub returns-in_err-reading-clause-fault : goal.returns-in_err-reading-clause-fault
@@ -98,7 +98,7 @@ returns-in_err-answer-clause-serving g c =
     c.loop.invariant.way.first (taken c.take_line.new.self.line rest next takes)
     (λ other. ended_at c.in_err-answer.field-0.0 (IsAllKept c.args.book.now) c.loop.invariant.way.front (c.take_line.new.self.line ∷ ahead next)
     (table_of c.args.book.now) (table_of c.loop.book) (table_of c.answer_read.new.book) (last_kept c.answer_read.new.book) (g.W.Write.contents c.args.writer.now) (g.W.Write.contents c.loop.writer) (g.W.Write.contents c.begin_line.new.writer)
-    c.loop.invariant.way.answered flushed (says_book c.in_err-answer.field-0.0 (table_of c.loop.book) c.loop.invariant.way.front (c.take_line.new.self.line ∷ ahead next) sort
+    c.loop.invariant.way.answered flushed (says_book c.in_err-answer.field-0.0 (table_of c.loop.book) (table_of c.answer_read.new.book) c.loop.invariant.way.front (c.take_line.new.self.line ∷ ahead next) sort
     (record { reading = c.in_ok-reading.reading; read = reads; comes = c.in_err-answer.ensures.comes }))
     (left_within c.in_err-answer.field-0.0 (table_of c.loop.book) (table_of c.answer_read.new.book) (c.take_line.new.self.line ∷ ahead next) sort
     (record { reading = c.in_ok-reading.reading; read = reads; part = begun.table }))

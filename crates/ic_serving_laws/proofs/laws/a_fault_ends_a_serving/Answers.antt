@@ -24,7 +24,7 @@ returns-clause-read c = λ all front rest t u kept old new is. (
 
 pub returns-clause-long_line : goal.returns-clause-long_line
 returns-clause-long_line c = λ all front rest t u kept old new is.
-    let says = says_long is.between front rest is.says in (
+    let says = says_long is.between u front rest is.says in (
       says.0,
       says.1,
       is.answered.answers,
@@ -38,7 +38,7 @@ returns-clause-long_line c = λ all front rest t u kept old new is.
 
 pub returns-clause-too_many_lines : goal.returns-clause-too_many_lines
 returns-clause-too_many_lines c = λ all front rest t u kept old new is.
-    let says = says_many is.between front rest is.says in (
+    let says = says_many is.between u front rest is.says in (
       says.0,
       says.1,
       is.answered.answers,

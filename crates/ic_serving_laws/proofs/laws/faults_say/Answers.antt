@@ -1,4 +1,4 @@
-use Rattle.ic_serving_laws.proofs.PartLemmas.{says_long, says_many, without_round}
+use Rattle.ic_serving_laws.proofs.PartLemmas.{says_long, says_many, unmade, without_round}
 use Rattle.ic_serving_laws.proofs.laws.faults_say.Goals as goal
 
 pub returns-clause-long_line : goal.returns-clause-long_line
@@ -15,6 +15,12 @@ returns-clause-alone c = (λ h. cc, (λ h. cc, (λ h. cc, tt)))
 
 pub returns-clause-no_round : goal.returns-clause-no_round
 returns-clause-no_round c = without_round
+
+pub returns-clause-unmade : goal.returns-clause-unmade
+returns-clause-unmade c = unmade
+
+pub returns-clause-unmade_pool : goal.returns-clause-unmade_pool
+returns-clause-unmade_pool c = λ fault. (λ h. h, λ h. h)
 
 pub returns-clause-broken : goal.returns-clause-broken
 returns-clause-broken c = λ fault h. h
