@@ -12,18 +12,11 @@ use Rattle.ic_batch.specs.declared.fault.Difference.{Difference}
 use Rattle.ic_batch.specs.declared.fault.Difference.TheVariants as difference
 use Rattle.ic_batch.specs.Faults.{AreSame, HasAnother, IsSame}
 use Rattle.ic_batch.specs.Jobs.{begun_by}
-use Rattle.ic_batch.specs.Way.{goes_on, after_event, gone_on, after, IsOnWay, ComesTo, AreOnWay, IsTextOf, IsIterate, lines_of}
+use Rattle.ic_batch.specs.Way.{goes_on, after_event, after, IsOnWay, ComesTo, AreOnWay, IsTextOf, IsIterate, lines_of}
 use Rattle.ic_batch.proofs.DueLemmas.{few}
-use Rattle.ic_batch.proofs.WayLemmas.{after_more}
+use Rattle.ic_batch.proofs.WayLemmas.{after_more, stands_on}
 
 -- ---- one end
-
-stands : (most : ℕ) (j : JobParts) → goes_on most j ≡ false → gone_on most j ≡ j
-stands most j is = ap (λ (b : Bool). if b then after_event j else j) is
-
-stands_on : (most : ℕ) (j : JobParts) → goes_on most j ≡ false → (n : ℕ) → after most n j ≡ j
-stands_on most j is zero = refl
-stands_on most j is (suc n) = ap (gone_on most) (stands_on most j is n) ∙ stands most j is
 
 same_end : (most : ℕ) (from a b : JobParts) (n m : ℕ) → a ≡ after most n from → b ≡ after most m from → goes_on most a ≡ false → n ≤ m → b ≡ a
 same_end most from a b n m is_a is_b ends less =

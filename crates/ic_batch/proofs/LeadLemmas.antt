@@ -15,7 +15,7 @@ use Rattle.ic_batch.specs.Way.{IsKeptOr}
 use Rattle.ic_batch.specs.inner.Staying.{Leads}
 
 -- a table within one event
-part_such : (such : List JobParts → Type 0) (t : List JobParts) (e : Event) (u : List JobParts) → such t → such (table_after t e) → IsPart t (e ∷ []) u → such u
+pub part_such : (such : List JobParts → Type 0) (t : List JobParts) (e : Event) (u : List JobParts) → such t → such (table_after t e) → IsPart t (e ∷ []) u → such u
 part_such such t e u before after part = go part.front part.rest part.parted part.leaves
   where
     go : (front rest : List Event) → e ∷ [] ≡ front ++ rest → u ≡ after_events t front → such u

@@ -7,12 +7,14 @@ pub mod EndLemmas
 pub mod FaultLemmas
 pub mod KeepLemmas
 pub mod DueLemmas
+pub mod ComeLemmas
 pub mod LeftLemmas
 pub mod ReadLemmas
 pub mod LawLemmas
 pub mod BatchLemmas
 pub mod OtherLemmas
 pub mod RoundLemmas
+pub mod CallLemmas
 pub mod RunLemmas
 pub mod TakenLemmas
 pub mod NumberLemmas

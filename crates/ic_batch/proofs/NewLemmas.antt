@@ -109,6 +109,12 @@ module _ (jobs : List NewJob) (t : List JobParts) (new : NewJob) (rest : List Ne
       let size : length u ≡ length t + length so_far.front = ap length so_far.table ∙ length-append t (map begun_by so_far.front) ∙ ap (λ (n : ℕ). length t + n) (length-map so_far.front begun_by) in
       omega (arith, sizes, size, room)
 
+  -- one more is there
+  longer : is_new u new ≡ true → length t + length (missing t jobs) ≤ MAX_JOBS → length (table_after u (by_command (submit_of new))) ≡ length u + 1
+  longer is room =
+      let parted : missing t jobs ≡ so_far.front ++ new ∷ missing t rest = so_far.parted ∙ ap (λ (l : List NewJob). so_far.front ++ l) (more_missing t new rest (sym here ∙ is)) in
+      ap length (put_table u new (none_is (job_named new.name u) is) (many parted room)) ∙ length-append u (begun_by new ∷ [])
+
   others_stay : OthersStay → (ks : List NewJob) → AllByRecursion (λ k. bytes_eq k.name new.name ≡ false) ks → AllByRecursion (λ k. job_named k.name u ≡ job_named k.name t) ks
       → AllByRecursion (λ k. job_named k.name (table_after u (by_command (submit_of new))) ≡ job_named k.name t) ks
   others_stay law [] apart same = tt
@@ -126,6 +132,10 @@ module _ (jobs : List NewJob) (t : List JobParts) (new : NewJob) (rest : List Ne
             ∙ append_assoc t (map begun_by so_far.front) (begun_by new ∷ []) ∙ ap (λ (l : List JobParts). t ++ l) (sym (map-append begun_by so_far.front (new ∷ [])));
         others = others_stay law rest apart so_far.others.1;
       }
+
+-- the table has had no fewer jobs since
+pub none_lost : (jobs : List NewJob) (t : List JobParts) (rest : List NewJob) (u : List JobParts) → AreSubmitted jobs t rest u → length t ≤ length u
+none_lost jobs t rest u so_far = (let long = ap length so_far.table ∙ length-append t (map begun_by so_far.front) in omega (arith, long))
 
 -- the jobs after one have other names
 apart_from : (x : List ℕ) (jobs : List NewJob) → AllByRecursion (λ y. bytes_eq x y ≡ false) (names jobs) → AllByRecursion (λ k. bytes_eq k.name x ≡ false) jobs
@@ -150,6 +160,12 @@ module _ (jobs : List NewJob) (t : List JobParts) (i : ℕ) (new : NewJob) (u : 
 
   pub passed_here : is_new u new ≡ false → AreSubmitted jobs t (drop (i + 1) jobs) u
   passed_here there = passed jobs t new (drop (i + 1) jobs) u next there
+
+  pub longer_here : length (missing t jobs) + length t ≤ MAX_JOBS → is_new u new ≡ true → (command : Command) → command ≡ submit_of new
+      → length (table_after u (by_command command)) ≡ length u + 1
+  longer_here room is command same =
+      let more : length t + length (missing t jobs) ≤ MAX_JOBS = omega (arith, room) in
+      subst (λ (k : Command). length (table_after u (by_command k)) ≡ length u + 1) (sym same) (longer jobs t new (drop (i + 1) jobs) u next is more)
 
   pub submitted_here : OthersStay → IsDistinct bytes_eq (names jobs) → length (missing t jobs) + length t ≤ MAX_JOBS → is_new u new ≡ true → (command : Command) → command ≡ submit_of new
       → AreSubmitted jobs t (drop (i + 1) jobs) (table_after u (by_command command))

@@ -1,20 +1,29 @@
 -- A round of a job that goes on, over a book.
-use Rattle.std.proofs.Common.{◌≡◌, ℕ, List, true, Option, None, Some, sym, subst, ◌∙◌}
-use Rattle.std.specs.Prelude.{IfNone, IfSome, slice_get}
+use Rattle.std.proofs.Common.{◌≡◌, ℕ, ◌<◌, List, [], ◌∷◌, length, true, false, Option, None, Some, sym, subst, ◌∙◌, true≢false}
+use Rattle.std.specs.Prelude.{IfNone, IfSome, IsTrue, slice_get}
+use Rattle.std.specs.List.{AllByRecursion}
 use Rattle.ic_disk.specs.declared.disk.Disk.{Ghosts}
+use Rattle.ic_flights.specs.Flight.{FlightParts, is_blocked}
 use Rattle.ic_jobs.specs.Job.{JobParts}
 use Rattle.ic_jobs.specs.Table.{IsTable, with_changed}
 use Rattle.ic_jobs.specs.Landing.{due}
 use Rattle.ic_book.specs.declared.book.Book.{Book}
-use Rattle.ic_book.specs.Book.{table_of}
+use Rattle.ic_book.specs.Book.{log_of, table_of}
+use Rattle.ic_book.specs.declared.limits.TheConstants.{MAX_ENTRIES}
+use Rattle.ic_jobs.specs.declared.event.Event.TheVariants.{Round}
+use Rattle.ic_serving.specs.Grown.{GoesOn}
 use Rattle.ic_serving.specs.Booked.{MakesRound}
 use Rattle.ic_serving.specs.Moments.{Leaves, IsKeptOrNow}
-use Rattle.ic_batch.specs.Way.{goes_on, AreWays}
+use Rattle.ic_serving.specs.declared.fault.ServeFault.{ServeFault}
+use Rattle.ic_serving.specs.Faults.{ComesInLine, ComesUnmade}
+use Rattle.ic_batch.specs.Faults.{ComesWith}
+use Rattle.ic_batch.specs.Way.{goes_on, has_round, AreWays}
 use Rattle.ic_batch.specs.inner.Staying.{Leads}
-use Rattle.ic_batch.proofs.DueLemmas.{DueLaws, IsMade, made, made_over}
+use Rattle.ic_batch.proofs.DueLemmas.{DueLaws, IsMade, at_place, if_blocked, made, made_over}
+use Rattle.ic_batch.proofs.ComeLemmas.{cannot, ways_unmade}
 use Rattle.ic_batch.proofs.JobLemmas.{change, one_named, round_changes}
 use Rattle.ic_batch.proofs.LeadLemmas.{leads_on}
-use Rattle.ic_batch.proofs.WayLemmas.{runs, ways_more}
+use Rattle.ic_batch.proofs.WayLemmas.{runs, ways_ended, ways_more}
 
 -- the job at a place goes on
 abbrev pub GoesAt : ℕ → List JobParts → ℕ → Type 0
@@ -30,6 +39,8 @@ ways_made most from t u is_table is ways =
 pub record OneRound {D : Type 0} {ghosts : Ghosts D} (most : ℕ) (old mid new : Book D ghosts) : Type 0 where
   pub made : IsMade most (table_of mid) (table_of new)
   pub leads : Leads (AreWays most (table_of old)) old new
+  pub event : List ℕ
+  pub page : length (log_of mid) < MAX_ENTRIES → GoesOn (Round event ∷ []) mid new
 
 pub one_round : {D : Type 0} {ghosts : Ghosts D} (laws : DueLaws) (most : ℕ) (old mid new : Book D ghosts) (t : List JobParts) → t ≡ table_of mid → IsTable t
     → (place : ℕ) → GoesAt most t place → (r : Option ℕ) → IfNone r (due (table_of mid) place ≡ None) → IfSome r (λ here. MakesRound place here mid new)
@@ -43,4 +54,22 @@ one_round laws most old mid new t same table place goes r idle makes crash so_fa
       made = is;
       leads = leads_on (AreWays most (table_of old)) old mid new so_far
           (ways_made most (table_of old) (table_of mid) (table_of new) is_table is so_far.table) m.1.advances.kept crash;
+      event = m.1.flight.name;
+      page = m.1.page;
+    }
+
+-- which faults come at a round, with the jobs from which others have led to it
+pub round_comes : (laws : DueLaws) (most : ℕ) (from t u : List JobParts) → u ≡ t → IsTable u → (place : ℕ) → GoesAt most u place → AreWays most from t → (fault : ServeFault)
+    → ComesInLine fault → ((f : FlightParts) → due t place ≡ Some f → IsTrue (is_blocked f) → ComesUnmade fault) → ComesWith most from fault
+round_comes laws most from t u same table place goes ways fault causes blocked =
+    let is_table = subst IsTable same table in
+    let at = subst (λ (v : List JobParts). GoesAt most v place) same goes in
+    record {
+      in_line = causes;
+      ended = λ over.
+          let now = subst (AllByRecursion (λ j. goes_on most j ≡ false)) (sym (ways_ended most from t over ways)) over in
+          absurd (true≢false (sym at.2 ∙ at_place (λ j. goes_on most j ≡ false) t place at.0 now at.1));
+      unmade = λ none.
+          let now = at_place (λ j. has_round most j ≡ false) t place at.0 (ways_unmade most from t none ways) at.1 in
+          if_blocked laws most t is_table place at.0 at.1 at.2 (cannot most at.0 at.2 now) (ComesUnmade fault) blocked;
     }

@@ -38,6 +38,14 @@ pub way_then : (most : ℕ) (from mid j : JobParts) → IsOnWay most from mid �
 way_then most from mid j first second =
     (second.0 + first.0, second.1 ∙ ap (after most second.0) first.1 ∙ sym (after_more most from first.0 second.0))
 
+-- a job that doesn't go on stays
+stands : (most : ℕ) (j : JobParts) → goes_on most j ≡ false → gone_on most j ≡ j
+stands most j is = ap (λ (b : Bool). if b then after_event j else j) is
+
+pub stands_on : (most : ℕ) (j : JobParts) → goes_on most j ≡ false → (n : ℕ) → after most n j ≡ j
+stands_on most j is zero = refl
+stands_on most j is (suc n) = ap (gone_on most) (stands_on most j is n) ∙ stands most j is
+
 -- a job keeps its name on its way
 gone_name : (j : JobParts) (b : Bool) → (if b then after_event j else j).name ≡ j.name
 gone_name j true = ap (λ (k : JobParts). k.name) (sym (change_is j)) ∙ keeps_name (can_move j) j
@@ -55,6 +63,13 @@ way_name most from j way = ap (λ (k : JobParts). k.name) way.1 ∙ after_name m
 pub ways_same : (most : ℕ) (t : List JobParts) → AreWays most t t
 ways_same most [] = tt
 ways_same most (j ∷ js) = ((0, refl), ways_same most js)
+
+-- none goes on: so all stay as they are
+pub ways_ended : (most : ℕ) (from t : List JobParts) → AllByRecursion (λ j. goes_on most j ≡ false) from → AreWays most from t → t ≡ from
+ways_ended most [] [] over ways = refl
+ways_ended most (x ∷ xs) (y ∷ ys) over ways =
+    ap₂ (λ (a : JobParts) (b : List JobParts). a ∷ b) (ways.0.1 ∙ stands_on most x over.0 ways.0.0) (ways_ended most xs ys over.1 ways.1)
+ways_ended most xs ys over ways = absurd ways
 
 -- none goes on: so each has come to its end
 pub ways_end : (most : ℕ) (from t : List JobParts) → AreWays most from t → AllByRecursion (λ j. goes_on most j ≡ false) t → AllZip (ComesTo most) from t

@@ -16,9 +16,10 @@ use Rattle.ic_lines.specs.Script.{ReadsScript}
 use Rattle.ic_disk.specs.declared.disk.Disk.{Ghosts}
 use Rattle.ic_book.specs.declared.book.Book.{Book}
 use Rattle.ic_book.specs.Book.{disk_of, is_broken, number_of, table_of, IsUnchanged}
-use Rattle.ic_serving.specs.Faults.{ComesInLine, CountsServe, StaysReady}
+use Rattle.ic_book.specs.declared.fault.BookFault.TheVariants as of_book
+use Rattle.ic_serving.specs.Faults.{ComesInLine, ComesUnmade, ComesWithoutRound, CountsServe, StaysReady}
 use Rattle.ic_serving.specs.declared.fault.ServeFault.{ServeFault}
-use Rattle.ic_serving.specs.declared.fault.ServeFault.TheVariants.{Write}
+use Rattle.ic_serving.specs.declared.fault.ServeFault.TheVariants.{Write, Book as by_book, Memory as NoMemory}
 use Rattle.ic_batch.specs.declared.fault.BatchFault.{BatchFault}
 use Rattle.ic_batch.specs.declared.fault.BatchFault.TheVariants.{Taken, Full, Serve}
 use Rattle.ic_batch.specs.declared.fault.Difference.{Difference}
@@ -29,7 +30,7 @@ use Rattle.ic_batch.specs.declared.fault.JobsFault.{JobsFault}
 use Rattle.ic_batch.specs.declared.fault.JobsFault.TheVariants.{Line, Read, Memory}
 use Rattle.ic_batch.specs.declared.jobs.NewJob.{NewJob}
 use Rattle.ic_batch.specs.Jobs.{begun_by, names, submit_of}
-use Rattle.ic_batch.specs.Way.{missing}
+use Rattle.ic_batch.specs.Way.{all_of, goes_on, has_round, missing}
 
 -- ---- of lines
 
@@ -119,30 +120,44 @@ pub record HasAnother (jobs : List NewJob) (t : List JobParts) (name : List ℕ)
 abbrev pub HasNoRoom : List NewJob → List JobParts → Type 0
 HasNoRoom jobs t = MAX_JOBS < length t + length (missing t jobs)
 
--- A call to the book, a round, a growth or the writer failed. Each failure of the disk is counted, and
--- breaks the book.
-pub record Fails {D : Type 0} {ghosts : Ghosts D} (fault : ServeFault) (old new : Book D ghosts)
-    : Type 0 where
-  pub comes : (fault ≡ Write) ⊎ ComesInLine fault
+-- Which faults of calls and rounds come with these jobs: none of the pool where none of them goes on,
+-- and of the pool only that memory ran out where no round of them is to be made.
+pub record ComesWith (most : ℕ) (js : List JobParts) (fault : ServeFault) : Type 0 where
+  pub in_line : ComesInLine fault
+  pub ended : AllByRecursion (λ j. goes_on most j ≡ false) js → ComesWithoutRound fault
+  pub unmade : AllByRecursion (λ j. has_round most j ≡ false) js → ComesUnmade fault
+
+-- which come over a broken book: that it is broken, and that memory ran out
+abbrev pub ComesOverBroken : ServeFault → Type 0
+ComesOverBroken fault = (fault ≡ by_book of_book.Broken) ⊎ (fault ≡ NoMemory)
+
+-- A call to the book, a round, a growth or the writer failed, by a fault that comes with the jobs of the
+-- book and the missing ones. Each failure of the disk is counted, and breaks the book.
+pub record Fails {D : Type 0} {ghosts : Ghosts D} (most : ℕ) (jobs : List NewJob) (fault : ServeFault)
+    (old new : Book D ghosts) : Type 0 where
+  pub comes : (fault ≡ Write) ⊎ ComesWith most (all_of jobs (table_of old)) fault
+  pub broken : is_broken old ≡ true → ComesOverBroken fault
   pub counted : CountsServe {T = Unit {0}} (Err fault) (ghosts.failures (disk_of old)) (ghosts.failures (disk_of new))
   pub breaks : is_broken old ≡ false → StaysReady fault (is_broken new) (number_of new)
 
 -- What a fault says. Nothing is done where another job has one of the names, and else where there is no
 -- room. No other fault comes in these cases.
-abbrev pub Says : {D : Type 0} {ghosts : Ghosts D} → List NewJob → (old new : Book D ghosts)
-    → BatchFault → Type 0
-Says jobs old new (Taken name is) = HasAnother jobs (table_of old) name is × IsUnchanged old new
-Says jobs old new Full = AreSame jobs (table_of old) × HasNoRoom jobs (table_of old) × IsUnchanged old new
-Says jobs old new (Serve fault) = AreSame jobs (table_of old) × ¬ HasNoRoom jobs (table_of old)
-    × Fails fault old new
+abbrev pub Says : {D : Type 0} {ghosts : Ghosts D} → (most : ℕ) → List NewJob
+    → (old new : Book D ghosts) → BatchFault → Type 0
+Says most jobs old new (Taken name is) = HasAnother jobs (table_of old) name is × IsUnchanged old new
+Says most jobs old new Full = AreSame jobs (table_of old) × HasNoRoom jobs (table_of old)
+    × IsUnchanged old new
+Says most jobs old new (Serve fault) = AreSame jobs (table_of old)
+    × ¬ HasNoRoom jobs (table_of old) × Fails most jobs fault old new
 
 -- What holds where there was no fault: no other job had one of the names, no failure of the disk is
--- counted, and a book that wasn't broken still isn't.
+-- counted, and the book wasn't broken and isn't.
 pub record Succeeds {D : Type 0} {ghosts : Ghosts D} (jobs : List NewJob) (old new : Book D ghosts)
     : Type 0 where
   pub same : AreSame jobs (table_of old)
   pub counted : ghosts.failures (disk_of new) ≡ ghosts.failures (disk_of old)
-  pub ready : is_broken old ≡ false → is_broken new ≡ false
+  pub unbroken : is_broken old ≡ false
+  pub whole : is_broken new ≡ false
 
 -- a fault says that a table has another job
 abbrev pub IsTaken : List NewJob → List JobParts → BatchFault → Type 0

@@ -2,6 +2,7 @@
 pub mod Jobs
 pub mod Way
 pub mod Faults
+pub mod Calls
 pub mod Batch
 pub mod Served
 pub mod inner

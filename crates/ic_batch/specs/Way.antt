@@ -26,6 +26,10 @@ after_event j = if can_move j then moved j else in_state Halted j
 abbrev pub gone_on : ℕ → JobParts → JobParts
 gone_on most j = if goes_on most j then after_event j else j
 
+-- a round of a job is to be made: a batch goes on with it, and it can make one
+abbrev pub has_round : ℕ → JobParts → Bool
+has_round most j = goes_on most j && can_move j
+
 -- a job after so many events
 abbrev pub after : ℕ → ℕ → JobParts → JobParts
 after most zero j = j

@@ -1,11 +1,11 @@
 //! Bringing jobs to their ends over a book.
 
-ghost use Rattle.std.specs.Prelude.{◌≡◌, ◌+◌, ◌≤◌, [], length, Err, IfErr, IfOk, OnOk, OnErr};
+ghost use Rattle.std.specs.Prelude.{◌≡◌, ◌+◌, ◌≤◌, [], length, true, false, Err, IfErr, IfOk, OnOk, OnErr};
 ghost use Rattle.std.specs.List.{IsDistinct};
 ghost use Rattle.std.specs.Str.{bytes_eq};
 ghost use Rattle.std.specs.Io.KnownBytes.{Appends};
 ghost use Rattle.ic_output.specs.Output.{AppendsFront};
-ghost use Rattle.ic_book.specs.Book.{table_of};
+ghost use Rattle.ic_book.specs.Book.{is_broken, table_of};
 ghost use Rattle.ic_jobs.specs.declared.limits.TheConstants.{MAX_JOBS};
 ghost use Rattle.ic_serving.specs.Booked.{unkept_of, IsAllKept};
 ghost use Rattle.ic_serving.specs.Faults.{ComesAlone, ComesInLine};
@@ -14,9 +14,10 @@ ghost use Rattle.ic_serving.specs.declared.fault.ServeFault.{ServeFault};
 ghost use Rattle.ic_serving.specs.declared.fault.ServeFault.TheVariants.{Write as write_fault};
 ghost use Rattle.ic_batch.specs.declared.fault.BatchFault.TheVariants.{Serve};
 ghost use Rattle.ic_batch.specs.Jobs.{names};
-ghost use Rattle.ic_batch.specs.Way.{fetched_all, missing, HaveEnded, IsUnderWay};
+ghost use Rattle.ic_batch.specs.Way.{all_of, fetched_all, missing, HaveEnded, IsUnderWay};
 ghost use Rattle.ic_batch.specs.Batch.{Brings, IsBatch, IsOnWay};
-ghost use Rattle.ic_batch.specs.Faults.{Says, Succeeds};
+ghost use Rattle.ic_batch.specs.Calls.{CallsFew};
+ghost use Rattle.ic_batch.specs.Faults.{ComesOverBroken, ComesWith, Says, Succeeds};
 ghost use Rattle.ic_batch.specs.inner.Staying.{Leads};
 
 use crate::comparing::first_taken;
@@ -65,13 +66,15 @@ pub fn batch<T: Threads + Wait + Copy + Send + 'static, D: Disk, W: Write, G: Ga
     // Ok depends only on the jobs that were to be there.
     ensures batch { IsOnWay most jobs.now book.old
         → IsBatch result most jobs.now book.old book.new }
-    ensures fault { IfErr result (Says jobs.now book.old book.new) }
+    ensures fault { IfErr result (Says most jobs.now book.old book.new) }
     ensures done { OnOk result (Succeeds jobs.now book.old book.new) }
 
-    // One thread has no fault of others. At any fault so much isn't kept at most, where all was before.
+    // One thread has no fault of others. At any end so much isn't kept at most, where all was before,
+    // and so few calls to the disk are made.
     ensures alone { workers ≡ 1 → (fault : ServeFault) → result ≡ Err (Serve fault)
         → ComesAlone fault }
     ensures few_unkept { IsAllKept book.old → unkept_of book.new ≤ every }
+    ensures few_calls { CallsFew jobs.now every book.old book.new }
 {
     book.facts();
     if let Some(fault) = first_taken(book.table(), jobs) {
@@ -120,8 +123,13 @@ fn bring_to_ends<T: Threads + Wait + Copy + Send + 'static, D: Disk, G: Gate>(
     ensures text { IfOk result (λ text. text.items ≡ fetched_all jobs.now (table_of book.new)) }
     ensures kept { OnOk result (IsAllKept book.new) }
     ensures fault { FaultLeaves ComesInLine result book.old book.new }
+    ensures comes { IfErr result (ComesWith most (all_of jobs.now (table_of book.old))) }
+    ensures broken { is_broken book.old ≡ true → IfErr result ComesOverBroken }
+    ensures unbroken { OnOk result (is_broken book.old ≡ false) }
+    ensures whole { OnOk result (is_broken book.new ≡ false) }
     ensures alone { workers ≡ 1 → IfErr result ComesAlone }
     ensures few_unkept { IsAllKept book.old → unkept_of book.new ≤ every }
+    ensures few_calls { CallsFew jobs.now every book.old book.new }
 {
     submit_missing(alloc, book, jobs)?;
     make_rounds(rt, alloc, book, most, workers, every, gate, makers)?;

@@ -1,6 +1,6 @@
 //! Laws of the definitions that the contracts of this crate cite.
 
-ghost use Rattle.std.specs.Prelude.{◌≡◌, ◌≢◌, ◌<◌, ◌≤◌, ◌++◌, ◌-◌, ◌^◌, ◌⊎◌, ℕ, List, [], ◌∷◌, Option, Result, Some, Ok, Err, false, true, length, map, take};
+ghost use Rattle.std.specs.Prelude.{◌≡◌, ◌≢◌, ◌<◌, ◌≤◌, ◌++◌, ◌+◌, ◌-◌, ◌*◌, ◌/◌, ◌^◌, ◌⊎◌, ℕ, List, [], ◌∷◌, Option, Result, Some, Ok, Err, false, true, length, map, slice_get, take};
 ghost use Rattle.std.specs.List.{AllByRecursion, IsDistinct, filter_map, flat_map};
 ghost use Rattle.std.specs.Io.KnownBytes.{Appends, Keeps};
 ghost use Rattle.std.specs.Str.{bytes_eq};
@@ -9,7 +9,7 @@ ghost use Rattle.ic_jobs.specs.declared.command.Command.{Command};
 ghost use Rattle.ic_jobs.specs.declared.reply.Refusal.{Refusal};
 ghost use Rattle.ic_jobs.specs.declared.limits.TheConstants.{MAX_JOBS};
 ghost use Rattle.ic_jobs.specs.State.{is_running};
-ghost use Rattle.ic_jobs.specs.Job.{JobParts};
+ghost use Rattle.ic_jobs.specs.Job.{JobParts, can_move};
 ghost use Rattle.ic_jobs.specs.Table.{job_named, job_names};
 ghost use Rattle.ic_lines.specs.Answers.{out};
 ghost use Rattle.ic_lines.specs.Lines.{lines};
@@ -17,15 +17,19 @@ ghost use Rattle.ic_lines.specs.Script.{AreAsked, ReadsScript};
 ghost use Rattle.ic_lines.specs.Serving.{IsServed};
 ghost use Rattle.ic_output.specs.Output.{AppendsFront};
 ghost use Rattle.ic_book.specs.declared.fault.BookFault.TheVariants as of_book;
-ghost use Rattle.ic_book.specs.Book.{disk_of, is_broken, number_of, table_of, IsUnchanged};
+ghost use Rattle.ic_book.specs.Book.{disk_of, is_broken, log_of, number_of, table_of, IsUnchanged};
+ghost use Rattle.ic_book.specs.declared.limits.TheConstants.{MAX_ENTRIES};
 ghost use Rattle.ic_disk.specs.Time.{OneMore};
+ghost use Rattle.ic_pool.specs.declared.fault.PoolFault.{PoolFault};
+ghost use Rattle.ic_pool.specs.declared.fault.PoolFault.TheVariants as of_pool;
 ghost use Rattle.ic_serving.specs.declared.fault.ServeFault.{ServeFault};
-ghost use Rattle.ic_serving.specs.declared.fault.ServeFault.TheVariants.{Book as by_book, LongLine, Read, TooManyLines, Write};
+ghost use Rattle.ic_serving.specs.declared.fault.ServeFault.TheVariants.{Book as by_book, LongLine, Memory as NoMemory, Pool, Read, TooManyLines, Write};
 ghost use Rattle.ic_serving.specs.Booked.{last_kept, IsAllKept};
 ghost use Rattle.ic_serving.specs.Moments.{Leaves};
 ghost use Rattle.ic_batch.specs.declared.fault.BatchFault.{BatchFault};
 ghost use Rattle.ic_batch.specs.declared.fault.BatchFault.TheVariants.{Full, Serve, Taken};
 ghost use Rattle.ic_batch.specs.Batch.{Brings, IsBatch};
+ghost use Rattle.ic_batch.specs.Calls.{events_in, events_of, CallsFew};
 ghost use Rattle.ic_batch.specs.declared.fault.Difference.{Difference};
 ghost use Rattle.ic_batch.specs.declared.fault.JobsCause.{JobsCause};
 ghost use Rattle.ic_batch.specs.declared.fault.JobsCause.TheVariants.{Refused, Text};
@@ -34,7 +38,7 @@ ghost use Rattle.ic_batch.specs.declared.jobs.NewJob.{NewJob};
 ghost use Rattle.ic_batch.specs.Faults.{all_batch_faults, all_jobs_faults, batch_fault_number, jobs_fault_number, AreSame, Differs, Fails, HasAnother, HasNoRoom, IsLineAfter, IsRefused, Says, SaysOfLines, StopsAt, Succeeds};
 ghost use Rattle.ic_batch.specs.Jobs.{begun_by, names, submit_of, AreJobsOf};
 ghost use Rattle.ic_batch.specs.Served.{accepted, fetches, run_together};
-ghost use Rattle.ic_batch.specs.Way.{fetched_all, AreOnWay, ComesTo, HaveEnded, IsIterate, IsOnWay, IsTextOf, IsUnderWay};
+ghost use Rattle.ic_batch.specs.Way.{after, all_of, fetched_all, goes_on, AreOnWay, ComesTo, HaveEnded, IsIterate, IsOnWay, IsTextOf, IsUnderWay};
 
 use ic_book::Book;
 use ic_disk::Disk;
@@ -164,22 +168,46 @@ pub fn a_failing_writer_ends_a_batch<D: Disk>(old: &Book<D>, new: &Book<D>)
     let _ = new;
 }
 
+/// The rounds of a way are counted, and its halt with them: a job that went on before each of so many
+/// events has had so many. A batch calls the disk at most six times for each job that it submits, for
+/// each `every` rounds and halts, and at its end.
+pub fn a_batch_calls_the_disk_so<D: Disk>(old: &Book<D>, new: &Book<D>)
+    ensures way { (most n : ℕ) (from : JobParts)
+        → ((m : ℕ) → m < n → goes_on most (after most m from) ≡ true)
+        → events_of from (after most n from) ≡ n }
+    ensures each { (from j : JobParts) (before t : List JobParts)
+        → events_in (from ∷ before) (j ∷ t) ≡ events_of from j + events_in before t }
+    ensures calls { (jobs : List NewJob) (every submits events : ℕ)
+        → CallsFew jobs every old.now new.now
+        → length (table_of new.now) ≡ length (table_of old.now) + submits
+        → events_in (all_of jobs (table_of old.now)) (table_of new.now) ≡ events
+        → length (log_of old.now) + (submits + events) < MAX_ENTRIES
+        → D.clock (disk_of new.now) ≤ D.clock (disk_of old.now)
+        + 6 * (submits + events / every + 1) }
+{
+    let _ = old;
+    let _ = new;
+}
+
 /// What a batch is refused for, and what its faults leave. Nothing is done where another job has a name
 /// of one of its jobs, those before it being the same, or where there is no room for its jobs; no other
 /// fault comes then. Of lines the first command is told that a table of the jobs before it refuses.
 ///
-/// A batch never fails by its reader, by a line, or by a full history. At a failure of the disk the book
-/// is broken then, and one more failure is counted. Where no fault is told, none is counted.
+/// A batch never fails by its reader, by a line, or by a full history. By the pool it fails only where
+/// one of its jobs runs and has made fewer rounds than it may; and where none of these can make its next
+/// round, only since memory ran out. Over a broken book it never ends well: where it has begun it tells
+/// that the book is broken, or that memory ran out. At a failure of the disk the book is broken then,
+/// and one more failure is counted. Where no fault is told, none is counted.
 pub fn a_batch_fails_so<D: Disk>(old: &Book<D>, new: &Book<D>)
-    ensures nothing { (jobs : List NewJob) (name : List ℕ) (is : Difference)
-        → Says jobs old.now new.now (Taken name is)
+    ensures nothing { (most : ℕ) (jobs : List NewJob) (name : List ℕ) (is : Difference)
+        → Says most jobs old.now new.now (Taken name is)
         → HasAnother jobs (table_of old.now) name is × IsUnchanged old.now new.now }
-    ensures full { (jobs : List NewJob) → Says jobs old.now new.now Full
+    ensures full { (most : ℕ) (jobs : List NewJob) → Says most jobs old.now new.now Full
         → AreSame jobs (table_of old.now) × HasNoRoom jobs (table_of old.now)
         × IsUnchanged old.now new.now }
-    ensures fails { (jobs : List NewJob) (fault : ServeFault)
-        → Says jobs old.now new.now (Serve fault) → AreSame jobs (table_of old.now)
-        × ¬ HasNoRoom jobs (table_of old.now) × Fails fault old.now new.now }
+    ensures fails { (most : ℕ) (jobs : List NewJob) (fault : ServeFault)
+        → Says most jobs old.now new.now (Serve fault) → AreSame jobs (table_of old.now)
+        × ¬ HasNoRoom jobs (table_of old.now) × Fails most jobs fault old.now new.now }
     ensures taken { (jobs : List NewJob) (t : List JobParts) (name : List ℕ) (is : Difference)
         → HasAnother jobs t name is
         → (before : List NewJob) × (new : NewJob) × (after : List NewJob) × (job : JobParts)
@@ -192,17 +220,32 @@ pub fn a_batch_fails_so<D: Disk>(old: &Book<D>, new: &Book<D>)
         × IsLineAfter text (length jobs) number }
     ensures number { (text : List ℕ) (many one other : ℕ) → IsLineAfter text many one
         → IsLineAfter text many other → one ≡ other }
-    ensures never { ¬ Fails Read old.now new.now × ¬ Fails LongLine old.now new.now
-        × ¬ Fails TooManyLines old.now new.now × ¬ Fails (by_book of_book.LogFull) old.now new.now }
-    ensures device { Fails (by_book of_book.Device) old.now new.now → is_broken old.now ≡ false
+    ensures never { (most : ℕ) (jobs : List NewJob) → ¬ Fails most jobs Read old.now new.now
+        × ¬ Fails most jobs LongLine old.now new.now × ¬ Fails most jobs TooManyLines old.now new.now
+        × ¬ Fails most jobs (by_book of_book.LogFull) old.now new.now }
+    ensures pool { (most : ℕ) (jobs : List NewJob) (fault : PoolFault)
+        → Fails most jobs (Pool fault) old.now new.now → (place : ℕ) × (job : JobParts)
+        × (slice_get (all_of jobs (table_of old.now)) place ≡ Some job)
+        × (is_running job.state ≡ true) × (job.rounds < most) }
+    ensures rounds { (most : ℕ) (jobs : List NewJob) (fault : PoolFault)
+        → Fails most jobs (Pool fault) old.now new.now → fault ≢ of_pool.Memory
+        → (place : ℕ) × (job : JobParts)
+        × (slice_get (all_of jobs (table_of old.now)) place ≡ Some job)
+        × (is_running job.state ≡ true) × (job.rounds < most) × (can_move job ≡ true) }
+    ensures broken { (most : ℕ) (jobs : List NewJob) (fault : ServeFault)
+        → Fails most jobs fault old.now new.now → is_broken old.now ≡ true
+        → (fault ≡ by_book of_book.Broken) ⊎ (fault ≡ NoMemory) }
+    ensures device { (most : ℕ) (jobs : List NewJob)
+        → Fails most jobs (by_book of_book.Device) old.now new.now → is_broken old.now ≡ false
         → (is_broken new.now ≡ true)
         × OneMore (D.failures (disk_of old.now)) (D.failures (disk_of new.now)) }
-    ensures worn { Fails (by_book of_book.Worn) old.now new.now → is_broken old.now ≡ false
+    ensures worn { (most : ℕ) (jobs : List NewJob)
+        → Fails most jobs (by_book of_book.Worn) old.now new.now → is_broken old.now ≡ false
         → (is_broken new.now ≡ false) × (number_of new.now ≡ 2 ^ 64 - 1) }
     ensures none { (jobs : List NewJob) → Succeeds jobs old.now new.now
         → AreSame jobs (table_of old.now)
         × (D.failures (disk_of new.now) ≡ D.failures (disk_of old.now))
-        × (is_broken old.now ≡ false → is_broken new.now ≡ false) }
+        × (is_broken old.now ≡ false) × (is_broken new.now ≡ false) }
 {
     let _ = old;
     let _ = new;

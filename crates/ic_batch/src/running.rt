@@ -1,12 +1,15 @@
 //! Making rounds until no job goes on.
 
-ghost use Rattle.std.specs.Prelude.{◌≡◌, ◌≤◌, Some, IfErr, IfSome, IfNone, OnOk, true, false, slice_get};
+ghost use Rattle.std.specs.Prelude.{◌≡◌, ◌≤◌, ◌<◌, ◌+◌, ◌*◌, ◌/◌, length, Some, IfErr, IfSome, IfNone, OnOk, true, false, slice_get};
 ghost use Rattle.std.specs.List.{AllByRecursion};
 ghost use Rattle.ic_jobs.specs.Job.{JobParts};
-ghost use Rattle.ic_book.specs.Book.{table_of};
+ghost use Rattle.ic_book.specs.Book.{disk_of, is_broken, log_of, table_of};
+ghost use Rattle.ic_book.specs.declared.limits.TheConstants.{MAX_ENTRIES};
 ghost use Rattle.ic_serving.specs.Booked.{unkept_of, IsAllKept};
 ghost use Rattle.ic_serving.specs.Faults.{ComesAlone, ComesInLine};
 ghost use Rattle.ic_serving.specs.Moments.{FaultLeaves};
+ghost use Rattle.ic_batch.specs.Calls.{events_in};
+ghost use Rattle.ic_batch.specs.Faults.{ComesOverBroken, ComesWith};
 ghost use Rattle.ic_batch.specs.Way.{goes_on, AreWays};
 ghost use Rattle.ic_batch.specs.inner.Staying.{Leads};
 
@@ -56,8 +59,15 @@ pub(crate) fn make_rounds<T: Threads + Wait + Copy + Send + 'static, D: Disk, G:
     requires every { 1 ≤ every }
     ensures leads { Leads (AreWays most (table_of book.old)) book.old book.new }
     ensures fault { FaultLeaves ComesInLine result book.old book.new }
+    ensures comes { IfErr result (ComesWith most (table_of book.old)) }
+    ensures broken { is_broken book.old ≡ true → IfErr result ComesOverBroken }
+    ensures still { is_broken book.old ≡ true → OnOk result (is_broken book.new ≡ true) }
     ensures alone { workers ≡ 1 → IfErr result ComesAlone }
     ensures few_unkept { IsAllKept book.old → unkept_of book.new ≤ every }
+    ensures few_calls { length (log_of book.old)
+        + events_in (table_of book.old) (table_of book.new) < MAX_ENTRIES
+        → D.clock (disk_of book.new) ≤ D.clock (disk_of book.old)
+        + 6 * (events_in (table_of book.old) (table_of book.new) / every) }
     ensures ended { OnOk result
         (AllByRecursion (λ job. goes_on most job ≡ false) (table_of book.new)) }
 {

@@ -1,19 +1,21 @@
 //! Submitting the jobs that aren't there.
 
-ghost use Rattle.std.specs.Prelude.{◌≡◌, ◌+◌, ◌≤◌, length, not, is_some, IfErr, IfOk, OnOk};
+ghost use Rattle.std.specs.Prelude.{◌≡◌, ◌+◌, ◌*◌, ◌<◌, ◌≤◌, length, not, is_some, true, IfErr, IfOk, OnOk};
 ghost use Rattle.std.specs.Bool.{OnFalse, OnTrue};
 ghost use Rattle.std.specs.List.{IsDistinct};
 ghost use Rattle.std.specs.Str.{bytes_eq};
-ghost use Rattle.ic_book.specs.Book.{table_of};
+ghost use Rattle.ic_book.specs.Book.{disk_of, is_broken, log_of, table_of};
+ghost use Rattle.ic_book.specs.declared.limits.TheConstants.{MAX_ENTRIES};
 ghost use Rattle.ic_jobs.specs.Table.{job_named};
 ghost use Rattle.ic_jobs.specs.declared.limits.TheConstants.{MAX_JOBS};
 ghost use Rattle.ic_serving.specs.Booked.{unkept_of, IsAllKept};
-ghost use Rattle.ic_serving.specs.Faults.{ComesAlone, ComesInLine};
+ghost use Rattle.ic_serving.specs.Faults.{ComesAlone, ComesInLine, ComesWithoutRound};
 ghost use Rattle.ic_serving.specs.Moments.{FaultLeaves};
-ghost use Rattle.ic_batch.specs.Faults.{HasNoRoom};
+ghost use Rattle.ic_batch.specs.Calls.{come_to};
+ghost use Rattle.ic_batch.specs.Faults.{ComesOverBroken, HasNoRoom};
 ghost use Rattle.ic_batch.specs.Jobs.{names, submit_of};
 ghost use Rattle.ic_batch.specs.Way.{all_of, missing};
-ghost use Rattle.ic_batch.specs.inner.Staying.{AreBegun, Leads};
+ghost use Rattle.ic_batch.specs.inner.Staying.{AreBegun, HaveCome, Leads};
 
 use crate::jobs::NewJob;
 use ic_book::Book;
@@ -55,8 +57,17 @@ pub(crate) fn submit_missing<D: Disk>(
     ensures leads { Leads (AreBegun jobs.now (table_of book.old)) book.old book.new }
     ensures all { OnOk result (table_of book.new ≡ all_of jobs.now (table_of book.old)) }
     ensures fault { FaultLeaves ComesInLine result book.old book.new }
+    ensures comes { IfErr result ComesWithoutRound }
+    ensures broken { is_broken book.old ≡ true → IfErr result ComesOverBroken }
+    ensures still { is_broken book.old ≡ true → OnOk result (is_broken book.new ≡ true) }
     ensures alone { IfErr result ComesAlone }
     ensures kept { OnOk result (IsAllKept book.old → IsAllKept book.new) }
+    ensures few_calls { length (log_of book.old) + come_to (table_of book.old) (table_of book.new)
+        < MAX_ENTRIES → D.clock (disk_of book.new) ≤ D.clock (disk_of book.old)
+        + 6 * (come_to (table_of book.old) (table_of book.new) + 1) }
+    ensures come { OnOk result (length (log_of book.old)
+        + come_to (table_of book.old) (table_of book.new) < MAX_ENTRIES
+        → HaveCome book.old book.new) }
     ensures few_unkept { IsAllKept book.old → unkept_of book.new ≤ 1 }
 {
     book.facts();

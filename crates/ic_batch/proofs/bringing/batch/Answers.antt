@@ -6,6 +6,7 @@ use Rattle.ic_serving.specs.lemmas.Leaving.{leaves_nothing}
 use Rattle.ic_batch.specs.declared.fault.BatchFault.TheVariants.{Full, Serve}
 use Rattle.ic_batch.specs.Way.{IsKeptOr, IsUnderWay}
 use Rattle.ic_batch.proofs.BatchLemmas.{brings_all, brings_less, is_batch, leads_none, not_write, not_writing, under_none}
+use Rattle.ic_batch.proofs.CallLemmas.{few_none}
 use Rattle.ic_batch.proofs.bringing.batch.Goals as goal
 
 pub returns-in-Some-clause-brings : goal.returns-in-Some-clause-brings
@@ -51,3 +52,9 @@ pub returns-in-Err-clause-batch : goal.returns-in-Err-clause-batch
 returns-in-Err-clause-batch g c = λ on.
     let bytes = g.W.Write.contents c.args.writer.now in
     is_batch (Err (Serve c.in-Err.fault)) c.args.most c.args.jobs.now c.args.book.now c.bring_to_ends-brought.new.book bytes bytes c.requires.distinct on (returns-in-Err-clause-brings g c)
+
+pub returns-in-Some-clause-few_calls : goal.returns-in-Some-clause-few_calls
+returns-in-Some-clause-few_calls g c = few_none c.args.jobs.now c.args.every c.args.book.now
+
+pub returns-then-not-has_room-clause-few_calls : goal.returns-then-not-has_room-clause-few_calls
+returns-then-not-has_room-clause-few_calls g c = few_none c.args.jobs.now c.args.every c.args.book.now

@@ -1,15 +1,18 @@
 use Rattle.std.proofs.Common.{inl, inr}
+use Rattle.ic_book.specs.Book.{table_of}
+use Rattle.ic_batch.specs.Way.{all_of}
+use Rattle.ic_batch.proofs.ComeLemmas.{goes_with, moves_with}
 use Rattle.ic_batch.proofs.NumberLemmas.{one_line}
 use Rattle.ic_batch.proofs.laws.a_batch_fails_so.Goals as goal
 
 pub returns-clause-nothing : goal.returns-clause-nothing
-returns-clause-nothing g c jobs name is says = says
+returns-clause-nothing g c most jobs name is says = says
 
 pub returns-clause-full : goal.returns-clause-full
-returns-clause-full g c jobs says = says
+returns-clause-full g c most jobs says = says
 
 pub returns-clause-fails : goal.returns-clause-fails
-returns-clause-fails g c jobs fault says = says
+returns-clause-fails g c most jobs fault says = says
 
 pub returns-clause-taken : goal.returns-clause-taken
 returns-clause-taken g c jobs t name is other = (other.before, other.new, other.after, other.job, other.among, other.first, other.named, other.there, other.differs)
@@ -21,18 +24,27 @@ pub returns-clause-number : goal.returns-clause-number
 returns-clause-number g c = one_line
 
 pub returns-clause-never : goal.returns-clause-never
-returns-clause-never g c = (
-  λ fails. elim fails.comes [ inl same ↦ cc | inr never ↦ never ],
-  λ fails. elim fails.comes [ inl same ↦ cc | inr never ↦ never ],
-  λ fails. elim fails.comes [ inl same ↦ cc | inr never ↦ never ],
-  λ fails. elim fails.comes [ inl same ↦ cc | inr never ↦ never ],
+returns-clause-never g c most jobs = (
+  λ fails. elim fails.comes [ inl same ↦ cc | inr other ↦ other.in_line ],
+  λ fails. elim fails.comes [ inl same ↦ cc | inr other ↦ other.in_line ],
+  λ fails. elim fails.comes [ inl same ↦ cc | inr other ↦ other.in_line ],
+  λ fails. elim fails.comes [ inl same ↦ cc | inr other ↦ other.in_line ],
 )
 
+pub returns-clause-pool : goal.returns-clause-pool
+returns-clause-pool g c most jobs fault fails = goes_with most (all_of jobs (table_of c.args.old.now)) fault fails.comes
+
+pub returns-clause-rounds : goal.returns-clause-rounds
+returns-clause-rounds g c most jobs fault fails other = moves_with most (all_of jobs (table_of c.args.old.now)) fault fails.comes other
+
+pub returns-clause-broken : goal.returns-clause-broken
+returns-clause-broken g c most jobs fault fails is = fails.broken is
+
 pub returns-clause-device : goal.returns-clause-device
-returns-clause-device g c fails well = (fails.breaks well, fails.counted)
+returns-clause-device g c most jobs fails well = (fails.breaks well, fails.counted)
 
 pub returns-clause-worn : goal.returns-clause-worn
-returns-clause-worn g c fails well = fails.breaks well
+returns-clause-worn g c most jobs fails well = fails.breaks well
 
 pub returns-clause-none : goal.returns-clause-none
-returns-clause-none g c jobs is = (is.same, is.counted, is.ready)
+returns-clause-none g c jobs is = (is.same, is.counted, is.unbroken, is.whole)

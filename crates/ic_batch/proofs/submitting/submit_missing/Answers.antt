@@ -1,4 +1,4 @@
-use Rattle.std.proofs.Common.{◌≡◌, ◌+◌, ◌∙◌, inl, inr, List, [], drop, sym, refl, subst, arith}
+use Rattle.std.proofs.Common.{◌≡◌, ◌+◌, ◌∙◌, inl, inr, List, [], ◌≤◌, ap, drop, length, sym, refl, subst, arith, true≢false}
 use Rattle.std.proofs.lemmas.List.{drop_all}
 use Rattle.ic_jobs.specs.declared.event.Event.TheVariants.{Command as by_command}
 use Rattle.ic_jobs.specs.History.{table_after}
@@ -13,9 +13,12 @@ use Rattle.ic_serving.specs.lemmas.Unkept.{none_unkept}
 use Rattle.ic_batch.specs.declared.jobs.NewJob.{NewJob}
 use Rattle.ic_batch.specs.Way.{IsKeptOr}
 use Rattle.ic_batch.specs.inner.Staying.{AreBegun}
-use Rattle.ic_batch.proofs.LeadLemmas.{leads_begun, leads_done}
+use Rattle.ic_batch.specs.Faults.{ComesOverBroken}
+use Rattle.ic_batch.proofs.CallLemmas.{come_more, come_none, come_or_not}
+use Rattle.ic_batch.proofs.ComeLemmas.{err_comes, over_broken}
+use Rattle.ic_batch.proofs.LeadLemmas.{leads_begun, leads_done, part_such}
 use Rattle.ic_batch.proofs.LoopLemmas.{split_here}
-use Rattle.ic_batch.proofs.NewLemmas.{AreSubmitted, all_begun, begun_so_far, is_new, new_here, none_yet, passed_here, submitted_here}
+use Rattle.ic_batch.proofs.NewLemmas.{AreSubmitted, all_begun, begun_so_far, is_new, longer_here, new_here, none_lost, none_yet, passed_here, submitted_here}
 use Rattle.ic_batch.proofs.submitting.submit_missing.Goals as goal
 use Rattle.ic_batch.proofs.submitting.submit_missing.Goals.{then-is_missing+in_ok-command+in_ok-answer_command, else-is_missing}
 
@@ -34,6 +37,8 @@ loop-new-init g c =
       };
       counted = refl;
       ready = λ is. is;
+      broken = λ is. is;
+      come = λ room. come_none c.args.book.now;
       all = λ is. is;
     }
 
@@ -76,6 +81,10 @@ loop-new-preserved g c =
                 (kept_all (start_of later) (table_of later) (log_of later) (kept_of later) (history_of later).replayed w.in_ok-answer_command.ensures.kept) w.answer_command.ensures.crash;
             counted = w.in_ok-answer_command.ensures.fault.counted ∙ c.loop-new.invariant.counted;
             ready = λ whole. w.in_ok-answer_command.ensures.fault.ready (c.loop-new.invariant.ready whole);
+            broken = λ is. (let off = w.in_ok-answer_command.ensures.unbroken in absurd (true≢false (sym (c.loop-new.invariant.broken is) ∙ off)));
+            come = λ room. come_more old mid (none_lost jobs t (drop i jobs) (table_of mid) c.loop-new.invariant.so_far) c.loop-new.invariant.come e later
+                (ap length w.in_ok-answer_command.ensures.table ∙ longer_here jobs t i new (table_of mid) split c.loop-new.invariant.so_far c.requires.room (is ∙ w.if-is_missing.true)
+                w.in_ok-command.command w.in_ok-command.ensures) w.in_ok-answer_command.ensures.page w.answer_command.ensures.few_calls room;
             all = λ before. w.in_ok-answer_command.ensures.kept;
           })
       | else-is_missing w ↦ rw w.book-is (record {
@@ -83,6 +92,8 @@ loop-new-preserved g c =
         leads = c.loop-new.invariant.leads;
         counted = c.loop-new.invariant.counted;
         ready = c.loop-new.invariant.ready;
+        broken = c.loop-new.invariant.broken;
+        come = c.loop-new.invariant.come;
         all = c.loop-new.invariant.all;
       })
     ]
@@ -108,3 +119,42 @@ pub returns-clause-few_unkept : goal.returns-clause-few_unkept
 returns-clause-few_unkept g c = λ all.
     let none = none_unkept c.loop-new.book (c.loop-new.invariant.all all) in
     omega (arith, none)
+
+pub returns-in_err-answer_command-clause-broken : goal.returns-in_err-answer_command-clause-broken
+returns-in_err-answer_command-clause-broken g c = λ is. err_comes c.from_residual-in_err-answer_command.result c.in_err-answer_command.field-0.0 ComesOverBroken
+    c.from_residual-in_err-answer_command.ensures.1 (over_broken c.in_err-answer_command.field-0.0 c.in_err-answer_command.ensures.fault.causes
+    (c.in_err-answer_command.ensures.broken (c.loop-new.invariant.broken is)))
+
+pub returns-clause-still : goal.returns-clause-still
+returns-clause-still g c = c.loop-new.invariant.broken
+
+pub returns-in_err-command-clause-few_calls : goal.returns-in_err-command-clause-few_calls
+returns-in_err-command-clause-few_calls g c =
+    let mid = c.loop-new.book in
+    come_or_not c.args.book.now mid (none_lost c.args.jobs.now (table_of c.args.book.now) (drop c.loop-new.new-index c.args.jobs.now) (table_of mid) c.loop-new.invariant.so_far)
+    c.loop-new.invariant.come mid (omega arith) (λ spare. omega arith)
+
+pub returns-in_err-answer_command-clause-few_calls : goal.returns-in_err-answer_command-clause-few_calls
+returns-in_err-answer_command-clause-few_calls g c =
+    let jobs = c.args.jobs.now in
+    let old = c.args.book.now in
+    let t = table_of old in
+    let mid = c.loop-new.book in
+    let new = c.new-item.result in
+    let i = c.loop-new.new-index in
+    let split = split_here jobs i new c.loop-new-test.true c.new-item.is in
+    let is : is_new (table_of mid) new ≡ c.is_missing.result = new_here c.table.result.now (table_of mid) new c.is_missing.result c.table.ensures c.is_missing.ensures in
+    let longer = longer_here jobs t i new (table_of mid) split c.loop-new.invariant.so_far c.requires.room (is ∙ c.if-is_missing.true) c.in_ok-command.command c.in_ok-command.ensures in
+    let e = by_command c.in_ok-command.command in
+    come_or_not old mid (none_lost jobs t (drop i jobs) (table_of mid) c.loop-new.invariant.so_far) c.loop-new.invariant.come c.answer_command.new.book
+    (part_such (λ (u : List JobParts). length (table_of mid) ≤ length u) (table_of mid) e (table_of c.answer_command.new.book) (omega arith) (omega (arith, longer))
+    c.in_err-answer_command.ensures.begun.table) c.answer_command.ensures.few_calls
+
+pub returns-clause-few_calls : goal.returns-clause-few_calls
+returns-clause-few_calls g c =
+    let mid = c.loop-new.book in
+    come_or_not c.args.book.now mid (none_lost c.args.jobs.now (table_of c.args.book.now) (drop c.loop-new.new-index c.args.jobs.now) (table_of mid) c.loop-new.invariant.so_far)
+    c.loop-new.invariant.come mid (omega arith) (λ spare. omega arith)
+
+pub returns-clause-come : goal.returns-clause-come
+returns-clause-come g c = c.loop-new.invariant.come

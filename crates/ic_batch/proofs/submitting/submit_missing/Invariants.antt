@@ -1,7 +1,8 @@
-use Rattle.std.proofs.Common.{◌≡◌, drop, false}
+use Rattle.std.proofs.Common.{◌≡◌, drop, true, false}
 use Rattle.ic_book.specs.Book.{disk_of, is_broken, table_of}
 use Rattle.ic_serving.specs.Booked.{IsAllKept}
-use Rattle.ic_batch.specs.inner.Staying.{AreBegun, Leads}
+use Rattle.ic_batch.specs.inner.Staying.{AreBegun, HaveCome, Leads}
+use Rattle.ic_batch.proofs.CallLemmas.{RoomToCome}
 use Rattle.ic_batch.proofs.NewLemmas.{AreSubmitted}
 use Rattle.ic_batch.proofs.submitting.submit_missing.Given as goal
 
@@ -12,5 +13,7 @@ invariant-loop-new g l = record {
   leads : Leads (AreBegun l.jobs (table_of l.fn.book)) l.fn.book l.book;
   counted : g.D.Disk.failures (disk_of l.book) ≡ g.D.Disk.failures (disk_of l.fn.book);
   ready : is_broken l.fn.book ≡ false → is_broken l.book ≡ false;
+  broken : is_broken l.fn.book ≡ true → is_broken l.book ≡ true;
+  come : RoomToCome l.fn.book (table_of l.book) → HaveCome l.fn.book l.book;
   all : IsAllKept l.fn.book → IsAllKept l.book;
 }
