@@ -242,11 +242,12 @@ class Keep(Stops):
             self.equals(self.file, "interactions that are kept", 9, self.kept())
             self.agree(run("reduce", "--resume", self.file, *FIGURES), self.whole(ackermann(2)))
 
-    def test_a_text_or_a_disk_of_jobs_beside_a_whole_file_is_not_written_over(self):
+    def test_another_file_beside_a_whole_one_is_not_written_over(self):
         run("reduce", "--keep", self.file, "--steps", 9, given=ackermann(2))
         run("reduce", "--resume", self.file, "--steps", 30)
         whole = self.contents()
-        others = [(b"{A(B(x))><B(x)} <|A(B(C))=D>\n", "a text"), (self.disk("jobs").read_bytes(), "a disk of jobs")]
+        files = [b"{A(B(x))><B(x)} <|A(B(C))=D>\n", "\ufeff<|A=B> <|A=B>".encode("utf-16-le"), b"\x89PNG\r\n\x1a\n\0\0\0\rIHDR" + bytes(9)]
+        others = [(self.disk("jobs").read_bytes(), "a disk of jobs"), *((it, "another file") for it in files)]
         for place, (other, what) in ((place, other) for place in (0, 1) for other in others):
             put = [other if it == place else whole[it] for it in (0, 1)]
             self.put(put)
@@ -258,9 +259,21 @@ class Keep(Stops):
             for most in (0, 100_000):
                 ran = run("reduce", "--resume", self.file, "--steps", most)
                 self.equals(ran.command, "the end", (3, b"", b"icserve: damaged\n"), (ran.status, ran.out, ran.err))
-                is_told = ran.after.decode() == f"{self.file}: {STRANGER}\n"
-                self.equals(ran.command, f"whether {self.file} is told to keep no reduction", place == 0, is_told)
+                told = f"{(self.file, self.second)[place]}: {STRANGER}\n"
+                self.equals(ran.command, "what is told", told, ran.after.decode())
             self.equals(self.file, "what the files hold", put, self.contents())
+
+    def test_an_older_file_may_have_any_byte_for_its_gate(self):
+        """As after a stop in the midst of a keep, which closes the gate first."""
+        run("reduce", "--keep", self.file, "--steps", 9, given=ackermann(2))
+        run("reduce", "--resume", self.file, "--steps", 30)
+        whole = self.contents()
+        newest = max((0, 1), key=lambda it: seen(it, whole[it])[1])
+        for gate in (0, 2, 60, 137, 255):
+            for rest in (whole[1 - newest][1:], whole[1 - newest][1:HEAD]):
+                self.put(whole[it] if it == newest else bytes([gate]) + rest for it in (0, 1))
+                self.equals(self.file, "interactions that are kept", 30, self.kept())
+                self.agree(run("reduce", "--resume", self.file, *FIGURES), self.whole(ackermann(2)))
 
     def test_inspect_tells_that_a_file_is_cut_off_where_it_is_refused(self):
         run("reduce", "--keep", self.file, "--steps", 9, given=ackermann(2))

@@ -1,6 +1,6 @@
 //! The program's word `reduce` where what is reached is kept in two files.
 
-use crate::others::is_another;
+use crate::others::{another_of, front_of_as};
 use crate::reducing::{Wanted, tell_end, time_since};
 use crate::{NotedDisk, open_disk, open_disk_as};
 use ic_causes::{Cause, NotedOutput, Notes, Reason, Target, shown_path};
@@ -179,8 +179,7 @@ fn check_empty(disk: &mut NotedDisk<'_>) -> Result<(), Failure> {
     }
 }
 
-/// The disks in the two files of a path. None is opened to go on where one file is known to be another, since a keep would
-/// write over it.
+/// The disks in the two files of a path, unless one of these is known to be another file: a keep would write over it.
 fn open_both<'a>(
     rt: &HostRuntime,
     path: &str,
@@ -188,10 +187,20 @@ fn open_both<'a>(
 ) -> Result<(NotedDisk<'a>, NotedDisk<'a>), Failure> {
     let first = open_disk(rt, path, false, notes)?;
     let second = open_second(rt, path, false, notes)?;
-    if is_another(rt, path) || is_another(rt, second_of(rt, path)?.as_str()) {
-        return Err(Failure::Kept(KeepingFault::Open(OpenCause::Damaged)));
-    }
+    check_kept(rt, path, Target::File, notes)?;
+    check_kept(rt, second_of(rt, path)?.as_str(), Target::Second, notes)?;
     Ok((first, second))
+}
+
+/// Refuses the file of this path if it is known to be another, or can't be looked at.
+fn check_kept(rt: &HostRuntime, path: &str, target: Target, notes: &Notes) -> Result<(), Failure> {
+    match front_of_as(rt, path, target, notes) {
+        Some(front) => match another_of(&front) {
+            Some(_) => Err(Failure::Kept(KeepingFault::Open(OpenCause::Damaged))),
+            None => Ok(()),
+        },
+        None => Err(Failure::Kept(KeepingFault::Device)),
+    }
 }
 
 /// The path of the second file of a path.

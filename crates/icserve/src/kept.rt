@@ -1,7 +1,7 @@
 //! What `inspect` tells of two files in which a reduction is kept.
 
 use crate::inspecting::open_to_read_as;
-use crate::others::{Another, another, holds_table, is_of_reduction};
+use crate::others::{Another, another_of, holds_table, is_of_reduction};
 use ic_args::ReportFormat;
 use ic_causes::{Cause, NotedOutput, Notes, Reason, Target};
 use ic_disk::DiskFault;
@@ -176,7 +176,7 @@ fn see(rt: &HostRuntime, opening: &Opening) -> Result<Seen, AllocError> {
     let Some(state) = opening.bytes.get(HEAD as usize..) else {
         return Ok(Seen::CutOff);
     };
-    if let Some(is) = another(&opening.bytes) {
+    if let Some(is) = another_of(&opening.bytes) {
         return Ok(Seen::Another(is));
     }
     if opening.len.saturating_sub(HEAD) < front.size {

@@ -23,7 +23,7 @@ mod texts;
 use crate::answers::Answers;
 use crate::input::{Input, open_text, told_of};
 use crate::keeping::KeptIn;
-use crate::others::{has_second, no_first_at, other_at};
+use crate::others::{has_second, no_first_at, other_at, other_second};
 use crate::reducing::{Wanted, threads_for};
 use crate::session::Session;
 use crate::standing::stand_ins;
@@ -736,6 +736,12 @@ fn tell_failure(
     } else {
         None
     };
+    if is_of_both(failure) && other.is_none() {
+        if let Some(line) = other_second(rt, path) {
+            tell(rt, &line);
+            return Ok(());
+        }
+    }
     if let Ok(lines) = failure.lines_or_other(rt.alloc(), path.as_bytes(), notes.last(), other) {
         tell(rt, &lines);
     }
@@ -763,6 +769,11 @@ fn is_of_disk(failure: &Failure) -> bool {
         failure,
         Failure::Open(_) | Failure::NotEmpty | Failure::Attend(ScriptsFault::Open(_))
     )
+}
+
+/// Whether a failure is that no reduction is found in two files.
+fn is_of_both(failure: &Failure) -> bool {
+    matches!(failure, Failure::Kept(KeepingFault::Open(_)))
 }
 
 /// Whether a failure is that no reduction is found in a file, or that its second file isn't there.

@@ -1,7 +1,7 @@
 //! Files that are others than they were taken for: what they are, as far as their first bytes tell.
 
-use crate::inspecting::open_to_read;
-use ic_causes::Notes;
+use crate::inspecting::open_to_read_as;
+use ic_causes::{Notes, Target};
 use ic_exits::Other;
 use ic_frames::HEAD;
 use ic_kept::HEAD as KEPT_HEAD;
@@ -15,39 +15,30 @@ const FRONT: u64 = 25;
 /// What a file is that keeps no reduction, and that a keep would write over.
 #[derive(Clone, Copy)]
 pub(crate) enum Another {
-    /// A text.
-    Text,
     /// A disk with a table of jobs.
     Jobs,
+    /// A text, a picture or the like.
+    Else,
 }
 
 impl Another {
     /// It in words.
     pub(crate) fn words(self) -> &'static str {
         match self {
-            Another::Text => "a text",
             Another::Jobs => "a disk of jobs",
+            Another::Else => "another file",
         }
     }
 }
 
-/// Whether the file of this path is known to be a text or a disk of jobs.
-pub(crate) fn is_another(rt: &HostRuntime, path: &str) -> bool {
-    match front_of(rt, path) {
-        Some(front) => another(&front).is_some(),
-        None => false,
-    }
-}
-
-/// What a file is that begins with these bytes, where that is known and it keeps no reduction. No stop of a keep leaves
-/// a head of bytes of texts alone, since its number has bytes of zero.
-pub(crate) fn another(front: &[u8]) -> Option<Another> {
+/// What a file is that begins with these bytes, where they tell that it keeps no reduction.
+pub(crate) fn another_of(front: &[u8]) -> Option<Another> {
     if is_of_reduction(front) {
         None
-    } else if is_text(front) {
-        Some(Another::Text)
     } else if holds_table(front) {
         Some(Another::Jobs)
+    } else if has_no_gate(front) && has_no_numbers(front) {
+        Some(Another::Else)
     } else {
         None
     }
@@ -112,9 +103,23 @@ fn has_no_gate(front: &[u8]) -> bool {
     front.first().is_some_and(|gate| *gate > 1)
 }
 
+/// Whether the numbers of a head don't stand in a file that begins with these bytes: one of them would be 2^56 or more. After a
+/// stop as a keep writes the gate, which may leave any byte there, both numbers stand in the file.
+fn has_no_numbers(front: &[u8]) -> bool {
+    is_set(front, 1) || is_set(front, 9)
+}
+
+/// Whether another byte than zero stands at this place.
+fn is_set(front: &[u8], at: usize) -> bool {
+    front.get(at).is_some_and(|byte| *byte > 0)
+}
+
 /// Whether the first slot of a disk that begins with these bytes holds a table of jobs.
 pub(crate) fn holds_table(front: &[u8]) -> bool {
-    front.len() > HEAD && front[HEAD..].starts_with(b"ICT")
+    match front.get(HEAD..) {
+        Some(body) => body.starts_with(b"ICT1") || body.starts_with(b"ICT2"),
+        None => false,
+    }
 }
 
 /// Whether a file that begins with these bytes keeps a reduction: after its head stands that which a state begins with.
@@ -126,21 +131,32 @@ pub(crate) fn is_of_reduction(front: &[u8]) -> bool {
     }
 }
 
-/// Whether bytes of texts stand in place of the head of a file that keeps a reduction.
-fn is_text(front: &[u8]) -> bool {
-    match front.get(..KEPT_HEAD as usize) {
-        Some(head) => head.iter().all(|byte| is_of_texts(*byte)),
-        None => false,
-    }
-}
-
 /// The bytes with which the file of this path begins, or none where it can't be read.
 fn front_of(rt: &HostRuntime, path: &str) -> Option<Vec<u8>> {
-    let notes = Notes::new();
-    let file = open_to_read(rt, path, &notes).ok()?;
+    front_of_as(rt, path, Target::File, &Notes::new())
+}
+
+/// The same, where calls to the file that fail are noted as of this target.
+pub(crate) fn front_of_as(
+    rt: &HostRuntime,
+    path: &str,
+    target: Target,
+    notes: &Notes,
+) -> Option<Vec<u8>> {
+    let file = open_to_read_as(rt, path, target, notes).ok()?;
     let mut front = Vec::new(rt.alloc());
     file.take(FRONT).read_to_end(&mut front).ok()?;
     Some(front)
+}
+
+/// The line that the second file of a reduction is another one, where the first file has this path and that is known.
+pub(crate) fn other_second(rt: &HostRuntime, path: &str) -> Option<Vec<u8>> {
+    let second = format!(in rt.alloc(); "{path}.2").ok()?;
+    let front = front_of(rt, second.as_str())?;
+    another_of(&front)?;
+    Other::Stranger
+        .line(rt.alloc(), second.as_str().as_bytes())
+        .ok()
 }
 
 /// Whether a byte stands in texts: a blank, or one that is printed.
