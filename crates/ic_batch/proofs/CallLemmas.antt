@@ -217,6 +217,11 @@ one_room log made events more few one room = omega (arith, few, one, room)
 less_room : (log events more : ℕ) → events + 1 ≤ more → log + more < MAX_ENTRIES → log + events < MAX_ENTRIES
 less_room log events more one room = omega (arith, one, room)
 
+-- no jobs have made no events
+pub to_none : (from : List JobParts) → events_in from [] ≡ 0
+to_none [] = refl
+to_none (x ∷ xs) = refl
+
 -- what few calls are, by numbers of submits and of events
 pub calls_so : (log every submits events before now made old new : ℕ) → (log + ((now - before) + made) < MAX_ENTRIES → new ≤ old + 6 * ((now - before) + made / every + 1))
     → now ≡ before + submits → made ≡ events → log + (submits + events) < MAX_ENTRIES → new ≤ old + 6 * (submits + events / every + 1)

@@ -1,19 +1,18 @@
 -- Which faults come with jobs, and over a broken book.
 use Rattle.std.proofs.Common.{◌≡◌, ◌≢◌, ◌⊎◌, inl, inr, ℕ, zero, suc, ◌<◌, List, [], ◌∷◌, Bool, true, false, ◌&&◌, Some, Result, Ok, Err, refl, sym, ap, subst, ◌∙◌}
-use Rattle.std.specs.Prelude.{IfErr, IsErrOf, if◌then◌else◌, slice_get}
+use Rattle.std.specs.Prelude.{IfErr, IsErrOf, slice_get}
 use Rattle.std.specs.Result.{IsErrAnd}
 use Rattle.std.specs.List.{AllByRecursion}
 use Rattle.std.proofs.lemmas.Bool.{and_parts, ltb-true}
 use Rattle.ic_book.specs.declared.fault.BookFault.TheVariants as of_book
-use Rattle.ic_jobs.specs.declared.state.State.TheVariants.{Halted}
 use Rattle.ic_jobs.specs.State.{is_running}
-use Rattle.ic_jobs.specs.Job.{JobParts, can_move, moved, in_state}
+use Rattle.ic_jobs.specs.Job.{JobParts, can_move}
 use Rattle.ic_pool.specs.declared.fault.PoolFault.{PoolFault}
 use Rattle.ic_serving.specs.declared.fault.ServeFault.{ServeFault}
 use Rattle.ic_serving.specs.declared.fault.ServeFault.TheVariants.{Book as by_book, Memory, Pool, Write}
 use Rattle.ic_serving.specs.Faults.{ComesBroken, ComesInLine, ComesUnmade, ComesWithoutRound}
 use Rattle.ic_batch.specs.Faults.{ComesOverBroken, ComesWith}
-use Rattle.ic_batch.specs.Way.{after, after_event, goes_on, has_round, AreWays}
+use Rattle.ic_batch.specs.Way.{goes_on, has_round}
 use Rattle.ic_batch.proofs.WayLemmas.{runs}
 use Rattle.ic_batch.proofs.DueLemmas.{few}
 
@@ -56,38 +55,15 @@ unmade e comes = absurd comes
 pub comes_anyhow : (most : ℕ) (js : List JobParts) (e : ServeFault) → ComesWithoutRound e → ComesWith most js e
 comes_anyhow most js e comes = record { in_line = in_line e comes; ended = λ over. comes; unmade = λ none. unmade e comes }
 
-pub err_anyhow : {T : Type 0} (most : ℕ) (js : List JobParts) (r : Result T ServeFault) → IfErr r ComesWithoutRound → IfErr r (ComesWith most js)
-err_anyhow most js (Ok v) comes = tt
-err_anyhow most js (Err e) comes = comes_anyhow most js e comes
-
 pub of_keep : (e : ServeFault) → (e ≢ by_book of_book.Broken → e ≢ by_book of_book.Worn → e ≡ by_book of_book.Device) → ComesWithoutRound e
 of_keep (by_book of_book.Broken) others = tt
 of_keep (by_book of_book.Worn) others = tt
 of_keep (by_book of_book.Device) others = tt
 of_keep e others = (let bad = others (λ s. cc) (λ s. cc) in cc)
 
--- ---- jobs of which no round is to be made
-
+-- a job that goes on and has no round to be made can't make one
 pub cannot : (most : ℕ) (j : JobParts) → goes_on most j ≡ true → has_round most j ≡ false → can_move j ≡ false
 cannot most j goes none = ap (λ (b : Bool). b && can_move j) (sym goes) ∙ none
-
-event_unmade : (most : ℕ) (j : JobParts) (b : Bool) → b ≡ false → has_round most (if b then moved j else in_state Halted j) ≡ false
-event_unmade most j true is = cc
-event_unmade most j false is = refl
-
-gone_unmade : (most : ℕ) (j : JobParts) (b : Bool) → goes_on most j ≡ b → has_round most j ≡ false → has_round most (if b then after_event j else j) ≡ false
-gone_unmade most j true goes none = event_unmade most j (can_move j) (cannot most j goes none)
-gone_unmade most j false goes none = none
-
-after_unmade : (most n : ℕ) (from : JobParts) → has_round most from ≡ false → has_round most (after most n from) ≡ false
-after_unmade most zero from none = none
-after_unmade most (suc n) from none = gone_unmade most (after most n from) (goes_on most (after most n from)) refl (after_unmade most n from none)
-
-pub ways_unmade : (most : ℕ) (from t : List JobParts) → AllByRecursion (λ j. has_round most j ≡ false) from → AreWays most from t → AllByRecursion (λ j. has_round most j ≡ false) t
-ways_unmade most [] [] none ways = tt
-ways_unmade most (x ∷ xs) (y ∷ ys) none ways =
-    (subst (λ (j : JobParts). has_round most j ≡ false) (sym ways.0.1) (after_unmade most ways.0.0 x none.0), ways_unmade most xs ys none.1 ways.1)
-ways_unmade most xs ys none ways = absurd ways
 
 -- ---- one of some jobs
 

@@ -1,7 +1,6 @@
 -- A round of a job that goes on, over a book.
 use Rattle.std.proofs.Common.{◌≡◌, ℕ, ◌<◌, List, [], ◌∷◌, length, true, false, Option, None, Some, sym, subst, ◌∙◌, true≢false}
 use Rattle.std.specs.Prelude.{IfNone, IfSome, IsTrue, slice_get}
-use Rattle.std.specs.List.{AllByRecursion}
 use Rattle.ic_disk.specs.declared.disk.Disk.{Ghosts}
 use Rattle.ic_flights.specs.Flight.{FlightParts, is_blocked}
 use Rattle.ic_jobs.specs.Job.{JobParts}
@@ -20,10 +19,10 @@ use Rattle.ic_batch.specs.Faults.{ComesWith}
 use Rattle.ic_batch.specs.Way.{goes_on, has_round, AreWays}
 use Rattle.ic_batch.specs.inner.Staying.{Leads}
 use Rattle.ic_batch.proofs.DueLemmas.{DueLaws, IsMade, at_place, if_blocked, made, made_over}
-use Rattle.ic_batch.proofs.ComeLemmas.{cannot, ways_unmade}
+use Rattle.ic_batch.proofs.ComeLemmas.{cannot}
 use Rattle.ic_batch.proofs.JobLemmas.{change, one_named, round_changes}
 use Rattle.ic_batch.proofs.LeadLemmas.{leads_on}
-use Rattle.ic_batch.proofs.WayLemmas.{runs, ways_ended, ways_more}
+use Rattle.ic_batch.proofs.WayLemmas.{runs, ways_more}
 
 -- the job at a place goes on
 abbrev pub GoesAt : ℕ → List JobParts → ℕ → Type 0
@@ -58,18 +57,16 @@ one_round laws most old mid new t same table place goes r idle makes crash so_fa
       page = m.1.page;
     }
 
--- which faults come at a round, with the jobs from which others have led to it
-pub round_comes : (laws : DueLaws) (most : ℕ) (from t u : List JobParts) → u ≡ t → IsTable u → (place : ℕ) → GoesAt most u place → AreWays most from t → (fault : ServeFault)
-    → ComesInLine fault → ((f : FlightParts) → due t place ≡ Some f → IsTrue (is_blocked f) → ComesUnmade fault) → ComesWith most from fault
-round_comes laws most from t u same table place goes ways fault causes blocked =
+-- which faults come at a round that leaves the jobs as they are
+pub round_comes : (laws : DueLaws) (most : ℕ) (t u left : List JobParts) → u ≡ t → left ≡ t → IsTable u → (place : ℕ) → GoesAt most u place → (fault : ServeFault)
+    → ComesInLine fault → ((f : FlightParts) → due t place ≡ Some f → IsTrue (is_blocked f) → ComesUnmade fault) → ComesWith most left fault
+round_comes laws most t u left same stays table place goes fault causes blocked =
     let is_table = subst IsTable same table in
     let at = subst (λ (v : List JobParts). GoesAt most v place) same goes in
-    record {
+    subst (λ (v : List JobParts). ComesWith most v fault) (sym stays) (record {
       in_line = causes;
-      ended = λ over.
-          let now = subst (AllByRecursion (λ j. goes_on most j ≡ false)) (sym (ways_ended most from t over ways)) over in
-          absurd (true≢false (sym at.2 ∙ at_place (λ j. goes_on most j ≡ false) t place at.0 now at.1));
+      ended = λ over. absurd (true≢false (sym at.2 ∙ at_place (λ j. goes_on most j ≡ false) t place at.0 over at.1));
       unmade = λ none.
-          let now = at_place (λ j. has_round most j ≡ false) t place at.0 (ways_unmade most from t none ways) at.1 in
+          let now = at_place (λ j. has_round most j ≡ false) t place at.0 none at.1 in
           if_blocked laws most t is_table place at.0 at.1 at.2 (cannot most at.0 at.2 now) (ComesUnmade fault) blocked;
-    }
+    })

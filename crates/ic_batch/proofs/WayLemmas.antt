@@ -64,13 +64,6 @@ pub ways_same : (most : ℕ) (t : List JobParts) → AreWays most t t
 ways_same most [] = tt
 ways_same most (j ∷ js) = ((0, refl), ways_same most js)
 
--- none goes on: so all stay as they are
-pub ways_ended : (most : ℕ) (from t : List JobParts) → AllByRecursion (λ j. goes_on most j ≡ false) from → AreWays most from t → t ≡ from
-ways_ended most [] [] over ways = refl
-ways_ended most (x ∷ xs) (y ∷ ys) over ways =
-    ap₂ (λ (a : JobParts) (b : List JobParts). a ∷ b) (ways.0.1 ∙ stands_on most x over.0 ways.0.0) (ways_ended most xs ys over.1 ways.1)
-ways_ended most xs ys over ways = absurd ways
-
 -- none goes on: so each has come to its end
 pub ways_end : (most : ℕ) (from t : List JobParts) → AreWays most from t → AllByRecursion (λ j. goes_on most j ≡ false) t → AllZip (ComesTo most) from t
 ways_end most [] [] ways over = tt

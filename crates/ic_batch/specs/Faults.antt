@@ -30,7 +30,7 @@ use Rattle.ic_batch.specs.declared.fault.JobsFault.{JobsFault}
 use Rattle.ic_batch.specs.declared.fault.JobsFault.TheVariants.{Line, Read, Memory}
 use Rattle.ic_batch.specs.declared.jobs.NewJob.{NewJob}
 use Rattle.ic_batch.specs.Jobs.{begun_by, names, submit_of}
-use Rattle.ic_batch.specs.Way.{all_of, goes_on, has_round, missing}
+use Rattle.ic_batch.specs.Way.{goes_on, has_round, missing}
 
 -- ---- of lines
 
@@ -120,8 +120,8 @@ pub record HasAnother (jobs : List NewJob) (t : List JobParts) (name : List ℕ)
 abbrev pub HasNoRoom : List NewJob → List JobParts → Type 0
 HasNoRoom jobs t = MAX_JOBS < length t + length (missing t jobs)
 
--- Which faults of calls and rounds come with these jobs: none of the pool where none of them goes on,
--- and of the pool only that memory ran out where no round of them is to be made.
+-- Which faults of calls and rounds come where these jobs are left: none of the pool where none of them
+-- goes on, and of the pool only that memory ran out where no round of them is to be made.
 pub record ComesWith (most : ℕ) (js : List JobParts) (fault : ServeFault) : Type 0 where
   pub in_line : ComesInLine fault
   pub ended : AllByRecursion (λ j. goes_on most j ≡ false) js → ComesWithoutRound fault
@@ -131,11 +131,11 @@ pub record ComesWith (most : ℕ) (js : List JobParts) (fault : ServeFault) : Ty
 abbrev pub ComesOverBroken : ServeFault → Type 0
 ComesOverBroken fault = (fault ≡ by_book of_book.Broken) ⊎ (fault ≡ NoMemory)
 
--- A call to the book, a round, a growth or the writer failed, by a fault that comes with the jobs of the
--- book and the missing ones. Each failure of the disk is counted, and breaks the book.
-pub record Fails {D : Type 0} {ghosts : Ghosts D} (most : ℕ) (jobs : List NewJob) (fault : ServeFault)
+-- A call to the book, a round, a growth or the writer failed, by a fault that comes with the jobs that
+-- are left. Each failure of the disk is counted, and breaks the book.
+pub record Fails {D : Type 0} {ghosts : Ghosts D} (most : ℕ) (fault : ServeFault)
     (old new : Book D ghosts) : Type 0 where
-  pub comes : (fault ≡ Write) ⊎ ComesWith most (all_of jobs (table_of old)) fault
+  pub comes : (fault ≡ Write) ⊎ ComesWith most (table_of new) fault
   pub broken : is_broken old ≡ true → ComesOverBroken fault
   pub counted : CountsServe {T = Unit {0}} (Err fault) (ghosts.failures (disk_of old)) (ghosts.failures (disk_of new))
   pub breaks : is_broken old ≡ false → StaysReady fault (is_broken new) (number_of new)
@@ -148,7 +148,7 @@ Says most jobs old new (Taken name is) = HasAnother jobs (table_of old) name is 
 Says most jobs old new Full = AreSame jobs (table_of old) × HasNoRoom jobs (table_of old)
     × IsUnchanged old new
 Says most jobs old new (Serve fault) = AreSame jobs (table_of old)
-    × ¬ HasNoRoom jobs (table_of old) × Fails most jobs fault old new
+    × ¬ HasNoRoom jobs (table_of old) × Fails most fault old new
 
 -- What holds where there was no fault: no other job had one of the names, no failure of the disk is
 -- counted, and the book wasn't broken and isn't.

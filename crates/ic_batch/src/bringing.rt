@@ -14,7 +14,7 @@ ghost use Rattle.ic_serving.specs.declared.fault.ServeFault.{ServeFault};
 ghost use Rattle.ic_serving.specs.declared.fault.ServeFault.TheVariants.{Write as write_fault};
 ghost use Rattle.ic_batch.specs.declared.fault.BatchFault.TheVariants.{Serve};
 ghost use Rattle.ic_batch.specs.Jobs.{names};
-ghost use Rattle.ic_batch.specs.Way.{all_of, fetched_all, missing, HaveEnded, IsUnderWay};
+ghost use Rattle.ic_batch.specs.Way.{fetched_all, missing, HaveEnded, IsUnderWay};
 ghost use Rattle.ic_batch.specs.Batch.{Brings, IsBatch, IsOnWay};
 ghost use Rattle.ic_batch.specs.Calls.{CallsFew};
 ghost use Rattle.ic_batch.specs.Faults.{ComesOverBroken, ComesWith, Says, Succeeds};
@@ -123,7 +123,7 @@ fn bring_to_ends<T: Threads + Wait + Copy + Send + 'static, D: Disk, G: Gate>(
     ensures text { IfOk result (λ text. text.items ≡ fetched_all jobs.now (table_of book.new)) }
     ensures kept { OnOk result (IsAllKept book.new) }
     ensures fault { FaultLeaves ComesInLine result book.old book.new }
-    ensures comes { IfErr result (ComesWith most (all_of jobs.now (table_of book.old))) }
+    ensures comes { IfErr result (ComesWith most (table_of book.new)) }
     ensures broken { is_broken book.old ≡ true → IfErr result ComesOverBroken }
     ensures unbroken { OnOk result (is_broken book.old ≡ false) }
     ensures whole { OnOk result (is_broken book.new ≡ false) }

@@ -25,6 +25,7 @@ ghost use Rattle.ic_pool.specs.declared.fault.PoolFault.TheVariants as of_pool;
 ghost use Rattle.ic_serving.specs.declared.fault.ServeFault.{ServeFault};
 ghost use Rattle.ic_serving.specs.declared.fault.ServeFault.TheVariants.{Book as by_book, LongLine, Memory as NoMemory, Pool, Read, TooManyLines, Write};
 ghost use Rattle.ic_serving.specs.Booked.{last_kept, IsAllKept};
+ghost use Rattle.ic_serving.specs.Faults.{ComesInLine};
 ghost use Rattle.ic_serving.specs.Moments.{Leaves};
 ghost use Rattle.ic_batch.specs.declared.fault.BatchFault.{BatchFault};
 ghost use Rattle.ic_batch.specs.declared.fault.BatchFault.TheVariants.{Full, Serve, Taken};
@@ -168,15 +169,20 @@ pub fn a_failing_writer_ends_a_batch<D: Disk>(old: &Book<D>, new: &Book<D>)
     let _ = new;
 }
 
-/// The rounds of a way are counted, and its halt with them: a job that went on before each of so many
-/// events has had so many. A batch calls the disk at most six times for each job that it submits, for
-/// each `every` rounds and halts, and at its end.
+/// Of a way its rounds are counted, and its halt: n of them after n events, if the job went on before
+/// each of these. Of jobs these numbers are added up, in pairs.
+///
+/// The log, of 65,536 entries in all, has to have room for all submits, rounds and halts of the batch,
+/// and for one entry more. Then the batch calls the disk at most six times for each submit, six for each
+/// `every` rounds and halts, and six at its end.
 pub fn a_batch_calls_the_disk_so<D: Disk>(old: &Book<D>, new: &Book<D>)
     ensures way { (most n : ℕ) (from : JobParts)
         → ((m : ℕ) → m < n → goes_on most (after most m from) ≡ true)
         → events_of from (after most n from) ≡ n }
     ensures each { (from j : JobParts) (before t : List JobParts)
         → events_in (from ∷ before) (j ∷ t) ≡ events_of from j + events_in before t }
+    ensures none { (t : List JobParts) → events_in [] t ≡ 0 }
+    ensures short { (from : List JobParts) → events_in from [] ≡ 0 }
     ensures calls { (jobs : List NewJob) (every submits events : ℕ)
         → CallsFew jobs every old.now new.now
         → length (table_of new.now) ≡ length (table_of old.now) + submits
@@ -193,11 +199,14 @@ pub fn a_batch_calls_the_disk_so<D: Disk>(old: &Book<D>, new: &Book<D>)
 /// of one of its jobs, those before it being the same, or where there is no room for its jobs; no other
 /// fault comes then. Of lines the first command is told that a table of the jobs before it refuses.
 ///
-/// A batch never fails by its reader, by a line, or by a full history. By the pool it fails only where
-/// one of its jobs runs and has made fewer rounds than it may; and where none of these can make its next
-/// round, only since memory ran out. Over a broken book it never ends well: where it has begun it tells
-/// that the book is broken, or that memory ran out. At a failure of the disk the book is broken then,
-/// and one more failure is counted. Where no fault is told, none is counted.
+/// A batch never fails by reading, by a line, or by a full history. Any fault but its writer's is one
+/// that comes while a server answers a line. By the pool it fails only where it leaves a job that runs
+/// and has made fewer rounds than it may. Where no such job can make its next round, it fails so only
+/// since memory ran out.
+///
+/// Over a broken book it never ends well: where it has begun it tells that the book is broken, or that
+/// memory ran out. At a failure of the disk the book is broken then, and one more failure is counted.
+/// Where no fault is told, none is counted.
 pub fn a_batch_fails_so<D: Disk>(old: &Book<D>, new: &Book<D>)
     ensures nothing { (most : ℕ) (jobs : List NewJob) (name : List ℕ) (is : Difference)
         → Says most jobs old.now new.now (Taken name is)
@@ -207,7 +216,7 @@ pub fn a_batch_fails_so<D: Disk>(old: &Book<D>, new: &Book<D>)
         × IsUnchanged old.now new.now }
     ensures fails { (most : ℕ) (jobs : List NewJob) (fault : ServeFault)
         → Says most jobs old.now new.now (Serve fault) → AreSame jobs (table_of old.now)
-        × ¬ HasNoRoom jobs (table_of old.now) × Fails most jobs fault old.now new.now }
+        × ¬ HasNoRoom jobs (table_of old.now) × Fails most fault old.now new.now }
     ensures taken { (jobs : List NewJob) (t : List JobParts) (name : List ℕ) (is : Difference)
         → HasAnother jobs t name is
         → (before : List NewJob) × (new : NewJob) × (after : List NewJob) × (job : JobParts)
@@ -220,27 +229,25 @@ pub fn a_batch_fails_so<D: Disk>(old: &Book<D>, new: &Book<D>)
         × IsLineAfter text (length jobs) number }
     ensures number { (text : List ℕ) (many one other : ℕ) → IsLineAfter text many one
         → IsLineAfter text many other → one ≡ other }
-    ensures never { (most : ℕ) (jobs : List NewJob) → ¬ Fails most jobs Read old.now new.now
-        × ¬ Fails most jobs LongLine old.now new.now × ¬ Fails most jobs TooManyLines old.now new.now
-        × ¬ Fails most jobs (by_book of_book.LogFull) old.now new.now }
-    ensures pool { (most : ℕ) (jobs : List NewJob) (fault : PoolFault)
-        → Fails most jobs (Pool fault) old.now new.now → (place : ℕ) × (job : JobParts)
-        × (slice_get (all_of jobs (table_of old.now)) place ≡ Some job)
+    ensures never { (most : ℕ) → ¬ Fails most Read old.now new.now
+        × ¬ Fails most LongLine old.now new.now × ¬ Fails most TooManyLines old.now new.now
+        × ¬ Fails most (by_book of_book.LogFull) old.now new.now }
+    ensures in_line { (most : ℕ) (fault : ServeFault) → Fails most fault old.now new.now
+        → (fault ≡ Write) ⊎ ComesInLine fault }
+    ensures pool { (most : ℕ) (fault : PoolFault) → Fails most (Pool fault) old.now new.now
+        → (place : ℕ) × (job : JobParts) × (slice_get (table_of new.now) place ≡ Some job)
         × (is_running job.state ≡ true) × (job.rounds < most) }
-    ensures rounds { (most : ℕ) (jobs : List NewJob) (fault : PoolFault)
-        → Fails most jobs (Pool fault) old.now new.now → fault ≢ of_pool.Memory
-        → (place : ℕ) × (job : JobParts)
-        × (slice_get (all_of jobs (table_of old.now)) place ≡ Some job)
+    ensures rounds { (most : ℕ) (fault : PoolFault) → Fails most (Pool fault) old.now new.now
+        → fault ≢ of_pool.Memory
+        → (place : ℕ) × (job : JobParts) × (slice_get (table_of new.now) place ≡ Some job)
         × (is_running job.state ≡ true) × (job.rounds < most) × (can_move job ≡ true) }
-    ensures broken { (most : ℕ) (jobs : List NewJob) (fault : ServeFault)
-        → Fails most jobs fault old.now new.now → is_broken old.now ≡ true
-        → (fault ≡ by_book of_book.Broken) ⊎ (fault ≡ NoMemory) }
-    ensures device { (most : ℕ) (jobs : List NewJob)
-        → Fails most jobs (by_book of_book.Device) old.now new.now → is_broken old.now ≡ false
-        → (is_broken new.now ≡ true)
+    ensures broken { (most : ℕ) (fault : ServeFault) → Fails most fault old.now new.now
+        → is_broken old.now ≡ true → (fault ≡ by_book of_book.Broken) ⊎ (fault ≡ NoMemory) }
+    ensures device { (most : ℕ) → Fails most (by_book of_book.Device) old.now new.now
+        → is_broken old.now ≡ false → (is_broken new.now ≡ true)
         × OneMore (D.failures (disk_of old.now)) (D.failures (disk_of new.now)) }
-    ensures worn { (most : ℕ) (jobs : List NewJob)
-        → Fails most jobs (by_book of_book.Worn) old.now new.now → is_broken old.now ≡ false
+    ensures worn { (most : ℕ) → Fails most (by_book of_book.Worn) old.now new.now
+        → is_broken old.now ≡ false
         → (is_broken new.now ≡ false) × (number_of new.now ≡ 2 ^ 64 - 1) }
     ensures none { (jobs : List NewJob) → Succeeds jobs old.now new.now
         → AreSame jobs (table_of old.now)

@@ -59,7 +59,7 @@ pub(crate) fn make_rounds<T: Threads + Wait + Copy + Send + 'static, D: Disk, G:
     requires every { 1 ≤ every }
     ensures leads { Leads (AreWays most (table_of book.old)) book.old book.new }
     ensures fault { FaultLeaves ComesInLine result book.old book.new }
-    ensures comes { IfErr result (ComesWith most (table_of book.old)) }
+    ensures comes { IfErr result (ComesWith most (table_of book.new)) }
     ensures broken { is_broken book.old ≡ true → IfErr result ComesOverBroken }
     ensures still { is_broken book.old ≡ true → OnOk result (is_broken book.new ≡ true) }
     ensures alone { workers ≡ 1 → IfErr result ComesAlone }

@@ -2,7 +2,7 @@ use Rattle.std.proofs.Common.{inl, inr, ◌∙◌, List, ap, sym, subst}
 use Rattle.ic_jobs.specs.Job.{JobParts}
 use Rattle.ic_book.specs.Book.{is_broken, table_of}
 use Rattle.ic_batch.specs.Faults.{ComesOverBroken, ComesWith}
-use Rattle.ic_batch.specs.Way.{all_of, fetched_all, HaveEnded, IsUnderWay}
+use Rattle.ic_batch.specs.Way.{fetched_all, HaveEnded, IsUnderWay}
 use Rattle.ic_batch.specs.inner.Staying.{AreBegun}
 use Rattle.ic_batch.proofs.BatchLemmas.{all_ended, leads_under, under_begun}
 use Rattle.ic_batch.proofs.CallLemmas.{few_kept, few_rounds, few_submits, ways_long}
@@ -60,19 +60,19 @@ returns-clause-kept g c = c.in_ok-keep_all.ensures.kept
 
 pub returns-in_err-submit_missing-clause-comes : goal.returns-in_err-submit_missing-clause-comes
 returns-in_err-submit_missing-clause-comes g c =
-    let js = all_of c.args.jobs.now (table_of c.args.book.now) in
+    let js = table_of c.submit_missing.new.book in
     err_comes c.from_residual.result c.in_err-submit_missing.field-0.0 (ComesWith c.args.most js) c.from_residual.ensures.1
     (comes_anyhow c.args.most js c.in_err-submit_missing.field-0.0 c.in_err-submit_missing.ensures.comes)
 
 pub returns-in_err-make_rounds-clause-comes : goal.returns-in_err-make_rounds-clause-comes
 returns-in_err-make_rounds-clause-comes g c =
     let fault = c.in_err-make_rounds.field-0.0 in
-    err_comes c.from_residual-in_err-make_rounds.result fault (ComesWith c.args.most (all_of c.args.jobs.now (table_of c.args.book.now))) c.from_residual-in_err-make_rounds.ensures.1
-    (subst (λ (js : List JobParts). ComesWith c.args.most js fault) c.in_ok-submit_missing.ensures.all c.in_err-make_rounds.ensures.comes)
+    err_comes c.from_residual-in_err-make_rounds.result fault (ComesWith c.args.most (table_of c.make_rounds.new.book)) c.from_residual-in_err-make_rounds.ensures.1
+    c.in_err-make_rounds.ensures.comes
 
 pub returns-in_err-keep_all-clause-comes : goal.returns-in_err-keep_all-clause-comes
 returns-in_err-keep_all-clause-comes g c =
-    let js = all_of c.args.jobs.now (table_of c.args.book.now) in
+    let js = table_of c.keep_all.new.book in
     err_comes c.from_residual-in_err-keep_all.result c.in_err-keep_all.field-0.0 (ComesWith c.args.most js) c.from_residual-in_err-keep_all.ensures.1
     (comes_anyhow c.args.most js c.in_err-keep_all.field-0.0 (of_keep c.in_err-keep_all.field-0.0 c.in_err-keep_all.ensures.others))
 

@@ -1,6 +1,5 @@
 use Rattle.std.proofs.Common.{inl, inr}
 use Rattle.ic_book.specs.Book.{table_of}
-use Rattle.ic_batch.specs.Way.{all_of}
 use Rattle.ic_batch.proofs.ComeLemmas.{goes_with, moves_with}
 use Rattle.ic_batch.proofs.NumberLemmas.{one_line}
 use Rattle.ic_batch.proofs.laws.a_batch_fails_so.Goals as goal
@@ -24,27 +23,30 @@ pub returns-clause-number : goal.returns-clause-number
 returns-clause-number g c = one_line
 
 pub returns-clause-never : goal.returns-clause-never
-returns-clause-never g c most jobs = (
+returns-clause-never g c most = (
   λ fails. elim fails.comes [ inl same ↦ cc | inr other ↦ other.in_line ],
   λ fails. elim fails.comes [ inl same ↦ cc | inr other ↦ other.in_line ],
   λ fails. elim fails.comes [ inl same ↦ cc | inr other ↦ other.in_line ],
   λ fails. elim fails.comes [ inl same ↦ cc | inr other ↦ other.in_line ],
 )
 
+pub returns-clause-in_line : goal.returns-clause-in_line
+returns-clause-in_line g c most fault fails = elim fails.comes [ inl same ↦ inl same | inr other ↦ inr other.in_line ]
+
 pub returns-clause-pool : goal.returns-clause-pool
-returns-clause-pool g c most jobs fault fails = goes_with most (all_of jobs (table_of c.args.old.now)) fault fails.comes
+returns-clause-pool g c most fault fails = goes_with most (table_of c.args.new.now) fault fails.comes
 
 pub returns-clause-rounds : goal.returns-clause-rounds
-returns-clause-rounds g c most jobs fault fails other = moves_with most (all_of jobs (table_of c.args.old.now)) fault fails.comes other
+returns-clause-rounds g c most fault fails other = moves_with most (table_of c.args.new.now) fault fails.comes other
 
 pub returns-clause-broken : goal.returns-clause-broken
-returns-clause-broken g c most jobs fault fails is = fails.broken is
+returns-clause-broken g c most fault fails is = fails.broken is
 
 pub returns-clause-device : goal.returns-clause-device
-returns-clause-device g c most jobs fails well = (fails.breaks well, fails.counted)
+returns-clause-device g c most fails well = (fails.breaks well, fails.counted)
 
 pub returns-clause-worn : goal.returns-clause-worn
-returns-clause-worn g c most jobs fails well = fails.breaks well
+returns-clause-worn g c most fails well = fails.breaks well
 
 pub returns-clause-none : goal.returns-clause-none
 returns-clause-none g c jobs is = (is.same, is.counted, is.unbroken, is.whole)

@@ -142,14 +142,14 @@ returns-in_err-make_round-clause-comes g c =
       awaits = c.what_is_due_is_awaited.ensures.due;
     } in
     let goes : GoesAt c.args.most c.jobs.result.now c.in-Some.place = rw c.in-Some.is at c.next_place.ensures.goes in
-    err_comes c.from_residual.result c.in_err-make_round.field-0.0 (ComesWith c.args.most (table_of c.args.book.now)) c.from_residual.ensures.1
-    (round_comes laws c.args.most (table_of c.args.book.now) (table_of c.loop-place.book) c.jobs.result.now (c.jobs.ensures.jobs ∙ c.table.ensures)
-    (subst IsTable (sym c.jobs.ensures.jobs) c.jobs.ensures.sound) c.in-Some.place goes c.loop-place.invariant.leads.table c.in_err-make_round.field-0.0
+    err_comes c.from_residual.result c.in_err-make_round.field-0.0 (ComesWith c.args.most (table_of c.make_round.new.book)) c.from_residual.ensures.1
+    (round_comes laws c.args.most (table_of c.loop-place.book) c.jobs.result.now (table_of c.make_round.new.book) (c.jobs.ensures.jobs ∙ c.table.ensures)
+    c.in_err-make_round.ensures.refused.table (subst IsTable (sym c.jobs.ensures.jobs) c.jobs.ensures.sound) c.in-Some.place goes c.in_err-make_round.field-0.0
     c.in_err-make_round.ensures.fault.causes c.in_err-make_round.ensures.blocked)
 
 pub returns-in_err-keep_each-clause-comes : goal.returns-in_err-keep_each-clause-comes
-returns-in_err-keep_each-clause-comes g c = err_comes c.from_residual-in_err-keep_each.result c.in_err-keep_each.field-0.0 (ComesWith c.args.most (table_of c.args.book.now))
-    c.from_residual-in_err-keep_each.ensures.1 (comes_anyhow c.args.most (table_of c.args.book.now) c.in_err-keep_each.field-0.0
+returns-in_err-keep_each-clause-comes g c = err_comes c.from_residual-in_err-keep_each.result c.in_err-keep_each.field-0.0 (ComesWith c.args.most (table_of c.keep_each.new.book))
+    c.from_residual-in_err-keep_each.ensures.1 (comes_anyhow c.args.most (table_of c.keep_each.new.book) c.in_err-keep_each.field-0.0
     (of_keep c.in_err-keep_each.field-0.0 c.in_err-keep_each.ensures.others))
 
 pub returns-in_err-make_round-clause-broken : goal.returns-in_err-make_round-clause-broken
