@@ -24,6 +24,7 @@ FIGURES = ["--stats", "--format", "json"]
 HEAD = 17
 IMAGES = 3
 SECOND = "it is the second file of a reduction: name the first one, without .2"
+NO_SECOND = "no `--keep` made this second file: move it away, and write `head -c 17 /dev/zero` in its place"
 STRANGER = "it keeps no reduction: `--resume F` takes a file F that `--keep F` made"
 
 
@@ -233,8 +234,13 @@ class Keep(Stops):
         run("reduce", "--resume", self.file, "--steps", 30)
         whole = self.contents()
         newest = max((0, 1), key=lambda it: seen(it, whole[it])[1])
-        for cut in (0, HEAD - 1, 30, len(whole[newest]) - 1):
-            self.put(whole[it][:cut] if it == newest else whole[it] for it in (0, 1))
+        cut = [whole[newest][:it] for it in (0, HEAD - 1, 30, len(whole[newest]) - 1)]
+        # Of one that is damaged in its words, `inspect` tells that it is held.
+        for content in (*cut, laid(whole[newest], HEAD + 56 + 8 * 6, b"\xff" * 8)):
+            self.put(content if it == newest else whole[it] for it in (0, 1))
+            if content not in cut:
+                lines = [seen(it, content)[0] for it, content in enumerate(self.contents(), 1)]
+                self.runs("inspect", "--disk", self.file, out=[*lines, f"held: file {newest + 1}"])
             ran = run("reduce", "--resume", self.file)
             self.equals(ran.command, "the end", (3, b"icserve: damaged\n"), (ran.status, ran.err))
             self.equals(ran.command, "whether its cure is told", True, b"`head -c 17 /dev/zero`" in ran.after)
@@ -246,7 +252,8 @@ class Keep(Stops):
         run("reduce", "--keep", self.file, "--steps", 9, given=ackermann(2))
         run("reduce", "--resume", self.file, "--steps", 30)
         whole = self.contents()
-        files = [b"{A(B(x))><B(x)} <|A(B(C))=D>\n", "\ufeff<|A=B> <|A=B>".encode("utf-16-le"), b"\x89PNG\r\n\x1a\n\0\0\0\rIHDR" + bytes(9)]
+        pictures = [b"\x89PNG\r\n\x1a\n\0\0\0\rIHDR" + bytes(9), b"\0\0\0\x18ftypmp42\0\0\0\0isommp42", b"\0asm\1\0\0\0" + bytes(20)]
+        files = [b"{A(B(x))><B(x)} <|A(B(C))=D>\n", "\ufeff<|A=B> <|A=B>".encode("utf-16-le"), "<|A=B> <|A=B>".encode("utf-16-be"), *pictures]
         others = [(self.disk("jobs").read_bytes(), "a disk of jobs"), *((it, "another file") for it in files)]
         for place, (other, what) in ((place, other) for place in (0, 1) for other in others):
             put = [other if it == place else whole[it] for it in (0, 1)]
@@ -259,7 +266,7 @@ class Keep(Stops):
             for most in (0, 100_000):
                 ran = run("reduce", "--resume", self.file, "--steps", most)
                 self.equals(ran.command, "the end", (3, b"", b"icserve: damaged\n"), (ran.status, ran.out, ran.err))
-                told = f"{(self.file, self.second)[place]}: {STRANGER}\n"
+                told = (f"{self.file}: {STRANGER}\n", f"{self.second}: {NO_SECOND}\n")[place]
                 self.equals(ran.command, "what is told", told, ran.after.decode())
             self.equals(self.file, "what the files hold", put, self.contents())
 

@@ -67,9 +67,9 @@ nothing_kept path = around_second path (codes "no reduction is kept in it and in
 -- of files that no reduction has left so which goes on
 abbrev pub not_as_kept : (path : List ℕ) → List ℕ
 not_as_kept path = around_second path (codes "something else has changed it or its second file, ")
-    (codes ", or they were copied in part; if `inspect` shows one of them whole, "
-    ++ codes "write `head -c 17 /dev/zero` over the other and resume again; "
-    ++ codes "after a stop in the first keep, remove both, and begin again")
+    (codes ", or they were copied in part; copy both, then write `head -c 17 /dev/zero` over "
+    ++ codes "the one that `inspect` doesn't show whole, else over the one that it shows as held, "
+    ++ codes "and resume again; after a stop in the first keep, remove both, and begin again")
 
 -- of a file without the second one
 abbrev pub no_second : (path : List ℕ) → List ℕ

@@ -276,8 +276,9 @@ fn not_as_kept(alloc: Global, path: &[u8]) -> Result<Vec<u8>, AllocError>
         alloc,
         path,
         b"something else has changed it or its second file, ",
-        b", or they were copied in part; if `inspect` shows one of them whole, write `head -c 17 /dev/zero` over the other \
-and resume again; after a stop in the first keep, remove both, and begin again",
+        b", or they were copied in part; copy both, then write `head -c 17 /dev/zero` over the one that `inspect` doesn't \
+show whole, else over the one that it shows as held, and resume again; after a stop in the first keep, remove both, and \
+begin again",
     )
 }
 

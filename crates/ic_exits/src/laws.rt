@@ -301,9 +301,9 @@ pub fn endings_of_kept_reductions_are()
     ensures unsound { (path : List ℕ) (cause : Option Cause)
         → lines_after (Kept keeping.Unsound) path cause ≡ shown_path path ++ codes ": "
         ++ codes "something else has changed it or its second file, " ++ shown_path path
-        ++ codes ".2, or they were copied in part; if `inspect` shows one of them whole, "
-        ++ codes "write `head -c 17 /dev/zero` over the other and resume again; "
-        ++ codes "after a stop in the first keep, remove both, and begin again"
+        ++ codes ".2, or they were copied in part; copy both, then write `head -c 17 /dev/zero` over "
+        ++ codes "the one that `inspect` doesn't show whole, else over the one that it shows as held, "
+        ++ codes "and resume again; after a stop in the first keep, remove both, and begin again"
         ++ 10 ∷ [] }
     ensures damaged { (path : List ℕ) (cause : Option Cause)
         → map (λ why. lines_after (Kept (keeping.Open why)) path cause)

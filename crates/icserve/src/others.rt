@@ -1,7 +1,7 @@
 //! Files that are others than they were taken for: what they are, as far as their first bytes tell.
 
 use crate::inspecting::open_to_read_as;
-use ic_causes::{Notes, Target};
+use ic_causes::{Notes, Target, shown_path};
 use ic_exits::Other;
 use ic_frames::HEAD;
 use ic_kept::HEAD as KEPT_HEAD;
@@ -11,6 +11,10 @@ use std::io::Read;
 /// How many bytes of a file are looked at: the 17 of the head of a file that keeps a reduction, and the 8 with which its
 /// state begins.
 const FRONT: u64 = 25;
+
+/// What is said of a file in place of the second one of a reduction.
+const NO_SECOND: &[u8] =
+    b": no `--keep` made this second file: move it away, and write `head -c 17 /dev/zero` in its place\n";
 
 /// What a file is that keeps no reduction, and that a keep would write over.
 #[derive(Clone, Copy)]
@@ -37,7 +41,7 @@ pub(crate) fn another_of(front: &[u8]) -> Option<Another> {
         None
     } else if holds_table(front) {
         Some(Another::Jobs)
-    } else if has_no_gate(front) && has_no_numbers(front) {
+    } else if has_no_numbers(front) {
         Some(Another::Else)
     } else {
         None
@@ -89,11 +93,12 @@ pub(crate) fn is_second(rt: &HostRuntime, path: &str) -> bool {
     }
 }
 
-/// Whether the file of this path is known to be none that keeps a reduction: its first byte is no gate, or after its head
-/// stands a table of jobs.
+/// Whether the file of this path is known to be none that keeps a reduction.
 fn is_stranger(rt: &HostRuntime, path: &str) -> bool {
     match front_of(rt, path) {
-        Some(front) => !is_of_reduction(&front) && (has_no_gate(&front) || holds_table(&front)),
+        Some(front) => {
+            !is_of_reduction(&front) && (has_no_gate(&front) || another_of(&front).is_some())
+        }
         None => false,
     }
 }
@@ -103,8 +108,8 @@ fn has_no_gate(front: &[u8]) -> bool {
     front.first().is_some_and(|gate| *gate > 1)
 }
 
-/// Whether the numbers of a head don't stand in a file that begins with these bytes: one of them would be 2^56 or more. After a
-/// stop as a keep writes the gate, which may leave any byte there, both numbers stand in the file.
+/// Whether no keep has written the numbers of a head in a file that begins with these bytes: one of them would be 2^56 or more.
+/// A stop may leave any bytes for a number only once its file has a whole state, and then it is known by this.
 fn has_no_numbers(front: &[u8]) -> bool {
     is_set(front, 1) || is_set(front, 9)
 }
@@ -154,9 +159,11 @@ pub(crate) fn other_second(rt: &HostRuntime, path: &str) -> Option<Vec<u8>> {
     let second = format!(in rt.alloc(); "{path}.2").ok()?;
     let front = front_of(rt, second.as_str())?;
     another_of(&front)?;
-    Other::Stranger
-        .line(rt.alloc(), second.as_str().as_bytes())
-        .ok()
+    let path = shown_path(rt.alloc(), second.as_str().as_bytes()).ok()?;
+    let mut line = Vec::new(rt.alloc());
+    line.extend_from_slice(&path).ok()?;
+    line.extend_from_slice(NO_SECOND).ok()?;
+    Some(line)
 }
 
 /// Whether a byte stands in texts: a blank, or one that is printed.
