@@ -377,14 +377,16 @@ class Keep(Stops):
         ran = run("reduce", "--resume", disk)
         self.equals(ran.command, "the end", (3, b"icserve: device\n"), (ran.status, ran.err))
         self.equals(ran.command, "what is told of the file", f"{disk}: {STRANGER}\n", ran.after.decode())
-        for contents in ((self.file.read_bytes(), b""), (b"text", None), (b"text", b"text"), (b"text", bytes(HEAD))):
+        ones = b"\1" * 40
+        for contents in ((self.file.read_bytes(), b""), (b"text", None), (b"text", b"text"), (b"text", bytes(HEAD)), (ones, b""), (ones, bytes(HEAD))):
             self.clear()
             self.put(contents)
             ran = run("reduce", "--resume", self.file)
             self.equals(ran.command, f"status of {contents[:20]}; it said {ran.err}", 3, ran.status)
             self.equals(ran.command, "what is told of the file", f"{self.file}: {STRANGER}\n", ran.after.decode())
             self.equals(ran.command, "what the files hold", list(contents), self.contents())
-        for contents in ((b"", b""), (bytes(HEAD), bytes(HEAD)), (b"\1" * 40, b""), (b"\1" * 40, bytes(HEAD))):
+        no_state = b"\1" + struct.pack(">2Q", 3, 8) + b"nothing!"
+        for contents in ((b"", b""), (bytes(HEAD), bytes(HEAD)), (no_state, b""), (no_state, bytes(HEAD))):
             self.put(contents)
             ran = run("reduce", "--resume", self.file)
             self.equals(ran.command, f"status of {contents}; it said {ran.err}", 3, ran.status)
