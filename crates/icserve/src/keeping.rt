@@ -16,7 +16,7 @@ use ic_state::State;
 use ic_streams::{StreamFault, read_text_within, write_line};
 use ic_text::Limits;
 use std::alloc::AllocError;
-use std::io::{self, Read};
+use std::io::{self, ErrorKind, Read};
 use std::time::{Duration, Instant};
 
 /// Where a reduction is kept, and how often.
@@ -195,11 +195,14 @@ fn open_both<'a>(
 /// Refuses the file of this path if it is known to be another, or can't be looked at.
 fn check_kept(rt: &HostRuntime, path: &str, target: Target, notes: &Notes) -> Result<(), Failure> {
     match front_of_as(rt, path, target, notes) {
-        Some(front) => match another_of(&front) {
+        Ok(front) => match another_of(&front) {
             Some(_) => Err(Failure::Kept(KeepingFault::Open(OpenCause::Damaged))),
             None => Ok(()),
         },
-        None => Err(Failure::Kept(KeepingFault::Device)),
+        Err(error) if error.kind() == ErrorKind::OutOfMemory => {
+            Err(Failure::Kept(KeepingFault::Memory))
+        }
+        Err(_) => Err(Failure::Kept(KeepingFault::Device)),
     }
 }
 

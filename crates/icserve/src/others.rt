@@ -6,7 +6,7 @@ use ic_exits::Other;
 use ic_frames::HEAD;
 use ic_kept::HEAD as KEPT_HEAD;
 use ic_state::FORMAT;
-use std::io::Read;
+use std::io::{self, Read};
 
 /// How many bytes of a file are looked at: the 17 of the head of a file that keeps a reduction, and the 8 with which its
 /// state begins.
@@ -138,7 +138,7 @@ pub(crate) fn is_of_reduction(front: &[u8]) -> bool {
 
 /// The bytes with which the file of this path begins, or none where it can't be read.
 fn front_of(rt: &HostRuntime, path: &str) -> Option<Vec<u8>> {
-    front_of_as(rt, path, Target::File, &Notes::new())
+    front_of_as(rt, path, Target::File, &Notes::new()).ok()
 }
 
 /// The same, where calls to the file that fail are noted as of this target.
@@ -147,11 +147,11 @@ pub(crate) fn front_of_as(
     path: &str,
     target: Target,
     notes: &Notes,
-) -> Option<Vec<u8>> {
-    let file = open_to_read_as(rt, path, target, notes).ok()?;
+) -> io::Result<Vec<u8>> {
+    let file = open_to_read_as(rt, path, target, notes)?;
     let mut front = Vec::new(rt.alloc());
-    file.take(FRONT).read_to_end(&mut front).ok()?;
-    Some(front)
+    file.take(FRONT).read_to_end(&mut front)?;
+    Ok(front)
 }
 
 /// The line that the second file of a reduction is another one, where the first file has this path and that is known.
