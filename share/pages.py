@@ -1,14 +1,20 @@
 #!/usr/bin/env python3
-"""Writes the manual page of `icserve` and its completions for bash, zsh and fish: pages.py PROGRAM PREFIX puts them into folders
-of PREFIX/share. All of it is made from what the program's own `--help` prints, so an option is told in one place."""
+"""Writes the manual pages of `icserve` and of its scripts, and completions for bash, zsh and fish: pages.py PROGRAM PREFIX puts
+them into folders of PREFIX/share. All of it is made from what their own `--help` prints, so an option is told in one place."""
 
+import os
 import re
 import subprocess
 import sys
 from pathlib import Path
 
+TOP = Path(__file__).resolve().parent.parent
+
+# The scripts beside the program, and as what each is installed.
+SCRIPTS = {"icserve-film": "film", "icserve-listen": "listen", "icserve-send": "send"}
+
 # Where a value or an argument is a file.
-FILES = ("F", "FILE", "SCRIPT", "LINES")
+FILES = ("F", "FILE", "SCRIPT", "LINES", "PATH")
 
 
 class Option:
@@ -206,6 +212,78 @@ def quoted_in_fish(text):
     return text.replace("\\", "\\\\").replace("'", "\\'")
 
 
+# ---- scripts
+
+
+class Script:
+    """A script's help: its usage, what it does, its options, each with its value, and the whole text."""
+
+    OPTION = re.compile(r"(?m)^  (?:(-\w), )?(--[\w-]+)(?: ([A-Z]+))?(?: +(.*(?:\n {5,}\S.*)*))?")
+
+    def __init__(self, name, text):
+        self.name = name
+        usage, self.about, *_ = text.split("\n\n")
+        self.usage = re.sub(r"^usage: \S+|\s+", " ", usage).strip()
+        self.options = [(short, long, value, " ".join(says.split())) for short, long, value, says in self.OPTION.findall(text)]
+        self.takes_files = "[FILE]" in self.usage
+        self.more = text.split("\n\n", 2)[2].rstrip("\n")
+
+    def manual(self, version):
+        head = f'.TH {self.name.upper()} 1 "" "{roff(version)}" "User Commands"'
+        about = " ".join(self.about.split())
+        page = [head, ".SH NAME", f"{self.name} \\- {roff(about[0].lower() + about[1:].rstrip('.'))}"]
+        page += [".SH SYNOPSIS", f".B {self.name} {roff(self.usage)}", ".SH DESCRIPTION", shown(self.more)[0].split("\n", 1)[1]]
+        return "\n".join([*page, ".SH SEE ALSO", ".BR icserve (1)"]) + "\n"
+
+    def bash(self):
+        flags = " ".join(it for short, long, *_ in self.options for it in (short, long) if it)
+        values = [(f"    {long}) COMPREPLY=($(compgen -f -- \"$this\")); return ;;" if value in FILES else f"    {long}) return ;;")
+                  for _, long, value, _ in self.options if value]
+        files = '    *) COMPREPLY=($(compgen -f -- "$this")) ;;\n' if self.takes_files else ""
+        function = "_" + self.name.replace("-", "_")
+        return f"""# Completes the words of {self.name} in bash. Made by share/pages.py from what its `--help` prints.
+{function}() {{
+    local this=${{COMP_WORDS[COMP_CWORD]}} before=${{COMP_WORDS[COMP_CWORD - 1]}}
+    COMPREPLY=()
+    case $before in
+{chr(10).join(values)}
+    esac
+    case $this in
+    -*) COMPREPLY=($(compgen -W "{flags}" -- "$this")) ;;
+{files}    esac
+}}
+complete -o filenames -F {function} {self.name}
+"""
+
+    def zsh(self):
+        def spec(long, value, says):
+            says = quoted(re.sub(r"([\[\]:\\])", r"\\\1", says))
+            return f"'{long}=[{says}]:{value}:{'_files' if value in FILES else ''}'" if value else f"'{long}[{says}]'"
+
+        specs = [spec(*it[1:]) for it in self.options] + ["'*:file:_files'"] * self.takes_files
+        return f"#compdef {self.name}\n# Made by share/pages.py from what its `--help` prints.\n_arguments " + " \\\n    ".join(specs) + "\n"
+
+    def fish(self):
+        lines = [f"# Completes the words of {self.name} in fish. Made by share/pages.py from what its `--help` prints."]
+        lines += [f"complete -c {self.name} -f"] * (not self.takes_files)
+        for short, long, value, says in self.options:
+            takes = " -r -F" if value in FILES else " -x" if value else ""
+            lines.append(f"complete -c {self.name} -l {long[2:]}{f' -s {short[1:]}' if short else ''}{takes} -d '{quoted_in_fish(says)}'")
+        return "\n".join(lines) + "\n"
+
+
+def of_scripts(version):
+    """What is written of each script."""
+    wide = {**os.environ, "COLUMNS": "90"}
+    for name, file in SCRIPTS.items():
+        ran = subprocess.run([sys.executable, TOP / file, "--help"], check=True, capture_output=True, text=True, env=wide)
+        one = Script(name, ran.stdout)
+        yield f"man/man1/{name}.1", one.manual(version)
+        yield f"bash-completion/completions/{name}", one.bash()
+        yield f"zsh/site-functions/_{name}", one.zsh()
+        yield f"fish/vendor_completions.d/{name}.fish", one.fish()
+
+
 def main(program, prefix):
     top, words = helps_of(program)
     version = said(program, "--version").strip()
@@ -214,6 +292,7 @@ def main(program, prefix):
         "bash-completion/completions/icserve": bash(top, words),
         "zsh/site-functions/_icserve": zsh(top, words),
         "fish/vendor_completions.d/icserve.fish": fish(top, words),
+        **dict(of_scripts(version)),
     }
     for name, text in made.items():
         path = Path(prefix) / "share" / name

@@ -10,6 +10,10 @@ import sys
 from program import IN_MEMORY, PROGRAM, TOP, Trial, run
 from test_pages import typed_in
 
+sys.path.insert(0, str(TOP / "share"))
+
+from pages import SCRIPTS  # noqa: E402
+
 TOPICS = (("language",), ("keep",))
 WORDS = "settle once create serve attend reduce trace draw dump inspect check batch expand help".split()
 
@@ -64,8 +68,27 @@ class Install(Trial):
             return part[: {self.page: part.find("\n.SH"), self.bash: part.find("\n"), self.zsh: part.find(";;")}[path]]
         return "".join(line for line in text.split("\n") if f"__fish_seen_subcommand_from {word}'" in line)
 
+    def of(self, script):
+        """The page and the completions of a script."""
+        share = self.room / "share"
+        names = (f"man/man1/{script}.1", f"bash-completion/completions/{script}", f"zsh/site-functions/_{script}", f"fish/vendor_completions.d/{script}.fish")
+        return [share / it for it in names]
+
+    def test_each_option_of_a_script_stands_in_its_page_and_in_its_completions(self):
+        for script, file in SCRIPTS.items():
+            text = run("--help", program=TOP / file).out.decode()
+            options = self.options(text.replace("options:", "Options:").replace("optional arguments:", "Options:"))
+            self.equals(f"{file} --help", "whether it has options", True, len(options) > 1)
+            for option in options:
+                forms = (option.replace("-", "\\-"), option, option, f"-l {option[2:]}")
+                for path, part in zip(self.of(script), forms):
+                    self.equals(path.name, f"whether it has {part}", True, part in path.read_text())
+
     def test_the_completions_are_taken_by_their_shells(self):
-        for shell, path in (("bash", self.bash), ("zsh", self.zsh), ("fish", self.fish)):
+        made = [*zip(("bash", "zsh", "fish"), (self.bash, self.zsh, self.fish))]
+        for script in SCRIPTS:
+            made += zip(("bash", "zsh", "fish"), self.of(script)[1:])
+        for shell, path in made:
             if shutil.which(shell):
                 ran = run("-n", path, program=shutil.which(shell))
                 self.equals(ran.command, "how it ends", (0, b"", b""), ran[1:4])
@@ -90,10 +113,10 @@ class Install(Trial):
         self.equals("icserve help l", "what is offered", ["language"], self.completed("help", "l"))
         self.equals("icserve help k", "what is offered", ["keep"], self.completed("help", "k"))
 
-    def test_the_page_is_rendered_without_a_warning(self):
+    def test_the_pages_are_rendered_without_a_warning(self):
         for words in (["groff", "-man", "-Tutf8", "-ww", "-z"], ["mandoc", "-T", "lint", "-W", "warning"]):
-            if shutil.which(words[0]):
-                ran = run(*words[1:], self.page, program=shutil.which(words[0]))
+            for page in [self.page, *(self.of(it)[0] for it in SCRIPTS)] if shutil.which(words[0]) else []:
+                ran = run(*words[1:], page, program=shutil.which(words[0]))
                 self.equals(ran.command, "how it ends", (0, b"", b""), ran[1:4])
         if shutil.which("man"):
             ran = run("-l", self.page, program=shutil.which("man"), env={**os.environ, "MANWIDTH": "100", "LC_ALL": "C.UTF-8"})

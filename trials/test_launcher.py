@@ -61,7 +61,7 @@ class Launcher(Trial):
         super().setUp()
         self.calls = self.room / "calls"
         self.calls.write_text("")
-        for name in ("icserve", "film", "Makefile"):
+        for name in ("icserve", "film", "listen", "send", "Makefile"):
             shutil.copy(TOP / name, self.room / name)
         (self.room / "crates.txt").write_text("low:\nicserve: low\n")
         for part in ("src", "specs", "proofs"):
@@ -246,7 +246,8 @@ class Launcher(Trial):
         self.ended(self.launch("settle"), out=["proved"])
         self.says("is proved", self.make("install", "PREFIX=prefix"))
         self.ended(run(program=self.room / "prefix/bin/icserve"), out=["proved"])
-        self.holds(self.room / "prefix/bin/icserve-film", (TOP / "film").read_bytes())
+        for it in ("film", "listen", "send"):
+            self.holds(self.room / f"prefix/bin/icserve-{it}", (TOP / it).read_bytes())
         self.source.write_text("second\n")
         self.says(ISNT_PROVED, self.settles())
         self.says("isn't proved", self.make("install", "PREFIX=~/prefix"))

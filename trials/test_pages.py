@@ -54,13 +54,25 @@ class Pages(Trial):
         ran = subprocess.run(["sh", "-c", text], **how)
         self.agrees(f"{page}: {text}", "what it prints", "".join(f"{it}\n" for it in wanted), ran.stdout)
 
+    def test_the_session_of_several_clients_prints_what_the_pages_say(self):
+        for it in ("listen", "send"):
+            (self.room / it).symlink_to(TOP / it)
+        self.disk()
+        for page in ("README.md", "docs/share.md"):
+            commands = next(it for it in map(typed_in, blocks_of(page)) if any("./listen" in command for command, _ in it))
+            # Who types waits until the server is there.
+            waits = "while ! [ -S /tmp/shared.sock ]; do sleep 0.02; done"
+            text = [f"{it[:-1].strip()} 2>/dev/null & {waits}" if it.endswith("&") else it for it, _ in commands]
+            self.typed(page, text, [line for _, answer in commands for line in answer])
+
     def test_the_session_of_the_readme_prints_what_the_readme_says(self):
         section = (TOP / "README.md").read_text().split("## A session")[1].split("\n## ")[0]
         (self.room / "session.md").write_text(section)
-        served, lines, prints, killed, prints_then = blocks_of(self.room / "session.md")
+        served, told, killed, prints_then = blocks_of(self.room / "session.md")
+        lines, prints = zip(*(re.split("  +", it) for it in told))
         self.equals("README.md", f"it kills a server: {killed}", True, "KILL" in killed[0])
         file = (TOP / "examples/addition.session").read_text().split("\n")
-        self.equals("README.md", "the lines of examples/addition.session", [it for it in file if it], lines)
+        self.equals("README.md", "the lines of examples/addition.session", [it for it in file if it], list(lines))
         self.typed("README.md", served, prints)
         self.killed_at(killed, prints_then)
 
@@ -88,7 +100,8 @@ class Pages(Trial):
         consoles = []
         for page in sorted({*TOP.glob("*.md"), *TOP.glob("docs/*.md")} - {TOP / "docs/cluster.md"}):
             blocks = [it for it in blocks_of(page) if it[0].startswith("$ ")]
-            consoles += [(page.relative_to(TOP), typed_in(it)) for it in blocks]
+            # A server that goes on in the background has a trial of its own.
+            consoles += [(page.relative_to(TOP), typed_in(it)) for it in blocks if not any("./listen" in line for line in it)]
         wanting = {"README.md", "docs/rounds.md"} - {str(page) for page, _ in consoles}
         self.equals("README.md and docs/", "pages without a command that is typed", set(), wanting)
         for page, commands in consoles:

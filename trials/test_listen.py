@@ -1,0 +1,531 @@
+"""Many clients at one server, over a Unix socket: `listen`, and `send`, a client of it."""
+
+import contextlib
+import os
+import pty
+import re
+import resource
+import select
+import signal
+import socket
+import stat
+import subprocess
+import sys
+import threading
+import time
+from pathlib import Path
+
+import model_disk
+from known import ADD, LOOP, TWO
+from program import IN_MEMORY, PATIENCE, PROGRAM, TOP, Trial, run, shown
+from test_drawn_serving import OTHERS, session
+
+LONGEST = 262_144
+
+
+class Client:
+    """A client at a socket."""
+
+    def __init__(self, path):
+        self.socket = socket.socket(socket.AF_UNIX)
+        self.socket.settimeout(PATIENCE)
+        self.socket.connect(str(path))
+        self.came = bytearray()
+
+    def __enter__(self):
+        return self
+
+    def __exit__(self, *_):
+        self.socket.close()
+
+    def send(self, *lines):
+        for line in lines:
+            self.socket.sendall(line.encode() + b"\n" if isinstance(line, str) else line)
+
+    def answer(self):
+        """The next answer, without its line feed; None where the server closes before."""
+        while b"\n" not in self.came:
+            try:
+                data = self.socket.recv(65_536)
+            except ConnectionError:
+                return None
+            if not data:
+                return None
+            self.came += data
+        answer, _, self.came = self.came.partition(b"\n")
+        return answer.decode()
+
+    def ask(self, line):
+        self.send(line)
+        return self.answer()
+
+    def rest(self):
+        """All that comes up to the end."""
+        while self.answer_came():
+            pass
+        return bytes(self.came)
+
+    def answer_came(self):
+        try:
+            data = self.socket.recv(65_536)
+        except ConnectionError:
+            return False
+        self.came += data
+        return bool(data)
+
+    def half_close(self):
+        self.socket.shutdown(socket.SHUT_WR)
+
+
+class Listening:
+    """The script, with a server as its child."""
+
+    def __init__(self, disk, path, *words, before=(), program=PROGRAM, env=(), **how):
+        self.path = path
+        command = [*before, sys.executable, TOP / "listen", "--disk", disk, "--socket", path, *words]
+        self.command = [str(it) for it in command]
+        pipes = {"stdout": subprocess.PIPE, "stderr": subprocess.PIPE}
+        self.process = subprocess.Popen(self.command, env={**os.environ, "ICSERVE": str(program), **dict(env)}, **pipes, **how)
+        self.first = self.process.stderr.readline().decode()
+
+    def __enter__(self):
+        return self
+
+    def __exit__(self, *_):
+        self.process.kill()
+        self.process.communicate()
+
+    def client(self):
+        return Client(self.path)
+
+    def child(self):
+        """The number of the server's process."""
+        found = Path(f"/proc/{self.process.pid}/task/{self.process.pid}/children").read_text().split()
+        return int(found[0])
+
+    def memory(self):
+        """How many bytes of memory the script has taken at most."""
+        text = Path(f"/proc/{self.process.pid}/status").read_text()
+        return 1024 * int(re.search(r"VmHWM:\s+(\d+)", text)[1])
+
+    def end(self, sign=signal.SIGTERM):
+        """Ends it by a signal, if one is said: its status, and what it said."""
+        if sign:
+            self.process.send_signal(sign)
+        _, err = self.process.communicate(timeout=PATIENCE)
+        return self.process.returncode, err.decode()
+
+
+class Listens(Trial):
+    rooms = IN_MEMORY
+    seconds = 3
+
+    def listening(self, *words, disk=None, **how):
+        return Listening(disk or self.disk(), self.room / "socket", *words, **how)
+
+    def answers(self, client, line, answer):
+        self.equals(line, "its answer", answer, client.ask(line))
+
+    def free(self, disk):
+        """Waits until no server has the disk."""
+        end = time.monotonic() + PATIENCE
+        while run("serve", "--disk", disk).status == 6 and time.monotonic() < end:
+            time.sleep(0.01)
+
+    def ends_well(self, listening, sign=signal.SIGTERM):
+        self.equals(listening.command, "status, and what it said", (0, ""), listening.end(sign))
+
+
+class Sharing(Listens):
+    def test_each_client_has_the_answers_to_its_own_lines_in_their_order(self):
+        with self.listening() as listening, listening.client() as one, listening.client() as two:
+            one.send(f"submit two {TWO.text}", "\t \r", "fetch two", "list")
+            self.equals("submit, a blank, fetch, list", "the answers", ["accepted", f"two running 0 {TWO.config(0)}", "jobs two:running:0"],
+                        [one.answer() for _ in range(3)])
+            self.answers(two, "submit two {} <|>", "refused taken")
+            self.answers(two, "run 10", "ran 2")
+            self.answers(one, "fetch two", "two done 2 <S(S(Z))|>")
+            self.ends_well(listening)
+
+    def test_a_line_of_any_bytes_is_answered_as_by_the_server_itself(self):
+        lines = [bytes([it]) + b"\n" for it in range(256) if it != 10] + [b"list" + bytes([it]) + b"\n" for it in range(256) if it != 10]
+        wanted = run("serve", "--disk", self.disk("other.disk"), given=b"".join(lines)).out
+        with self.listening() as listening, listening.client() as one, listening.client() as other:
+            one.send(b"".join(lines))
+            other.send(*["list"] * 5)
+            one.half_close()
+            self.agrees("a line of each byte", "the answers", wanted, one.rest())
+            self.equals("list", "the other's answers", ["jobs"] * 5, [other.answer() for _ in range(5)])
+
+    def test_a_client_that_closes_its_side_has_all_its_answers(self):
+        with self.listening() as listening, listening.client() as client:
+            client.send(*[f"submit loop{it} {LOOP.text}" for it in range(40)])
+            client.half_close()
+            self.agrees("40 submits", "the answers", b"accepted\n" * 32 + b"refused full\n" * 8, client.rest())
+
+    def test_a_last_line_without_a_line_feed_is_not_done(self):
+        with self.listening() as listening, listening.client() as other:
+            self.answers(other, f"submit job {LOOP.text}", "accepted")
+            for line in (b"cancel job", b"submit a {} <|>", b"\xff"):
+                with listening.client() as client:
+                    client.send("list", line)
+                    client.half_close()
+                    wanted = b"jobs job:running:0\nclosed: the last line has no line feed, so it wasn't done\n"
+                    self.agrees(line, "what came", wanted, client.rest())
+            with listening.client() as client:
+                client.send(b"cancel job")
+            self.answers(other, "list", "jobs job:running:0")
+
+    def test_a_line_that_is_too_long_closes_this_client_alone(self):
+        told = f"closed: long line: a line has at most {LONGEST} bytes\n".encode()
+        with self.listening() as listening, listening.client() as other:
+            for line, wanted in ((b"list" + b" " * (LONGEST - 4) + b"\nlist\n", b"jobs\njobs\n"), (b" " * LONGEST + b"\nlist\n", b"jobs\n"),
+                                 (b"list" + b" " * (LONGEST - 3) + b"\nlist\n", told), (b"list\n" + b"x" * 2_000_000, b"jobs\n" + told)):
+                with listening.client() as client:
+                    with contextlib.suppress(ConnectionError):
+                        client.send(line)
+                        client.half_close()
+                    self.agrees(f"a line of {len(line)} bytes", "what came", wanted, client.rest())
+                self.answers(other, "list", "jobs")
+
+    def test_what_64_clients_are_answered_is_one_legal_history(self):
+        draw, tee = self.draws(), self.room / "tee"
+        tee.write_text(f'#!/bin/sh\ntee -a {self.room}/lines | {PROGRAM} "$@" | tee -a {self.room}/answers\n')
+        tee.chmod(0o755)
+        names = [f"job{it}" for it in range(40)]
+        texts = ["{}<|>", "{}<r|r=Z>", LOOP.text, f"{ADD}<r|Add(r,S(Z))=S(S(Z))>"]
+        others = [it for it in OTHERS if it.strip("\t\r ")]
+        # What stands before a line tells which client has sent it.
+        given = [[f"{' ' * it}{line}" if line.strip("\t\r ") else f"{' ' * it}{draw.choice(others)}"
+                  for line in session(draw, names, texts, 60, 20)] for it in range(1, 65)]
+        got = [None] * 64
+
+        def converse(number):
+            with listening.client() as client:
+                lines, got[number] = list(given[number]), []
+                while lines:
+                    some, lines = lines[: number % 7 + 1], lines[number % 7 + 1 :]
+                    client.send(*some)
+                    got[number] += [client.answer() for _ in some]
+
+        with self.listening("--rounds", program=tee) as listening:
+            threads = [threading.Thread(target=converse, args=[it]) for it in range(64)]
+            for it in threads:
+                it.start()
+            for it in threads:
+                it.join()
+            self.ends_well(listening)
+        disk = model_disk.Disk()
+        disk.create()
+        asked, answered = ((self.room / it).read_bytes() for it in ("lines", "answers"))
+        self.agrees("64 clients", "the answers of the model", model_disk.serve(disk, asked, 100).out, answered)
+        lines, answers = (it.decode().split("\n")[:-1] for it in (asked, answered))
+        for number in range(64):
+            own = [(line, answer) for line, answer in zip(lines, answers) if len(line) - len(line.lstrip(" ")) == number + 1]
+            self.equals(f"client {number}", "its lines and answers in the history", list(zip(given[number], got[number])), own)
+
+    def test_a_client_that_never_reads_holds_up_nobody_and_takes_little_memory(self):
+        system = f"{ADD} <r|Add(r,{'S(' * 4000}Z{')' * 4000})=Z>"
+        with self.listening() as listening, listening.client() as one, listening.client() as other:
+            self.answers(other, f"submit big {system}", "accepted")
+            before = listening.memory()
+            one.socket.setblocking(False)
+            sent, data = 0, b"fetch big\n" * 1_000_000
+            end = time.monotonic() + 2
+            while time.monotonic() < end and sent < len(data):
+                with contextlib.suppress(BlockingIOError):
+                    sent += one.socket.send(data[sent : sent + 65_536])
+                self.answers(other, "fetch no", "refused nojob")
+            taken = listening.memory() - before
+            self.equals(f"{sent} bytes of `fetch big`", f"whether it takes below 8 MB more: {taken}", True, taken < 8_000_000)
+            self.equals("fetch big", "whether lines wait with the client", True, sent < len(data))
+
+    def test_10000_clients_one_after_another_leave_nothing(self):
+        with self.listening() as listening:
+            before = None
+            for number in range(10_000):
+                with listening.client() as client:
+                    if number % 3 == 0:
+                        self.answers(client, "list", "jobs")
+                    elif number % 3 == 1:
+                        client.send("list", b"li")
+                if number == 1000:
+                    before = listening.memory()
+            files = len(os.listdir(f"/proc/{listening.process.pid}/fd"))
+            self.equals("10,000 clients", f"whether few files are open: {files}", True, files < 30)
+            self.equals("10,000 clients", "whether memory stays", True, listening.memory() < before + 4_000_000)
+            self.ends_well(listening)
+
+    def test_500_clients_at_once_are_answered(self):
+        soft, hard = resource.getrlimit(resource.RLIMIT_NOFILE)
+        if hard != resource.RLIM_INFINITY and hard < 1200:
+            self.skipTest(f"only {hard} files may be open here")
+        resource.setrlimit(resource.RLIMIT_NOFILE, (max(soft, 1200), hard))
+        self.addCleanup(resource.setrlimit, resource.RLIMIT_NOFILE, (soft, hard))
+        with self.listening() as listening, contextlib.ExitStack() as stack:
+            clients = [stack.enter_context(listening.client()) for _ in range(500)]
+            for number, it in enumerate(clients):
+                it.send(f"fetch job{number}", "list")
+            for it in clients:
+                self.equals("500 clients", "the answers", ["refused nojob", "jobs"], [it.answer(), it.answer()])
+            with contextlib.ExitStack() as more:
+                late = [more.enter_context(listening.client()) for _ in range(13)]
+                self.equals("the 513th client", "what came", b"closed: too many clients\n", late[-1].rest())
+            self.ends_well(listening)
+
+    def test_with_few_files_it_takes_fewer_clients(self):
+        def limited():
+            resource.setrlimit(resource.RLIMIT_NOFILE, (20, 20))
+
+        with self.listening(preexec_fn=limited) as listening, contextlib.ExitStack() as stack:
+            clients = [stack.enter_context(listening.client()) for _ in range(5)]
+            for it in clients[:4]:
+                self.answers(it, "list", "jobs")
+            self.equals("the fifth", "what came", b"closed: too many clients\n", clients[4].rest())
+            clients[0].socket.close()
+            end = time.monotonic() + PATIENCE
+            while time.monotonic() < end:
+                with listening.client() as again:
+                    if again.ask("list") == "jobs":
+                        break
+            self.ends_well(listening)
+
+
+class Waits(Listens):
+    def test_wait_is_answered_once_the_job_does_not_run(self):
+        with self.listening() as listening, listening.client() as one, listening.client() as other:
+            self.answers(one, "wait two", "refused nojob")
+            self.answers(one, "wait", "bad syntax")
+            self.answers(one, "wait two two", "bad syntax")
+            self.answers(one, f"submit two {TWO.text}", "accepted")
+            one.send("wait two", "list")
+            self.answers(other, "run 1", "ran 1")
+            self.equals("wait two", "whether it is answered while the job runs", [], select.select([one.socket], [], [], 0.1)[0])
+            self.answers(other, "run 1", "ran 1")
+            self.equals("wait two", "the answers", ["two done 2 <S(S(Z))|>", "jobs two:done:2"], [one.answer(), one.answer()])
+            self.answers(one, "wait two", "two done 2 <S(S(Z))|>")
+
+    def test_wait_ends_with_a_pause_and_where_the_job_is_gone(self):
+        with self.listening("--rounds") as listening, listening.client() as one, listening.client() as other:
+            self.answers(one, f"submit loop {LOOP.text}", "accepted")
+            one.send("wait loop")
+            self.answers(other, "pause loop", "ok")
+            self.equals("wait loop", "the answer", "loop paused", " ".join(one.answer().split()[:2]))
+            self.answers(other, "resume loop", "ok")
+            one.send("wait loop")
+            self.answers(other, "cancel loop", "ok")
+            self.equals("wait loop", "the answer", "refused nojob", one.answer())
+            self.ends_well(listening)
+
+    def test_clients_that_go_while_they_wait_leave_nothing(self):
+        with self.listening("--rounds") as listening, listening.client() as other:
+            self.answers(other, f"submit loop {LOOP.text}", "accepted")
+            for _ in range(600):
+                with listening.client() as one:
+                    one.send("wait loop", "cancel loop")
+            time.sleep(0.1)
+            self.equals("list", "whether the job is there", True, other.ask("list").startswith("jobs loop:running:"))
+            self.ends_well(listening)
+
+
+class Rounds(Listens):
+    seconds = 6
+
+    def test_jobs_make_rounds_while_no_line_waits(self):
+        with self.listening("--rounds") as listening, listening.client() as client:
+            for number in range(16):
+                self.answers(client, f"submit loop{number} {LOOP.text}", "accepted")
+                self.answers(client, f"submit sum{number} {ADD} <r|Add(r,Z)={'S(' * 100}Z{')' * 100}>", "accepted")
+            for number in range(16):
+                client.send(f"wait sum{number}")
+                self.equals(f"sum{number}", "how it ends", True, client.answer().startswith(f"sum{number} done 101 <S(S("))
+            first = self.rounds(client)
+            while min(self.rounds(client)) < 1000 + min(first):
+                time.sleep(0.05)
+            made = [after - before for before, after in zip(first, self.rounds(client))]
+            self.equals("16 jobs that never end", f"whether each has its share: {made}", True, max(made) <= 1.2 * min(made))
+
+    def rounds(self, client):
+        """How many rounds each job has made that never ends."""
+        return [int(it.split(":")[2]) for it in client.ask("list").split()[1:] if it.startswith("loop")]
+
+    def test_a_line_is_answered_soon_while_32_jobs_run(self):
+        with self.listening("--rounds") as listening, listening.client() as client:
+            for number in range(32):
+                self.answers(client, f"submit loop{number} {LOOP.text}", "accepted")
+            took = []
+            for _ in range(200):
+                time.sleep(0.002)
+                began = time.monotonic()
+                client.ask("fetch loop7")
+                took.append(time.monotonic() - began)
+            took.sort()
+            self.equals("fetch", f"whether half are answered within 20 ms: {took[100]:.4f}", True, took[100] < 0.020)
+
+    def test_a_new_serving_begins_before_the_last_line_that_one_takes(self):
+        env = {"ICSERVE_LISTEN_LINES": "300"}
+        with self.listening("--max-clients", "8", "--rounds", env=env) as listening, listening.client() as one, listening.client() as other:
+            first = listening.child()
+            self.answers(one, f"submit two {TWO.text}", "accepted")
+            for number in range(1000):
+                other.send("fetch no")
+                self.answers(one, f"submit j{number} {{}} <|>", "accepted")
+                self.answers(one, f"cancel j{number}", "ok")
+            self.equals("1,000 lines", "the other's answers", {"refused nojob"}, {other.answer() for _ in range(1000)})
+            self.answers(one, "wait two", "two done 2 <S(S(Z))|>")
+            self.equals("1,000 lines", "whether another server runs", True, listening.child() != first)
+            self.ends_well(listening)
+
+
+class Ends(Listens):
+    def test_the_socket_is_its_owners_and_is_removed_at_the_end(self):
+        for sign in (signal.SIGTERM, signal.SIGINT):
+            with self.listening(disk=self.disk(f"{sign}.disk")) as listening:
+                mode = stat.S_IMODE(os.stat(listening.path).st_mode)
+                self.equals("the socket", "its mode", 0o600, mode)
+                self.ends_well(listening, sign)
+                self.equals("the socket", "whether it is there", False, os.path.exists(listening.path))
+
+    def test_shutdown_answers_what_is_due_and_ends(self):
+        with self.listening() as listening, listening.client() as one, listening.client() as other:
+            self.answers(other, f"submit loop {LOOP.text}", "accepted")
+            other.send(*["run 1000"] * 20)
+            other.answer()
+            one.send("shutdown")
+            self.agrees("shutdown", "what came", b"ok\n", one.rest())
+            answers = other.rest().decode().split("\n")
+            self.equals("20 runs", "what came", set(answers[:-1]) - {"closed: the server has ended"}, {"ran 1000"})
+            self.equals(listening.command, "status, and what it said", (0, ""), listening.end(None))
+
+    def test_a_socket_that_is_left_is_taken_and_nothing_else_is(self):
+        disk = self.disk()
+        with self.listening(disk=disk) as listening:
+            listening.process.kill()
+            listening.process.wait()
+            self.equals("a script that was killed", "whether its socket is left", True, os.path.exists(listening.path))
+        self.free(disk)
+        with self.listening(disk=disk) as listening, listening.client() as client:
+            self.answers(client, "list", "jobs")
+            with self.listening(disk=self.disk("other.disk")) as second:
+                self.equals("another script at this socket", "how it ends", (6, ""), second.end(None))
+                self.equals("another script at this socket", "what it said", f"icserve-listen: {listening.path}: another server answers there\n", second.first)
+            self.answers(client, "list", "jobs")
+        path = self.room / "file"
+        path.write_text("mine")
+        with Listening(self.disk("third.disk"), path) as listening:
+            self.equals("a file at this path", "how it ends", (4, ""), listening.end(None))
+        self.holds(path, b"mine")
+
+    def test_two_scripts_for_one_disk(self):
+        disk = self.disk()
+        with self.listening(disk=disk) as listening, listening.client() as client:
+            with Listening(disk, self.room / "second") as second:
+                self.equals("another script for this disk", "what it said", "icserve: locked\n", second.first)
+                self.equals("another script for this disk", "its status", 6, second.end(None)[0])
+            self.answers(client, "list", "jobs")
+
+    def test_where_the_server_ends_the_clients_are_closed(self):
+        for sign, status in ((signal.SIGKILL, 4), (signal.SIGTERM, 4)):
+            with self.listening(disk=self.disk(f"{sign}.disk")) as listening, listening.client() as client:
+                self.answers(client, "list", "jobs")
+                os.kill(listening.child(), sign)
+                self.equals("a server that was killed", "what came", b"", client.rest())
+                self.equals("a server that was killed", "the status", status, listening.end(None)[0])
+
+    def test_a_socket_of_systemd_is_taken_and_left(self):
+        path = self.room / "given"
+        with socket.socket(socket.AF_UNIX) as made:
+            made.bind(str(path))
+            made.listen(8)
+            script = 'exec 3<&0 </dev/null; LISTEN_FDS=1 LISTEN_PID=$$ exec "$@"'
+            command = ["sh", "-c", script, "sh", sys.executable, str(TOP / "listen"), "--disk", str(self.disk())]
+            how = {"stdin": made, "stdout": subprocess.PIPE, "stderr": subprocess.PIPE, "env": {**os.environ, "ICSERVE": PROGRAM}}
+            with subprocess.Popen(command, **how) as started, Client(path) as client:
+                self.answers(client, "list", "jobs")
+                self.answers(client, "shutdown", "ok")
+                self.equals(command, "the status", 0, started.wait(PATIENCE))
+        self.equals("the socket", "whether it is there", True, path.exists())
+
+
+class Sends(Listens):
+    def send(self, *words, given=b"", path=None):
+        return run("--socket", path or self.room / "socket", *words, given=given, program=TOP / "send")
+
+    def test_lines_are_sent_and_their_answers_printed(self):
+        with self.listening():
+            self.ended(self.send(f"submit two {TWO.text}", "run 10", "fetch two"), ["accepted", "ran 2", "two done 2 <S(S(Z))|>"])
+            self.ended(self.send(given=b"list\n\nlist"), ["jobs two:done:2"] * 2)
+            self.ended(self.send(given=b""), b"")
+            lines = b"fetch two\n" * 5_000
+            self.ended(self.send(given=lines), b"two done 2 <S(S(Z))|>\n" * 5_000)
+
+    def test_a_missing_answer_is_told(self):
+        with self.listening():
+            ran = self.send(given=b"list\n" + b"x" * (LONGEST + 1))
+            self.ended(ran, f"jobs\nclosed: long line: a line has at most {LONGEST} bytes\n", status=1)
+        told = b"icserve-send: the server has ended, and 1 lines have no answer: `list` and `fetch` tell what was done\n"
+        for kills_child, wanted in ((True, (1, b"closed: the server has ended\n", b"")), (False, (1, b"", told))):
+            with self.listening(disk=self.disk(f"{kills_child}.disk")) as listening:
+                with listening.client() as client:
+                    client.ask(f"submit loop {LOOP.text}")
+                command = [sys.executable, TOP / "send", "--socket", listening.path, "list", "wait loop"]
+                with subprocess.Popen(command, stdout=subprocess.PIPE, stderr=subprocess.PIPE) as started:
+                    self.equals(command, "the first answer", b"jobs loop:running:0\n", started.stdout.readline())
+                    os.kill(listening.child() if kills_child else listening.process.pid, signal.SIGKILL)
+                    out, err = started.communicate(timeout=PATIENCE)
+                self.equals(command, "how it ends", wanted, (started.returncode, out, err))
+
+    def test_where_nobody_listens_it_says_so(self):
+        path = self.room / "none"
+        self.ended(self.send("list", path=path), b"", f"icserve-send: {path}: No such file or directory\n", status=4)
+
+    def shows(self, terminal, wanted):
+        """Reads what stands on a terminal up to these bytes."""
+        came = b""
+        while wanted not in came:
+            if not select.select([terminal], [], [], PATIENCE / 4)[0]:
+                self.told("send at a terminal", "what it shows", shown(wanted), shown(came))
+            came += os.read(terminal, 1)
+
+    def test_at_a_terminal_it_asks_for_lines(self):
+        with self.listening() as listening:
+            main, other = pty.openpty()
+            self.addCleanup(os.close, main)
+            command = [sys.executable, TOP / "send", "--socket", listening.path]
+            env = {**os.environ, "TERM": "dumb", "XDG_STATE_HOME": str(self.room)}
+            with subprocess.Popen(command, stdin=other, stdout=other, stderr=other, env=env, start_new_session=True) as started:
+                self.addCleanup(started.kill)
+                os.close(other)
+                for line, wanted in (("list", b"jobs\r\n"), ("help", b"wait NAME, shutdown\r\n"), ("fetch no", b"refused nojob\r\n")):
+                    self.shows(main, b"> ")
+                    os.write(main, line.encode() + b"\n")
+                    self.shows(main, wanted)
+                self.shows(main, b"> ")
+                os.write(main, b"\x04")
+                self.equals(command, "the status", 0, started.wait(PATIENCE / 4))
+            self.equals("the history", "its lines", ["list", "help", "fetch no"], (self.room / "icserve/history").read_text().split("\n")[:3])
+
+
+class Kills(Listens):
+    seconds = 60
+
+    def test_200_kills_of_server_or_script_lose_nothing_that_was_answered(self):
+        draw, disk, done, answered = self.draws(), self.disk(), 0, 0
+        for number in range(200):
+            self.free(disk)
+            with self.listening(disk=disk) as listening, listening.client() as client:
+                found = client.ask("list")
+                held = max([int(it.split(":")[0][1:]) for it in found.split()[1:]] or [0])
+                self.equals(f"after {number} kills", f"whether job {done} is there, which was accepted", True, held >= done)
+                wait = draw.random() * 0.02
+                victim = listening.child() if draw.random() < 0.5 else listening.process.pid
+                killer = threading.Timer(wait, lambda: os.kill(victim, signal.SIGKILL))
+                killer.start()
+                done = held
+                with contextlib.suppress(ConnectionError):
+                    while client.ask(f"submit j{done + 1} {{}} <|>") == "accepted":
+                        done, answered = done + 1, answered + 1
+                        if client.ask(f"cancel j{done - 1}") not in ("ok", "refused nojob"):
+                            break
+                killer.join()
+        self.equals("200 kills", f"whether many lines were answered: {answered}", True, answered > 400)
