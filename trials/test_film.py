@@ -191,6 +191,13 @@ class Films(Trial):
         told = [it["told"] for it in self.page("--rounds", 1, given=f"{ADD} <r|Add(r,Z)=S(S(Z))>").frames]
         self.equals("Add(r,Z)=S(S(Z))", "where it is cut", True, "The film ends here" in told[1])
 
+    def test_names_that_rounds_take_may_pass_those_of_texts(self):
+        rules, last = "{A(B(x))><B(A(x))}", "v165191049"
+        few, many = (self.page("--rounds", 3, given=f"{rules} <{name},q|A(y)=B(y),{name}=q>").frames for name in ("z", last))
+        self.equals(last, "the names of its last frame", True, "x165191049" in many[2]["text"])
+        for one, other in zip(few, many):
+            self.equals(last, "the net that a frame shows", *([sorted(it["parts"]), it["agents"]] for it in (one, other)))
+
     def test_names_of_files_are_escaped_and_the_same_bytes_come_again(self):
         path = self.room / "a<b>&.ic"
         shutil.copy(TOP / "examples/addition.ic", path)
