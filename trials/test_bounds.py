@@ -1,0 +1,71 @@
+"""What no contract bounds: the memory and the time that the program takes. Times are told as those of a fixed work in the same
+run, so that a busy machine doesn't fail a trial."""
+
+import os
+import re
+import subprocess
+import time
+from pathlib import Path
+
+from known import ADD, LOOP
+from program import IN_MEMORY, PROGRAM, Trial
+
+MEGABYTE = 1_000_000
+
+
+def fixed_work(count=3_000_000):
+    """How many seconds a loop of Python takes."""
+    began, total = time.process_time(), 0
+    for it in range(count):
+        total += it & 7
+    return time.process_time() - began
+
+
+class Bounds(Trial):
+    rooms = IN_MEMORY
+    seconds = 5
+
+    def taken(self, *words, given=b"", status=0):
+        """Runs the program on a file of this text: the most bytes of memory that it took, and its seconds of a processor."""
+        path, most, reaped = self.room / "text", 0, 0
+        path.write_bytes(given if isinstance(given, bytes) else given.encode())
+        with path.open("rb") as file:
+            started = subprocess.Popen([PROGRAM, *map(str, words)], stdin=file, stdout=subprocess.DEVNULL, stderr=subprocess.DEVNULL)
+        while not reaped:
+            # The memory that `wait4` tells has that of this process in it, as it was before the program was loaded.
+            found = re.search(r"VmHWM:\s+(\d+)", Path(f"/proc/{started.pid}/status").read_text())
+            most = max(most, int(found[1]) if found else 0)
+            time.sleep(0.002)
+            reaped, ended, used = os.wait4(started.pid, os.WNOHANG)
+        started.returncode = os.WEXITSTATUS(ended) if os.WIFEXITED(ended) else -os.WTERMSIG(ended)
+        self.equals(words, "the status", status, started.returncode)
+        return 1024 * most, used.ru_utime + used.ru_stime
+
+    def below(self, what, most, came):
+        self.equals(what, f"whether {came} is at most {most}", True, came <= most)
+
+    def test_a_net_that_stays_small_takes_little_memory_for_ever(self):
+        chain = ",".join(f"A(x{it + 1})=B(x{it + 1})" for it in range(100))
+        for text in (LOOP.text, f"{{A(B(x))><B(A(x))}} <|{chain}>"):
+            memory, seconds = self.taken("reduce", "--workers", 1, "--steps", 3_000_000, "--quiet-answer", given=text, status=5)
+            self.below("bytes of 3,000,000 interactions", 20 * MEGABYTE, memory)
+            self.below("seconds of 3,000,000 interactions, in those of a loop", 20, seconds / fixed_work())
+
+    def test_a_text_of_a_million_nodes_takes_below_100_bytes_a_node(self):
+        wide = "{} <|" + ",".join(["A(B,C)=D(E)"] * 200_000) + ">"
+        names = "{} <|" + ",".join(f"A(x{it + 1})=B(x{it + 1})" for it in range(250_000)) + ">"
+        deep = "{} <" + "S(" * 999_999 + "Z" + ")" * 999_999 + "|>"
+        for what, text in (("equations", wide), ("names", names), ("a deep term", deep)):
+            memory, seconds = self.taken("reduce", "--workers", 1, "--quiet-answer", given=text)
+            self.below(f"bytes of a million nodes: {what}", 100 * MEGABYTE, memory)
+            self.below(f"seconds of a million nodes, in those of a loop: {what}", 20, seconds / fixed_work())
+
+    def test_twice_the_text_takes_twice_the_time(self):
+        def numeral(count):
+            return "S(" * count + "Z" + ")" * count
+
+        for what, text in (("a sum", lambda n: f"{ADD} <r|Add(r,{numeral(n)})={numeral(n)}>"),
+                           ("equations", lambda n: "{A(x)><B(x)} <|" + ",".join(["A(P)=B(Q)"] * n) + ">")):
+            (little, few), (much, many) = (self.taken("reduce", "--workers", 1, given=text(n)) for n in (100_000, 400_000))
+            self.below(f"four times {what}: seconds by seconds", 8, many / (few + 0.02))
+            self.below(f"four times {what}: bytes by bytes", 5, much / little)
