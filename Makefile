@@ -4,6 +4,8 @@
 .SHELLFLAGS = -ec
 .PHONY: help build prove check trials install uninstall bench clean icserve
 PREFIX = $(HOME)/.local
+# Where below PREFIX this Python looks for packages.
+PACKAGES = $(shell python3 -c 'import sysconfig; print(sysconfig.get_path("purelib", "posix_prefix", {"base": ""}).lstrip("/"))')
 
 help: # lists these
 	sed -n 's/^\([a-z]*\): #/make \1: /p' Makefile
@@ -15,17 +17,19 @@ check: # the gate, ./gate: proves all from nothing, and tries edits, rows and th
 	./gate
 trials: # tries the program that ./icserve runs
 	ICSERVE=$$(ICSERVE_BUILD=found ./icserve) python3 trials
-install: # puts the program into PREFIX/bin (if not said ~/.local/bin), the proved one where it is there, its scripts, and their manual pages and completions
+install: # puts the program into PREFIX/bin (if not said ~/.local/bin), the proved one where it is there, its scripts, their manual pages and completions, and the Python package
 	to="$(DESTDIR)$(patsubst ~/%,$(HOME)/%,$(PREFIX))"
 	install -vD "$$(ICSERVE_BUILD=found ./icserve)" "$$to/bin/icserve"
 	for it in film listen send; do install -vD $$it "$$to/bin/icserve-$$it"; done
 	python3 share/pages.py "$$to/bin/icserve" "$$to"
+	install -vDm 644 -t "$$to/$(PACKAGES)/icserve" python/icserve/*.py python/icserve/py.typed
 uninstall: # removes from PREFIX what install puts there
 	from="$(DESTDIR)$(patsubst ~/%,$(HOME)/%,$(PREFIX))"
 	for it in icserve icserve-film icserve-listen icserve-send; do
 	    rm -fv "$$from/bin/$$it" "$$from/share/man/man1/$$it.1" "$$from/share/bash-completion/completions/$$it" \
 	        "$$from/share/zsh/site-functions/_$$it" "$$from/share/fish/vendor_completions.d/$$it.fish"
 	done
+	rm -rfv "$$from/$(PACKAGES)/icserve"
 bench: # times the program on the systems of docs/speed.md; WITH=.. hands on words, of which WITH=--help tells
 	python3 bench "$$(ICSERVE_BUILD=found ./icserve)" $(WITH)
 clean: # removes what was built, and what is kept of proofs

@@ -63,6 +63,7 @@ class Launcher(Trial):
         self.calls.write_text("")
         for name in ("icserve", "film", "listen", "send", "Makefile"):
             shutil.copy(TOP / name, self.room / name)
+        shutil.copytree(TOP / "python/icserve", self.room / "python/icserve", ignore=shutil.ignore_patterns("__pycache__"))
         (self.room / "crates.txt").write_text("low:\nicserve: low\n")
         for part in ("src", "specs", "proofs"):
             (self.room / "crates/icserve" / part).mkdir(parents=True)
@@ -248,6 +249,10 @@ class Launcher(Trial):
         self.ended(run(program=self.room / "prefix/bin/icserve"), out=["proved"])
         for it in ("film", "listen", "send"):
             self.holds(self.room / f"prefix/bin/icserve-{it}", (TOP / it).read_bytes())
+        self.equals("make install", "the Python package", 1, len(list(self.room.glob("prefix/lib/python3*/*-packages/icserve/py.typed"))))
+        self.make("uninstall", "PREFIX=prefix")
+        self.equals("make uninstall", "the files that are left", [], [it for it in (self.room / "prefix").rglob("*") if it.is_file()])
+        self.make("install", "PREFIX=prefix")
         self.source.write_text("second\n")
         self.says(ISNT_PROVED, self.settles())
         self.says("isn't proved", self.make("install", "PREFIX=~/prefix"))
