@@ -2,7 +2,7 @@
 .ONESHELL:
 .SILENT:
 .SHELLFLAGS = -ec
-.PHONY: help build prove check trials install uninstall bench clean icserve
+.PHONY: help build prove check trials install uninstall dist bench clean icserve
 PREFIX = $(HOME)/.local
 # Where below PREFIX this Python looks for packages.
 PACKAGES = $(shell python3 -c 'import sysconfig; print(sysconfig.get_path("purelib", "posix_prefix", {"base": ""}).lstrip("/"))')
@@ -30,6 +30,16 @@ uninstall: # removes from PREFIX what install puts there
 	        "$$from/share/zsh/site-functions/_$$it" "$$from/share/fish/vendor_completions.d/$$it.fish"
 	done
 	rm -rfv "$$from/$(PACKAGES)/icserve"
+dist: # makes a release in out/dist, an archive and a package of Debian: of the proved program, or with UNPROVED=1 of one that isn't
+	rm -rf out/dist
+	if [ -n "$(UNPROVED)" ]; then
+	    ICSERVE_BUILD=unproved ./icserve
+	    python3 share/dist.py out/icserve icserve-unproved out/dist
+	else
+	    at="$$(ICSERVE_BUILD=found ./icserve 2>/dev/null)"
+	    case $$at in */crates/icserve/out/icserve) ;; *) echo "make dist: the proved program isn't there: make prove proves it, and UNPROVED=1 takes another" >&2; exit 1 ;; esac
+	    python3 share/dist.py "$$at" icserve out/dist
+	fi
 bench: # times the program on the systems of docs/speed.md; WITH=.. hands on words, of which WITH=--help tells
 	python3 bench "$$(ICSERVE_BUILD=found ./icserve)" $(WITH)
 clean: # removes what was built, and what is kept of proofs

@@ -161,3 +161,35 @@ class Helps(Trial):
                 with self.subTest(words=words, command=command):
                     ran = subprocess.run(["sh", "-c", command], cwd=room, env=path, capture_output=True, text=True, timeout=60)
                     self.equals(command, "how it ends", (0, "".join(f"{it}\n" for it in answer), ""), (ran.returncode, ran.stdout, ran.stderr))
+
+
+class Releases(Trial):
+    seconds = 10
+
+    def test_the_same_program_gives_the_same_release_and_it_works_by_itself(self):
+        for it in ("one", "two"):
+            command = [sys.executable, TOP / "share/dist.py", PROGRAM, "icserve", self.room / it]
+            subprocess.run([str(it) for it in command], check=True, stdout=subprocess.DEVNULL, timeout=60)
+        names = sorted(it.name for it in (self.room / "one").iterdir())
+        self.equals("dist.py", "whether an archive is there", True, any(it.endswith("-linux-x86_64.tar.gz") for it in names))
+        for it in names:
+            self.holds(self.room / "two" / it, (self.room / "one" / it).read_bytes())
+        subprocess.run(["sha256sum", "--quiet", "-c", "SHA256SUMS"], cwd=self.room / "one", check=True)
+        archive = next((self.room / "one").glob("*.tar.gz"))
+        subprocess.run(["tar", "-xzf", archive, "-C", self.room], check=True)
+        self.works(next(self.room.glob("icserve-*")), "")
+        package = next((self.room / "one").glob("*.deb"), None)
+        if package:
+            subprocess.run(["dpkg-deb", "-x", package, self.room / "root"], check=True)
+            self.works(self.room / "root/usr", "share/doc/icserve")
+
+    def works(self, root, pages):
+        """Fails unless what stands below a folder works without anything of this clone."""
+        env = {"PATH": f"{root}/bin:/usr/bin:/bin", "PYTHONPATH": str(root / "lib/python3/dist-packages"), "PYTHONDONTWRITEBYTECODE": "1"}
+        how = {"env": env, "cwd": self.room}
+        self.runs("reduce", root / pages / "examples/addition.ic", out=["<S(S(S(S(Z))))|>"], program=root / "bin/icserve", **how)
+        for it in ("film", "listen", "send"):
+            self.equals(it, "the status of its help", 0, run("--help", program=root / f"bin/icserve-{it}", **how).status)
+        script = "import icserve; print(icserve.settle('<r|r=Z>'))"
+        ran = run("-c", script, program=sys.executable, **how)
+        self.equals(script, f"what it prints; it said {ran.err}", b"<Z|>\n", ran.out)

@@ -1,0 +1,147 @@
+#!/usr/bin/env python3
+"""Makes a release: dist.py PROGRAM NAME FOLDER writes NAME-VERSION-linux-x86_64.tar.gz and NAME_VERSION_amd64.deb into the folder,
+with their SHA256SUMS. The same sources and the same program give the same bytes."""
+
+import contextlib
+import gzip
+import hashlib
+import io
+import os
+import shutil
+import subprocess
+import sys
+import tarfile
+import tempfile
+from pathlib import Path
+
+TOP = Path(__file__).resolve().parent.parent
+sys.dont_write_bytecode = True
+
+import pages  # noqa: E402
+
+# The oldest C library with which the program runs: that of Debian 12, Ubuntu 22.04 and Fedora 35 is as new.
+GLIBC = "2.34"
+
+START = """icserve reduces interaction nets. Begin with
+
+    bin/icserve reduce examples/addition.ic     which prints <S(S(S(S(Z))))|>
+    bin/icserve help                            which tells the other commands
+    bin/icserve help language                   which tells how nets are written
+
+It needs Linux on x86-64 with glibc {glibc} or later. The scripts bin/icserve-film, -listen and -send need Python 3.8 or later, and
+film and pictures Graphviz. Put bin/ on the path, or copy bin/, share/ and lib/ below /usr/local. The Python package is in
+lib/python3/dist-packages. README.md and docs/ are the pages of the sources, {commit}.
+
+{proved}
+"""
+
+PROVED = "This program was built from functions each of which the Rattle kit has proved to meet its contract."
+UNPROVED = "This program was built from the same sources, but not by way of their proofs. It is slower than the proved one."
+
+CONTROL = """Package: {name}
+Version: {version}
+Architecture: amd64
+Maintainer: Sidelime maintainers <maintainers@users.noreply.sidelime.example>
+Depends: libc6 (>= {glibc})
+Recommends: python3 (>= 3.8), graphviz
+Provides: icserve
+Conflicts: icserve
+Section: science
+Priority: optional
+Installed-Size: {size}
+Description: reduces interaction nets, and keeps jobs of them on disk
+ Reduces nets of the interaction calculus in place or by rounds, draws
+ and traces them, and serves jobs that survive a stop at any moment.
+"""
+
+
+def said(*command):
+    ran = subprocess.run(command, stdout=subprocess.PIPE, stderr=subprocess.DEVNULL, cwd=TOP, universal_newlines=True)
+    return ran.stdout.strip() if ran.returncode == 0 else ""
+
+
+def moment():
+    """The time that all files get: that of the commit, if there is one."""
+    return int(os.environ.get("SOURCE_DATE_EPOCH") or said("git", "log", "-1", "--format=%ct") or 315_532_800)
+
+
+def lay(program, root):
+    """Puts what is installed into a folder: programs, pages, completions and the Python package."""
+    (root / "bin").mkdir(parents=True)
+    shutil.copy(program, root / "bin/icserve")
+    for name, script in pages.SCRIPTS.items():
+        shutil.copy(TOP / script, root / "bin" / name)
+    for it in (root / "bin").iterdir():
+        it.chmod(0o755)
+    with contextlib.redirect_stdout(io.StringIO()):
+        pages.main(str(root / "bin/icserve"), str(root))
+    package = root / "lib/python3/dist-packages/icserve"
+    package.mkdir(parents=True)
+    for it in sorted((TOP / "python/icserve").glob("*.py*")) + [TOP / "python/icserve/py.typed"]:
+        if it.is_file():
+            shutil.copy(it, package)
+
+
+def archive(folder, path):
+    """Writes a folder as a compressed archive, whatever its files' times and owners are."""
+
+    def plain(entry):
+        entry.uid = entry.gid = 0
+        entry.uname = entry.gname = "root"
+        entry.mtime = moment()
+        entry.mode = 0o755 if entry.isdir() or entry.mode & 0o100 else 0o644
+        return entry
+
+    data = io.BytesIO()
+    with tarfile.open(fileobj=data, mode="w", format=tarfile.USTAR_FORMAT) as tar:
+        for it in sorted([folder, *folder.rglob("*")]):
+            tar.add(it, str(it.relative_to(folder.parent)), recursive=False, filter=plain)
+    with path.open("wb") as file, gzip.GzipFile("", "wb", 9, file, mtime=0) as packed:
+        packed.write(data.getvalue())
+
+
+def package(name, version, folder, path):
+    """Writes a package of Debian with what a folder has below /usr."""
+    control = folder / "DEBIAN/control"
+    control.parent.mkdir()
+    size = sum(it.stat().st_size for it in folder.rglob("*") if it.is_file()) // 1024
+    control.write_text(CONTROL.format(name=name, version=version, glibc=GLIBC, size=size))
+    for it in sorted(folder.rglob("*")):
+        it.chmod(0o755 if it.is_dir() or it.parent.name == "bin" else 0o644)
+        os.utime(it, (moment(), moment()))
+    env = {**os.environ, "SOURCE_DATE_EPOCH": str(moment())}
+    subprocess.run(["dpkg-deb", "--root-owner-group", "-Zgzip", "--build", folder, path], check=True, env=env, stdout=subprocess.DEVNULL)
+
+
+def main(program, name, folder):
+    folder = Path(folder)
+    folder.mkdir(parents=True, exist_ok=True)
+    version = subprocess.run([program, "--version"], stdout=subprocess.PIPE, check=True, universal_newlines=True).stdout.split()[-1]
+    proved = UNPROVED if name.endswith("unproved") else PROVED
+    made = []
+    with tempfile.TemporaryDirectory() as room:
+        tree = Path(room, f"{name}-{version}")
+        lay(program, tree)
+        told = START.format(glibc=GLIBC, commit=said("git", "describe", "--always", "--dirty") or "of no commit", proved=proved)
+        (tree / "START").write_text(told)
+        shutil.copy(TOP / "README.md", tree)
+        for it in ("docs", "examples"):
+            shutil.copytree(TOP / it, tree / it)
+        made.append(folder / f"{name}-{version}-linux-x86_64.tar.gz")
+        archive(tree, made[-1])
+        if shutil.which("dpkg-deb"):
+            root = Path(room, "deb")
+            lay(program, root / "usr")
+            doc = root / "usr/share/doc" / name
+            doc.mkdir(parents=True)
+            (doc / "START").write_text(told)
+            shutil.copytree(TOP / "examples", doc / "examples")
+            made.append(folder / f"{name}_{version}_amd64.deb")
+            package(name, version, root, made[-1])
+    sums = "".join(f"{hashlib.sha256(it.read_bytes()).hexdigest()}  {it.name}\n" for it in made)
+    (folder / "SHA256SUMS").write_text(sums)
+    print(sums, end="")
+
+
+if __name__ == "__main__":
+    main(*sys.argv[1:])
