@@ -68,8 +68,9 @@ class Pages(Trial):
     def test_the_session_of_the_readme_prints_what_the_readme_says(self):
         section = (TOP / "README.md").read_text().split("## A session")[1].split("\n## ")[0]
         (self.room / "session.md").write_text(section)
-        served, told, killed, prints_then = blocks_of(self.room / "session.md")
+        served, told, typed = blocks_of(self.room / "session.md")
         lines, prints = zip(*(re.split("  +", it) for it in told))
+        killed, prints_then = [command for command, _ in typed_in(typed)], [it for _, answer in typed_in(typed) for it in answer]
         self.equals("README.md", f"it kills a server: {killed}", True, "KILL" in killed[0])
         file = (TOP / "examples/addition.session").read_text().split("\n")
         self.equals("README.md", "the lines of examples/addition.session", [it for it in file if it], list(lines))
@@ -100,8 +101,8 @@ class Pages(Trial):
         consoles = []
         for page in sorted({*TOP.glob("*.md"), *TOP.glob("docs/*.md")} - {TOP / "docs/cluster.md"}):
             blocks = [it for it in blocks_of(page) if it[0].startswith("$ ")]
-            # A server that goes on in the background has a trial of its own.
-            consoles += [(page.relative_to(TOP), typed_in(it)) for it in blocks if not any("./listen" in line for line in it)]
+            # Servers that go on in the background, or are killed, have trials of their own.
+            consoles += [(page.relative_to(TOP), typed_in(it)) for it in blocks if not any("./listen" in line or "KILL" in line for line in it)]
         wanting = {"README.md", "docs/rounds.md"} - {str(page) for page, _ in consoles}
         self.equals("README.md and docs/", "pages without a command that is typed", set(), wanting)
         for page, commands in consoles:
