@@ -74,6 +74,9 @@ def figures(bench, row, options):
         yield f"{count / seconds:,.0f}" if count else "-"
         if tried[1:] != first[0][1:]:
             yield "answers otherwise"
+    if options.guard:
+        # Of each turn, since a machine that is busy slows all programs of a turn.
+        yield f"{statistics.median(it[0] / it[-1] for it in took):.2f}"
 
 
 def as_line(what, cells):
@@ -87,17 +90,26 @@ def main():
     parser.add_argument("--size", type=float, default=1, help="takes each number of a system times this (1 if not said)")
     parser.add_argument("--only", default="", metavar="WORD", help="takes only rows that have this word")
     parser.add_argument("--instructions", action="store_true", help="has valgrind count instructions, which takes long")
+    parser.add_argument("--guard", type=float, nargs="?", const=1.15, metavar="R", help="fails where the first program takes more than R times (1.15) as long as the last")
     options = parser.parse_intermixed_args()
+    if options.guard and len(options.program) < 2:
+        parser.error("--guard compares two programs")
     if options.instructions and not shutil.which("valgrind"):
         parser.error("valgrind isn't installed: apt install valgrind")
     heads = ["seconds", *["M instructions"] * options.instructions, "interactions/s"]
     for at, program in enumerate(options.program, 1):
         print(f"{at}: {program}")
     print(as_line("", [f"{at}: {it}" for at in range(1, len(options.program) + 1) for it in heads]))
+    slower = []
     with tempfile.TemporaryDirectory(dir=IN_MEMORY) as memory, tempfile.TemporaryDirectory() as disk:
         for row in rows(options.size):
             if options.only in row.what:
-                print(as_line(row.what, figures(Bench(memory, disk), row, options)), flush=True)
+                cells = list(figures(Bench(memory, disk), row, options))
+                print(as_line(row.what, cells), flush=True)
+                slower += [row.what] if options.guard and float(cells[-1]) > options.guard else []
+    for it in slower:
+        print(f"slower than {options.guard} times: {it}", file=sys.stderr)
+    return 1 if slower else 0
 
 
 if __name__ == "__main__":

@@ -46,3 +46,12 @@ class Bench(Trial):
             self.equals(other, "how many figures there are", 5 + len(more), len(found))
             self.equals(other, "what stands after them", more, found[5:])
             self.equals(other, "whether the program tells interactions", False, found[2] == "-")
+
+    def test_a_program_that_is_slower_than_another_fails_the_guard(self):
+        slow = self.room / "slow"
+        slow.write_text(f'#!/bin/sh\nsleep 0.2\nexec {PROGRAM} "$@"\n')
+        slow.chmod(0o755)
+        for program, status, told in ((PROGRAM, 0, ""), (slow, 1, "slower than 5.0 times: start: settle of <|>\n")):
+            command = [sys.executable, TOP / "bench", program, PROGRAM, "--guard", "5", "--times", "3", "--only", "start: settle"]
+            ran = subprocess.run([str(it) for it in command], capture_output=True, text=True, timeout=120)
+            self.equals(command, "status and standard error", (status, told), (ran.returncode, ran.stderr))
