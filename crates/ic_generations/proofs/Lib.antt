@@ -1,0 +1,9 @@
+pub mod Given
+pub mod Renamed
+pub mod Fired
+pub mod Lists
+pub mod InTurn
+pub mod Anywhere
+pub mod Settling
+pub mod Aside
+pub mod Going

@@ -1,0 +1,98 @@
+//! Laws of rounds whose equations fire one after another.
+
+ghost use Rattle.std.specs.Prelude.{◌≡◌, ◌≤◌, ℕ, List, [], IsPermutation, IsTrue, length};
+ghost use Rattle.ic_term.specs.Tree.{Pair};
+ghost use Rattle.ic_term.specs.Configuration.{Configuration};
+ghost use Rattle.ic_term.specs.Symbol.{is_over};
+ghost use Rattle.ic_rules.specs.RuleSet.{Rules, IsRuleSet};
+ghost use Rattle.ic_settle.specs.Settling.{settled};
+ghost use Rattle.ic_settle.specs.NameSteps.{NameSteps};
+ghost use Rattle.ic_round.specs.Naming.{HasNames};
+ghost use Rattle.ic_round.specs.Firing.{fired};
+ghost use Rattle.ic_round.specs.Interactions.{active_equations};
+ghost use Rattle.ic_round.specs.Quiet.{is_inert};
+ghost use Rattle.ic_round.specs.Rounds.{round, iterate};
+ghost use Rattle.ic_confluence.specs.Sameness.{Same};
+ghost use Rattle.ic_reaching.specs.OneNet.{OneNet, SameButNext};
+ghost use Rattle.ic_generations.specs.Firings.{FireInTurn};
+ghost use Rattle.ic_generations.specs.Generations.{Generation, whole, without_now, Goes};
+
+/// The active equations of a configuration fire one after another, each once, in any order and by
+/// any fresh names: this makes the net in which all of them have fired at once.
+pub fn active_equations_fire_in_any_order()
+    ensures { (rs : Rules) (es : List Pair) (c d : Configuration) → IsRuleSet rs
+        → IsTrue (is_over rs.symbols c) → HasNames c
+        → IsPermutation (active_equations rs.rules c) es → FireInTurn rs.rules es c d
+        → SameButNext d (fired rs.rules c) }
+{
+    ic_confluence::laws::same_nets_take_the_same_name_steps();
+    ic_confluence::laws::same_nets_have_the_same_rounds();
+    ic_reaching::laws::where_names_begin_is_no_matter();
+    ic_reaching::laws::what_is_reached_is_one_net();
+    ic_reaching::laws::what_is_reached_goes_on();
+}
+
+/// Configurations that are the same net wherever fresh names begin are so once they are settled,
+/// once all their active equations have fired, and after a round or several.
+pub fn where_names_begin_is_no_matter_to_rounds()
+    ensures settled { (c d : Configuration) → HasNames c → SameButNext c d
+        → SameButNext (settled c) (settled d) }
+    ensures fired { (rs : Rules) (c d : Configuration) → IsRuleSet rs
+        → IsTrue (is_over rs.symbols c) → HasNames c → HasNames d → SameButNext c d
+        → SameButNext (fired rs.rules c) (fired rs.rules d) }
+    ensures round { (rs : Rules) (c d : Configuration) → IsRuleSet rs
+        → IsTrue (is_over rs.symbols c) → HasNames c → HasNames d → SameButNext c d
+        → SameButNext (round rs.rules c) (round rs.rules d) }
+    ensures rounds { (rs : Rules) (n : ℕ) (c d : Configuration) → IsRuleSet rs
+        → IsTrue (is_over rs.symbols c) → HasNames c → HasNames d → SameButNext c d
+        → SameButNext (iterate rs.rules n c) (iterate rs.rules n d) }
+{
+    ic_confluence::laws::same_nets_take_the_same_name_steps();
+    ic_confluence::laws::same_nets_have_the_same_rounds();
+    ic_reaching::laws::where_names_begin_is_no_matter();
+    ic_reaching::laws::what_is_reached_is_one_net();
+    ic_reaching::laws::what_is_reached_goes_on();
+}
+
+/// Indirections and collects never make fewer equations active. Those that make no more may be
+/// taken before the active equations fire, or after.
+pub fn name_steps_may_wait_for_a_round()
+    ensures active { (rs : Rules) (c d : Configuration) → NameSteps c d
+        → length (active_equations rs.rules c) ≤ length (active_equations rs.rules d) }
+    ensures fired { (rs : Rules) (c d : Configuration) → IsRuleSet rs
+        → IsTrue (is_over rs.symbols c) → HasNames c → NameSteps c d
+        → length (active_equations rs.rules d) ≡ length (active_equations rs.rules c)
+        → NameSteps (fired rs.rules c) (fired rs.rules d) }
+    ensures round { (rs : Rules) (c d : Configuration) → IsRuleSet rs
+        → IsTrue (is_over rs.symbols c) → HasNames c → NameSteps c d
+        → length (active_equations rs.rules d) ≡ length (active_equations rs.rules c)
+        → Same (round rs.rules c) (round rs.rules d) }
+{
+    ic_confluence::laws::every_order_settles_to_the_same_net();
+}
+
+/// A round may fire its equations one after another, and put names meanwhile. As the generation
+/// begins, no equation of the rest is active; as it ends, none of its own is left. By then it has
+/// made the net in which all active equations have fired at once. That is the net of the round, if
+/// indirections and collects lead from the given net to one that the round begins with, and make
+/// no equation active.
+pub fn a_generation_is_a_round()
+    ensures fired { (rs : Rules) (rules : List ℕ) (g h : Generation) → IsRuleSet rs
+        → IsTrue (is_over rs.symbols (whole g)) → HasNames (whole g)
+        → IsTrue (is_inert rs.rules (without_now g)) → Goes rs.rules rules g h → h.now ≡ []
+        → OneNet (fired rs.rules (whole g)) (whole h) }
+    ensures round { (rs : Rules) (rules : List ℕ) (g h : Generation) (c d : Configuration)
+        → IsRuleSet rs → IsTrue (is_over rs.symbols (whole g)) → HasNames (whole g)
+        → IsTrue (is_inert rs.rules (without_now g)) → Goes rs.rules rules g h → h.now ≡ []
+        → NameSteps (whole g) c
+        → length (active_equations rs.rules c) ≡ length (active_equations rs.rules (whole g))
+        → SameButNext c d → HasNames d → OneNet (round rs.rules d) (whole h) }
+{
+    ic_confluence::laws::same_nets_take_the_same_name_steps();
+    ic_confluence::laws::same_nets_have_the_same_rounds();
+    ic_reaching::laws::where_names_begin_is_no_matter();
+    ic_reaching::laws::one_net_is_an_equivalence();
+    ic_reaching::laws::what_is_reached_is_one_net();
+    ic_reaching::laws::what_is_reached_goes_on();
+    ic_reaching::laws::what_a_part_reaches_the_whole_reaches();
+}
