@@ -1,9 +1,9 @@
 -- Lemmas: equations that fire one after another, with any fresh names, make the net in which all of them have fired at once.
-use Rattle.std.proofs.Common.{◌≡◌, ◌⊎◌, ℕ, ◌+◌, ◌-◌, ◌≤◌, ◌<◌, List, [], ◌∷◌, ◌++◌, true, Some, cond, ltb, map, is_none, is_some, refl, sym, ap, ◌∙◌, append_assoc, arith, inl, inr, subst as transport}
+use Rattle.std.proofs.Common.{◌≡◌, ◌⊎◌, ℕ, ◌+◌, ◌-◌, ◌≤◌, ◌<◌, List, [], ◌∷◌, ◌++◌, true, Option, None, Some, cond, ltb, map, is_none, is_some, refl, sym, ap, ◌∙◌, append_assoc, arith, inl, inr, subst as transport}
 use Rattle.std.proofs.lemmas.Bool.{cases_lt, lt-ltb, le-ltb, and_parts}
 use Rattle.std.proofs.lemmas.List.{map-append}
 use Rattle.std.proofs.lemmas.List.Folds.{list_all-append}
-use Rattle.std.proofs.lemmas.List.Sorted.{IsPermutation-sym, IsPermutation-trans, IsPermutation-append_left, IsPermutation-append_right, IsPermutation-filter_both}
+use Rattle.std.proofs.lemmas.List.Sorted.{IsPermutation-refl, IsPermutation-sym, IsPermutation-trans, IsPermutation-append_left, IsPermutation-append_right, IsPermutation-filter_both}
 use Rattle.std.specs.Prelude.{IsPermutation, filter}
 use Rattle.std.specs.List.{flat_map, list_all}
 use Rattle.std.specs.Option.{option_map_or}
@@ -18,21 +18,21 @@ use Rattle.ic_round.specs.Instance.{inst}
 use Rattle.ic_round.specs.Interactions.{active_equations}
 use Rattle.ic_round.specs.Naming.{HasNames}
 use Rattle.ic_round.specs.lemmas.FiredNames.{All-mono}
-use Rattle.ic_round.specs.lemmas.FreshNames.{rule_below}
+use Rattle.ic_round.specs.lemmas.FreshNames.{absent_above, rule_below}
 use Rattle.ic_round.specs.lemmas.IdleLemmas.{idle}
 use Rattle.ic_confluence.specs.Sameness.{renamed_pair, renamed_in, Same}
 use Rattle.ic_confluence.specs.lemmas.Actives.{HasRule, has_rule, count_is, products_are, renamed_active, renamed_against, renamed_arguments}
 use Rattle.ic_confluence.specs.lemmas.Counts.{in_configuration, in_more, below_next}
 use Rattle.ic_confluence.specs.lemmas.Equivalence.{Same-sym}
 use Rattle.ic_confluence.specs.lemmas.Over.{same_over}
-use Rattle.ic_reaching.specs.FreshNames.{copied, products_with, AreFresh}
+use Rattle.ic_reaching.specs.FreshNames.{copied, products_with, AreFresh, Fires}
 use Rattle.ic_reaching.specs.OneNet.{SameButNext}
 use Rattle.ic_reaching.specs.lemmas.Orders.{permuted, permuted_counts}
 use Rattle.ic_generations.specs.Firings.{FireInTurn}
 use Rattle.ic_generations.proofs.Given.{Sound, NetLaws, FiringLaws}
 use Rattle.ic_generations.proofs.Renamed.{terms_stay, pairs_stay}
 use Rattle.ic_generations.proofs.Fired.{made_of, fired_among, in_whole, Moves, moved_net, active_stays, renamed_fired}
-use Rattle.ic_generations.proofs.Lists.{same_first, behind, behind_too, other_test, filter_all}
+use Rattle.ic_generations.proofs.Lists.{all_moved, same_first, behind, behind_too, other_test, filter_all}
 
 -- ---- products with any fresh names are those with the next ones, renamed
 
@@ -250,3 +250,50 @@ any_order_fires laws rs es c d set sound moved steps =
     let P : Configuration → Type 0 = λ z. SameButNext z d in
     let one = transport P (sym (fired_is rules ts es rest c.next (filter_all (λ p. is_none (active_pair rules p)) c.equations))) (in_turn laws rs es rest c d set sound given steps) in
     nets.other_way (fired rules c) d (nets.through (fired rules c) (fired rules front) d (nets.same (fired rules c) (fired rules front) at_once) one)
+
+-- ---- each order is possible
+
+found_active : (o : Option Active) → is_some o ≡ true → (a : Active) × (o ≡ Some a)
+found_active None is = cc
+found_active (Some a) is = (a, refl)
+
+each_fires : FiringLaws → (rs : Rules) (ps rest : List Pair) (c : Configuration) → IsRuleSet rs → Sound rs c → IsPermutation c.equations (ps ++ rest) → list_all (λ p. is_some (active_pair rs.rules p)) ps ≡ true
+    → (d : Configuration) × FireInTurn rs.rules ps c d
+each_fires laws rs [] rest c set sound moved active = (c, refl)
+each_fires laws rs (p ∷ ps) rest c set sound moved active =
+    let both = and_parts (is_some (active_pair rs.rules p)) (list_all (λ q. is_some (active_pair rs.rules q)) ps) active in
+    let found = found_active (active_pair rs.rules p) both.0 in
+    let a = found.0 in
+    let count = count_of rs.rules a.rule in
+    let names : ℕ → ℕ = λ k. c.next + k in
+    let out = products_with rs.rules names a in
+    let mid : Configuration = record { interface = c.interface; equations = out ++ (ps ++ rest); next = c.next + count } in
+    let s : Fires rs.rules c mid a.rule = record {
+      equation = p;
+      others = ps ++ rest;
+      active = a;
+      names = names;
+      given = moved;
+      has_rule = found.1;
+      by_rule = refl;
+      fresh = record {
+        absent = λ k low. absent_above (c.next + k) c.next (configuration_names c) sound.named.below (omega arith);
+        apart = λ j k low less same. omega (arith, same);
+        below = λ k low. omega (arith, low);
+      };
+      higher = omega arith;
+      interface = refl;
+      equations = IsPermutation-refl (out ++ (ps ++ rest));
+    } in
+    let later = each_fires laws rs ps (out ++ rest) mid set (laws.sound rs c mid a.rule set sound s) (behind_too out ps rest) both.1 in
+    (later.0, (mid, a.rule, s, refl, later.1))
+
+pub any_order_is_possible : FiringLaws → (rs : Rules) (es : List Pair) (c : Configuration) → IsRuleSet rs → Sound rs c → IsPermutation (active_equations rs.rules c) es → (d : Configuration) × FireInTurn rs.rules es c d
+any_order_is_possible laws rs es c set sound moved =
+    let rules = rs.rules in
+    let rest = filter (λ p. is_none (active_pair rules p)) c.equations in
+    let given = IsPermutation-trans c.equations (active_equations rules c ++ rest) (es ++ rest)
+    (IsPermutation-filter_both (λ p. is_some (active_pair rules p)) (λ p. is_none (active_pair rules p)) (λ p. other_test (active_pair rules p)) c.equations)
+    (IsPermutation-append_left rest (active_equations rules c) es moved) in
+    each_fires laws rs es rest c set sound given
+    (all_moved (λ p. is_some (active_pair rules p)) (active_equations rules c) es moved (filter_all (λ p. is_some (active_pair rules p)) c.equations))

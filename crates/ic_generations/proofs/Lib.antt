@@ -7,3 +7,5 @@ pub mod Anywhere
 pub mod Settling
 pub mod Aside
 pub mod Going
+pub mod ByRule
+pub mod Figures

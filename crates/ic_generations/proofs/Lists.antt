@@ -1,7 +1,9 @@
 -- Lemmas: lists of equations in another order.
-use Rattle.std.proofs.Common.{◌≡◌, List, [], ◌∷◌, ◌++◌, Bool, true, false, cond, not, Option, None, Some, is_none, is_some, refl, sym, ap, ◌∙◌, append_assoc, arith, inl, inr, subst as transport}
+use Rattle.std.proofs.Common.{◌≡◌, ◌&&◌, List, [], ◌∷◌, ◌++◌, Bool, true, false, cond, not, Option, None, Some, is_none, is_some, refl, sym, ap, ◌∙◌, append_assoc, arith, inl, inr, subst as transport}
 use Rattle.std.specs.Prelude.{IsPermutation, filter}
 use Rattle.std.specs.List.{list_all}
+use Rattle.std.proofs.lemmas.Bool.{and_parts}
+use Rattle.ic_settle.specs.lemmas.SubstitutionLaws.{and_both}
 use Rattle.std.proofs.lemmas.List.Sorted.{IsPermutation-refl, IsPermutation-sym, IsPermutation-trans, IsPermutation-cons, IsPermutation-swap, IsPermutation-middle, IsPermutation-append_left, IsPermutation-append_comm}
 use Rattle.ic_term.specs.Tree.{Pair}
 use Rattle.ic_confluence.specs.lemmas.Replacing.{Replaced, place_of}
@@ -63,12 +65,12 @@ same_first p xs ys moved = without p xs ys ((left_alike (p ∷ xs) (p ∷ ys) mo
 
 -- ---- some equations after others
 
-pub behind : (out front back : List Pair) → IsPermutation ((out ++ front) ++ back) (front ++ (out ++ back))
+pub behind : {X : Type 0} (out front back : List X) → IsPermutation ((out ++ front) ++ back) (front ++ (out ++ back))
 behind out front back =
     transport (IsPermutation ((out ++ front) ++ back)) (append_assoc front out back)
     (IsPermutation-append_left back (out ++ front) (front ++ out) (IsPermutation-append_comm out front))
 
-pub behind_too : (out front back : List Pair) → IsPermutation (out ++ (front ++ back)) (front ++ (out ++ back))
+pub behind_too : {X : Type 0} (out front back : List X) → IsPermutation (out ++ (front ++ back)) (front ++ (out ++ back))
 behind_too out front back = transport (λ l. IsPermutation l (front ++ (out ++ back))) (append_assoc out front back) (behind out front back)
 
 -- ---- those of a list that pass a test
@@ -84,3 +86,15 @@ passed test x rest false is all = all
 pub filter_all : {X : Type 0} (test : X → Bool) (xs : List X) → list_all test (filter test xs) ≡ true
 filter_all test [] = refl
 filter_all test (x ∷ xs) = passed test x (filter test xs) (test x) refl (filter_all test xs)
+
+-- and of the same ones in another order
+pub all_moved : (test : Pair → Bool) (es fs : List Pair) → IsPermutation es fs → list_all test es ≡ true → list_all test fs ≡ true
+all_moved test = any_order (λ es fs. list_all test es ≡ true → list_all test fs ≡ true) (record {
+  same = λ es all. all;
+  more = λ p es fs rest all. let both = and_parts (test p) (list_all test es) all in and_both both.0 (rest both.1);
+  first_two = λ p q es all.
+      let one = and_parts (test p) (test q && list_all test es) all in
+      let two = and_parts (test q) (list_all test es) one.1 in
+      and_both two.0 (and_both one.0 two.1);
+  in_turn = λ es fs gs first second all. second (first all);
+})

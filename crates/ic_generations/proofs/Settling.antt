@@ -71,7 +71,7 @@ put_keeps rs x t (p ∷ es) =
     omega (arith, before, after, here, rest)
 
 -- an equation that isn't active isn't so after it either
-abbrev StaysInert : List Rule → ℕ → Tree → Pair → Type 0
+abbrev pub StaysInert : List Rule → ℕ → Tree → Pair → Type 0
 StaysInert rs x t p = active_pair rs p ≡ None → active_pair rs (subst_pair x t p) ≡ None
 
 inert_here : (rs : List Rule) (x : ℕ) (t : Tree) (p : Pair) (es : List Pair) → how_many rs (map (subst_pair x t) (p ∷ es)) ≡ how_many rs (p ∷ es)
@@ -94,7 +94,7 @@ inert_later rs x t p es same =
     let rest = put_keeps rs x t es in
     omega (arith, before, after, here, rest, same)
 
-stay_inert : (rs : List Rule) (x : ℕ) (t : Tree) (es : List Pair) → how_many rs (map (subst_pair x t) es) ≡ how_many rs es → AllByRecursion (StaysInert rs x t) es
+pub stay_inert : (rs : List Rule) (x : ℕ) (t : Tree) (es : List Pair) → how_many rs (map (subst_pair x t) es) ≡ how_many rs es → AllByRecursion (StaysInert rs x t) es
 stay_inert rs x t [] same = tt
 stay_inert rs x t (p ∷ es) same = (inert_here rs x t p es same (active_pair rs (subst_pair x t p)) refl, stay_inert rs x t es (inert_later rs x t p es same))
 
@@ -143,10 +143,10 @@ others_many rs before p after none =
     let others = many-append rs before after in
     omega (arith, all, own, nothing, others)
 
-many_before : (rs : List Rule) (c d : Configuration) (s : NameStep c d) → how_many rs c.equations ≡ how_many rs (s.before ++ s.after)
+pub many_before : (rs : List Rule) (c d : Configuration) (s : NameStep c d) → how_many rs c.equations ≡ how_many rs (s.before ++ s.after)
 many_before rs c d s = ap (how_many rs) s.place ∙ others_many rs s.before s.equation s.after (binding_inert rs s.equation s.bound s.side)
 
-many_after : (rs : List Rule) (c d : Configuration) (s : NameStep c d) → how_many rs d.equations ≡ how_many rs (map (subst_pair s.bound.name s.bound.term) (s.before ++ s.after))
+pub many_after : (rs : List Rule) (c d : Configuration) (s : NameStep c d) → how_many rs d.equations ≡ how_many rs (map (subst_pair s.bound.name s.bound.term) (s.before ++ s.after))
 many_after rs c d s = ap (λ (e : Configuration). how_many rs e.equations) s.result
 
 pub step_keeps : (rs : List Rule) (c d : Configuration) → NameStep c d → how_many rs c.equations ≤ how_many rs d.equations

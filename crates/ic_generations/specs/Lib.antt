@@ -1,2 +1,3 @@
 pub mod Firings
 pub mod Generations
+pub mod Figures

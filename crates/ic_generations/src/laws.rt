@@ -1,9 +1,9 @@
 //! Laws of rounds whose equations fire one after another.
 
-ghost use Rattle.std.specs.Prelude.{◌≡◌, ◌≤◌, ℕ, List, [], IsPermutation, IsTrue, length};
+ghost use Rattle.std.specs.Prelude.{◌≡◌, ◌≤◌, ◌+◌, ◌*◌, ℕ, List, [], IsPermutation, IsTrue, length, sum_by};
 ghost use Rattle.ic_term.specs.Tree.{Pair};
-ghost use Rattle.ic_term.specs.Configuration.{Configuration};
-ghost use Rattle.ic_term.specs.Symbol.{is_over};
+ghost use Rattle.ic_term.specs.Configuration.{Configuration, configuration_nodes, configuration_names};
+ghost use Rattle.ic_term.specs.Symbol.{Symbol, is_over};
 ghost use Rattle.ic_rules.specs.RuleSet.{Rules, IsRuleSet};
 ghost use Rattle.ic_settle.specs.Settling.{settled};
 ghost use Rattle.ic_settle.specs.NameSteps.{NameSteps};
@@ -12,18 +12,25 @@ ghost use Rattle.ic_round.specs.Firing.{fired};
 ghost use Rattle.ic_round.specs.Interactions.{active_equations};
 ghost use Rattle.ic_round.specs.Quiet.{is_inert};
 ghost use Rattle.ic_round.specs.Rounds.{round, iterate};
+ghost use Rattle.ic_confluence.specs.Agents.{configuration_symbols};
 ghost use Rattle.ic_confluence.specs.Sameness.{Same};
 ghost use Rattle.ic_reaching.specs.OneNet.{OneNet, SameButNext};
-ghost use Rattle.ic_generations.specs.Firings.{FireInTurn};
+ghost use Rattle.ic_generations.specs.Figures.{amount, amount_made, amount_spent, arity_of};
+ghost use Rattle.ic_generations.specs.Firings.{FireInTurn, rules_of};
 ghost use Rattle.ic_generations.specs.Generations.{Generation, whole, without_now, Goes};
 
 /// The active equations of a configuration fire one after another, each once, in any order and by
-/// any fresh names: this makes the net in which all of them have fired at once.
+/// any fresh names: this makes the net in which all of them have fired at once. Each order is
+/// possible.
 pub fn active_equations_fire_in_any_order()
-    ensures { (rs : Rules) (es : List Pair) (c d : Configuration) → IsRuleSet rs
+    ensures fired { (rs : Rules) (es : List Pair) (c d : Configuration) → IsRuleSet rs
         → IsTrue (is_over rs.symbols c) → HasNames c
         → IsPermutation (active_equations rs.rules c) es → FireInTurn rs.rules es c d
         → SameButNext d (fired rs.rules c) }
+    ensures possible { (rs : Rules) (es : List Pair) (c : Configuration) → IsRuleSet rs
+        → IsTrue (is_over rs.symbols c) → HasNames c
+        → IsPermutation (active_equations rs.rules c) es
+        → (d : Configuration) × FireInTurn rs.rules es c d }
 {
     ic_confluence::laws::same_nets_take_the_same_name_steps();
     ic_confluence::laws::same_nets_have_the_same_rounds();
@@ -33,7 +40,8 @@ pub fn active_equations_fire_in_any_order()
 }
 
 /// Configurations that are the same net wherever fresh names begin are so once they are settled,
-/// once all their active equations have fired, and after a round or several.
+/// once all their active equations have fired, and after a round or several. As many of their
+/// equations are active, by each rule.
 pub fn where_names_begin_is_no_matter_to_rounds()
     ensures settled { (c d : Configuration) → HasNames c → SameButNext c d
         → SameButNext (settled c) (settled d) }
@@ -46,8 +54,12 @@ pub fn where_names_begin_is_no_matter_to_rounds()
     ensures rounds { (rs : Rules) (n : ℕ) (c d : Configuration) → IsRuleSet rs
         → IsTrue (is_over rs.symbols c) → HasNames c → HasNames d → SameButNext c d
         → SameButNext (iterate rs.rules n c) (iterate rs.rules n d) }
+    ensures rules { (rs : Rules) (c d : Configuration) → IsRuleSet rs
+        → IsTrue (is_over rs.symbols c) → HasNames c → SameButNext c d
+        → IsPermutation (rules_of rs.rules c.equations) (rules_of rs.rules d.equations) }
 {
     ic_confluence::laws::same_nets_take_the_same_name_steps();
+    ic_confluence::laws::same_nets_take_the_same_steps();
     ic_confluence::laws::same_nets_have_the_same_rounds();
     ic_reaching::laws::where_names_begin_is_no_matter();
     ic_reaching::laws::what_is_reached_is_one_net();
@@ -63,6 +75,9 @@ pub fn name_steps_may_wait_for_a_round()
         → IsTrue (is_over rs.symbols c) → HasNames c → NameSteps c d
         → length (active_equations rs.rules d) ≡ length (active_equations rs.rules c)
         → NameSteps (fired rs.rules c) (fired rs.rules d) }
+    ensures rules { (rs : Rules) (c d : Configuration) → NameSteps c d
+        → length (active_equations rs.rules d) ≡ length (active_equations rs.rules c)
+        → rules_of rs.rules d.equations ≡ rules_of rs.rules c.equations }
     ensures round { (rs : Rules) (c d : Configuration) → IsRuleSet rs
         → IsTrue (is_over rs.symbols c) → HasNames c → NameSteps c d
         → length (active_equations rs.rules d) ≡ length (active_equations rs.rules c)
@@ -75,7 +90,7 @@ pub fn name_steps_may_wait_for_a_round()
 /// begins, no equation of the rest is active; as it ends, none of its own is left. By then it has
 /// made the net in which all active equations have fired at once. That is the net of the round, if
 /// indirections and collects lead from the given net to one that the round begins with, and make
-/// no equation active.
+/// no equation active. Then as many equations have fired by each rule as are active in that round.
 pub fn a_generation_is_a_round()
     ensures fired { (rs : Rules) (rules : List ℕ) (g h : Generation) → IsRuleSet rs
         → IsTrue (is_over rs.symbols (whole g)) → HasNames (whole g)
@@ -86,9 +101,12 @@ pub fn a_generation_is_a_round()
         → IsTrue (is_inert rs.rules (without_now g)) → Goes rs.rules rules g h → h.now ≡ []
         → NameSteps (whole g) c
         → length (active_equations rs.rules c) ≡ length (active_equations rs.rules (whole g))
-        → SameButNext c d → HasNames d → OneNet (round rs.rules d) (whole h) }
+        → SameButNext c d → HasNames d
+        → OneNet (round rs.rules d) (whole h)
+        × IsPermutation rules (rules_of rs.rules d.equations) }
 {
     ic_confluence::laws::same_nets_take_the_same_name_steps();
+    ic_confluence::laws::same_nets_take_the_same_steps();
     ic_confluence::laws::same_nets_have_the_same_rounds();
     ic_reaching::laws::where_names_begin_is_no_matter();
     ic_reaching::laws::one_net_is_an_equivalence();
@@ -96,3 +114,22 @@ pub fn a_generation_is_a_round()
     ic_reaching::laws::what_is_reached_goes_on();
     ic_reaching::laws::what_a_part_reaches_the_whole_reaches();
 }
+
+/// The nodes of a configuration are its interface terms, two for each equation, and the arities of
+/// its agents. All nodes but the agents are names. Where each agent amounts to something by its
+/// symbol, a round changes what all of them amount to by a constant of each rule that fires.
+pub fn figures_add_up_over_agents()
+    ensures nodes { (ss : List Symbol) (c : Configuration) → IsTrue (is_over ss c)
+        → configuration_nodes c
+        ≡ length c.interface + 2 * length c.equations + amount (arity_of ss) c }
+    ensures names { (c : Configuration)
+        → length (configuration_names c) + length (configuration_symbols c)
+        ≡ configuration_nodes c }
+    ensures settled { (f : ℕ → ℕ) (c : Configuration) → HasNames c
+        → amount f (settled c) ≡ amount f c }
+    ensures round { (f : ℕ → ℕ) (rs : Rules) (c : Configuration) → IsRuleSet rs
+        → IsTrue (is_over rs.symbols c) → HasNames c
+        → amount f (round rs.rules c)
+        + sum_by (amount_spent f rs.rules) (rules_of rs.rules c.equations)
+        ≡ amount f c + sum_by (amount_made f rs.rules) (rules_of rs.rules c.equations) }
+{}

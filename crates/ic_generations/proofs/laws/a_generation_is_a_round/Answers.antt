@@ -1,4 +1,11 @@
-use Rattle.std.proofs.Common.{[], ◌∷◌}
+use Rattle.std.proofs.Common.{[], ◌∷◌, sym, subst as transport}
+use Rattle.std.specs.Prelude.{IsPermutation}
+use Rattle.std.proofs.lemmas.List.Sorted.{IsPermutation-trans}
+use Rattle.ic_confluence.specs.Kinds.{firing as by_rule}
+use Rattle.ic_generations.specs.Firings.{rules_of}
+use Rattle.ic_generations.specs.Generations.{whole}
+use Rattle.ic_generations.proofs.Settling.{steps_sound}
+use Rattle.ic_generations.proofs.ByRule.{StepLaws, rules_but_next, steps_rules, generation_rules}
 use Rattle.ic_generations.proofs.Given.{FiringLaws}
 use Rattle.ic_generations.proofs.Going.{GenerationLaws, generation_fires, generation_is_round}
 use Rattle.ic_generations.proofs.laws.a_generation_is_a_round.Goals as goal
@@ -30,8 +37,17 @@ returns c =
           c.what_is_reached_is_one_net.ensures.over rs x y [] set sound.over sound.named (c.what_is_reached_is_one_net.ensures.net rs.rules x x y [] here net);
       beside = c.what_a_part_reaches_the_whole_reaches.ensures.net;
     } in
+    let steps : StepLaws = record {
+      names = c.same_nets_take_the_same_name_steps.ensures.names;
+      steps = λ rs i x y after set over named same step. c.same_nets_take_the_same_steps.ensures.steps rs (by_rule i) x y after set over named same step;
+    } in
     record {
       fired = λ rs rules g h set over named inert steps empty. generation_fires laws rs rules g h set (record { over = over; named = named }) inert steps empty;
-      round = λ rs rules g h x y set over named inert steps empty names same s also.
-          generation_is_round laws rs rules g h x y set (record { over = over; named = named }) inert steps empty names same s also;
+      round = λ rs rules g h x y set over named inert goes empty names same s also.
+          let fired = generation_rules rs.rules rules g h inert goes empty in
+          let moved = transport (IsPermutation rules) (sym (steps_rules rs.rules (whole g) x names same)) fired in
+          let there = rules_but_next steps rs x y set (steps_sound rs (whole g) x set (record { over = over; named = named }) names) s in (
+            generation_is_round laws rs rules g h x y set (record { over = over; named = named }) inert goes empty names same s also,
+            IsPermutation-trans rules (rules_of rs.rules x.equations) (rules_of rs.rules y.equations) moved there,
+          );
     }

@@ -1,6 +1,6 @@
 use Rattle.std.proofs.Common.{[], ◌∷◌}
 use Rattle.ic_generations.proofs.Given.{FiringLaws}
-use Rattle.ic_generations.proofs.InTurn.{any_order_fires}
+use Rattle.ic_generations.proofs.InTurn.{any_order_fires, any_order_is_possible}
 use Rattle.ic_generations.proofs.laws.active_equations_fire_in_any_order.Goals as goal
 
 pub returns : goal.returns
@@ -20,4 +20,7 @@ returns c =
             named = c.what_is_reached_is_one_net.ensures.names rs.rules x y (rule ∷ []) there;
           };
     } in
-    λ rs es x y set over named moved steps. any_order_fires laws rs es x y set (record { over = over; named = named }) moved steps
+    record {
+      fired = λ rs es x y set over named moved steps. any_order_fires laws rs es x y set (record { over = over; named = named }) moved steps;
+      possible = λ rs es x set over named moved. any_order_is_possible laws rs es x set (record { over = over; named = named }) moved;
+    }

@@ -1,6 +1,8 @@
 use Rattle.std.proofs.Common.{[], ◌∷◌}
 use Rattle.ic_generations.proofs.Given.{FiringLaws}
 use Rattle.ic_generations.proofs.Anywhere.{RoundLaws, settled_but_next, fired_but_next, round_but_next, rounds_but_next}
+use Rattle.ic_confluence.specs.Kinds.{firing as by_rule}
+use Rattle.ic_generations.proofs.ByRule.{StepLaws, rules_but_next}
 use Rattle.ic_generations.proofs.laws.where_names_begin_is_no_matter_to_rounds.Goals as goal
 
 pub returns : goal.returns
@@ -21,9 +23,14 @@ returns c =
           };
     } in
     let laws : RoundLaws = record { firing = firing; settled = c.same_nets_have_the_same_rounds.ensures.settled } in
+    let steps : StepLaws = record {
+      names = c.same_nets_take_the_same_name_steps.ensures.names;
+      steps = λ rs i x y after set over named same step. c.same_nets_take_the_same_steps.ensures.steps rs (by_rule i) x y after set over named same step;
+    } in
     record {
       settled = settled_but_next laws;
       fired = λ rs x y set over named also s. fired_but_next laws rs x y set (record { over = over; named = named }) also s;
       round = λ rs x y set over named also s. round_but_next laws rs x y set (record { over = over; named = named }) also s;
       rounds = λ rs n x y set over named also s. rounds_but_next laws rs n x y set (record { over = over; named = named }) also s;
+      rules = λ rs x y set over named s. rules_but_next steps rs x y set (record { over = over; named = named }) s;
     }
