@@ -212,6 +212,15 @@ in_turn laws rs (p ∷ ps) rest c d set sound moved (mid, rule, s, same, more) =
     let Q : List Tree → Type 0 = λ us. SameButNext (fired_among rs.rules us ps (out ++ rest) mid.next) d in
     nets.through (fired_among rs.rules ts (p ∷ ps) rest c.next) (fired_among rs.rules ts ps (out ++ rest) mid.next) d first (transport Q s.interface later)
 
+-- whichever fresh names one takes
+pub either_fires : FiringLaws → (rs : Rules) (c d e : Configuration) (i j : ℕ) → IsRuleSet rs → Sound rs c → (s : Fires rs.rules c d i) (t : Fires rs.rules c e j) → s.equation ≡ t.equation → SameButNext d e
+either_fires laws rs c d e i j set sound s t same =
+    let nets = laws.nets in
+    let start = fired_among rs.rules c.interface (s.equation ∷ []) s.others c.next in
+    let one = in_turn laws rs (s.equation ∷ []) s.others c d set sound s.given (d, i, s, refl, refl) in
+    let other = in_turn laws rs (s.equation ∷ []) s.others c e set sound s.given (e, j, t, sym same, refl) in
+    nets.through d start e (nets.other_way start d one) other
+
 -- ---- the active equations of a configuration, and the others
 
 pub fired-append : (rs : List Rule) (m : ℕ) (ps qs : List Pair) → fired_from rs m (ps ++ qs) ≡ fired_from rs m ps ++ fired_from rs (next_after rs m ps) qs

@@ -14,6 +14,7 @@ ghost use Rattle.ic_round.specs.Quiet.{is_inert};
 ghost use Rattle.ic_round.specs.Rounds.{round, iterate};
 ghost use Rattle.ic_confluence.specs.Agents.{configuration_symbols};
 ghost use Rattle.ic_confluence.specs.Sameness.{Same};
+ghost use Rattle.ic_reaching.specs.FreshNames.{Fires};
 ghost use Rattle.ic_reaching.specs.OneNet.{OneNet, SameButNext};
 ghost use Rattle.ic_generations.specs.Figures.{amount, amount_made, amount_spent, arity_of};
 ghost use Rattle.ic_generations.specs.Firings.{FireInTurn, rules_of};
@@ -21,12 +22,16 @@ ghost use Rattle.ic_generations.specs.Generations.{Generation, whole, without_no
 
 /// The active equations of a configuration fire one after another, each once, in any order and by
 /// any fresh names: this makes the net in which all of them have fired at once. Each order is
-/// possible.
+/// possible. Which fresh names one of them takes doesn't matter.
 pub fn active_equations_fire_in_any_order()
     ensures fired { (rs : Rules) (es : List Pair) (c d : Configuration) → IsRuleSet rs
         → IsTrue (is_over rs.symbols c) → HasNames c
         → IsPermutation (active_equations rs.rules c) es → FireInTurn rs.rules es c d
         → SameButNext d (fired rs.rules c) }
+    ensures one { (rs : Rules) (c d e : Configuration) (i j : ℕ) → IsRuleSet rs
+        → IsTrue (is_over rs.symbols c) → HasNames c
+        → (s : Fires rs.rules c d i) → (t : Fires rs.rules c e j) → s.equation ≡ t.equation
+        → SameButNext d e }
     ensures possible { (rs : Rules) (es : List Pair) (c : Configuration) → IsRuleSet rs
         → IsTrue (is_over rs.symbols c) → HasNames c
         → IsPermutation (active_equations rs.rules c) es

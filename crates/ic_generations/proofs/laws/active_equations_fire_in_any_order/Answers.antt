@@ -1,6 +1,6 @@
 use Rattle.std.proofs.Common.{[], ◌∷◌}
 use Rattle.ic_generations.proofs.Given.{FiringLaws}
-use Rattle.ic_generations.proofs.InTurn.{any_order_fires, any_order_is_possible}
+use Rattle.ic_generations.proofs.InTurn.{any_order_fires, any_order_is_possible, either_fires}
 use Rattle.ic_generations.proofs.laws.active_equations_fire_in_any_order.Goals as goal
 
 pub returns : goal.returns
@@ -22,5 +22,6 @@ returns c =
     } in
     record {
       fired = λ rs es x y set over named moved steps. any_order_fires laws rs es x y set (record { over = over; named = named }) moved steps;
+      one = λ rs x y z i j set over named s t same. either_fires laws rs x y z i j set (record { over = over; named = named }) s t same;
       possible = λ rs es x set over named moved. any_order_is_possible laws rs es x set (record { over = over; named = named }) moved;
     }
