@@ -3,8 +3,6 @@ use Rattle.std.proofs.Common.{◌≡◌, ◌⊎◌, ℕ, ◌<◌, ◌≤◌, Lis
 use Rattle.std.proofs.lemmas.Bool.{cases_lt}
 use Rattle.ic_term.specs.Symbol.{Symbol}
 use Rattle.ic_term.specs.Configuration.{Configuration}
-use Rattle.ic_rules.specs.Rule.{Rule}
-use Rattle.ic_rules.specs.RuleSet.{Rules, built}
 use Rattle.ic_rules.specs.System.{SystemParts}
 use Rattle.ic_text.specs.Text.{Reads}
 use Rattle.ic_text.specs.declared.limits.TheConstants.{MAX_TEXT}
@@ -12,19 +10,15 @@ use Rattle.ic_text.specs.declared.fault.TextFault.{TextFault}
 use Rattle.ic_text.specs.declared.fault.TextFault.TheVariants.{Limit}
 use Rattle.ic_streams.specs.lemmas.Reading.{Carried}
 use Rattle.ic_streams.specs.declared.fault.StreamFault.TheVariants.{Text}
-use Rattle.ic_nets.specs.Draws.{Draws, DrawsTo, IsDrawnAs, ReadsDrawn, has_rules, reads_by}
+use Rattle.ic_nets.specs.Draws.{Draws, DrawsTo, ReadsDrawn, has_rules, reads_by}
 
 -- a text without rules is drawn with none
-pub drawn_plain : (input : List ℕ) (symbols : List Symbol) (c : Configuration) (rules : Rules) (given : List Rule) (output : List ℕ) → has_rules input ≡ false
-    → Reads input (Ok (symbols, c)) → given ≡ [] → Ok rules ≡ built symbols given → IsDrawnAs rules c output → DrawsTo input output
-drawn_plain input symbols c rules given output plain reads none built_so drawn =
-    let empty : Rules = record { symbols = symbols; rules = [] } in
-    let first : Ok rules ≡ built symbols [] = built_so ∙ ap (built symbols) none in
-    let same : rules ≡ empty = cc in
-    let system : SystemParts = record { rules = empty; config = c } in
+pub drawn_plain : (input : List ℕ) (symbols : List Symbol) (c : Configuration) (output : List ℕ) → has_rules input ≡ false
+    → Reads input (Ok (symbols, c)) → DrawsTo input output
+drawn_plain input symbols c output plain reads =
+    let system : SystemParts = record { rules = record { symbols = symbols; rules = [] }; config = c } in
     let P : Bool → Type 0 = λ b. reads_by b input (Ok system) in
-    let Q : Rules → Type 0 = λ r. IsDrawnAs r c output in
-    record { system = system; reads = subst P (sym plain) (reads, refl); drawn = subst Q same drawn }
+    record { system = system; reads = subst P (sym plain) (reads, refl) }
 
 -- a text that is too long is so however it is read
 long_limit : (b : Bool) (text : List ℕ) → MAX_TEXT < length text → reads_by b text (Err Limit)
@@ -52,6 +46,6 @@ read_on front rest end answer reads = by (cases_lt MAX_TEXT (length front)) answ
         subst P (sym (ap (λ l. front ++ l) (end fits) ∙ append-nil front)) r
 
 pub draws_carried : Carried Draws
-draws_carried front rest end (Ok output) s = record { system = s.system; reads = read_on front rest end (Ok s.system) s.reads; drawn = s.drawn }
+draws_carried front rest end (Ok output) s = record { system = s.system; reads = read_on front rest end (Ok s.system) s.reads }
 draws_carried front rest end (Err (Text fault)) s = (read_on front rest end (Err fault) s.0, s.1)
 draws_carried front rest end (Err fault) s = absurd s

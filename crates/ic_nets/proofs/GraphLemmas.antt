@@ -21,7 +21,7 @@ use Rattle.ic_nets.proofs.PortLemmas.{joints}
 use Rattle.ic_nets.proofs.RenamingLemmas.{net_forgets, still_twice}
 use Rattle.ic_nets.proofs.EndLemmas.{AtMostTwice}
 use Rattle.ic_nets.proofs.SumLemmas.{AreApart, among, bit, counted, in_order, mapped_order, not_equal, same_apart, sum, sum-append, sum-map, sum-same, turned_into}
-use Rattle.ic_nets.proofs.MarkLemmas.{Item, wired, between, Side, side_port, Markeds, items_among}
+use Rattle.ic_nets.proofs.MarkLemmas.{Item, wired, Side, side_port, Markeds, items_among}
 use Rattle.ic_nets.proofs.ValueLemmas.{Weight, Blind, Few, value}
 use Rattle.ic_nets.proofs.MovedLemmas.{Agree, Equation, all_items, all_moved, bare_pair, few_too}
 use Rattle.ic_nets.proofs.DrawnLemmas.{above, bare-all, bares-marks, both_sides, entries, first_equation, items_of, mark_all, marks, names_few, net_value, on_parts, parts_sum, places_items, wire_weight}

@@ -27,7 +27,5 @@ pub mod MovedLemmas
 pub mod DrawnLemmas
 pub mod CarriedLemmas
 pub mod GraphLemmas
-pub mod BackLemmas
-pub mod UnlikeLemmas
 pub mod PartedLemmas
 pub mod TextLemmas

@@ -1,41 +1,10 @@
--- Lemmas: the texts of ports and of edges, and which texts have rules.
-use Rattle.std.proofs.Common.{◌≡◌, ℕ, ◌==◌, List, [], ◌∷◌, ◌++◌, Bool, true, false, refl, sym, ap, ◌∙◌, append_assoc}
+-- Lemmas: which texts have rules.
+use Rattle.std.proofs.Common.{◌≡◌, ℕ, ◌==◌, List, [], ◌∷◌, ◌++◌, Bool, true, false, refl, sym, ap, ◌∙◌}
 use Rattle.std.proofs.lemmas.Bool.{and_parts, cond-false, cond-true, ne_eqb}
 use Rattle.std.proofs.lemmas.List.{append-nil}
-use Rattle.std.specs.Fmt.{decimal}
 use Rattle.std.specs.List.{list_all}
-use Rattle.std.specs.Prelude.{codes}
 use Rattle.ic_text.specs.Token.{is_blank}
-use Rattle.ic_nets.specs.Dot.{port_text, style_of}
 use Rattle.ic_nets.specs.Draws.{has_rules}
-use Rattle.ic_nets.specs.declared.port.Port.{Port}
-use Rattle.ic_nets.specs.declared.port.Port.TheVariants.{Principal, Auxiliary}
-
-pub alone_text : (letter number : List ℕ) → letter ++ (number ++ []) ≡ letter ++ number
-alone_text letter number = ap (λ (t : List ℕ). letter ++ t) (append-nil number)
-
-pub auxiliary_text : (k i : ℕ) → port_text (Auxiliary k i) ≡ codes "A" ++ decimal k ++ codes ":" ++ decimal i
-auxiliary_text k i =
-    ap (λ (t : List ℕ). codes "A" ++ (decimal k ++ (codes ":" ++ t))) (append-nil (decimal i))
-    ∙ ap (λ (t : List ℕ). codes "A" ++ t) (sym (append_assoc (decimal k) (codes ":") (decimal i)))
-
--- ---- arrow heads
-
-abbrev pub NotPrincipal : Port → Type 0
-NotPrincipal p = (k : ℕ) → p ≡ Principal k → ⊥
-
-pub back_head : (k : ℕ) (q : Port) → NotPrincipal q → style_of (record { from = Principal k; to = q; active = false }) ≡ codes " [dir=back]"
-back_head k (Principal j) isnt = absurd (isnt j refl)
-back_head k q isnt = refl
-
-pub forward_head : (p : Port) (k : ℕ) → NotPrincipal p → style_of (record { from = p; to = Principal k; active = false }) ≡ codes " [dir=forward]"
-forward_head (Principal j) k isnt = absurd (isnt j refl)
-forward_head p k isnt = refl
-
-pub no_head : (p q : Port) → NotPrincipal p → NotPrincipal q → style_of (record { from = p; to = q; active = false }) ≡ []
-no_head (Principal j) q isnt other = absurd (isnt j refl)
-no_head p (Principal j) isnt other = absurd (other j refl)
-no_head p q isnt other = refl
 
 -- ---- blanks before a brace
 

@@ -1,16 +1,11 @@
 -- What a text of a system or of a configuration is answered when it is drawn (this project's choice).
 use Rattle.std.specs.Prelude.{◌≡◌, ℕ, ◌==◌, List, [], ◌∷◌, Bool, true, false, Result, Ok, Err, if◌then◌else◌}
-use Rattle.ic_term.specs.Configuration.{Configuration}
-use Rattle.ic_rules.specs.RuleSet.{Rules}
 use Rattle.ic_rules.specs.System.{SystemParts}
 use Rattle.ic_text.specs.Text.{Reads}
 use Rattle.ic_text.specs.Token.{is_blank}
 use Rattle.ic_text.specs.SystemText.{ReadsSystem}
 use Rattle.ic_text.specs.declared.fault.TextFault.{TextFault}
 use Rattle.ic_streams.specs.Streams.{Answering, answering}
-use Rattle.ic_nets.specs.Nets.{IsNet}
-use Rattle.ic_nets.specs.Dot.{dot_of}
-use Rattle.ic_nets.specs.declared.net.Net.{Net}
 
 -- the first byte of a text that isn't blank is `{`
 abbrev pub has_rules : List ℕ → Bool
@@ -27,17 +22,10 @@ reads_by false input (Err fault) = Reads input (Err fault)
 abbrev pub ReadsDrawn : List ℕ → Result SystemParts TextFault → Type 0
 ReadsDrawn input answer = reads_by (has_rules input) input answer
 
--- this is the graph of the net of a configuration
-pub record IsDrawnAs (rs : Rules) (c : Configuration) (output : List ℕ) : Type 0 where
-  pub net : Net
-  pub is : IsNet rs.rules c net
-  pub shows : output ≡ dot_of rs.symbols net
-
--- a text is read, and its configuration is drawn
+-- a text is read; how its net is drawn isn't said
 pub record DrawsTo (input output : List ℕ) : Type 0 where
   pub system : SystemParts
   pub reads : ReadsDrawn input (Ok system)
-  pub drawn : IsDrawnAs system.rules system.config output
 
 -- the answers of drawing
 abbrev pub Draws : Answering

@@ -2,9 +2,7 @@ pub mod Links
 pub mod Wiring
 pub mod Nets
 pub mod Ports
-pub mod Dot
 pub mod Draws
-pub mod Telling
 pub mod ReadBack
 pub mod Likeness
 pub mod Church

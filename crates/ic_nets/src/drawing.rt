@@ -1,11 +1,5 @@
 //! Nets as graphs in Graphviz's DOT.
 
-ghost use Rattle.std.specs.Prelude.{◌≡◌, ◌++◌, IfOk, OnOk, slice_get};
-ghost use Rattle.std.specs.List.{flat_map};
-ghost use Rattle.ic_text.specs.Text.{text_or_none};
-ghost use Rattle.ic_nets.specs.Dot.{agent_head, agent_line, agent_lines, dot_of, head_text, is_principal, joint_line, joint_lines};
-ghost use Rattle.ic_nets.specs.Dot.{port_cell, port_cells, port_place, port_text, ports_text, style_of, wire_line};
-
 use crate::net::{Agent, Net, Wire};
 use crate::port::Port;
 use ic_term::Symbols;
@@ -17,9 +11,7 @@ use std::alloc::{AllocError, Global};
 /// The principal port is at the symbol, where an edge has an arrow head. Where an agent has more than two auxiliary
 /// ports, each has its number. The places of the interface and free names are small vertices, and an equation of two
 /// names is a point. An agent whose symbol is unknown has no text.
-pub fn dot(alloc: Global, symbols: &Symbols, net: &Net) -> Result<Vec<u8>, AllocError>
-    ensures { IfOk result (λ graph. graph.items ≡ dot_of symbols.now net.now) }
-{
+pub fn dot(alloc: Global, symbols: &Symbols, net: &Net) -> Result<Vec<u8>, AllocError> {
     let mut out = Vec::new(alloc);
     put_head(&mut out)?;
     put_agents(alloc, symbols, &net.agents, &mut out)?;
@@ -30,9 +22,7 @@ pub fn dot(alloc: Global, symbols: &Symbols, net: &Net) -> Result<Vec<u8>, Alloc
 }
 
 /// Appends how a graph begins.
-fn put_head(out: &mut Vec<u8>) -> Result<(), AllocError>
-    ensures { OnOk result (out.new.items ≡ out.old.items ++ head_text) }
-{
+fn put_head(out: &mut Vec<u8>) -> Result<(), AllocError> {
     out.extend_from_slice(
         b"graph net {\n\
           node [shape=plaintext, width=0, height=0]\n\
@@ -47,22 +37,15 @@ fn put_agents(
     symbols: &Symbols,
     agents: &[Agent],
     out: &mut Vec<u8>,
-) -> Result<(), AllocError>
-    ensures { OnOk result
-        (out.new.items ≡ out.old.items ++ agent_lines symbols.now 0 agents.now) }
-{
-    let mut number = 0;
-    for agent in agents {
-        put_agent(alloc, symbols, number, agent, out)?;
-        number += 1;
+) -> Result<(), AllocError> {
+    for number in 0..agents.len() {
+        put_agent(alloc, symbols, number, &agents[number], out)?;
     }
     Ok(())
 }
 
 /// The text of a symbol, if it is known.
-fn text_of(symbols: &Symbols, sym: u32) -> &[u8]
-    ensures { result.now ≡ text_or_none (slice_get symbols.now sym) }
-{
+fn text_of(symbols: &Symbols, sym: u32) -> &[u8] {
     if (sym as usize) < symbols.len() {
         symbols.text(sym)
     } else {
@@ -77,10 +60,7 @@ fn put_agent(
     number: usize,
     agent: &Agent,
     out: &mut Vec<u8>,
-) -> Result<(), AllocError>
-    ensures { OnOk result
-        (out.new.items ≡ out.old.items ++ agent_line symbols.now number agent.now) }
-{
+) -> Result<(), AllocError> {
     put_agent_head(alloc, number, out)?;
     out.extend_from_slice(text_of(symbols, agent.sym))?;
     put_ports(alloc, agent.arity, out)?;
@@ -89,18 +69,14 @@ fn put_agent(
 }
 
 /// Appends what stands before the symbol of an agent.
-fn put_agent_head(alloc: Global, number: usize, out: &mut Vec<u8>) -> Result<(), AllocError>
-    ensures { OnOk result (out.new.items ≡ out.old.items ++ agent_head number) }
-{
+fn put_agent_head(alloc: Global, number: usize, out: &mut Vec<u8>) -> Result<(), AllocError> {
     let head = format!(in alloc; "A{number} [shape=record, label=\"{{<0>")?;
     out.extend_from_slice(head.as_bytes())?;
     Ok(())
 }
 
 /// Appends the auxiliary ports of an agent.
-fn put_ports(alloc: Global, arity: usize, out: &mut Vec<u8>) -> Result<(), AllocError>
-    ensures { OnOk result (out.new.items ≡ out.old.items ++ ports_text arity) }
-{
+fn put_ports(alloc: Global, arity: usize, out: &mut Vec<u8>) -> Result<(), AllocError> {
     put_cells(alloc, arity, arity, out)?;
     if arity > 0 {
         out.push(b'}')?;
@@ -109,9 +85,12 @@ fn put_ports(alloc: Global, arity: usize, out: &mut Vec<u8>) -> Result<(), Alloc
 }
 
 /// Appends the first `count` of `arity` ports in order.
-fn put_cells(alloc: Global, arity: usize, count: usize, out: &mut Vec<u8>) -> Result<(), AllocError>
-    ensures { OnOk result (out.new.items ≡ out.old.items ++ port_cells arity count) }
-{
+fn put_cells(
+    alloc: Global,
+    arity: usize,
+    count: usize,
+    out: &mut Vec<u8>,
+) -> Result<(), AllocError> {
     for i in 0..count {
         put_cell(alloc, arity, i + 1, out)?;
     }
@@ -119,9 +98,7 @@ fn put_cells(alloc: Global, arity: usize, count: usize, out: &mut Vec<u8>) -> Re
 }
 
 /// Appends the auxiliary port with this number, of so many.
-fn put_cell(alloc: Global, arity: usize, port: usize, out: &mut Vec<u8>) -> Result<(), AllocError>
-    ensures { OnOk result (out.new.items ≡ out.old.items ++ port_cell arity port) }
-{
+fn put_cell(alloc: Global, arity: usize, port: usize, out: &mut Vec<u8>) -> Result<(), AllocError> {
     put_place(alloc, port, out)?;
     if arity > 2 {
         let number = format!(in alloc; "{port}")?;
@@ -131,9 +108,7 @@ fn put_cell(alloc: Global, arity: usize, port: usize, out: &mut Vec<u8>) -> Resu
 }
 
 /// Appends the place of the auxiliary port with this number.
-fn put_place(alloc: Global, port: usize, out: &mut Vec<u8>) -> Result<(), AllocError>
-    ensures { OnOk result (out.new.items ≡ out.old.items ++ port_place port) }
-{
+fn put_place(alloc: Global, port: usize, out: &mut Vec<u8>) -> Result<(), AllocError> {
     let cell = if port == 1 {
         format!(in alloc; "|{{<{port}>")?
     } else {
@@ -144,9 +119,7 @@ fn put_place(alloc: Global, port: usize, out: &mut Vec<u8>) -> Result<(), AllocE
 }
 
 /// Appends the points of so many equations of two names.
-fn put_joints(alloc: Global, joints: usize, out: &mut Vec<u8>) -> Result<(), AllocError>
-    ensures { OnOk result (out.new.items ≡ out.old.items ++ joint_lines joints) }
-{
+fn put_joints(alloc: Global, joints: usize, out: &mut Vec<u8>) -> Result<(), AllocError> {
     for joint in 0..joints {
         put_joint(alloc, joint, out)?;
     }
@@ -154,18 +127,14 @@ fn put_joints(alloc: Global, joints: usize, out: &mut Vec<u8>) -> Result<(), All
 }
 
 /// Appends the point of an equation of two names.
-fn put_joint(alloc: Global, joint: usize, out: &mut Vec<u8>) -> Result<(), AllocError>
-    ensures { OnOk result (out.new.items ≡ out.old.items ++ joint_line joint) }
-{
+fn put_joint(alloc: Global, joint: usize, out: &mut Vec<u8>) -> Result<(), AllocError> {
     let line = format!(in alloc; "J{joint} [shape=point, width=0.05, height=0.05]\n")?;
     out.extend_from_slice(line.as_bytes())?;
     Ok(())
 }
 
 /// Appends the edges of wires.
-fn put_wires(alloc: Global, wires: &[Wire], out: &mut Vec<u8>) -> Result<(), AllocError>
-    ensures { OnOk result (out.new.items ≡ out.old.items ++ flat_map wire_line wires.now) }
-{
+fn put_wires(alloc: Global, wires: &[Wire], out: &mut Vec<u8>) -> Result<(), AllocError> {
     for wire in wires {
         put_wire(alloc, wire, out)?;
     }
@@ -173,9 +142,7 @@ fn put_wires(alloc: Global, wires: &[Wire], out: &mut Vec<u8>) -> Result<(), All
 }
 
 /// Appends the edge of a wire.
-fn put_wire(alloc: Global, wire: &Wire, out: &mut Vec<u8>) -> Result<(), AllocError>
-    ensures { OnOk result (out.new.items ≡ out.old.items ++ wire_line wire.now) }
-{
+fn put_wire(alloc: Global, wire: &Wire, out: &mut Vec<u8>) -> Result<(), AllocError> {
     put_port(alloc, wire.from, out)?;
     out.extend_from_slice(b" -- ")?;
     put_port(alloc, wire.to, out)?;
@@ -185,9 +152,7 @@ fn put_wire(alloc: Global, wire: &Wire, out: &mut Vec<u8>) -> Result<(), AllocEr
 }
 
 /// How the edge of a wire is drawn: with an arrow head at each principal port, and thick at an active pair.
-fn style_of(wire: &Wire) -> &'static [u8]
-    ensures { result.now ≡ style_of wire.now }
-{
+fn style_of(wire: &Wire) -> &'static [u8] {
     match (wire.active, is_principal(wire.from), is_principal(wire.to)) {
         (true, _, _) => b" [dir=both, penwidth=3]",
         (false, true, true) => b" [dir=both]",
@@ -197,9 +162,7 @@ fn style_of(wire: &Wire) -> &'static [u8]
     }
 }
 
-fn is_principal(port: Port) -> bool
-    ensures { result ≡ is_principal port }
-{
+fn is_principal(port: Port) -> bool {
     match port {
         Port::Principal(_) => true,
         _ => false,
@@ -207,9 +170,7 @@ fn is_principal(port: Port) -> bool
 }
 
 /// Appends a port, as an edge names it.
-fn put_port(alloc: Global, port: Port, out: &mut Vec<u8>) -> Result<(), AllocError>
-    ensures { OnOk result (out.new.items ≡ out.old.items ++ port_text port) }
-{
+fn put_port(alloc: Global, port: Port, out: &mut Vec<u8>) -> Result<(), AllocError> {
     let text = match port {
         Port::Interface(place) => format!(in alloc; "I{place}")?,
         Port::Principal(agent) => format!(in alloc; "A{agent}:0")?,

@@ -1,40 +1,27 @@
 //! Laws of the definitions that the contracts of this crate cite.
 
-ghost use Rattle.std.specs.Prelude.{◌≡◌, ◌≢◌, ◌↔◌, ◌≤◌, ◌==◌, ◌++◌, ℕ, List, [], ◌∷◌, true, false, Some, codes, if◌then◌else◌, length, count_by, is_some, Option, Ok, Err};
-ghost use Rattle.std.specs.Fmt.{decimal};
+ghost use Rattle.std.specs.Prelude.{◌≡◌, ◌↔◌, ◌≤◌, ◌==◌, ◌++◌, ℕ, List, [], ◌∷◌, true, false, Some, if◌then◌else◌, length, count_by, is_some};
 ghost use Rattle.std.specs.List.{list_all};
 ghost use Rattle.ic_term.specs.Configuration.{Configuration, IsConfiguration, configuration_names, occurrences};
-ghost use Rattle.ic_term.specs.Tree.{agent, more_trees, name, no_trees};
+ghost use Rattle.ic_term.specs.Tree.{agent, name};
 ghost use Rattle.ic_rules.specs.Rule.{Rule};
-ghost use Rattle.ic_rules.specs.System.{SystemParts};
 ghost use Rattle.ic_settle.specs.Settling.{settled};
 ghost use Rattle.ic_round.specs.Firing.{rule_of_sides};
 ghost use Rattle.ic_confluence.specs.Circle.{cut_at_x, cut_at_y, of_equations, uncut};
 ghost use Rattle.ic_confluence.specs.Sameness.{Rearranges, Renames, Same};
-ghost use Rattle.ic_text.specs.Name.{name_text};
-ghost use Rattle.ic_text.specs.SystemText.{ReadsSystem};
-ghost use Rattle.ic_text.specs.Text.{Reads};
 ghost use Rattle.ic_text.specs.Token.{is_blank};
-ghost use Rattle.ic_text.specs.declared.fault.TextFault.{TextFault};
-ghost use Rattle.ic_streams.specs.Streams.{TakesIt};
-ghost use Rattle.ic_streams.specs.declared.fault.StreamFault.{StreamFault};
-ghost use Rattle.ic_streams.specs.declared.fault.StreamFault.TheVariants.{Text};
-ghost use Rattle.ic_diagnostics.specs.Telling.{TellsOf};
-ghost use Rattle.ic_diagnostics.specs.declared.telling.Kind.TheVariants.{Config, System};
 ghost use Rattle.ic_nets.specs.Church.{alone, church_false, church_true};
-ghost use Rattle.ic_nets.specs.Dot.{dot_of, port_text, style_of};
-ghost use Rattle.ic_nets.specs.Draws.{has_rules, Draws, ReadsDrawn};
-ghost use Rattle.ic_nets.specs.Likeness.{AreAlike, EitherWay, InSomeOrder, edges};
+ghost use Rattle.ic_nets.specs.Draws.{has_rules};
+ghost use Rattle.ic_nets.specs.Likeness.{AreAlike};
 ghost use Rattle.ic_nets.specs.Links.{agents_of, links_of};
 ghost use Rattle.ic_nets.specs.Nets.{IsNet};
 ghost use Rattle.ic_nets.specs.Ports.{ends, is_bound, ports_at, ports_of, times, wire_named};
 ghost use Rattle.ic_nets.specs.ReadBack.{IsNaming, read_back};
-ghost use Rattle.ic_nets.specs.Telling.{Told, ToldAt};
 ghost use Rattle.ic_nets.specs.Wiring.{named_wires};
 ghost use Rattle.ic_nets.specs.declared.links.Standing.{Standing};
 ghost use Rattle.ic_nets.specs.declared.net.Net.{Net};
 ghost use Rattle.ic_nets.specs.declared.port.Port.{Port};
-ghost use Rattle.ic_nets.specs.declared.port.Port.TheVariants.{Auxiliary, Free, Interface, Left, Principal, Right};
+ghost use Rattle.ic_nets.specs.declared.port.Port.TheVariants.{Free};
 
 /// Each end of a wire is at a port, and each port is an end as often as it is one: the ends of wires are the bound ports
 /// of the net, and a free one for each name that stands once.
@@ -148,75 +135,6 @@ pub fn same_nets_are_alike()
     alike_nets_settle_to_one();
 }
 
-/// To be alike is an equivalence of nets. Wires may stand in any order, and each with either end first.
-pub fn likeness_is_an_equivalence()
-    ensures itself { (n : Net) → AreAlike n n }
-    ensures other_way { (m n : Net) → AreAlike m n → AreAlike n m }
-    ensures through { (m n o : Net) → AreAlike m n → AreAlike n o → AreAlike m o }
-    ensures wires { (m n : Net) → m.interface ≡ n.interface → m.agents.items ≡ n.agents.items
-        → m.joints ≡ n.joints
-        → InSomeOrder EitherWay (edges m.wires.items) (edges n.wires.items) → AreAlike m n }
-{}
-
-/// Nets that differ in where one wire ends aren't alike: those of `<L(x,L(E,x))|>` and `<L(E,L(x,x))|>` have the same agents.
-pub fn nets_of_true_and_false_are_not_alike()
-    ensures { (rs : List Rule) (l e : ℕ) (m n : Net) → IsNet rs (alone (church_true l e)) m
-        → IsNet rs (alone (church_false l e)) n → ¬ AreAlike m n }
-{}
-
-/// The text by which an edge names a port: the place of the interface, the agent and its port, of which the principal one is
-/// 0, the point, or the free name itself.
-pub fn ports_are_named_so()
-    ensures interface { (i : ℕ) → port_text (Interface i) ≡ codes "I" ++ decimal i }
-    ensures principal { (k : ℕ) → port_text (Principal k)
-        ≡ codes "A" ++ decimal k ++ codes ":0" }
-    ensures auxiliary { (k i : ℕ) → port_text (Auxiliary k i)
-        ≡ codes "A" ++ decimal k ++ codes ":" ++ decimal i }
-    ensures left { (j : ℕ) → port_text (Left j) ≡ codes "J" ++ decimal j }
-    ensures right { (j : ℕ) → port_text (Right j) ≡ codes "J" ++ decimal j }
-    ensures free { (n : ℕ) → port_text (Free n) ≡ name_text n }
-{}
-
-/// The edge of an active pair is thick, with an arrow head at each end. Any other has one at each end that is a principal port.
-pub fn arrow_heads_stand_at_principal_ports()
-    ensures active { (p q : Port) → style_of (record { from = p; to = q; active = true })
-        ≡ codes " [dir=both, penwidth=3]" }
-    ensures both { (k j : ℕ)
-        → style_of (record { from = Principal k; to = Principal j; active = false })
-        ≡ codes " [dir=both]" }
-    ensures back { (k : ℕ) (q : Port) → ((j : ℕ) → ¬ (q ≡ Principal j))
-        → style_of (record { from = Principal k; to = q; active = false })
-        ≡ codes " [dir=back]" }
-    ensures forward { (p : Port) (k : ℕ) → ((j : ℕ) → ¬ (p ≡ Principal j))
-        → style_of (record { from = p; to = Principal k; active = false })
-        ≡ codes " [dir=forward]" }
-    ensures none { (p q : Port) → ((j : ℕ) → ¬ (p ≡ Principal j))
-        → ((j : ℕ) → ¬ (q ≡ Principal j))
-        → style_of (record { from = p; to = q; active = false }) ≡ [] }
-{}
-
-/// The graph of `<x|If(A,x,y)=P(y,z),z=u>` without rules, by hand. Only an agent with more than two auxiliary ports has their
-/// numbers in its box, and the equation of two names is a point.
-pub fn a_graph_by_hand()
-    ensures { (net : Net) → IsNet [] (record {
-      interface = name 23 ∷ [];
-      equations = record {
-        left = agent 0 (more_trees (agent 1 no_trees)
-            (more_trees (name 23) (more_trees (name 24) no_trees)));
-        right = agent 2 (more_trees (name 24) (more_trees (name 25) no_trees));
-      } ∷ record { left = name 25; right = name 20 } ∷ [];
-      next = 26;
-    }) net → dot_of (record { text = codes "If"; arity = 3 }
-        ∷ record { text = codes "A"; arity = 0 } ∷ record { text = codes "P"; arity = 2 } ∷ []) net
-        ≡ codes "graph net {\nnode [shape=plaintext, width=0, height=0]\nedge [arrowsize=0.7]\n"
-        ++ codes "A0 [shape=record, label=\"{<0>If|{<1>1|<2>2|<3>3}}\"]\n"
-        ++ codes "A1 [shape=record, label=\"{<0>A}\"]\n"
-        ++ codes "A2 [shape=record, label=\"{<0>P|{<1>|<2>}}\"]\n"
-        ++ codes "J0 [shape=point, width=0.05, height=0.05]\n"
-        ++ codes "A0:1 -- A1:0 [dir=forward]\nA0:0 -- A2:0 [dir=both]\nI1 -- A0:2\n"
-        ++ codes "A0:3 -- A2:1\nA2:2 -- J0\nJ0 -- u\n}\n" }
-{}
-
 /// A text has rules exactly where its first byte that isn't blank is `{`.
 pub fn texts_with_rules_begin_with_a_brace()
     ensures brace { (blanks rest : List ℕ) → list_all is_blank blanks ≡ true
@@ -225,36 +143,4 @@ pub fn texts_with_rules_begin_with_a_brace()
         → is_blank b ≡ false → ¬ (b ≡ 123) → has_rules (blanks ++ b ∷ rest) ≡ false }
     ensures blank { (blanks : List ℕ) → list_all is_blank blanks ≡ true
         → has_rules blanks ≡ false }
-{}
-
-/// What is drawn of a text is the graph of the net of its configuration, by the rules that the text has. A text has one drawing.
-pub fn what_is_drawn_is_the_net()
-    ensures net { (input output : List ℕ) → Draws input (Ok output)
-        → (s : SystemParts) × (net : Net) × ReadsDrawn input (Ok s)
-        × IsNet s.rules.rules s.config net × (output ≡ dot_of s.rules.symbols net) }
-    ensures one { (input output other : List ℕ) → Draws input (Ok output)
-        → Draws input (Ok other) → output ≡ other }
-{
-    ic_text::laws::one_reading();
-    ic_text::laws::one_system_reading();
-}
-
-/// Of a text that isn't drawn its refusal is told, with the lines of the place: of one with rules as of a system, and of any
-/// other as of a configuration. It is the text that was taken. Of no other fault anything is told.
-pub fn what_is_not_drawn_is_told_so()
-    ensures system { (text : List ℕ) (fault : TextFault) (before after : List ℕ)
-        → has_rules text ≡ true → ToldAt text (Text fault) before after
-        → ReadsSystem text (Err fault)
-        × (lines : List ℕ) × TellsOf System text fault lines × (after ≡ before ++ lines) }
-    ensures config { (text : List ℕ) (fault : TextFault) (before after : List ℕ)
-        → has_rules text ≡ false → ToldAt text (Text fault) before after
-        → Reads text (Err fault)
-        × (lines : List ℕ) × TellsOf Config text fault lines × (after ≡ before ++ lines) }
-    ensures taken { (old new : Option (List ℕ)) (fault : TextFault) (before after : List ℕ)
-        → Told old new (Text fault) before after
-        → (text : List ℕ) × TakesIt text old new × ToldAt text (Text fault) before after }
-    ensures silent { (old new : Option (List ℕ)) (text : List ℕ) (fault : StreamFault)
-        (before after : List ℕ) → ((refused : TextFault) → fault ≢ Text refused)
-        → (Told old new fault before after → after ≡ before)
-        × (ToldAt text fault before after → after ≡ before) }
 {}

