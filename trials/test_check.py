@@ -4,13 +4,16 @@ is compared with the model of `checked.py`."""
 import json
 import os
 import re
+import resource
+import subprocess
 
 import draws
 import model
 from checked import MOST_BYTES, SOUGHT, checked
 from places import MOST_BYTES as MOST_TEXT
-from program import IN_MEMORY, TOP, Trial, as_bytes, run
+from program import IN_MEMORY, PROGRAM, TOP, Trial, as_bytes, run
 from test_drawn_serving import job_names, session, small_systems
+from test_streams import memory_of
 from worked_rows import expanded, rows
 
 CONFIGS = ("config", "settle", "config_place", "settle_told")
@@ -30,7 +33,7 @@ def fields_of(path, finding):
 
 
 class Check(Trial):
-    seconds = 18
+    seconds = 22
     rooms = IN_MEMORY
 
     def put(self, *texts):
@@ -214,6 +217,34 @@ class Check(Trial):
         lines = {b"list\n": 0, b"submit a {} <r|r=r>\r\n": 1, b"x\n": 1, b"submit b {A><B} <A|>\n": 2}
         for line, told in lines.items():
             self.equals("check", "how many lines are told", told * 100_000, self.tells(self.put(line * 100_000)).count("\n"))
+
+    def test_findings_are_written_as_they_are_found(self):
+        """By a program that may hold 12 MB: of many lines, of lines under a long path, and of a system with many warnings."""
+        least = {"preexec_fn": lambda: resource.setrlimit(resource.RLIMIT_AS, (12 * 2**20, 12 * 2**20)), "stdout": subprocess.DEVNULL}
+        folder = self.room.joinpath(*["p" * 200] * 15)
+        folder.mkdir(parents=True)
+        names = ",".join(f"A(a{3 * it + 1},a{3 * it + 2},a{3 * it + 3})" for it in range(60))
+        texts = {
+            self.room / "lines": (b"x\n" * 150_000, 1),
+            folder / "lines": (b"x\n" * 8_192, 1),
+            folder / "warnings": (b"submit a {} <%s|>\n" % names.encode() * 40, 0),
+        }
+        for path, (text, status) in texts.items():
+            path.write_bytes(text)
+            for flags in ((), ("--format", "json"), ("--script",)):
+                ran = run("check", *flags, path, **least)
+                self.equals(ran.command, "how it ends", (status, b"icserve: faults\n" if status else b""), (ran.status, ran.err))
+
+    def test_each_line_is_told_before_the_next_is_looked_at(self):
+        """A client may read what is told of a file's first lines while the others are looked at: no more than a buffer of it is wanting."""
+        ((path, _),) = self.put(b"x\n" * 400_000)
+        with subprocess.Popen([PROGRAM, "check", path], stdout=subprocess.PIPE, stderr=subprocess.PIPE) as checking:
+            front = checking.stdout.read(100_000)
+            most = memory_of(checking, "VmHWM")
+            checking.stdout.close()
+            checking.kill()
+        self.equals(path, "whether the first line is told", True, front.startswith(f"{path}:1:1: bad syntax: ".encode()))
+        self.equals(path, "whether less than 20 MB were held", True, most < 20 * 1024)
 
     def test_several_files(self):
         fine, faulty, warns = self.put("<|>", "<|", "{} <A|>")

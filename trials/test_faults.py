@@ -84,14 +84,16 @@ class Faults(Stops):
 
     def told_of(self, file, *words):
         """Each growth of a run that tells of a file is refused: a fault, or all goes as if it weren't. Nothing is printed at a
-        fault, but where the lines of `check` stand before the program's own. The file stays as it is."""
+        fault, but by `check`, which has printed a front of what it tells. The file stays as it is."""
         well, before = run(*words), file.read_bytes()
 
         def attempt(env, call):
             ran = run(*words, env=env)
             if (ran.status, ran.out, ran.err) != (well.status, well.out, well.err):
                 self.is_fault(ran, call, (4, "memory"), (3, "memory"))
-                if not (well.status and ran.out == well.out):
+                if words[0] == "check":
+                    self.equals(ran.command, f"whether a front of all is told, where it went wrong: {call}", True, well.out.startswith(ran.out))
+                else:
                     self.agrees(ran.command, f"standard output, where it went wrong: {call}", b"", ran.out)
             self.holds(file, before)
 

@@ -3,8 +3,8 @@ use Rattle.std.proofs.Common.{◌≡◌, ℕ, ◌==◌, true, false, List, [], �
 use Rattle.std.specs.List.{list_all}
 use Rattle.std.proofs.lemmas.Bool.{and_parts}
 use Rattle.ic_text.specs.Token.{is_blank}
-use Rattle.ic_check.specs.Checking.{first_of, form_by, form_of}
-use Rattle.ic_check.specs.declared.checking.Form.TheVariants as form
+use Rattle.ic_check.specs.Faults.{first_of, form_by, form_of}
+use Rattle.ic_check.specs.declared.texts.Form.TheVariants as form
 
 after : (blanks rest : List ℕ) → list_all is_blank blanks ≡ true → first_of (blanks ++ rest) ≡ first_of rest
 after [] rest are = refl

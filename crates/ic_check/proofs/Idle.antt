@@ -1,5 +1,5 @@
 -- Where no two agents can meet, no step makes two meet.
-use Rattle.std.proofs.Common.{◌≡◌, ◌≢◌, ◌⊎◌, ℕ, ◌+◌, ◌≤◌, ◌==◌, ◌&&◌, ◌||◌, List, [], ◌∷◌, ◌++◌, Bool, true, false, not, cond, Some, map, refl, sym, ap, ◌∙◌, arith, inl, inr, eq-eqb, if◌then◌else◌, subst as transport}
+use Rattle.std.proofs.Common.{◌≡◌, ◌⊎◌, ℕ, ◌+◌, ◌≤◌, ◌==◌, ◌&&◌, ◌||◌, List, [], ◌∷◌, ◌++◌, Bool, true, false, not, cond, Some, map, refl, sym, ap, ◌∙◌, arith, inl, inr, eq-eqb, subst as transport}
 use Rattle.std.specs.Cmp.{unsigned_Decides}
 use Rattle.std.specs.List.{flat_map, list_all, list_any}
 use Rattle.std.proofs.lemmas.Bool.{and_parts, or_from, or_parts, not-true}
@@ -17,7 +17,6 @@ use Rattle.ic_round.specs.Steps.{Interaction, Step, Steps, collect, indirection,
 use Rattle.ic_round.specs.lemmas.NameStepLemmas.{collect_step, indirection_step}
 use Rattle.ic_round.specs.lemmas.FreshNames.{occurrences-cons as count_cons}
 use Rattle.ic_check.specs.Meeting.{are_apart, are_once, has_use, is_agent, joins_agents, pair_sides, side_names}
-use Rattle.ic_check.specs.Warnings.{idle_line, idle_words, warning_line}
 use Rattle.ic_check.specs.inner.Tallies.{IsTally, tallied}
 use Rattle.ic_check.proofs.Tallying.{same_once}
 
@@ -196,15 +195,6 @@ stays_apart rs c d is (then_step x e y steps step) = step_keeps rs e d (stays_ap
 
 pub none_meet : (rs : List Rule) (c d e : Configuration) (place : ℕ) → are_apart c.equations ≡ true → Steps rs c d → ¬ Interaction rs d e place
 none_meet rs c d e place is steps = no_interaction rs d e place (stays_apart rs c d (apart_from c.equations is) steps)
-
--- where the line is told, none can meet
-both_so : (a b : Bool) (line : List ℕ) → (if a && b then line else []) ≢ [] → b ≡ true
-both_so true true line told = refl
-both_so true false line told = absurd (told refl)
-both_so false b line told = absurd (told refl)
-
-pub told_apart : (place : List ℕ) (among : ℕ → Bool) (rs : List Rule) (es : List Pair) → idle_line place among rs es ≢ [] → are_apart es ≡ true
-told_apart place among rs es told = both_so (has_use among rs) (are_apart es) (warning_line place idle_words) told
 
 -- rules are used by the same symbols alike
 pub same_use : (f g : ℕ → Bool) → ((s : ℕ) → f s ≡ g s) → (rs : List Rule) → has_use f rs ≡ has_use g rs

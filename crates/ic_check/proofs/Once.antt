@@ -1,10 +1,9 @@
 -- Symbols that stand at one place.
-use Rattle.std.proofs.Common.{◌≡◌, ℕ, zero, suc, ◌+◌, ◌==◌, List, [], ◌∷◌, ◌++◌, Bool, true, false, cond, Some, take, drop, slice_get, refl, sym, ap, ◌∙◌, arith, append_assoc, eq-eqb}
+use Rattle.std.proofs.Common.{◌≡◌, ℕ, zero, suc, ◌+◌, ◌==◌, List, [], ◌∷◌, Bool, true, false, cond, Some, slice_get, refl, sym, ap, ◌∙◌, arith, eq-eqb}
 use Rattle.std.specs.Cmp.{unsigned_Decides}
 use Rattle.std.proofs.lemmas.List.Sums.{sum_by-cons}
-use Rattle.ic_term.specs.Symbol.{Symbol}
 use Rattle.ic_check.specs.Meanings.{StandsOnce}
-use Rattle.ic_check.specs.Warnings.{count_of, free_line, free_words, once_text, once_texts, warning_line}
+use Rattle.ic_check.specs.Warnings.{count_of, once}
 
 same_some : (s t : ℕ) → Some s ≡ Some t → s ≡ t
 same_some s t e = cc
@@ -71,7 +70,7 @@ once_counted s (t ∷ ts) (suc i) at only =
     by false e rest = let same = counted s t ts false e in omega (arith, same, rest)
 
 counted_once : (s : ℕ) (all : List ℕ) → StandsOnce s all → (count_of all s == 1) ≡ true
-counted_once s all once = eq-eqb (count_of all s) 1 (once_counted s all once.0 once.1 once.2)
+counted_once s all is = eq-eqb (count_of all s) 1 (once_counted s all is.0 is.1 is.2)
 
 counted_else : (s : ℕ) (all : List ℕ) → ¬ StandsOnce s all → (count_of all s == 1) ≡ false
 counted_else s all not_once = by (count_of all s == 1) refl
@@ -80,41 +79,8 @@ counted_else s all not_once = by (count_of all s == 1) refl
     by true e = absurd (not_once (once_there s all ((unsigned_Decides (count_of all s) 1).0 e)))
     by false e = e
 
-pub once_told : (all : List ℕ) (s : ℕ) (text : List ℕ) → StandsOnce s all → once_text all s text ≡ text ∷ []
-once_told all s text once = rw (counted_once s all once) refl
+pub once_found : (all : List ℕ) (s : ℕ) → StandsOnce s all → once all s ≡ s ∷ []
+once_found all s is = rw (counted_once s all is) refl
 
-pub others_silent : (all : List ℕ) (s : ℕ) (text : List ℕ) → ¬ StandsOnce s all → once_text all s text ≡ []
-others_silent all s text not_once = rw (counted_else s all not_once) refl
-
-pub name_told : (place all : List ℕ) (n : ℕ) → StandsOnce n all → free_line place all n ≡ warning_line place (free_words n)
-name_told place all n once = rw (counted_once n all once) refl
-
-pub names_silent : (place all : List ℕ) (n : ℕ) → ¬ StandsOnce n all → free_line place all n ≡ []
-names_silent place all n not_once = rw (counted_else n all not_once) refl
-
--- ---- each symbol of a table
-
-each_at : (all : List ℕ) (ss : List Symbol) (k i n : ℕ) (s : Symbol) → n ≡ k + i → slice_get ss i ≡ Some s
-    → once_texts all k ss ≡ once_texts all k (take i ss) ++ once_text all n s.text ++ once_texts all (n + 1) (drop (suc i) ss)
-each_at all [] k zero n s is at = cc
-each_at all [] k (suc i) n s is at = cc
-each_at all (x ∷ xs) k zero n s is at =
-    let same : x ≡ s = one at in
-    let number : k ≡ n = omega (arith, is) in
-    λ i. once_text all (number i) (same i).text ++ once_texts all (number i + 1) xs
-  where
-    one : Some x ≡ Some s → x ≡ s
-    one e = cc
-each_at all (x ∷ xs) k (suc i) n s is at =
-    let first = once_text all k x.text in
-    let front = once_texts all (k + 1) (take i xs) in
-    let here = once_text all n s.text in
-    let rest = once_texts all (n + 1) (drop (suc i) xs) in
-    ap (λ l. first ++ l) (each_at all xs (k + 1) i n s (omega (arith, is)) at)
-    ∙ sym (append_assoc first (front ++ here) rest) ∙ ap (λ l. l ++ rest) (sym (append_assoc first front here))
-
-pub each_symbol : (all : List ℕ) (ss : List Symbol) (i : ℕ) (s : Symbol) → slice_get ss i ≡ Some s
-    → once_texts all 0 ss ≡ once_texts all 0 (take i ss) ++ once_text all i s.text ++ once_texts all (i + 1) (drop (i + 1) ss)
-each_symbol all ss i s at =
-    let same : suc i ≡ i + 1 = omega arith in
-    each_at all ss 0 i i s (omega arith) at ∙ ap (λ (m : ℕ). once_texts all 0 (take i ss) ++ once_text all i s.text ++ once_texts all (i + 1) (drop m ss)) same
+pub others_silent : (all : List ℕ) (s : ℕ) → ¬ StandsOnce s all → once all s ≡ []
+others_silent all s not_once = rw (counted_else s all not_once) refl

@@ -22,7 +22,7 @@ use Rattle.ic_round.specs.lemmas.RoundLemmas.{round_is_over}
 use Rattle.ic_round.specs.lemmas.SettledLemmas.{settled_over}
 use Rattle.ic_check.specs.Symbols.{config_symbols, made_symbols, pair_symbols, symbols, symbols_of}
 use Rattle.ic_check.specs.Reach.{AllAmong, IsClosed, IsKeptBy, IsReach, IsTakenBy}
-use Rattle.ic_check.specs.Warnings.{unused_line, unused_words, warning_line}
+use Rattle.ic_check.specs.Warnings.{unused}
 use Rattle.ic_settle.specs.lemmas.SubstitutionLaws.{and_both}
 
 -- ---- all of two lists
@@ -320,15 +320,15 @@ never_taken rs c among i n r set over reach there aside =
     let others = and_parts (list_all (is_tree_over (mask among rs.symbols)) d.interface) (list_all (is_pair_over (mask among rs.symbols)) d.equations) both.1 in
     none_taken among rs.symbols rs.rules i r d.equations set.fitting there aside parts.1 others.1
 
-told_aside : (b : Bool) (line : List ℕ) → (if b then [] else line) ≢ [] → b ≡ false
-told_aside true line told = absurd (told refl)
-told_aside false line told = refl
+found_aside : (b : Bool) (places : List ℕ) → (if b then [] else places) ≢ [] → b ≡ false
+found_aside true places found = absurd (found refl)
+found_aside false places found = refl
 
--- what its line tells of it is so
-pub told_never_taken : (rs : Rules) (c : Configuration) (among : ℕ → Bool) (i n : ℕ) (r : Rule) (place : List ℕ) → IsRuleSet rs → is_over rs.symbols c ≡ true
-    → IsReach rs.rules c among → slice_get rs.rules i ≡ Some r → unused_line place among rs.symbols i r ≢ [] → AllByRecursion (λ p. ¬ IsTakenBy rs.rules i p) (iterate rs.rules n c).equations
-told_never_taken rs c among i n r place set over reach there told =
-    never_taken rs c among i n r set over reach there (told_aside (among r.left && among r.right) (warning_line place (unused_words rs.symbols i r)) told)
+-- what is found of it is so
+pub found_never_taken : (rs : Rules) (c : Configuration) (among : ℕ → Bool) (i n : ℕ) (r : Rule) → IsRuleSet rs → is_over rs.symbols c ≡ true
+    → IsReach rs.rules c among → slice_get rs.rules i ≡ Some r → unused among i r ≢ [] → AllByRecursion (λ p. ¬ IsTakenBy rs.rules i p) (iterate rs.rules n c).equations
+found_never_taken rs c among i n r set over reach there found =
+    never_taken rs c among i n r set over reach there (found_aside (among r.left && among r.right) (i ∷ []) found)
 
 same_bool : (a b : Bool) → (a ≡ true → b ≡ true) → (b ≡ true → a ≡ true) → a ≡ b
 same_bool true false f g = sym (f refl)

@@ -1,5 +1,5 @@
--- Equations of two agents without a rule: they are told as such, and no step takes them away.
-use Rattle.std.proofs.Common.{◌≡◌, ℕ, zero, suc, ◌+◌, ◌≤◌, ◌==◌, ◌&&◌, ◌||◌, List, [], ◌∷◌, ◌++◌, Bool, true, false, cond, Option, None, Some, is_some, codes, length, map, slice_get, refl, sym, ap, ◌∙◌, arith, inl, inr, eq-eqb}
+-- Equations of two agents without a rule: they are found, and no step takes them away.
+use Rattle.std.proofs.Common.{◌≡◌, ℕ, zero, suc, ◌+◌, ◌≤◌, ◌==◌, ◌&&◌, ◌||◌, List, [], ◌∷◌, ◌++◌, Bool, true, false, cond, Option, None, Some, is_some, length, map, slice_get, refl, sym, ap, ◌∙◌, arith, inl, inr, eq-eqb}
 use Rattle.std.specs.Cmp.{unsigned_Decides}
 use Rattle.std.specs.List.{list_any, position_from}
 use Rattle.std.proofs.lemmas.Bool.{and_parts}
@@ -8,7 +8,7 @@ use Rattle.std.proofs.Math.Bool.{and-false}
 use Rattle.ic_term.specs.Tree.{Tree, name, agent, Pair}
 use Rattle.ic_term.specs.Configuration.{Configuration}
 use Rattle.ic_rules.specs.Rule.{Rule, stands_for}
-use Rattle.ic_rules.specs.RuleSet.{Rules, found_or, has_pair, rule_for}
+use Rattle.ic_rules.specs.RuleSet.{found_or, has_pair, rule_for}
 use Rattle.ic_rules.specs.lemmas.FindLaws.{any_of_two}
 use Rattle.ic_settle.specs.Settling.{Binding, subst, subst_pair, Binds}
 use Rattle.ic_settle.specs.NameSteps.{NameStep}
@@ -17,9 +17,9 @@ use Rattle.ic_round.specs.Firing.{Active, active_pair, oriented, products_by, ru
 use Rattle.ic_round.specs.Steps.{Interaction, Step, Steps, collect, indirection, interaction, no_steps, then_step}
 use Rattle.ic_round.specs.lemmas.NameStepLemmas.{collect_step, indirection_step}
 use Rattle.ic_check.specs.Meanings.{HasNoRule, faces, facing, is_of}
-use Rattle.ic_check.specs.Warnings.{pair_text, ruleless_line, warning_line}
+use Rattle.ic_check.specs.Warnings.{ruleless}
 
--- ---- what is told
+-- ---- what is found
 
 found_where : (rs : List Rule) (a b : ℕ) → is_some (rule_for rs a b) ≡ list_any (has_pair a b) rs
 found_where rs a b =
@@ -30,32 +30,30 @@ found_where rs a b =
     either None (Some k) = refl
     either None None = refl
 
-told_at : (place : List ℕ) (rs : Rules) (a b : ℕ) (t u : Tree) → (is_of a t && is_of b u) ≡ true → HasNoRule rs.rules a b
-    → ruleless_line place rs t u ≡ warning_line place (codes "no rule for " ++ pair_text rs.symbols a b)
-told_at place rs a b (name n) u is none = cc
-told_at place rs a b (agent x ts) (name n) is none = let parts = and_parts (x == a) false is in cc
-told_at place rs a b (agent x ts) (agent y us) is none =
+found_at : (rs : List Rule) (a b : ℕ) (t u : Tree) → (is_of a t && is_of b u) ≡ true → HasNoRule rs a b → ruleless rs t u ≡ (a, b) ∷ []
+found_at rs a b (name n) u is none = cc
+found_at rs a b (agent x ts) (name n) is none = let parts = and_parts (x == a) false is in cc
+found_at rs a b (agent x ts) (agent y us) is none =
     let parts = and_parts (x == a) (y == b) is in
     let left : x ≡ a = (unsigned_Decides x a).0 parts.0 in
     let right : y ≡ b = (unsigned_Decides y b).0 parts.1 in
-    let gone : is_some (rule_for rs.rules a b) ≡ false = found_where rs.rules a b ∙ none in
+    let gone : is_some (rule_for rs a b) ≡ false = found_where rs a b ∙ none in
     rw (left, right) (rw gone refl)
 
-pub stuck_told : (place : List ℕ) (rs : Rules) (p : Pair) (a b : ℕ) → faces a b p ≡ true → HasNoRule rs.rules a b
-    → ruleless_line place rs p.left p.right ≡ warning_line place (codes "no rule for " ++ pair_text rs.symbols a b)
-stuck_told place rs p a b is none = told_at place rs a b p.left p.right is none
+pub stuck_found : (rs : List Rule) (p : Pair) (a b : ℕ) → faces a b p ≡ true → HasNoRule rs a b → ruleless rs p.left p.right ≡ (a, b) ∷ []
+stuck_found rs p a b is none = found_at rs a b p.left p.right is none
 
-silent_at : (place : List ℕ) (rs : Rules) (t u : Tree) → ((a b : ℕ) → (is_of a t && is_of b u) ≡ true → ¬ HasNoRule rs.rules a b) → ruleless_line place rs t u ≡ []
-silent_at place rs (name n) u has = refl
-silent_at place rs (agent x ts) (name n) has = refl
-silent_at place rs (agent x ts) (agent y us) has = by (list_any (has_pair x y) rs.rules) refl
+silent_at : (rs : List Rule) (t u : Tree) → ((a b : ℕ) → (is_of a t && is_of b u) ≡ true → ¬ HasNoRule rs a b) → ruleless rs t u ≡ []
+silent_at rs (name n) u has = refl
+silent_at rs (agent x ts) (name n) has = refl
+silent_at rs (agent x ts) (agent y us) has = by (list_any (has_pair x y) rs) refl
   where
-    by : (b : Bool) → list_any (has_pair x y) rs.rules ≡ b → ruleless_line place rs (agent x ts) (agent y us) ≡ []
-    by true e = let found : is_some (rule_for rs.rules x y) ≡ true = found_where rs.rules x y ∙ e in rw found refl
+    by : (b : Bool) → list_any (has_pair x y) rs ≡ b → ruleless rs (agent x ts) (agent y us) ≡ []
+    by true e = let found : is_some (rule_for rs x y) ≡ true = found_where rs x y ∙ e in rw found refl
     by false e = absurd (has x y (and_both (eq-eqb x x refl) (eq-eqb y y refl)) e)
 
-pub others_silent : (place : List ℕ) (rs : Rules) (p : Pair) → ((a b : ℕ) → faces a b p ≡ true → ¬ HasNoRule rs.rules a b) → ruleless_line place rs p.left p.right ≡ []
-others_silent place rs p has = silent_at place rs p.left p.right has
+pub others_silent : (rs : List Rule) (p : Pair) → ((a b : ℕ) → faces a b p ≡ true → ¬ HasNoRule rs a b) → ruleless rs p.left p.right ≡ []
+others_silent rs p has = silent_at rs p.left p.right has
 
 -- ---- no interaction takes it
 

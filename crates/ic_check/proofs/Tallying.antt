@@ -1,12 +1,12 @@
 -- Names are counted up to two.
-use Rattle.std.proofs.Common.{◌≡◌, ◌⊎◌, ℕ, ◌+◌, ◌<◌, ◌==◌, List, Some, cond, length, take, get_or, min, ap, sym, ◌∙◌, [], arith, inl, inr}
+use Rattle.std.proofs.Common.{◌≡◌, ◌⊎◌, ℕ, ◌+◌, ◌<◌, ◌==◌, List, ◌∷◌, Some, cond, length, take, get_or, min, ap, sym, ◌∙◌, [], arith, inl, inr}
 use Rattle.std.specs.Prelude.{unwrap_or}
 use Rattle.std.proofs.lemmas.Bool.{cases_eq, eq-eqb, ne_eqb}
 use Rattle.std.proofs.lemmas.List.Sums.{count_by_more_yes, count_by_more_no}
 use Rattle.ic_names.specs.declared.table.NameTable.{NameTable}
 use Rattle.ic_names.specs.Table.{found}
-use Rattle.ic_check.specs.Warnings.{count_of, free_line, free_words, warning_line}
-use Rattle.ic_check.specs.inner.Tallies.{IsTally, tallied, tallied_line}
+use Rattle.ic_check.specs.Warnings.{count_of, once}
+use Rattle.ic_check.specs.inner.Tallies.{IsTally, tallied, tallied_once}
 
 one_more : (seen count number more : ℕ) → seen ≡ min count 2 → number ≡ min seen 1 + 1 → more ≡ count + 1 → number ≡ min more 2
 one_more seen count number more was is counted = omega arith
@@ -29,7 +29,6 @@ same_once seen count is = elim (cases_eq count 1) [
   | inr not ↦ ne_eqb seen 1 (λ once. not (omega (arith, is, once))) ∙ sym (ne_eqb count 1 not)
 ]
 
--- by such a table just the names are told that stand once
-pub tallied_once : (place all : List ℕ) (table : NameTable) (n : ℕ) → IsTally all table → tallied_line place table n ≡ free_line place all n
-tallied_once place all table n is =
-    ap (λ b. cond b (warning_line place (free_words n)) []) (same_once (tallied table n) (count_of all n) (is n))
+-- by such a table just the names are found that stand once
+pub found_once : (all : List ℕ) (table : NameTable) (n : ℕ) → IsTally all table → tallied_once table n ≡ once all n
+found_once all table n is = ap (λ b. cond b (n ∷ []) []) (same_once (tallied table n) (count_of all n) (is n))

@@ -1,6 +1,4 @@
 -- What only the contracts of private functions cite.
 pub mod Growing
-pub mod Fronts
-pub mod Inner
 pub mod Tallies
 pub mod Verdicts

@@ -1,17 +1,14 @@
 //! Looking over files, one after the other.
 
-ghost use Rattle.std.specs.Prelude.{◌≡◌, ◌≢◌, ◌⊎◌, [], ◌∷◌, ℕ, List, Bool, IfOk, IfErr, OnOk, OnErr, map, string_bytes};
-ghost use Rattle.std.specs.Io.KnownBytes.{Appends, Keeps};
-ghost use Rattle.ic_output.specs.Output.{AppendsFront};
+ghost use Rattle.std.specs.Prelude.{◌≡◌, ◌⊎◌, [], ◌∷◌, ℕ, List, IfOk, IfErr, OnErr, map, string_bytes};
 ghost use Rattle.ic_check.specs.Content.{Content};
-ghost use Rattle.ic_check.specs.Files.{LooksOver, LooksOverFront, LooksOverPart, TellsAs, TellsContent, content_of};
-ghost use Rattle.ic_check.specs.inner.Verdicts.{WritesPart, content_by, verdict_by, worse};
+ghost use Rattle.ic_check.specs.Files.{Grows, LooksOver, LooksOverFront, content_of};
+ghost use Rattle.ic_check.specs.inner.Verdicts.{verdict_by, worse};
 
-use crate::checking::told_of_text;
-use crate::lines::told_of_script;
-use crate::objects::objects;
+use crate::findings::Layout;
+use crate::texts::check_given;
+use crate::writing::Style;
 use ic_causes::shown_path;
-use ic_output::write_flushed;
 use ic_streams::StreamFault;
 use std::alloc::{AllocError, Global};
 use std::io::Write;
@@ -35,15 +32,6 @@ pub enum Verdict {
     Unread,
 }
 
-/// How faults and warnings are told.
-#[derive(Clone, Copy, Debug, PartialEq, Eq)]
-pub enum Layout {
-    /// As lines, which begin with the file's path; of it a byte that is no printable ASCII is shown as `?`.
-    Lines,
-    /// As objects of JSON, one a line, which have the path as it is.
-    Objects,
-}
-
 /// What gives files, each when it is asked for.
 pub trait Source {
     /// What the file of a path gives, as far as that can be said.
@@ -54,9 +42,9 @@ pub trait Source {
         ensures given { IfOk result (λ given. gives self.now path.now (content_of given)) };
 }
 
-/// Writes the faults and warnings of the files of these paths, in their order, each file's at once. One that isn't
-/// given doesn't keep the others from being looked over; why it isn't is appended to `told`, also where a fault comes
-/// later.
+/// Writes the faults and warnings of the files of these paths, in their order, each as it is found, and flushes them
+/// after each file. A file that isn't given doesn't keep the others from being looked over; why it isn't is appended to
+/// `told`, also where a fault comes later.
 pub fn check_files<S: Source, W: Write>(
     alloc: Global,
     source: &S,
@@ -65,15 +53,11 @@ pub fn check_files<S: Source, W: Write>(
     writer: &mut W,
     told: &mut Vec<u8>,
 ) -> Result<Verdict, StreamFault>
-    ensures looked { IfOk result (λ verdict.
-        LooksOver layout (S.gives source.now) (map string_bytes paths.now)
-        (W.contents writer.old) (W.contents writer.new) told.old.items told.new.items verdict) }
-    ensures stopped { IfErr result (λ fault. fault ≢ StreamFault.Write
-        → LooksOverFront layout (S.gives source.now) (map string_bytes paths.now)
-        (W.contents writer.old) (W.contents writer.new) told.old.items told.new.items) }
-    ensures cut { IfErr result (λ fault. fault ≡ StreamFault.Write
-        → LooksOverPart layout (S.gives source.now) (map string_bytes paths.now)
-        (W.contents writer.old) (W.contents writer.new) told.old.items told.new.items) }
+    ensures looked { IfOk result (λ verdict. LooksOver (S.gives source.now)
+        (map string_bytes paths.now) told.old.items told.new.items verdict) }
+    ensures stopped { OnErr result (LooksOverFront (S.gives source.now)
+        (map string_bytes paths.now) told.old.items told.new.items) }
+    ensures grows { Grows (W.contents writer.old) (W.contents writer.new) }
     ensures sort { IfErr result
         (λ fault. (fault ≡ StreamFault.Memory) ⊎ (fault ≡ StreamFault.Write)) }
 {
@@ -105,24 +89,23 @@ fn check_file<S: Source, W: Write>(
     writer: &mut W,
     told: &mut Vec<u8>,
 ) -> Result<Verdict, StreamFault>
-    ensures looked { IfOk result (λ verdict. LooksOver layout (S.gives source.now) (path.now ∷ [])
-        (W.contents writer.old) (W.contents writer.new) told.old.items told.new.items verdict) }
+    ensures looked { IfOk result (λ verdict. LooksOver (S.gives source.now) (path.now ∷ [])
+        told.old.items told.new.items verdict) }
     ensures untold { OnErr result (told.new.items ≡ told.old.items) }
-    ensures silent { IfErr result (λ fault. fault ≢ StreamFault.Write
-        → Keeps (W.contents writer.old) (W.contents writer.new)) }
-    ensures cut { IfErr result (λ fault. fault ≡ StreamFault.Write
-        → WritesPart layout (S.gives source.now) path.now
-        (W.contents writer.old) (W.contents writer.new)) }
+    ensures grows { Grows (W.contents writer.old) (W.contents writer.new) }
     ensures sort { IfErr result
         (λ fault. (fault ≡ StreamFault.Memory) ⊎ (fault ≡ StreamFault.Write)) }
 {
-    match source.give(alloc, path)? {
+    let given = source.give(alloc, path)?;
+    let shown = shown_path(alloc, path.as_bytes())?;
+    let style = style_of(layout, &shown, path.as_bytes());
+    match given {
         Given::Text(text) => {
-            let is_faulty = check_text(alloc, path.as_bytes(), layout, false, &text, writer)?;
+            let is_faulty = check_given(alloc, style, false, &text, writer)?;
             Ok(verdict_of(is_faulty))
         }
         Given::Script(text) => {
-            let is_faulty = check_text(alloc, path.as_bytes(), layout, true, &text, writer)?;
+            let is_faulty = check_given(alloc, style, true, &text, writer)?;
             Ok(verdict_of(is_faulty))
         }
         Given::Unread(why) => {
@@ -130,6 +113,15 @@ fn check_file<S: Source, W: Write>(
             Ok(Verdict::Unread)
         }
     }
+}
+
+/// How a file is told of, the path of which is shown so.
+fn style_of<'a>(layout: Layout, shown: &'a [u8], path: &'a [u8]) -> Style<'a> {
+    let file = match layout {
+        Layout::Lines => shown,
+        Layout::Objects => path,
+    };
+    Style { layout, file }
 }
 
 /// What is found of a text, by whether it has a fault.
@@ -141,81 +133,4 @@ fn verdict_of(is_faulty: bool) -> Verdict
     } else {
         Verdict::Fine
     }
-}
-
-/// Writes the faults and warnings of the text or script in the file of this path, and tells whether it has a fault.
-fn check_text<W: Write>(
-    alloc: Global,
-    path: &[u8],
-    layout: Layout,
-    is_script: bool,
-    text: &[u8],
-    writer: &mut W,
-) -> Result<bool, StreamFault>
-    ensures told { IfOk result (λ faulty. (lines : List ℕ)
-        × TellsAs layout path.now (content_by is_script text.now) lines faulty
-        × Appends (W.contents writer.old) (W.contents writer.new) lines) }
-    ensures silent { IfErr result (λ fault. fault ≢ StreamFault.Write
-        → Keeps (W.contents writer.old) (W.contents writer.new)) }
-    ensures cut { IfErr result (λ fault. fault ≡ StreamFault.Write
-        → (lines : List ℕ) × (faulty : Bool)
-        × TellsAs layout path.now (content_by is_script text.now) lines faulty
-        × AppendsFront (W.contents writer.old) (W.contents writer.new) [] lines) }
-    ensures sort { IfErr result
-        (λ fault. (fault ≡ StreamFault.Memory) ⊎ (fault ≡ StreamFault.Write)) }
-{
-    let (lines, is_faulty) = told_as(alloc, layout, path, is_script, text)?;
-    write(writer, &lines)?;
-    Ok(is_faulty)
-}
-
-/// What is told of the text or script in the file of this path, and whether it has a fault.
-fn told_as(
-    alloc: Global,
-    layout: Layout,
-    path: &[u8],
-    is_script: bool,
-    text: &[u8],
-) -> Result<(Vec<u8>, bool), AllocError>
-    ensures { IfOk result (λ told.
-        TellsAs layout path.now (content_by is_script text.now) told.0.items told.1) }
-{
-    match layout {
-        Layout::Lines => {
-            let file = shown_path(alloc, path)?;
-            told_lines(alloc, &file, is_script, text)
-        }
-        Layout::Objects => {
-            let (lines, is_faulty) = told_lines(alloc, b"", is_script, text)?;
-            Ok((objects(alloc, path, &lines)?, is_faulty))
-        }
-    }
-}
-
-/// The lines that tell of the text or script in a file of this name, and whether it has a fault.
-fn told_lines(
-    alloc: Global,
-    file: &[u8],
-    is_script: bool,
-    text: &[u8],
-) -> Result<(Vec<u8>, bool), AllocError>
-    ensures { IfOk result (λ told.
-        TellsContent file.now (content_by is_script text.now) told.0.items told.1) }
-{
-    if is_script {
-        told_of_script(alloc, file, text)
-    } else {
-        told_of_text(alloc, file, text)
-    }
-}
-
-/// Writes lines and flushes them.
-fn write<W: Write>(writer: &mut W, lines: &[u8]) -> Result<(), StreamFault>
-    ensures written { OnOk result
-        (Appends (W.contents writer.old) (W.contents writer.new) lines.now) }
-    ensures cut { OnErr result
-        (AppendsFront (W.contents writer.old) (W.contents writer.new) [] lines.now) }
-    ensures refused { IfErr result (λ fault. fault ≡ StreamFault.Write) }
-{
-    write_flushed(writer, lines).map_err(|_| StreamFault::Write)
 }

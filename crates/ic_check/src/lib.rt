@@ -1,34 +1,34 @@
 //! Looking over texts: their faults, each with its place, and what is legal in them and mostly a mistake.
 //!
-//! `check` tells in lines what a file holds: a system, a configuration, or lines for a server, by its form; `check_script`
-//! does so of a script. Faults are
-//! told as compilers do, and lines after a faulty one are looked at, too.
+//! `check_files` looks over files, one after the other, whatever gives them: systems, configurations, lines for a server,
+//! or scripts. It tells their faults and warnings, in lines or as objects of JSON. `check_line` and `check_script_line`
+//! tell of one line, and `tell_refusals` tells a session of its lines that a server refuses.
 //!
-//! For a system without a fault it warns of pairs that no rule takes apart, of symbols that stand only once, of rules that
-//! are never used, of names that stand only once, where no two agents can meet, and of symbols that look like names.
-//! `check_files` does so of files, one after the other, whatever gives them, in lines or as objects of JSON.
-//! `tell_refusals` tells a session of its lines that a server refuses. `laws` says in other words what the warnings are.
+//! `find_warnings` answers the warnings of a system: pairs that no rule takes apart, symbols that stand only once, rules that
+//! are never used, names that stand only once, whether no two agents can meet, and symbols that look like names. `laws`
+//! says in other words what they are. What is told is tried, and not proved.
 #![tactic(auto)]
 
-mod checking;
-mod due;
 mod files;
-mod front;
+mod findings;
 pub mod laws;
 mod letters;
-mod line_places;
 mod lines;
 mod meeting;
 mod names;
-mod objects;
+mod places;
 mod reach;
 mod remarks;
 mod sessions;
 mod symbols;
 mod texts;
 mod warnings;
+mod words;
+mod writing;
 
-pub use checking::{Form, check};
-pub use files::{Given, Layout, Source, Verdict, check_files};
-pub use lines::{check_line, check_script, check_script_line};
+pub use files::{Given, Source, Verdict, check_files};
+pub use findings::Layout;
+pub use lines::{check_line, check_script_line};
 pub use sessions::tell_refusals;
+pub use texts::Form;
+pub use warnings::{Warnings, find_warnings};

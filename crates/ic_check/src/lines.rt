@@ -1,22 +1,22 @@
 //! Looking over lines, each by itself.
 
-ghost use Rattle.std.specs.Prelude.{◌≡◌, ◌<◌, ◌≤◌, ◌∷◌, ◌++◌, ℕ, List, IfOk, IfSome, OnErr, OnOk, length};
+ghost use Rattle.std.specs.Prelude.{◌≡◌, ◌<◌, ◌∷◌, ◌++◌, ◌⊎◌, ℕ, List, IfOk, IfErr, OnErr, OnOk, length};
 ghost use Rattle.ic_lines.specs.Lines.{lines};
-ghost use Rattle.ic_check.specs.Checking.{TellsEach, TellsLine, WarnsOf};
-ghost use Rattle.ic_check.specs.Scripts.{TellsOne, TellsScript, TellsScriptLine, run_place};
-ghost use Rattle.ic_check.specs.Telling.{blanks_before};
+ghost use Rattle.ic_check.specs.Faults.{HasFaulty, LineHasFault, LineHasFaultIn, ScriptLineHasFault};
+ghost use Rattle.ic_check.specs.Files.{Grows};
 
-use crate::line_places::line_place;
-use crate::remarks::{known_fault, place_text, put_line_fault, put_placed};
-use crate::warnings::put_warnings;
-use ic_commands::{Line, read_command};
+use crate::findings::{Finding, Findings, Layout, put_finding};
+use crate::places::{blanks_before, line_place};
+use crate::remarks::{RUN, known, line_sentence, placed};
+use crate::warnings::told_warnings;
+use crate::writing::{Style, write_findings};
+use ic_commands::{Line, read_command, read_script_line};
 use ic_diagnostics::first_word;
 use ic_jobs::Command;
-use ic_text::{MAX_TEXT, TextFault, is_blank};
+use ic_streams::StreamFault;
+use ic_text::{MAX_TEXT, TextFault};
 use std::alloc::{AllocError, Global};
-
-/// What is told of a run in a script.
-const RUN: &[u8] = b"run isn't for scripts, since runners make the rounds";
+use std::io::Write;
 
 /// The first line of a text, and what follows its line feed.
 pub(crate) fn split_line(text: &[u8]) -> (&[u8], &[u8])
@@ -33,49 +33,138 @@ pub(crate) fn split_line(text: &[u8]) -> (&[u8], &[u8])
     (text, &text[text.len()..])
 }
 
-/// Appends the warnings of what a line asks for.
-fn put_asked(alloc: Global, place: &[u8], asked: &Line, out: &mut Vec<u8>) -> Result<(), AllocError>
-    ensures { OnOk result ((told : List ℕ) × WarnsOf place.now asked.now told
-        × (out.new.items ≡ out.old.items ++ told)) }
-{
+/// The warnings of what a line of this number asks for.
+fn asked_warnings(
+    alloc: Global,
+    number: u64,
+    asked: &Option<Command>,
+) -> Result<Vec<Finding>, AllocError> {
     match asked {
-        Line::Command(Command::Submit(_, system, _)) => {
+        Some(Command::Submit(_, system, _)) => {
             let config = system.config().to_config(alloc)?;
-            put_warnings(alloc, place, system.rules(), &config, out)
+            told_warnings(alloc, Some(number), system.rules(), &config)
         }
-        _ => Ok(()),
+        _ => Ok(Vec::new(alloc)),
     }
 }
 
-/// Appends what is told of the line of this number, and tells whether it has a fault.
-fn put_line(
+/// The fault of a line of this number that is refused so.
+fn line_fault(
+    alloc: Global,
+    number: u64,
+    line: &[u8],
+    fault: TextFault,
+) -> Result<Finding, AllocError> {
+    let place = line_place(alloc, line, fault)?;
+    let words = line_sentence(alloc, line, fault, place)?;
+    Ok(placed(line, Some(number), place.at, fault, words))
+}
+
+/// What is found in a line for a server, of this number.
+fn look_at_line(alloc: Global, number: u64, line: &[u8]) -> Result<Findings, AllocError>
+    ensures { IfOk result (λ findings. LineHasFault line.now findings.is_faulty) }
+{
+    match read_command(alloc, line) {
+        Ok(Line::Command(command)) => {
+            let warnings = asked_warnings(alloc, number, &Some(command))?;
+            Ok(Findings::of_warnings(warnings))
+        }
+        Ok(_) => Ok(Findings::of_warnings(Vec::new(alloc))),
+        Err(fault) => {
+            let fault = known(fault)?;
+            Findings::of_fault(alloc, line_fault(alloc, number, line, fault)?)
+        }
+    }
+}
+
+/// Whether the first word of a line that isn't too long is `run`, which stands after so many blanks.
+fn run_place(line: &[u8]) -> Option<usize> {
+    let at = blanks_before(line);
+    if line.len() <= MAX_TEXT && first_word(&line[at..]) == b"run".as_slice() {
+        Some(at)
+    } else {
+        None
+    }
+}
+
+/// The fault of a line of this number of a script, which is refused so.
+fn script_line_fault(
+    alloc: Global,
+    number: u64,
+    line: &[u8],
+    fault: TextFault,
+) -> Result<Finding, AllocError> {
+    match run_place(line) {
+        Some(at) => {
+            let words = Vec::from_slice(alloc, RUN)?;
+            Ok(placed(line, Some(number), at, TextFault::Syntax, words))
+        }
+        None => line_fault(alloc, number, line, fault),
+    }
+}
+
+/// What is found in a line of a script, of this number.
+fn look_at_script_line(alloc: Global, number: u64, line: &[u8]) -> Result<Findings, AllocError>
+    ensures { IfOk result (λ findings. ScriptLineHasFault line.now findings.is_faulty) }
+{
+    match read_script_line(alloc, line) {
+        Ok(asked) => {
+            let warnings = asked_warnings(alloc, number, &asked)?;
+            Ok(Findings::of_warnings(warnings))
+        }
+        Err(fault) => {
+            let fault = known(fault)?;
+            Findings::of_fault(alloc, script_line_fault(alloc, number, line, fault)?)
+        }
+    }
+}
+
+/// What is found in a line of this number, of a script or of lines for a server.
+fn look_at(alloc: Global, in_script: bool, number: u64, line: &[u8]) -> Result<Findings, AllocError>
+    ensures { IfOk result (λ findings. LineHasFaultIn in_script line.now findings.is_faulty) }
+{
+    if in_script {
+        look_at_script_line(alloc, number, line)
+    } else {
+        look_at_line(alloc, number, line)
+    }
+}
+
+/// Appends the lines of these findings in the file of this name.
+fn put_findings(
     alloc: Global,
     file: &[u8],
-    number: usize,
+    findings: &[Finding],
+    out: &mut Vec<u8>,
+) -> Result<(), AllocError> {
+    for finding in findings {
+        put_finding(alloc, Layout::Lines, file, finding, out)?;
+    }
+    Ok(())
+}
+
+/// Appends what is told of a line of this number, and tells whether it has a fault.
+fn tell_line(
+    alloc: Global,
+    in_script: bool,
+    file: &[u8],
+    number: u64,
     line: &[u8],
     out: &mut Vec<u8>,
 ) -> Result<bool, AllocError>
-    ensures { IfOk result (λ faulty. (told : List ℕ)
-        × TellsLine file.now number line.now told faulty
-        × (out.new.items ≡ out.old.items ++ told)) }
+    ensures faulty { IfOk result (LineHasFaultIn in_script line.now) }
+    ensures appended { OnOk result ((told : List ℕ) × (out.new.items ≡ out.old.items ++ told)) }
+    ensures silent { OnErr result (out.new.items ≡ out.old.items) }
 {
-    match read_command(alloc, line) {
-        Ok(asked) => {
-            let place = place_text(alloc, file, Some(number))?;
-            put_asked(alloc, &place, &asked, out)?;
-            Ok(false)
-        }
-        Err(fault) => {
-            let fault = known_fault(fault)?;
-            let place = line_place(alloc, line, fault)?;
-            put_line_fault(alloc, file, number, line, fault, place, out)?;
-            Ok(true)
-        }
-    }
+    let findings = look_at(alloc, in_script, number, line)?;
+    let mut told = Vec::new(alloc);
+    put_findings(alloc, file, &findings.list, &mut told)?;
+    out.extend_from_slice(&told)?;
+    Ok(findings.is_faulty)
 }
 
-/// Appends what is told of the line of this number, and tells whether it has a fault. Where memory runs out, nothing is
-/// appended.
+/// Appends what is told of a line for a server, which has this number in the file of this name, and tells whether it has
+/// a fault: whether `serve` refuses it as no line. Where memory runs out, nothing is appended.
 pub fn check_line(
     alloc: Global,
     file: &[u8],
@@ -83,67 +172,14 @@ pub fn check_line(
     line: &[u8],
     out: &mut Vec<u8>,
 ) -> Result<bool, AllocError>
-    ensures told { IfOk result (λ faulty. (told : List ℕ)
-        × TellsLine file.now number line.now told faulty
-        × (out.new.items ≡ out.old.items ++ told)) }
+    ensures faulty { IfOk result (LineHasFault line.now) }
+    ensures appended { OnOk result ((told : List ℕ) × (out.new.items ≡ out.old.items ++ told)) }
     ensures silent { OnErr result (out.new.items ≡ out.old.items) }
 {
-    let mut told = Vec::new(alloc);
-    let faulty = put_line(alloc, file, number, line, &mut told)?;
-    out.extend_from_slice(&told)?;
-    Ok(faulty)
+    tell_line(alloc, false, file, number as u64, line, out)
 }
 
-/// How many blanks a line begins with.
-pub(crate) fn blanks_before(line: &[u8]) -> usize
-    ensures count { result ≡ blanks_before line.now }
-    ensures within { result ≤ length line.now }
-{
-    for (place, byte) in line.iter().enumerate() {
-        if !is_blank(*byte) {
-            return place;
-        }
-    }
-    line.len()
-}
-
-/// The place of the first word of a line, if it is `run` and the line isn't too long.
-fn run_place(line: &[u8]) -> Option<usize>
-    ensures place { result ≡ run_place line.now }
-    ensures within { IfSome result (λ at. at ≤ length line.now) }
-{
-    let place = blanks_before(line);
-    if line.len() <= MAX_TEXT && first_word(&line[place..]) == b"run".as_slice() {
-        Some(place)
-    } else {
-        None
-    }
-}
-
-/// Appends what is told of the line of this number of a script, and tells whether it has a fault.
-fn put_script_line(
-    alloc: Global,
-    file: &[u8],
-    number: usize,
-    line: &[u8],
-    out: &mut Vec<u8>,
-) -> Result<bool, AllocError>
-    ensures { IfOk result (λ faulty. (told : List ℕ)
-        × TellsScriptLine file.now number line.now told faulty
-        × (out.new.items ≡ out.old.items ++ told)) }
-{
-    match run_place(line) {
-        Some(at) => {
-            let before = number.saturating_sub(1);
-            put_placed(alloc, file, before, line, at, TextFault::Syntax, RUN, out)?;
-            Ok(true)
-        }
-        None => put_line(alloc, file, number, line, out),
-    }
-}
-
-/// Appends what is told of the line of this number of a script, and tells whether it has a fault. A run has one: scripts
-/// hold commands alone. Where memory runs out, nothing is appended.
+/// The same of a line of a script, in which a run is a fault: scripts hold commands alone.
 pub fn check_script_line(
     alloc: Global,
     file: &[u8],
@@ -151,89 +187,37 @@ pub fn check_script_line(
     line: &[u8],
     out: &mut Vec<u8>,
 ) -> Result<bool, AllocError>
-    ensures told { IfOk result (λ faulty. (told : List ℕ)
-        × TellsScriptLine file.now number line.now told faulty
-        × (out.new.items ≡ out.old.items ++ told)) }
+    ensures faulty { IfOk result (ScriptLineHasFault line.now) }
+    ensures appended { OnOk result ((told : List ℕ) × (out.new.items ≡ out.old.items ++ told)) }
     ensures silent { OnErr result (out.new.items ≡ out.old.items) }
 {
-    let mut told = Vec::new(alloc);
-    let faulty = put_script_line(alloc, file, number, line, &mut told)?;
-    out.extend_from_slice(&told)?;
-    Ok(faulty)
+    tell_line(alloc, true, file, number as u64, line, out)
 }
 
-/// Appends what is told of a line of this number, of a script or of a file for a server.
-fn check_one(
+/// Writes what is told of the lines of a script or for a server, line by line, and tells whether one has a fault.
+pub(crate) fn check_lines<W: Write>(
     alloc: Global,
+    style: Style<'_>,
     in_script: bool,
-    file: &[u8],
-    number: usize,
-    line: &[u8],
-    out: &mut Vec<u8>,
-) -> Result<bool, AllocError>
-    ensures { IfOk result (λ faulty. (told : List ℕ)
-        × TellsOne in_script file.now number line.now told faulty
-        × (out.new.items ≡ out.old.items ++ told)) }
-{
-    if in_script {
-        put_script_line(alloc, file, number, line, out)
-    } else {
-        put_line(alloc, file, number, line, out)
-    }
-}
-
-/// What is told of the lines of a script, and whether one has a fault.
-pub(crate) fn told_of_script(
-    alloc: Global,
-    file: &[u8],
     text: &[u8],
-) -> Result<(Vec<u8>, bool), AllocError>
-    ensures { IfOk result (λ told. TellsScript file.now text.now told.0.items told.1) }
-{
-    let mut told = Vec::new(alloc);
-    let faulty = check_lines(alloc, true, file, text, &mut told)?;
-    Ok((told, faulty))
-}
-
-/// Appends what is told of the lines of a script, and tells whether one has a fault. Where memory runs out, nothing is
-/// appended.
-pub fn check_script(
-    alloc: Global,
-    file: &[u8],
-    text: &[u8],
-    out: &mut Vec<u8>,
-) -> Result<bool, AllocError>
-    ensures told { IfOk result (λ faulty. (told : List ℕ)
-        × TellsScript file.now text.now told faulty
-        × (out.new.items ≡ out.old.items ++ told)) }
-    ensures silent { OnErr result (out.new.items ≡ out.old.items) }
-{
-    let (told, faulty) = told_of_script(alloc, file, text)?;
-    out.extend_from_slice(&told)?;
-    Ok(faulty)
-}
-
-/// Appends what is told of the lines of a text, a script or none, and tells whether one has a fault.
-pub(crate) fn check_lines(
-    alloc: Global,
-    in_script: bool,
-    file: &[u8],
-    text: &[u8],
-    out: &mut Vec<u8>,
-) -> Result<bool, AllocError>
-    ensures { IfOk result (λ faulty. (told : List ℕ)
-        × TellsEach (TellsOne in_script file.now) 1 (lines text.now) told faulty
-        × (out.new.items ≡ out.old.items ++ told)) }
+    writer: &mut W,
+) -> Result<bool, StreamFault>
+    ensures faulty { IfOk result (HasFaulty (LineHasFaultIn in_script) (lines text.now)) }
+    ensures grows { Grows (W.contents writer.old) (W.contents writer.new) }
+    ensures sort { IfErr result
+        (λ fault. (fault ≡ StreamFault.Memory) ⊎ (fault ≡ StreamFault.Write)) }
 {
     let mut rest = text;
-    let mut number = 1;
-    let mut faulty = false;
+    let mut number = 1u64;
+    let mut is_faulty = false;
     while !rest.is_empty() {
         let (line, more) = split_line(rest);
-        let here = check_one(alloc, in_script, file, number, line, out)?;
-        faulty = faulty || here;
-        number += 1;
+        let findings = look_at(alloc, in_script, number, line)?;
+        write_findings(alloc, style, &findings.list, writer)?;
+        let here = findings.is_faulty;
+        is_faulty = is_faulty || here;
+        number = number.saturating_add(1);
         rest = more;
     }
-    Ok(faulty)
+    Ok(is_faulty)
 }

@@ -1,9 +1,6 @@
--- For private functions: what is found and written, file by file.
-use Rattle.std.specs.Prelude.{ℕ, List, [], Bool, true, false, Option}
-use Rattle.ic_output.specs.Output.{AppendsFront}
+-- For private functions: what is found, file by file.
+use Rattle.std.specs.Prelude.{ℕ, List, Bool, true, false}
 use Rattle.ic_check.specs.Content.{Content, text, script}
-use Rattle.ic_check.specs.Files.{IsLook, told}
-use Rattle.ic_check.specs.declared.files.Layout.{Layout}
 use Rattle.ic_check.specs.declared.files.Verdict.{Verdict}
 use Rattle.ic_check.specs.declared.files.Verdict.TheVariants.{Fine, Faulty, Unread}
 
@@ -24,9 +21,3 @@ verdict_by false = Fine
 abbrev pub content_by : (is_script : Bool) → (bytes : List ℕ) → Content
 content_by false bytes = text bytes
 content_by true bytes = script bytes
-
--- a front of the lines of the text of a path's file is written
-abbrev pub WritesPart : Layout → (Gives : List ℕ → Content → Type 0) → (path : List ℕ)
-    → (old new : Option (List ℕ)) → Type 0
-WritesPart layout Gives path old new = (lines : List ℕ) × (faulty : Bool)
-    × IsLook layout Gives path (told lines faulty) × AppendsFront old new [] lines

@@ -1,8 +1,8 @@
-use Rattle.ic_check.proofs.Stuck.{others_silent, stuck_idle, stuck_stays, stuck_told}
+use Rattle.ic_check.proofs.Stuck.{others_silent, stuck_found, stuck_idle, stuck_stays}
 use Rattle.ic_check.proofs.laws.pairs_without_a_rule_are_stuck.Goals as goal
 
-pub returns-clause-told : goal.returns-clause-told
-returns-clause-told c = stuck_told
+pub returns-clause-found : goal.returns-clause-found
+returns-clause-found c = stuck_found
 
 pub returns-clause-silent : goal.returns-clause-silent
 returns-clause-silent c = others_silent

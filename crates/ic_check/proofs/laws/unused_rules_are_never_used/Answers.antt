@@ -1,8 +1,8 @@
-use Rattle.ic_check.proofs.Reached.{one_reach, symbols_stay, told_never_taken}
+use Rattle.ic_check.proofs.Reached.{found_never_taken, one_reach, symbols_stay}
 use Rattle.ic_check.proofs.laws.unused_rules_are_never_used.Goals as goal
 
 pub returns-clause-unused : goal.returns-clause-unused
-returns-clause-unused c = told_never_taken
+returns-clause-unused c = found_never_taken
 
 pub returns-clause-symbols : goal.returns-clause-symbols
 returns-clause-symbols c = symbols_stay

@@ -1,11 +1,8 @@
-use Rattle.ic_check.proofs.Idle.{none_meet, told_apart}
+use Rattle.ic_check.proofs.Idle.{none_meet}
 use Rattle.ic_check.proofs.laws.where_none_meet_none_ever_do.Goals as goal
 
 pub returns-clause-steps : goal.returns-clause-steps
-returns-clause-steps c = λ rs place among a d e i told steps. none_meet rs a d e i (told_apart place among rs a.equations told) steps
-
-pub returns-clause-apart : goal.returns-clause-apart
-returns-clause-apart c = none_meet
+returns-clause-steps c = none_meet
 
 pub returns-clause-rounds : goal.returns-clause-rounds
 returns-clause-rounds c = λ rs a d n i is. none_meet rs a _ d i is (c.rounds_are_steps.ensures.iterate rs n a)

@@ -1,34 +1,37 @@
-use Rattle.std.proofs.Common.{◌≡◌, ◌+◌, ◌++◌, ◌∙◌, ◌||◌, Bool, List, ℕ, ap, sym, subst, arith, append_assoc}
-use Rattle.ic_check.specs.Scripts.{TellsOne}
+use Rattle.std.proofs.Common.{◌≡◌, ◌∙◌, ◌||◌, Bool, ap, sym, subst}
+use Rattle.ic_check.specs.Faults.{LineHasFaultIn}
+use Rattle.ic_check.proofs.LookedAt.{GoesOn, line_more, lines_end}
 use Rattle.ic_check.proofs.Split.{empty}
-use Rattle.ic_check.proofs.Told.{GoesOn, line_more, lines_end}
-use Rattle.ic_check.proofs.lines.check_lines.Goals.{then-faulty, else-faulty}
+use Rattle.ic_check.proofs.Written.{grows_more, grows_none}
+use Rattle.ic_check.proofs.lines.check_lines.Goals.{then-is_faulty, else-is_faulty}
 use Rattle.ic_check.proofs.lines.check_lines.Goals as goal
 
+pub loop-rest-init : goal.loop-rest-init
+loop-rest-init g c = record { goes_on = λ later is. is; grows = grows_none (g.W.Write.contents c.args.writer.now) }
+
 pub loop-rest-preserved : goal.loop-rest-preserved
-loop-rest-preserved c =
-    let One = TellsOne c.args.in_script c.args.file.now in
+loop-rest-preserved g c =
+    let One = LineHasFaultIn c.args.in_script in
     let text = c.args.text.now in
-    let here = c.in_ok-here.here in
-    let so = c.loop-rest.invariant.so_far in
-    let told = c.in_ok-here.ensures in
-    let joined : c.if-faulty.faulty ≡ (c.loop-rest.faulty || here) = elim c.if-faulty.branch [
-      | then-faulty w ↦ w.faulty-is ∙ w.if-faulty.true ∙ sym (ap (λ (b : Bool). b || here) w.if-faulty.true)
-      | else-faulty w ↦ w.faulty-is ∙ sym (ap (λ (b : Bool). b || here) w.if-faulty.false)
+    let here = c.in_ok-findings.findings.is_faulty in
+    let joined : c.if-is_faulty.is_faulty ≡ (c.loop-rest.is_faulty || here) = elim c.if-is_faulty.branch [
+      | then-is_faulty w ↦ w.is_faulty-is ∙ w.if-is_faulty.true ∙ sym (ap (λ (b : Bool). b || here) w.if-is_faulty.true)
+      | else-is_faulty w ↦ w.is_faulty-is ∙ sym (ap (λ (b : Bool). b || here) w.if-is_faulty.false)
     ] in
-    let goes = line_more One text c.loop-rest.rest.now c.split_line.result.0.now c.split_line.result.1.now so.0 told.0 c.loop-rest.number c.loop-rest.faulty here
-    c.split_line.ensures.lines told.1 so.2 in
     record {
-      few = omega (arith, c.loop-rest.invariant.few, c.split_line.ensures.shorter);
-      so_far = (
-        so.0 ++ told.0,
-        told.2 ∙ ap (λ (l : List ℕ). l ++ told.0) so.1 ∙ append_assoc c.args.out.now.items so.0 told.0,
-        subst (λ (b : Bool). GoesOn One text c.split_line.result.1.now (c.loop-rest.number + 1) (so.0 ++ told.0) b) (sym joined) goes,
-      );
+      goes_on = subst (λ (b : Bool). GoesOn One text c.split_line.result.1.now b) (sym joined)
+          (line_more One text c.loop-rest.rest.now c.split_line.result.0.now c.split_line.result.1.now c.loop-rest.is_faulty here
+          c.split_line.ensures.lines c.in_ok-findings.ensures c.loop-rest.invariant.goes_on);
+      grows = grows_more (g.W.Write.contents c.args.writer.now) (g.W.Write.contents c.loop-rest.writer) (g.W.Write.contents c.write_findings.new.writer)
+          c.loop-rest.invariant.grows c.in_ok-write_findings.ensures.grows;
     }
 
-pub returns : goal.returns
-returns c =
-    let so = c.loop-rest.invariant.so_far in
+pub returns-in_err-write_findings-clause-grows : goal.returns-in_err-write_findings-clause-grows
+returns-in_err-write_findings-clause-grows g c =
+    grows_more (g.W.Write.contents c.args.writer.now) (g.W.Write.contents c.loop-rest.writer) (g.W.Write.contents c.write_findings.new.writer)
+    c.loop-rest.invariant.grows c.in_err-write_findings.ensures.grows
+
+pub returns-clause-faulty : goal.returns-clause-faulty
+returns-clause-faulty g c =
     let none = empty c.loop-rest.rest.now (sym c.is_empty.ensures ∙ c.loop-rest-test.false) in
-    (so.0, lines_end (TellsOne c.args.in_script c.args.file.now) c.args.text.now c.loop-rest.rest.now so.0 c.loop-rest.number c.loop-rest.faulty none so.2, so.1)
+    lines_end (LineHasFaultIn c.args.in_script) c.args.text.now c.loop-rest.rest.now c.loop-rest.is_faulty none c.loop-rest.invariant.goes_on

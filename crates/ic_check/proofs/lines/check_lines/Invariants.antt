@@ -1,14 +1,15 @@
-use Rattle.std.proofs.Common.{◌≡◌, ◌≤◌, ◌++◌, ◌+◌, List, ℕ, length}
-use Rattle.ic_check.specs.Scripts.{TellsOne}
-use Rattle.ic_check.proofs.Told.{GoesOn}
+use Rattle.std.proofs.Common.{length}
+use Rattle.ic_check.specs.Faults.{LineHasFaultIn}
+use Rattle.ic_check.specs.Files.{Grows}
+use Rattle.ic_check.proofs.LookedAt.{GoesOn}
 use Rattle.ic_check.proofs.lines.check_lines.Given as goal
 
--- what is told so far, and whatever is told of what is left, is told of the whole
+-- whatever is so of what is left is so of the whole
 abbrev pub invariant-loop-rest : goal.invariant-loop-rest
-invariant-loop-rest l = record {
-  few : l.number + length l.rest ≤ length l.text + 1;
-  so_far : (so_far : List ℕ) × (l.out.items ≡ l.fn.out.items ++ so_far) × GoesOn (TellsOne l.in_script l.file) l.text l.rest l.number so_far l.faulty;
+invariant-loop-rest g l = record {
+  goes_on : GoesOn (LineHasFaultIn l.in_script) l.text l.rest l.is_faulty;
+  grows : Grows (g.W.Write.contents l.fn.writer) (g.W.Write.contents l.writer);
 }
 
 abbrev pub decreases-loop-rest : goal.decreases-loop-rest
-decreases-loop-rest l = length l.rest
+decreases-loop-rest g l = length l.rest

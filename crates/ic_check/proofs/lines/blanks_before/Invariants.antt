@@ -1,7 +1,0 @@
-use Rattle.std.proofs.Common.{◌≡◌, ◌+◌, drop}
-use Rattle.ic_check.specs.Telling.{blanks_before}
-use Rattle.ic_check.proofs.lines.blanks_before.Given as goal
-
--- the blanks so far, and those of what is left
-abbrev pub invariant-loop-place : goal.invariant-loop-place
-invariant-loop-place l = record { all : l.place + blanks_before (drop l.place l.line) ≡ blanks_before l.line }
