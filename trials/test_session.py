@@ -75,6 +75,11 @@ class Session(Trial):
         self.equals(ran.command, "what is told", (0, as_lines(told)), (ran.status, ran.err))
         self.serves(self.jobs, "list", ["jobs sum:done:0 two:done:2 over:halted:0"])
 
+    def test_a_last_line_without_a_line_feed_is_told_before_jobs_without_a_result(self):
+        lines = as_lines(["submit sum {Add(x,x)><Z} <r|Ad(r,Z)=Z>", "run 10"]) + b"lists"
+        told = [TOLD[0].replace("1", "3", 1), "job sum is done, but stuck: there is no rule for Ad><Z"]
+        self.serves(self.jobs, lines, ["accepted", "ran 0", "bad syntax"], "--explain", err=told)
+
     def test_lines_that_were_read_are_told_of_where_a_fault_ends_the_serving(self):
         given = f"lists\nsubmit two {TWO.text}\nfetch one two\nli"
         ran = run("serve", "--disk", self.jobs, "--explain", given=given, **grows_to(0))

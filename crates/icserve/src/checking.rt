@@ -6,11 +6,12 @@ use ic_args::ReportFormat;
 use ic_causes::{NotedInput, NotedOutput, Notes, cause_line};
 use ic_check::{Given, Layout, Source, check_files};
 use ic_exits::{Failure, check_ending};
+use ic_streams::StreamFault;
 use std::alloc::{AllocError, Global};
-use std::io;
+use std::io::{self, BufWriter};
 
-/// Prints the faults and warnings of the files of these paths, which are scripts or not, in their order and this format;
-/// for `-` standard input is read. One that can't be read doesn't keep the others from being checked; why it can't is
+/// Prints the faults and warnings of the files of these paths, which are scripts or not, in their order and this format,
+/// each as it is found; for `-` standard input is read. One that can't be read doesn't keep the others from being checked; why it can't is
 /// appended to `told`.
 pub(crate) fn check(
     rt: &HostRuntime,
@@ -21,7 +22,10 @@ pub(crate) fn check(
     told: &mut Vec<u8>,
 ) -> Result<(), Failure> {
     let source = FileSource { rt, is_script };
-    let mut output = NotedOutput::new(io::writer(rt), notes);
+    let output = NotedOutput::new(io::writer(rt), notes);
+    let Ok(mut output) = BufWriter::new(rt.alloc(), output) else {
+        return Err(Failure::Stream(StreamFault::Memory));
+    };
     let layout = match format {
         ReportFormat::Text => Layout::Lines,
         ReportFormat::Json => Layout::Objects,

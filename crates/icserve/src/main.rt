@@ -575,46 +575,45 @@ fn serve_session<T: Threads + Wait + Copy + Send + 'static>(
 ) -> Result<(), Failure> {
     let book = open(rt, path, notes)?;
     let mut session = Session::new(rt, NotedInput::new(rt.reader(), notes), explains);
-    let served = serve(rt, threads, book, &mut session, making, explains, notes);
-    let served = served.map_err(Failure::Serve);
-    match &served {
-        Ok(()) => session.end(),
-        Err(failure) if failure.is_silent(notes.last()) => {}
-        Err(_) => session.end_at_fault(),
-    }
-    served
+    serve(rt, threads, book, &mut session, making, explains, notes)
 }
 
-/// Serves the lines of an input over the book, and closes it. Answers to lines that were read together are
+/// Serves the lines of a session over the book, and closes it. Answers to lines that were read together are
 /// written together; every answer is flushed before the input is waited for, and also where the serving ended at a fault.
 /// Standard error is told at the first line with a fault how to learn more, unless faults are explained there. If they
-/// are, it is told at the end of jobs that go no further and have come to no result.
+/// are, it is told at the end of the last lines, and then of jobs that go no further and have come to no result.
 fn serve<T: Threads + Wait + Copy + Send + 'static, R: Read>(
     rt: &HostRuntime,
     threads: &T,
     mut book: Book<NotedDisk<'_>>,
-    input: &mut R,
+    session: &mut Session<'_, R>,
     making: Making,
     explains: bool,
     notes: &Notes,
-) -> Result<(), ServeFault> {
+) -> Result<(), Failure> {
     let progress = Progress::new(rt);
     let output = WipedFirst::new(&progress, NotedOutput::new(io::writer(rt), notes));
     let output = Answers::new(rt, output, explains);
     let Ok(mut output) = BufWriter::with_capacity(rt.alloc(), ANSWERS, output) else {
         book.close();
-        return Err(ServeFault::Memory);
+        return Err(Failure::Serve(ServeFault::Memory));
     };
     let served = serve_over(
         rt,
         threads,
         &mut book,
-        input,
+        session,
         making,
         &progress,
         &mut output,
     );
+    let served = served.map_err(Failure::Serve);
     progress.wipe();
+    match &served {
+        Ok(()) => session.end(),
+        Err(failure) if failure.is_silent(notes.last()) => {}
+        Err(_) => session.end_at_fault(),
+    }
     if explains || rt.stderr().is_terminal() {
         tell_of_jobs(rt, book.table().jobs());
     }

@@ -2,7 +2,6 @@
 
 use ic_check::tell_refusals;
 use ic_diagnostics::last_line;
-use ic_serving::MAX_LINES;
 use std::alloc::AllocError;
 use std::io::{self, IsTerminal, Read, Write};
 
@@ -72,9 +71,7 @@ impl<'a, R> Session<'a, R> {
         let alloc = self.rt.alloc();
         let (front, rest) = self.kept.split_at(count.min(self.kept.len()));
         let mut told = Vec::new(alloc);
-        // A serving has no more lines.
-        let number = self.number.min(MAX_LINES as u64);
-        let next = tell_refusals(alloc, number, front, &mut told)?;
+        let next = tell_refusals(alloc, self.number, front, &mut told)?;
         let rest = rest.to_vec(alloc)?;
         self.number = next;
         self.kept = rest;
