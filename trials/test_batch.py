@@ -67,6 +67,19 @@ class Batch(Trial):
         self.serves(self.path, "list", ["jobs two:done:2"])
         self.brings(b"", [])
 
+    def test_halted_jobs_are_told_with_status_7_after_the_answers(self):
+        """So they are where the batch is called again, but not by a batch of other lines."""
+        over = "submit {} {{A><B(C(C(D)))}} <|A=B(P)," + "C(" * 8187 + "D" + ")" * 8187 + "=Q>"
+        lines = [over.format("over"), submitted("two", TWO), over.format("more")]
+        words = self.words(lines)
+        told = as_lines(f"icserve: halted {it}: next round overgrown" for it in ("over", "more"))
+        for _ in range(2):
+            ran = run(*words)
+            self.equals(ran.command, "status and what is told", (7, told), (ran.status, ran.err + ran.after))
+            answers = [it.split(b" <")[0] for it in ran.out.splitlines()]
+            self.equals(ran.command, "the answers", [b"over halted 0", b"two done 2", b"more halted 0"], answers)
+        self.brings([submitted("two", TWO)], [end_of("two", TWO, 9)])
+
     def test_the_disk_is_made_or_finished(self):
         """A file that is missing, one that is empty, and what a stopped `create` has left of one."""
         self.runs("create", "--disk", self.path)

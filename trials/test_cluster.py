@@ -4,7 +4,7 @@ import os
 import shutil
 
 from known import LOOP, TWO
-from program import IN_MEMORY, Server, grows_to, run
+from program import IN_MEMORY, Server, as_lines, grows_to, run
 from shards import SCRIPTS, Shards
 
 LOOPING = f"submit loop {LOOP.text}"
@@ -163,6 +163,29 @@ class Scripts(Shards):
         answers = [f"j{at} done 0 {it}\n" for at, it in enumerate(stuck + whole)]
         (shard / "answers").write_text("".join([*answers, "run running 2 <|A=B>\n"]))
         self.ended(self.script("progress", "jobs"), out=[of_shards[1], of_jobs])
+
+    def test_progress_tells_jobs_of_a_spoilt_disk_as_unread(self):
+        """Not those of a disk that a stopped shard has begun to make."""
+        folder = self.cut([LOOPING, TWICE, NONE], 2)
+        disk = folder / "00001/disk"
+        shards = "2 shards: answered 0, begun 1, waiting 1"
+        counts = "3 jobs: running 0, paused 0, done 0 (stuck 0), spent 0, halted 0, waiting {}, rounds 0"
+        none = "00001: running 0, paused 0, done 0 (stuck 0), spent 0, halted 0, rounds 0"
+        self.runs("create", "--disk", disk)
+        new = disk.read_bytes()
+        for begun in (b"", new, bytes(len(new)), b"\0" + new[1:], new[:100], bytes(5)):
+            disk.write_bytes(begun)
+            self.ended(self.script("progress", "jobs"), out=[none, shards, counts.format(3)])
+        disk.write_bytes(new)
+        self.serves(disk, TWICE, ["accepted"])
+        whole = disk.read_bytes()
+        fault = "progress: jobs/00001/disk is no disk that a server takes"
+        for spoilt in (b"no disk at all", bytes(len(whole)), b"\1" * len(whole)):
+            disk.write_bytes(spoilt)
+            ran = self.script("progress", "jobs")
+            out = as_lines(["00001: unread", shards, counts.format("1, unread 2")])
+            self.equals(ran.command, "status and output", (1, out), (ran.status, ran.out))
+            self.equals(ran.command, f"the last line of {ran.err}", fault, ran.err.decode().splitlines()[-1])
 
     def test_the_program_is_that_on_the_path_or_that_of_the_clone(self):
         """Where ICSERVE names none, a script runs the icserve on the path, and else the one beside the folder of the scripts."""

@@ -126,6 +126,17 @@ class Lives(Shards):
         answers = [f"spent spent 7 {LOOP.config(7)}", f"loop running 20 {LOOP.config(20)}", "two done 2 <S(S(Z))|>"]
         self.ended(self.script("gather", "jobs"), out=answers)
 
+    def test_a_shard_with_a_halted_job_has_its_answers_and_says_so_with_status_7(self):
+        over = "submit over {A><B(C(C(D)))} <|A=B(P)," + "C(" * 8187 + "D" + ")" * 8187 + "=Q>"
+        folder = self.cut([TWICE, over])
+        self.ended(self.shard(), err=["icserve: halted over: next round overgrown"], status=7)
+        self.has(folder, "answers", "disk", "lines", "lock")
+        before = (folder / "00001/answers").read_bytes()
+        self.ended(self.shard(), err=["shard: halted over"], status=7)
+        self.holds(folder / "00001/answers", before)
+        answers = [it.rpartition(" ")[0] for it in self.script("gather", "jobs").out.decode().splitlines()]
+        self.equals(folder, "what is gathered", ["two done 2", "over halted 0"], answers)
+
     def test_a_shard_that_another_one_runs_is_refused_with_status_6(self):
         folder = self.cut([TWICE])
         with open(folder / "00001/lock", "w") as lock:

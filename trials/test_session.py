@@ -48,7 +48,8 @@ def still_of(held):
         if ", stuck " in line:
             yield f"job {name} is done, but stuck: there is no rule for {line.partition(', stuck ')[2]}"
         elif state == "halted":
-            yield f"job {name} is halted: no further round of it can be made; `icserve inspect` tells why"
+            why = line.partition("active pairs ")[2].partition(", ")[2]
+            yield f"job {name} is halted: {why}" if why else f"job {name} is halted"
 
 
 class Session(Trial):
@@ -70,7 +71,7 @@ class Session(Trial):
         over = "submit over {A><B(C(C(D)))} <|A=B(P)," + "C(" * 8187 + "D" + ")" * 8187 + "=Q>"
         lines = ["submit sum {Add(x,x)><Z} <r|Ad(r,Z)=Z>", f"submit two {TWO.text}", over, "run 10"]
         told = ["job sum is done, but stuck: there is no rule for Ad><Z"]
-        told += ["job over is halted: no further round of it can be made; `icserve inspect` tells why"]
+        told += ["job over is halted: next round overgrown"]
         ran = run("serve", "--disk", self.jobs, "--explain", given=lines)
         self.equals(ran.command, "what is told", (0, as_lines(told)), (ran.status, ran.err))
         self.serves(self.jobs, "list", ["jobs sum:done:0 two:done:2 over:halted:0"])

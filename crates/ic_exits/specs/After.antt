@@ -32,7 +32,7 @@ use Rattle.ic_batch.specs.declared.fault.Difference.{Difference}
 use Rattle.ic_batch.specs.declared.fault.Difference.TheVariants as difference
 use Rattle.ic_exits.specs.declared.failure.Failure.{Failure}
 use Rattle.ic_exits.specs.declared.failure.Failure.TheVariants.{Words, Stream, Disk, Locked, Create, NotEmpty, Open, Serve, Attend, Dump, Inspect, Jobs, Batch, Faults, NotDone}
-use Rattle.ic_exits.specs.declared.failure.Failure.TheVariants.{Round, Overgrown, TableFull, OutOfMemory, Kept}
+use Rattle.ic_exits.specs.declared.failure.Failure.TheVariants.{Round, Overgrown, TableFull, OutOfMemory, Kept, Halted}
 use Rattle.ic_exits.specs.declared.failure.Reached.{Reached}
 use Rattle.ic_by_rounds.specs.declared.refusal.Refusal.{Refusal}
 use Rattle.ic_round.specs.declared.round_fault.RoundFault.{RoundFault}
@@ -287,6 +287,7 @@ lines_after (Batch fault) path cause = batch_lines fault path cause
 lines_after (Inspect fault) path cause = inspect_lines fault path cause
 lines_after (Words fault) path cause = []
 lines_after (Stream fault) path cause = stream_lines fault path cause
+lines_after (Halted lines) path cause = []
 lines_after Faults path cause = []
 lines_after NotDone path cause = []
 lines_after (Round refusal) path cause = round_lines refusal

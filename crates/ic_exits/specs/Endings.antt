@@ -43,7 +43,7 @@ use Rattle.ic_inspect.specs.declared.fault.InspectFault.TheVariants as inspect
 use Rattle.ic_args.specs.declared.words.WordsFault.TheVariants as words
 use Rattle.ic_exits.specs.declared.failure.Failure.{Failure}
 use Rattle.ic_exits.specs.declared.failure.Failure.TheVariants.{Words, Stream, Disk, Locked, Create, NotEmpty, Open, Serve, Attend, Dump, Inspect, Jobs, Batch, Faults, NotDone}
-use Rattle.ic_exits.specs.declared.failure.Failure.TheVariants.{Round, Overgrown, TableFull, OutOfMemory, Kept}
+use Rattle.ic_exits.specs.declared.failure.Failure.TheVariants.{Round, Overgrown, TableFull, OutOfMemory, Kept, Halted}
 use Rattle.ic_exits.specs.declared.failure.Reached.{Reached}
 use Rattle.ic_in_place.specs.declared.running.End.{End}
 use Rattle.ic_in_place.specs.declared.running.End.TheVariants as end
@@ -101,7 +101,7 @@ kept_status (keeping.Keep fault) = 4
 
 -- the exit status: 1 for a refused text, round or job and for a net that is too large, 2 for refused
 -- words, 3 for a disk, 5 for rounds or interactions that didn't suffice, 6 for a disk that another
--- server has, 4 for all else
+-- server has, 7 for jobs that were halted, 4 for all else
 abbrev pub status_of : Failure → ℕ
 status_of (Words (words.Words text)) = 2
 status_of (Words words.Memory) = 4
@@ -121,6 +121,7 @@ status_of (Inspect fault) = inspect_status fault
 status_of (Jobs fault) = jobs_status fault
 status_of (Batch fault) = batch_status fault
 status_of Locked = 6
+status_of (Halted lines) = 7
 status_of Faults = 1
 status_of NotDone = 5
 status_of (Round refusal) = 1
@@ -239,7 +240,7 @@ kept_word (keeping.Keep fault) = keep_word fault
 abbrev pub told : List ℕ → List ℕ
 told word = codes "icserve: " ++ word ++ 10 ∷ []
 
--- the line on standard error; refused words have a text of their own
+-- the line on standard error; refused words have a text of their own, and each halted job has a line
 abbrev pub failure_line : Failure → List ℕ
 failure_line (Words (words.Words text)) = string_bytes text
 failure_line (Words words.Memory) = told (codes "memory")
@@ -255,6 +256,7 @@ failure_line (Dump fault) = told (dump_word fault)
 failure_line (Inspect fault) = told (inspect_word fault)
 failure_line (Jobs fault) = told (jobs_word fault)
 failure_line (Batch fault) = told (batch_word fault)
+failure_line (Halted lines) = lines.items
 failure_line Faults = told (codes "faults")
 failure_line NotDone = told (codes "not done")
 failure_line (Round refusal) = told (round_word refusal.fault)

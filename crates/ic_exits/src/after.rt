@@ -85,7 +85,9 @@ impl Failure {
             Failure::TableFull(reached) | Failure::OutOfMemory(reached) => {
                 reached_lines(alloc, *reached)
             }
-            Failure::Dump(_) | Failure::Jobs(_) | Failure::Faults => Ok(Vec::new(alloc)),
+            Failure::Dump(_) | Failure::Jobs(_) | Failure::Halted(_) | Failure::Faults => {
+                Ok(Vec::new(alloc))
+            }
             Failure::Batch(fault) => batch_lines(alloc, *fault, path, cause),
             Failure::Inspect(fault) => inspect_lines(alloc, *fault, path, cause),
             Failure::Kept(fault) => kept_lines(alloc, *fault, path, cause),

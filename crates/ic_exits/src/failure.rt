@@ -70,6 +70,8 @@ pub enum Failure {
     Jobs(JobsFault),
     /// Jobs aren't brought to their ends, or not told.
     Batch(BatchFault),
+    /// The ends of jobs are written, and some of these were halted, as these lines tell.
+    Halted(Vec<u8>),
     /// A text that was looked over has a fault.
     Faults,
     /// All rounds or interactions were made of what was to be reduced, and a step is still possible.
@@ -89,7 +91,7 @@ pub enum Failure {
 impl Failure {
     /// The exit status of the program: 1 for a refused text, round, script or job and for a net that
     /// is too large, 2 for refused words, 3 for a disk, 5 for rounds or interactions that didn't
-    /// suffice, 6 for a disk that another process has, and 4 for all else.
+    /// suffice, 6 for a disk that another process has, 7 for jobs that were halted, and 4 for all else.
     pub fn status(&self) -> u8
         ensures { result ≡ status_of self.now }
     {
@@ -106,6 +108,7 @@ impl Failure {
             Failure::Jobs(fault) => jobs_status(*fault),
             Failure::Batch(fault) => batch_status(*fault),
             Failure::Locked => 6,
+            Failure::Halted(_) => 7,
             Failure::Faults => 1,
             Failure::NotDone => 5,
             Failure::Round(_) => 1,
@@ -116,7 +119,7 @@ impl Failure {
     }
 
     /// The line for standard error, with its line feed. Of refused words it is the text that says
-    /// what is wrong with them.
+    /// what is wrong with them, and of halted jobs the lines that tell of them.
     pub fn line(&self, alloc: Global) -> Result<Vec<u8>, AllocError>
         ensures { IfOk result (λ line. line.items ≡ failure_line self.now) }
     {
@@ -135,6 +138,7 @@ impl Failure {
             Failure::Inspect(fault) => told(alloc, inspect_word(*fault)),
             Failure::Jobs(fault) => jobs_line(alloc, *fault),
             Failure::Batch(fault) => batch_line(alloc, *fault),
+            Failure::Halted(lines) => lines.to_vec(alloc),
             Failure::Faults => told(alloc, b"faults"),
             Failure::NotDone => told(alloc, b"not done"),
             Failure::Round(refusal) => told(alloc, round_word(refusal.fault)),

@@ -31,7 +31,7 @@ ghost use Rattle.ic_lines.specs.declared.script.ScriptFault.{ScriptFault};
 ghost use Rattle.ic_scripts.specs.declared.fault.ScriptsFault.TheVariants as scripts;
 ghost use Rattle.ic_exits.specs.declared.failure.Failure.{Failure};
 ghost use Rattle.ic_exits.specs.declared.failure.Failure.TheVariants.{Words, Stream, Disk, Locked, Create, NotEmpty, Open, Serve, Attend, Dump, Inspect, Jobs, Batch, Faults, NotDone};
-ghost use Rattle.ic_exits.specs.declared.failure.Failure.TheVariants.{Round, Overgrown, TableFull, OutOfMemory, Kept};
+ghost use Rattle.ic_exits.specs.declared.failure.Failure.TheVariants.{Round, Overgrown, TableFull, OutOfMemory, Kept, Halted};
 ghost use Rattle.ic_by_rounds.specs.declared.refusal.Refusal.{Refusal};
 ghost use Rattle.ic_exits.specs.declared.failure.Reached.{Reached};
 ghost use Rattle.ic_in_place.specs.declared.running.End.TheVariants as end;
@@ -59,8 +59,9 @@ ghost use Rattle.ic_causes.specs.Causes.{cause_line, shown_path};
 
 /// The exit status is 2 for refused words, 1 for a refused text, round, script or job and for a net
 /// that is too large, 3 for a disk that isn't made or opened, 5 for rounds or interactions that
-/// didn't suffice, 6 for a disk that another process has, and 4 for all else.
-pub fn statuses_are(text: &String)
+/// didn't suffice, 6 for a disk that another process has, 7 for jobs that were halted, and 4 for all
+/// else. What is told of halted jobs is what the program was given, and nothing after it.
+pub fn statuses_are(text: &String, lines: &Vec<u8>)
     ensures words { status_of (Words (words.Words text.now)) ≡ 2 }
     ensures text { (fault : TextFault) → status_of (Stream (stream.Text fault)) ≡ 1 }
     ensures round { (fault : RoundFault) → status_of (Stream (stream.Round fault)) ≡ 1 }
@@ -86,6 +87,10 @@ pub fn statuses_are(text: &String)
     ensures full { status_of (Batch batch.Full) ≡ 1 }
     ensures stopped_batch { (fault : ServeFault) → status_of (Batch (batch.Serve fault)) ≡ 4 }
     ensures locked { status_of Locked ≡ 6 }
+    ensures halted { status_of (Halted lines.now) ≡ 7 }
+    ensures halted_jobs { failure_line (Halted lines.now) ≡ lines.now.items }
+    ensures after_halts { (path : List ℕ) (cause : Option Cause)
+        → lines_after (Halted lines.now) path cause ≡ [] }
     ensures faults { status_of Faults ≡ 1 }
     ensures not_done { status_of NotDone ≡ 5 }
     ensures overgrown { (reached : Reached) (nodes : ℕ) → status_of (Overgrown reached nodes) ≡ 1 }

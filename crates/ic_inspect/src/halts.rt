@@ -21,7 +21,7 @@ pub enum Halt {
 }
 
 /// Why no further round of a job can be made, if it is halted and none can.
-pub(crate) fn halt_of(alloc: Global, job: &Job) -> Result<Option<Halt>, AllocError>
+pub fn halt_of(alloc: Global, job: &Job) -> Result<Option<Halt>, AllocError>
     ensures { IfOk result (λ halt. halt ≡ halt_of job.now) }
 {
     match job.state() {
@@ -55,7 +55,7 @@ fn refused_by(alloc: Global, job: &Job) -> Result<Option<Halt>, AllocError>
 }
 
 /// The words that tell why no further round can be made.
-pub(crate) fn halt_words(halt: Halt) -> &'static [u8]
+pub fn halt_words(halt: Halt) -> &'static [u8]
     ensures { result.now ≡ halt_words halt }
 {
     match halt {

@@ -19,7 +19,7 @@ mod telling;
 
 pub use choosing::Newest;
 pub use fault::InspectFault;
-pub use halts::Halt;
+pub use halts::{Halt, halt_of, halt_words};
 pub use inspecting::{Layout, inspect};
 pub use reading::{Slots, read_slots};
 pub use seen::{Body, Seen};

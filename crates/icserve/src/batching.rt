@@ -5,6 +5,7 @@ ghost use Rattle.std.specs.Str.{bytes_eq};
 ghost use Rattle.ic_batch.specs.Jobs.{names};
 
 use crate::scripts::{line_of, read_file};
+use crate::standstill::halted_lines;
 use crate::{Making, NotedDisk, book_on, open_disk, put_empty, without_slot};
 use ic_batch::{BatchFault, JobsCause, JobsFault, NewJob, read_jobs};
 use ic_book::{Book, OpenCause};
@@ -12,9 +13,11 @@ use ic_causes::{NotedOutput, Notes, shown_path};
 use ic_check::check_line;
 use ic_disk::Disk;
 use ic_exits::{Failure, refused_job_line};
+use ic_jobs::Table;
 use ic_pool::Gate;
 use ic_progress::{Progress, WipedFirst};
 use ic_scripts::ScriptsFault;
+use ic_serving::ServeFault;
 use ic_slots::is_unused;
 use std::alloc::{AllocError, Global};
 use std::io::{self, Write};
@@ -49,7 +52,7 @@ pub(crate) fn batch<T: Threads + Wait + Copy + Send + 'static>(
         }
     };
     let book = made_book(rt, files.disk, notes)?;
-    bring(rt, threads, book, &jobs, most, making, notes).map_err(Failure::Batch)
+    bring(rt, threads, book, &jobs, most, making, notes)
 }
 
 /// The bytes of the file of lines.
@@ -108,7 +111,8 @@ fn new_book<'a>(rt: &HostRuntime, disk: NotedDisk<'a>) -> Result<Book<NotedDisk<
     book_on(rt, disk)
 }
 
-/// Brings the jobs to their ends over the book, writes what they came to, and closes the book.
+/// Brings the jobs to their ends over the book, writes what they came to, and closes the book. Jobs that
+/// were halted are a failure, after what they came to is written.
 fn bring<T: Threads + Wait + Copy + Send + 'static>(
     rt: &HostRuntime,
     threads: &T,
@@ -117,7 +121,7 @@ fn bring<T: Threads + Wait + Copy + Send + 'static>(
     most: u64,
     making: Making,
     notes: &Notes,
-) -> Result<(), BatchFault>
+) -> Result<(), Failure>
     requires { IsDistinct bytes_eq (names jobs.now) }
 {
     let progress = Progress::new(rt);
@@ -133,8 +137,21 @@ fn bring<T: Threads + Wait + Copy + Send + 'static>(
         &mut output,
     );
     progress.wipe();
+    let ended = match brought {
+        Ok(()) => ending(rt.alloc(), book.table(), jobs),
+        Err(fault) => Err(Failure::Batch(fault)),
+    };
     book.close();
-    brought
+    ended
+}
+
+/// How a batch ends that has written what its jobs came to in this table: well, or with those that were halted.
+fn ending(alloc: Global, table: &Table, jobs: &[NewJob]) -> Result<(), Failure> {
+    match halted_lines(alloc, table, jobs) {
+        Ok(lines) if lines.is_empty() => Ok(()),
+        Ok(lines) => Err(Failure::Halted(lines)),
+        Err(_) => Err(Failure::Batch(BatchFault::Serve(ServeFault::Memory))),
+    }
 }
 
 /// The same over any book, to any output. The book stays open.

@@ -1,16 +1,17 @@
-//! What standard error is told at the end of a serving of jobs that go no further and have come to no result.
+//! What standard error is told of jobs that go no further and have come to no result.
 
+use ic_batch::NewJob;
 use ic_by_rounds::stuck_text;
-use ic_jobs::{Job, State};
+use ic_inspect::{halt_of, halt_words};
+use ic_jobs::{Job, State, Table};
 use std::alloc::{AllocError, Global};
 use std::io::Write;
 
 /// What is said of a job that is done with a stuck pair, before the pair.
 const STUCK: &[u8] = b" is done, but stuck: there is no rule for ";
 
-/// What is said of a job that is halted.
-const HALTED: &[u8] =
-    b" is halted: no further round of it can be made; `icserve inspect` tells why\n";
+/// What is said of a job that is halted, before the cause.
+const HALTED: &[u8] = b" is halted";
 
 /// Tells of each of these jobs that is done with a stuck pair, and of each that is halted.
 pub(crate) fn tell_of_jobs(rt: &HostRuntime, jobs: &[Job]) {
@@ -36,6 +37,7 @@ fn line_of(alloc: Global, job: &Job) -> Result<Vec<u8>, AllocError> {
         State::Halted => {
             put_name(job, &mut line)?;
             line.extend_from_slice(HALTED)?;
+            put_cause(alloc, job, &mut line)?;
         }
         State::Running | State::Paused | State::Spent => {}
     }
@@ -46,4 +48,39 @@ fn line_of(alloc: Global, job: &Job) -> Result<Vec<u8>, AllocError> {
 fn put_name(job: &Job, line: &mut Vec<u8>) -> Result<(), AllocError> {
     line.extend_from_slice(b"job ")?;
     line.extend_from_slice(job.name().as_bytes())
+}
+
+/// Appends why no further round of a halted job can be made, if none can, and ends the line.
+fn put_cause(alloc: Global, job: &Job, line: &mut Vec<u8>) -> Result<(), AllocError> {
+    if let Some(halt) = halt_of(alloc, job)? {
+        line.extend_from_slice(b": ")?;
+        line.extend_from_slice(halt_words(halt))?;
+    }
+    line.push(b'\n')?;
+    Ok(())
+}
+
+/// A line for each of these jobs that is halted in the table, which says why.
+pub(crate) fn halted_lines(
+    alloc: Global,
+    table: &Table,
+    jobs: &[NewJob],
+) -> Result<Vec<u8>, AllocError> {
+    let mut lines = Vec::new(alloc);
+    for new in jobs {
+        if let Some(job) = table.get(new.name) {
+            put_halted(alloc, job, &mut lines)?;
+        }
+    }
+    Ok(lines)
+}
+
+/// Appends the line of a job, if it is halted.
+fn put_halted(alloc: Global, job: &Job, lines: &mut Vec<u8>) -> Result<(), AllocError> {
+    if job.state() == State::Halted {
+        lines.extend_from_slice(b"icserve: halted ")?;
+        lines.extend_from_slice(job.name().as_bytes())?;
+        put_cause(alloc, job, lines)?;
+    }
+    Ok(())
 }
