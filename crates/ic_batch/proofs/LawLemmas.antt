@@ -1,8 +1,8 @@
 -- Ways and their ends.
-use Rattle.std.proofs.Common.{◌≡◌, ⊎_elim, ℕ, zero, suc, ◌+◌, ◌-◌, ◌<◌, ◌≤◌, List, [], ◌∷◌, ◌++◌, Bool, true, false, None, Some, Option, refl, sym, ap, ap₂, subst, ◌∙◌, arith}
+use Rattle.std.proofs.Common.{◌≡◌, ⊎_elim, ℕ, zero, suc, ◌+◌, ◌-◌, ◌<◌, ◌≤◌, List, [], ◌∷◌, ◌++◌, Bool, true, false, ◌&&◌, None, Some, Option, refl, sym, ap, ap₂, subst, ◌∙◌, arith}
 use Rattle.std.specs.Prelude.{IfSome, if◌then◌else◌}
 use Rattle.std.specs.List.{AllByRecursion, AllZip}
-use Rattle.std.proofs.lemmas.Bool.{cases_lt, ltb-true}
+use Rattle.std.proofs.lemmas.Bool.{cases_lt, lt-ltb, ltb-true}
 use Rattle.ic_round.specs.Rounds.{iterate, round}
 use Rattle.ic_jobs.specs.declared.state.State.TheVariants.{Halted}
 use Rattle.ic_jobs.specs.Job.{JobParts, can_move, moved, in_state}
@@ -12,9 +12,9 @@ use Rattle.ic_batch.specs.declared.fault.Difference.{Difference}
 use Rattle.ic_batch.specs.declared.fault.Difference.TheVariants as difference
 use Rattle.ic_batch.specs.Faults.{AreSame, HasAnother, IsSame}
 use Rattle.ic_batch.specs.Jobs.{begun_by}
-use Rattle.ic_batch.specs.Way.{goes_on, after_event, after, IsOnWay, ComesTo, AreOnWay, IsTextOf, IsIterate, lines_of}
+use Rattle.ic_batch.specs.Way.{goes_on, gone_on, after_event, after, IsOnWay, ComesTo, AreOnWay, IsTextOf, IsIterate, lines_of}
 use Rattle.ic_batch.proofs.DueLemmas.{few}
-use Rattle.ic_batch.proofs.WayLemmas.{after_more, stands_on}
+use Rattle.ic_batch.proofs.WayLemmas.{after_more, runs, stands_on}
 
 -- ---- one end
 
@@ -119,3 +119,39 @@ not_same jobs t name is same another =
     let there : job_named new.name t ≡ Some another.job = ap (λ (n : List ℕ). job_named n t) another.named ∙ another.there in
     let on = subst (λ (o : Option JobParts). IfSome o (IsSame new)) there one in
     on is another.differs
+
+-- ---- jobs that may make more rounds, and jobs as they began
+
+goes_further : (most more : ℕ) → most ≤ more → (j : JobParts) → goes_on most j ≡ true → goes_on more j ≡ true
+goes_further most more less j goes =
+    let below = ltb-true j.rounds most (few most j goes) in
+    ap₂ (λ (a b : Bool). a && b) (runs most j goes) (lt-ltb j.rounds more (omega (arith, below, less)))
+
+after_further : (most more : ℕ) → most ≤ more → (from : JobParts) (n : ℕ) → (m : ℕ) × (after most n from ≡ after more m from)
+after_further most more less from zero = (0, refl)
+after_further most more less from (suc n) = by (goes_on most (after most n from)) refl (after_further most more less from n)
+  where
+    by : (b : Bool) → goes_on most (after most n from) ≡ b → (m : ℕ) × (after most n from ≡ after more m from)
+        → (m : ℕ) × ((if b then after_event (after most n from) else after most n from) ≡ after more m from)
+    by false is so = so
+    by true is so =
+        let j = after most n from in
+        let next : gone_on more j ≡ after_event j = ap (λ (b : Bool). if b then after_event j else j) (goes_further most more less j is) in
+        (suc so.0, sym next ∙ ap (gone_on more) so.1)
+
+named_further : (most more : ℕ) → most ≤ more → (from : JobParts) (o : Option JobParts) → IfSome o (IsOnWay most from) → IfSome o (IsOnWay more from)
+named_further most more less from None way = tt
+named_further most more less from (Some j) way = (let so = after_further most more less from way.0 in (so.0, way.1 ∙ so.1))
+
+pub way_further : (most more : ℕ) → most ≤ more → (jobs : List NewJob) (t : List JobParts) → AreOnWay most jobs t → AreOnWay more jobs t
+way_further most more less [] t ways = tt
+way_further most more less (new ∷ jobs) t ways =
+    (named_further most more less (begun_by new) (job_named new.name t) ways.0, way_further most more less jobs t ways.1)
+
+one_begins : (most : ℕ) (from : JobParts) (o : Option JobParts) → IfSome o (λ j. j ≡ from) → IfSome o (IsOnWay most from)
+one_begins most from None is = tt
+one_begins most from (Some j) is = (0, is)
+
+pub all_begin : (most : ℕ) (jobs : List NewJob) (t : List JobParts) → AllByRecursion (λ new. IfSome (job_named new.name t) (λ j. j ≡ begun_by new)) jobs → AreOnWay most jobs t
+all_begin most [] t are = tt
+all_begin most (new ∷ jobs) t are = (one_begins most (begun_by new) (job_named new.name t) are.0, all_begin most jobs t are.1)

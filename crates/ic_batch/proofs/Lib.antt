@@ -18,3 +18,5 @@ pub mod CallLemmas
 pub mod RunLemmas
 pub mod TakenLemmas
 pub mod NumberLemmas
+pub mod RoomLemmas
+pub mod LineLemmas

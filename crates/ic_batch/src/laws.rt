@@ -1,6 +1,6 @@
 //! Laws of the definitions that the contracts of this crate cite.
 
-ghost use Rattle.std.specs.Prelude.{◌≡◌, ◌≢◌, ◌<◌, ◌≤◌, ◌++◌, ◌+◌, ◌-◌, ◌*◌, ◌/◌, ◌^◌, ◌⊎◌, ℕ, List, [], ◌∷◌, Option, Result, Some, Ok, Err, false, true, length, map, slice_get, take};
+ghost use Rattle.std.specs.Prelude.{◌≡◌, ◌≢◌, ◌<◌, ◌≤◌, ◌++◌, ◌+◌, ◌-◌, ◌*◌, ◌/◌, ◌^◌, ◌⊎◌, ℕ, List, [], ◌∷◌, IfSome, Option, Result, Some, Ok, Err, false, true, length, map, slice_get, take};
 ghost use Rattle.std.specs.List.{AllByRecursion, IsDistinct, filter_map, flat_map};
 ghost use Rattle.std.specs.Io.KnownBytes.{Appends, Keeps};
 ghost use Rattle.std.specs.Str.{bytes_eq};
@@ -29,7 +29,7 @@ ghost use Rattle.ic_serving.specs.Faults.{ComesInLine};
 ghost use Rattle.ic_serving.specs.Moments.{Leaves};
 ghost use Rattle.ic_batch.specs.declared.fault.BatchFault.{BatchFault};
 ghost use Rattle.ic_batch.specs.declared.fault.BatchFault.TheVariants.{Full, Serve, Taken};
-ghost use Rattle.ic_batch.specs.Batch.{Brings, IsBatch};
+ghost use Rattle.ic_batch.specs.Batch.{Brings, IsBatch, IsOnWay as IsBookOnWay};
 ghost use Rattle.ic_batch.specs.Calls.{events_in, events_of, CallsFew};
 ghost use Rattle.ic_batch.specs.declared.fault.Difference.{Difference};
 ghost use Rattle.ic_batch.specs.declared.fault.JobsCause.{JobsCause};
@@ -71,7 +71,7 @@ pub fn jobs_have_one_text()
 {}
 
 /// Lines are refused at one that can't be read, for what reading them says, or at the first command that
-/// a table of the jobs before it refuses. `Read` isn't told of lines.
+/// a table of the jobs before it refuses. `Read` isn't told of lines, and lines of jobs aren't refused.
 pub fn lines_are_refused_so()
     ensures text { (text : List ℕ) (line : ℕ) (fault : TextFault)
         → SaysOfLines text (Line line (Text fault))
@@ -79,6 +79,16 @@ pub fn lines_are_refused_so()
     ensures refused { (text : List ℕ) (line : ℕ) (why : Refusal)
         → SaysOfLines text (Line line (Refused why)) → StopsAt text line (Refused why) }
     ensures never { (text : List ℕ) → ¬ SaysOfLines text Unreadable }
+    ensures jobs { (text : List ℕ) (jobs : List NewJob) (line : ℕ) (is : JobsCause)
+        → AreJobsOf text jobs → ¬ SaysOfLines text (Line line is) }
+{
+    ic_lines::laws::scripts_are_read_in_one_way();
+}
+
+/// No room is wanting to a batch that goes on where none was wanting when it began.
+pub fn a_batch_that_goes_on_has_room()
+    ensures { (most : ℕ) (jobs : List NewJob) (t u : List JobParts)
+        → IsUnderWay most jobs t u → ¬ HasNoRoom jobs t → ¬ HasNoRoom jobs u }
 {}
 
 /// While a batch is under way each job of its disk is there under its name, on its way, and in its
@@ -95,10 +105,25 @@ pub fn a_batch_loses_no_job()
         → IsUnderWay most jobs t u → take (length t) (job_names u) ≡ job_names t }
 {}
 
-/// In a table without jobs all jobs are on their way.
+/// In a table without jobs all jobs are on their way, and in one that has them as they began. They stay
+/// so where they may make more rounds.
 pub fn new_disks_have_jobs_on_their_way()
-    ensures { (most : ℕ) (jobs : List NewJob) → AreOnWay most jobs [] }
+    ensures none { (most : ℕ) (jobs : List NewJob) → AreOnWay most jobs [] }
+    ensures begun { (most : ℕ) (jobs : List NewJob) (t : List JobParts)
+        → AllByRecursion (λ new. IfSome (job_named new.name t) (λ j. j ≡ begun_by new)) jobs
+        → AreOnWay most jobs t }
+    ensures more { (most more : ℕ) (jobs : List NewJob) (t : List JobParts) → most ≤ more
+        → AreOnWay most jobs t → AreOnWay more jobs t }
 {}
+
+/// Where all of a book is kept, as of one that was just opened, its jobs are on their way if they are
+/// so in its table.
+pub fn books_that_keep_all_have_jobs_on_their_way<D: Disk>(book: &Book<D>)
+    ensures { (most : ℕ) (jobs : List NewJob) → IsAllKept book.now
+        → AreOnWay most jobs (table_of book.now) → IsBookOnWay most jobs book.now }
+{
+    let _ = book;
+}
 
 /// Where jobs are on their way, no other job has the name of one of them. And where each job of such a
 /// name is the same, the table has no other job of the name.
