@@ -70,6 +70,15 @@ module _ {D : Type 0} {ghosts : Ghosts D} where
       subst (λ (ms : List Move). Reaches ms (up last)) (sym (append_assoc (moves_in_turn ls turns.0 last turns.3) done.moves moves))
       (reaches_turns (done.moves ++ moves) ls turns.0 last turns.3 (reaches_more moves first turns.0 done run))
 
+  -- and by themselves
+  pub turns_run : (ls : List (List ℕ)) (first last : Book D ghosts) (turns : AreAnsweredInTurn ls first last)
+      → Runs {ghosts = ghosts} (moves_in_turn ls first last turns) (up first) (up last)
+  turns_run [] first last turns = ap (λ (b : Book D ghosts). up b) turns
+  turns_run (line ∷ ls) first last turns =
+      let done = calls_for turns.2.reading turns.1 first turns.0 turns.2.done in
+      runs_join (moves_in_turn ls turns.0 last turns.3) done.moves (up first) (up turns.0) (up last) (calls_run done.moves first turns.0 done.calls)
+      (turns_run ls turns.0 last turns.3)
+
   pub turns_split : (front more : List (List ℕ)) (first last : Book D ghosts) → AreAnsweredInTurn (front ++ more) first last
       → (mid : Book D ghosts) × AreAnsweredInTurn front first mid × AreAnsweredInTurn more mid last
   turns_split [] more first last turns = (first, refl, turns)

@@ -4,13 +4,15 @@
 //! midst do. `served` says what a server has after any number of servings, each ended or stopped at any
 //! moment, and `words` what its words come to. `keeps` says how many calls to its disk a keep
 //! makes. `attending` says what the ends and the faults of an attendance come to over the book and the disk, and what
-//! scripts leave there and are told; `desks` says it of one call.
+//! scripts leave there and are told; `desks` says it of one call. `lines` says which lines are plain, what answers them, and
+//! at which memory may run out.
 #![tactic(auto)]
 
 pub mod attending;
 pub mod desks;
 pub mod keeps;
 pub mod laws;
+pub mod lines;
 pub mod served;
 pub mod stops;
 pub mod words;

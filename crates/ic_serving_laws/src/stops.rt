@@ -1,13 +1,33 @@
 //! Laws of the definitions that say what a stop in a serving leaves.
 
-ghost use Rattle.std.specs.Prelude.{◌≡◌, ◌↔◌, ◌<◌, ℕ, List, [], ◌∷◌, ◌++◌, length};
+ghost use Rattle.std.specs.Prelude.{◌≡◌, ◌≢◌, ◌↔◌, ◌<◌, ◌≤◌, ℕ, List, [], ◌∷◌, ◌++◌, IsTrue, length};
+ghost use Rattle.ic_disk.specs.Images.{Within};
 ghost use Rattle.ic_jobs.specs.Job.{JobParts};
 ghost use Rattle.ic_frames.specs.Fields.{IsMade};
 ghost use Rattle.ic_slots.specs.Held.{IsHeld, the_table};
+ghost use Rattle.ic_book.specs.Moves.{Move, stops};
+ghost use Rattle.ic_book.specs.Server.{IsFound, Server, Step, disk_in, down};
 ghost use Rattle.ic_lines.specs.Serving.{IsServed};
 ghost use Rattle.ic_serving.specs.Parts.{IsInLine};
 ghost use Rattle.ic_serving.specs.Served.{MayBeServed};
 ghost use Rattle.ic_serving.specs.Stopped.{HoldsOne, IsReached, MayStand};
+
+use ic_disk::Disk;
+
+/// A stop in the midst of any move that isn't one itself is a step: of an opening, also one that is
+/// refused, of a closing, and of a server that is down. A disk that may have been left at a moment since
+/// the move began is found then.
+pub fn stops_are_steps<D: Disk>(found: &D)
+    ensures steps { (move : Move) (before after : Server D.Disk)
+        → ((other : Move) → move ≢ stops other) → Step move before after
+        → IsFound D.Disk (disk_in before) (disk_in after) found.now
+        → Step {ghosts = D.Disk} (stops move) before (down found.now) }
+    ensures found { (before after : D) (moment : ℕ) → IsTrue (D.keeps found.now)
+        → D.clock before ≤ moment → Within (D.image found.now) (D.left after moment)
+        → IsFound D.Disk before after found.now }
+{
+    let _ = found;
+}
 
 /// Lines reach the table before them, those within the first line, and the one that all of them
 /// leave; more lines reach no less. No lines reach nothing else, one line only the tables within
