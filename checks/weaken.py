@@ -7,7 +7,10 @@ field is built; what definitions that are no records say may be carried unseen. 
 lists the cases of definitions: an equation (`1`), a side of its `⊎` or `×` (`1/2`), which where it says nothing is a
 disjunct that always holds, or a conjunct less, and a premise of a constructor (`name/2`). `python3 checks/weaken.py --try
 CRATE FACT..` takes facts or cases out that are named as they are listed, also of crates below, checks the crate in a room of
-hard links, and tells which proofs miss one of them."""
+hard links, and tells which proofs miss one of them. `python3 checks/weaken.py --premises CRATE..` lists definitions that
+public clauses only assume, so that `⊥` in them empties a law unseen, and those that they only conclude, so that they may say
+nothing. A definition that a clause both assumes and concludes is carried: that clause uses it for neither. With `--never`,
+`--try` puts `⊥` in the place of facts."""
 
 import argparse
 import os
@@ -29,7 +32,8 @@ CITES = re.compile(r"\bRattle\.(\w+)\.specs\.(\w+)(?=[.\s;]*(?:\{|;|as\b|\n))") 
 STATES = re.compile(r"^( *)(?:abbrev )?pub (\S+) : (?:.|\n\1 )*?Type 0\n((?:\1\2 (?:.|\n\1 )*\n)+)", re.M)
 DATA = re.compile(r"^( *)pub data (\S+)(?:.|\n\1 )*? where\n((?:\1  .*\n)+)", re.M)
 BINDERS = re.compile(r"\s*(?:[({][^():]+ : (?:[^()]|\([^()]*\))*[)}]\s*)+")
-NOTHING = "Unit {0}"  # in the place of a fact
+NOTHING, NEVER = "Unit {0}", "⊥"  # in the place of a fact
+SAYS = re.compile(r"^( *)(?:abbrev )?pub (\S+) : ((?:.|\n\1 )*?Type 0)\n((?:\1\2 (?:.|\n\1 )*\n)+)", re.M)
 
 
 def plain(path):
@@ -134,6 +138,94 @@ class Tree:
                 yield f"{crate}.{module}.{record}.{name} : {kind[:100]}"
 
 
+def used(text, sign=1):
+    """The words of a type, each with 1 where it is concluded, and -1 where it is assumed."""
+    text = text.strip()
+    for mark in "→↔⊎×":
+        parts = [text[slice(*it)] for it in parted(text, mark, 0, len(text))]
+        if len(parts) > 1:
+            for part in parts[:-1]:
+                yield from used(part, -sign if mark == "→" else sign)
+                yield from used(part, -sign) if mark == "↔" else ()
+            yield from used(parts[-1], sign)
+            yield from used(parts[-1], -sign) if mark == "↔" else ()
+            return
+    if text.startswith("¬"):
+        yield from used(text[1:], -sign)
+        return
+    depth, start = 0, 0
+    for at, letter in enumerate(text):
+        if letter in "([{":
+            start = start if depth else at + 1
+            depth += 1
+        elif letter in ")]}":
+            depth -= 1
+            if depth == 0:
+                yield from used(re.sub(r"^\s*(?:λ[^.]*\.|[^():→]* : )", "", text[start:at]), sign)
+        elif depth == 0 and (at == 0 or not re.match(r"[\w'-]", text[at - 1])):
+            found = WORD.match(text, at)
+            if found:
+                yield found[0], sign
+
+
+def definitions(text):
+    """What the definitions of a file are made of: each name, with the types that it says."""
+    for found in SAYS.finditer(text):
+        each = re.compile(r"^%s%s (?:.|\n%s )*" % (found[1], re.escape(found[2]), found[1]), re.M)
+        ends = ((it, next(parted(text, "=", it.start(), it.end()))[1]) for it in each.finditer(text, found.start(4), found.end(4)))
+        yield found[2], [text[end + 1 : it.end()] for it, end in ends]
+    for name, parts in fields(text):
+        yield name, [kind for _, kind in parts]
+    for found in DATA.finditer(text):
+        parts = re.findall(r"^%s  \S+ :((?:.|\n%s   )*)" % (found[1], found[1]), found[3], re.M)
+        yield found[2], [it for part in parts for it in part.split("→")[:-1]]
+
+
+class Uses:
+    """Whether clauses assume or conclude what definitions say."""
+
+    def __init__(self):
+        self.inside, self.of = defaultdict(list), {}
+        crates = TOP / "crates"
+        for crate in libraries():
+            for path in sorted((crates / crate / "specs").rglob("*.antt")):
+                for name, parts in definitions(plain(path)):
+                    self.inside[name] += parts
+                    if path.parent == crates / crate / "specs":
+                        self.of.setdefault(name, f"{crate}.{path.stem}")
+        self.signs = {name: {it for part in parts for it in used(part) if it[0] in self.inside} for name, parts in self.inside.items()}
+        self.assumed, self.concluded = set(), set()
+        for crate in libraries():
+            for path in (crates / crate / "src").rglob("*.rt"):
+                for _, kind, says in clauses(plain(path)):
+                    self.add(says, kind in ["requires", "invariant"])
+
+    def all_of(self, says):
+        """The definitions in a clause, and those in what they say, each with how it is used."""
+        left = [it for it in used(says) if it[0] in self.inside]
+        found = set(left)
+        while left:
+            name, sign = left.pop()
+            more = {(it, sign * of) for it, of in self.signs[name]} - found
+            found |= more
+            left += more
+        return found
+
+    def add(self, says, is_both):
+        found = self.all_of(says)
+        yes, no = {it for it, sign in found if sign > 0}, {it for it, sign in found if sign < 0}
+        self.concluded |= yes | no if is_both else yes - no
+        self.assumed |= yes | no if is_both else no - yes
+
+    def unheeded(self, chosen):
+        """The definitions that are only assumed, and those that are only concluded."""
+        for name, place in sorted(self.of.items(), key=lambda it: it[1]):
+            if place.split(".")[0] in chosen and (name in self.assumed) != (name in self.concluded):
+                yield f"{place}.{name}: only {'assumed' if name in self.assumed else 'concluded'}"
+            elif place.split(".")[0] in chosen and name not in self.assumed:
+                yield f"{place}.{name}: only carried, or in no clause"
+
+
 def parted(text, sign, start, end):
     """The parts of a text between signs that stand in no brackets, by where they begin and end."""
     depth, at = 0, start
@@ -172,15 +264,15 @@ def cases(text):
                     yield found[2], f"{it[1]}/{number}", *place
 
 
-def weakened(text, record, name):
-    """A file of definitions in which a field of a record, or a case of a definition, says nothing."""
+def weakened(text, record, name, says):
+    """A file of definitions in which a field of a record, or a case of a definition, says this."""
     for definition, case, start, end in cases(text):
         if (definition, case) == (record, name):
-            return f"{text[:start]} {NOTHING} {text[end:]}"
+            return f"{text[:start]} {says}{text[end:] if text[end - 1] != chr(10) else chr(10) + text[end:]}"
     for found in RECORD.finditer(text):
         field = re.compile(r"^( {%d}pub )%s : (?:.|\n {%d} )*" % (len(found[1]) + 2, re.escape(name), len(found[1]) + 3), re.M)
         if found[2] == record and field.search(found[3]):
-            return text[: found.start(3)] + field.sub(rf"\1{name} : {NOTHING}", found[3], count=1) + text[found.end(3) :]
+            return text[: found.start(3)] + field.sub(rf"\1{name} : {says}", found[3], count=1) + text[found.end(3) :]
     raise SystemExit(f"there is no {record}.{name}")
 
 
@@ -205,8 +297,8 @@ def copied(crates, crate, modules):
     return found
 
 
-def try_without(crate, taken):
-    """Checks a crate without these facts, in a room. Facts of crates below are taken out of copies, which the crate then cites."""
+def try_without(crate, taken, says):
+    """Checks a crate in which these facts say this, in a room. Facts of crates below are taken out of copies, which the crate then cites."""
     used, out = libraries(), TOP / "crates" / crate / "out"
     out.mkdir(exist_ok=True)
     with tempfile.TemporaryDirectory(prefix="weaken-", dir=out) as room:
@@ -223,7 +315,7 @@ def try_without(crate, taken):
         for of, module in facts.keys() | copied(crates, crate, {it for it in facts if it[0] != crate}):
             texts[of, module] = (crates / of / "specs" / f"{module}.antt").read_text()
             for record, name in facts[of, module]:
-                texts[of, module] = weakened(texts[of, module], record, name)
+                texts[of, module] = weakened(texts[of, module], record, name, says)
         copies = {it: "Weak" + "".join(part.capitalize() for part in it[0].split("_")) + it[1] for it in texts if it[0] != crate}
         own = crates / crate / "specs"
         written = {it: it.read_text() for it in files_of(crates, crate)}
@@ -251,10 +343,14 @@ if __name__ == "__main__":
     given.add_argument("names", nargs="*", help="crates; with --try a crate, and facts as they are listed")
     given.add_argument("--cases", action="store_true", help="list the cases of the crates' definitions")
     given.add_argument("--carried", action="store_true", help="list also facts that proofs may only carry from one value of a record to another: they are taken only where one is built")
+    given.add_argument("--premises", action="store_true", help="list the definitions that clauses only assume, or only conclude")
+    given.add_argument("--never", action="store_true", help="with --try: facts never hold, in place of saying nothing")
     given.add_argument("--try", dest="tries", action="store_true", help="check the crate without these facts")
     asked = given.parse_args()
     if asked.tries:
-        try_without(asked.names[0], asked.names[1:])
+        try_without(asked.names[0], asked.names[1:], NEVER if asked.never else NOTHING)
+    elif asked.premises:
+        print(*Uses().unheeded(asked.names), sep="\n")
     elif asked.cases:
         for path in (it for crate in asked.names for it in sorted((TOP / "crates" / crate / "specs").glob("*.antt"))):
             print(*(f"{path.parts[-3]}.{path.stem}.{name}.{case}" for name, case, *_ in cases(path.read_text())), sep="\n")

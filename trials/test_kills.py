@@ -4,7 +4,7 @@ import signal
 import time
 
 from known import LOOP, drawn_line
-from program import PATIENCE, Server, heeds_signals
+from program import PATIENCE, Server, heeds_signals, run
 from stops import Stops
 
 
@@ -91,6 +91,24 @@ class Kills(Stops):
             least = (rounds - 11) // 1000
             came = ran.out.count(b"ran 1000\n")
             self.equals(ran.command, f"answers to runs, {came}, at {rounds} rounds", True, came >= least)
+
+    def test_rounds_are_kept_in_the_midst_of_one_run(self):
+        """Not at its end alone: a look at the disk meanwhile finds some of them, and no others than each so many."""
+        for every in (1, 7):
+            for number in range(30):
+                disk = self.disk(f"{every}.{number}.disk")
+                with Server(disk, "--every", every) as server:
+                    self.answers(server, f"submit loop {LOOP.text}", "accepted")
+                    server.send(["run 1000"])
+                    rounds, end = 0, time.monotonic() + PATIENCE
+                    while rounds == 0 and time.monotonic() < end:
+                        rounds = int(run("inspect", "--disk", disk).out.partition(b"loop: running, rounds ")[2].partition(b",")[0] or 0)
+                    self.equals(server.said(), "the answer to the run", "ran 1000", server.answer(PATIENCE))
+                    self.ended(server.end(), out=["accepted", "ran 1000"])
+                if 0 < rounds < 1000:
+                    break
+            self.equals(server.said(), f"whether some rounds were kept in its midst, as {rounds} of each {every}", True, 0 < rounds < 1000)
+            self.equals(server.said(), f"rounds after the last {every}", 0, rounds % every)
 
     def test_sigpipe_is_no_reason_to_end(self):
         with Server(self.disk()) as server:
