@@ -8,7 +8,6 @@ from pathlib import Path
 
 import believe
 import floors
-import helps
 
 
 def lines_of(*patterns):
@@ -184,13 +183,6 @@ def texts(path):
     return found
 
 
-def helps_are_as_written():
-    """The proofs on helps are those that helps.py writes."""
-    for path, text in helps.written().items():
-        if path.read_text() != text:
-            yield path.relative_to(Path.cwd()), 1, "is not as python3 checks/helps.py writes it"
-
-
 def sentences_are_short():
     """A sentence of the docs has at most 40 words; what stands between backquotes is one word."""
     for path in [*sorted(Path(".").glob("*.md")), *sorted(Path("docs").glob("*.md"))]:
@@ -217,7 +209,7 @@ def main():
     checks = [proofs_are_cited_at_home, definitions_stand_by_themselves, public_clauses_cite_definitions]
     checks += [files_say_what_they_hold, calls_of_a_book_are_steps, the_longest_form_is_said_once]
     checks += [layers_are_as_built, the_floors_are_drawn, what_is_believed_is_counted, calls_that_may_wait_are_told]
-    checks += [further_edits_apply, helps_are_as_written, sentences_are_short, paragraphs_are_short]
+    checks += [further_edits_apply, sentences_are_short, paragraphs_are_short]
     failed = 0
     for check in checks:
         faults = list(check())

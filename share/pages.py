@@ -24,8 +24,8 @@ class Option:
 
     def __init__(self, line):
         self.short, self.long, self.value, self.says = self.FORM.fullmatch(line).groups()
-        choices = re.findall(r"\((\w+)\)", self.says) if self.value else []
-        self.choices = choices if len(choices) > 1 else []
+        among = re.search(r"\[possible values: (.*)\]", self.says)
+        self.choices = among[1].split(", ") if among else []
 
 
 class Help:

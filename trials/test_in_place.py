@@ -215,16 +215,8 @@ class Bounds(InPlace):
                 told = REACHED.fullmatch(ran.after)
                 self.equals(ran.command, f"how far it came: {ran.after}", True, bool(told) and int(told[1]) > 100_000)
 
-    def test_rounds_and_reducing_in_place_exclude_each_other(self):
+    def test_words_that_ask_for_no_reduction_in_place_have_status_2(self):
         two = f"{ADD} <r|Add(r,S(Z))=S(Z)>"
-        wanted = "error: the argument '--rounds <N>' cannot be used with '--steps <N>', '--nodes <N>', "
-        wanted += "'--limits <L>', '--stats', '--format <FORMAT>', '--quiet-answer', '--keep <F>', '--resume <F>' or '--seconds <N>'\n\n"
-        wanted += "Usage: icserve reduce [OPTIONS] [FILE]\n\nFor more information, try '--help'.\n"
-        options = [["--steps", 1], ["--nodes=1"], ["--stats"], ["--partial", "--stats"], ["--limits", "wide"]]
-        for option in (*options, ["--format", "lines"], ["--format=json"], ["--quiet-answer"], ["--keep", "f"], ["--resume=f"], ["--seconds", 1]):
-            for rounds in (["--rounds", 1], ["--rounds", 1, "--workers", 2]):
-                self.runs("reduce", *rounds, *option, given=two, err=wanted, status=2)
-                self.runs("reduce", *option, *rounds, given=two, err=wanted, status=2)
         wrongs = [["--steps", -1], ["--steps"], ["--nodes", "many"], ["--partial=1"], ["--steps", 1, "--steps", 2], ["--stats", "--stats"]]
         for wrong in (*wrongs, ["--format"], ["--format", "tsv"], ["--format="], ["--quiet-answer=1"], ["--quiet-answer"] * 2):
             ran = run("reduce", *wrong, given=two)

@@ -9,13 +9,13 @@ import sys
 
 from program import IN_MEMORY, PROGRAM, TOP, Trial, run
 from test_pages import typed_in
+from test_words import words_of_help
 
 sys.path.insert(0, str(TOP / "share"))
 
 from pages import SCRIPTS  # noqa: E402
 
 TOPICS = (("language",), ("keep",))
-WORDS = "settle once create serve attend reduce trace draw dump inspect check batch expand help".split()
 
 
 def help_of(*words):
@@ -42,7 +42,7 @@ class Install(Trial):
         return re.findall(r"(?m)^ +(?:-\w, )?(--[\w-]+)", text[text.index("Options:") :].split("\n\n")[0])
 
     def test_each_word_and_each_option_stands_in_the_page_and_in_the_completions(self):
-        for words in ((), *((word,) for word in WORDS)):
+        for words in ((), *((word,) for word in words_of_help())):
             text = help_of(*words)
             options = self.options(text)
             self.equals(f"icserve {' '.join(words)} --help", "whether it has options", True, "--help" in options)
@@ -131,28 +131,20 @@ class Helps(Trial):
     seconds = 10
     rooms = IN_MEMORY
 
-    def test_each_word_of_the_help_has_a_help_of_its_own_which_help_shows_too(self):
+    def test_help_alone_shows_the_program_s_help_and_those_of_words_tell_no_language(self):
         self.equals("--help", "the help of help alone", help_of(), run("help").out.decode())
-        for word in WORDS:
-            text = help_of(word)
-            self.equals(f"help {word}", "what is shown", text, run("help", word).out.decode())
-            self.equals(f"{word} --help", "its usage", True, f"Usage: icserve {word}" in text)
-            self.equals(f"{word} --help", "whether it tells the language", False, "The language:" in text)
+        for word in words_of_help():
+            self.equals(f"{word} --help", "whether it tells the language", False, "The language:" in help_of(word))
 
     def test_without_words_the_help_is_told_with_status_2(self):
         ran = run()
         self.equals(ran.command, "how it ends", (2, b"", help_of().encode()), (ran.status, ran.out, ran.err))
 
-    def test_lines_of_helps_fit_a_terminal_but_for_those_with_great_numbers(self):
-        for words in ((), *TOPICS, *((word,) for word in WORDS)):
-            long = [line for line in help_of(*words).split("\n") if len(line) > 105 and "46116860184273879" not in line]
-            self.equals(f"icserve {' '.join(words)} --help", "lines of more than 105 columns", [], long)
-
     def test_each_example_of_a_help_answers_what_stands_there(self):
         (self.room / "bin").mkdir()
         (self.room / "bin/icserve").symlink_to(PROGRAM)
         path = {**os.environ, "PATH": f"{self.room}/bin:{os.environ['PATH']}"}
-        for number, words in enumerate(((), *TOPICS, *((word,) for word in WORDS if word != "help"))):
+        for number, words in enumerate(((), *TOPICS, *((word,) for word in words_of_help() if word != "help"))):
             text = help_of(*words)
             block = text[text.index("Example") :].rstrip("\n").split("\n")[1:]
             room = self.room / str(number)

@@ -239,9 +239,6 @@ class Endings(Trial):
         for words in (["reduce", "F", "G"], ["reduce", "--format", "svg"], ["trace", "--rounds"], ["trace", "--rounds", "-1"]):
             ran = run(*words, given=TWO)
             self.equals(ran.command, "how it ends", (2, b"", b"error:"), (ran.status, ran.out, ran.err[:6]))
-        wanted = "error: invalid value 'png' for '--format <FORMAT>'\n  [possible values: tsv, svg, json]\n\n"
-        wanted += "For more information, try '--help'.\n"
-        self.runs("trace", "--format", "png", given=TWO, err=wanted, status=2)
 
     def test_a_stuck_pair_is_told_on_standard_error_alone(self):
         text = f"{ADD} <r|Ad(r,Z)=Z,Up=Down>"

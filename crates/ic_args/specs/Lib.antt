@@ -1,4 +1,2 @@
-pub mod Help
 pub mod Words
-pub mod Lines
 pub mod inner

@@ -1,3 +1,2 @@
 -- What only contracts of private functions cite.
-pub mod Asking
 pub mod Making

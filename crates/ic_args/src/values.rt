@@ -1,15 +1,113 @@
-//! The values of options and words of the command that was met.
+//! The values that a word of the program is given, by the rows of the table.
 
-ghost use Rattle.std.specs.Prelude.{◌≡◌, ◌≤◌, map, option_map, IfOk, string_bytes};
-ghost use Rattle.clap.specs.Words.{subcommand_rows_of};
-ghost use Rattle.ic_args.specs.Words.{file_met, is_flag_met, is_given, value_if_met, value_met, values_met};
-ghost use Rattle.ic_args.specs.inner.Asking.{IsReadFrom, IsReadIfGiven, IsReadOr};
+ghost use Rattle.std.specs.Prelude.{◌≡◌, ◌≤◌, ◌↔◌, ℕ, Some, None, IfOk, IfSome, IfNone, codes, map, option_map, string_bytes, unwrap_or};
+ghost use Rattle.ic_args.specs.Words.{IsDecimal, IsNumberOf, file_of, is_given, is_text, text_met, texts_met};
 
+use crate::rows::{Choice, Flag, Number, Place, Text};
 use clap::ArgMatches;
+use clap::parser::ValueSource;
 use std::alloc::{AllocError, Global};
 
 /// What names standard input where a file is named.
 const STANDARD: &str = "-";
+
+/// The values that a word of the program is given.
+#[derive(Debug, Drop)]
+pub struct Values<'a> {
+    /// What the parser met after the word.
+    pub met: ArgMatches<'a>,
+}
+
+impl<'a> Values<'a> {
+    /// The text of an option, or none.
+    pub fn text(&self, row: &Text) -> Option<&'a str>
+        ensures { option_map (λ text. text.now) result ≡ text_met self.now row.now.name.now }
+    {
+        self.met.get_str(row.name)
+    }
+
+    /// The word that stands at a place, or none.
+    pub fn word(&self, row: &Place) -> Option<&'a str>
+        ensures { option_map (λ text. text.now) result ≡ text_met self.now row.now.name.now }
+    {
+        self.met.get_str(row.name)
+    }
+
+    /// The path that stands at a place, or none where standard input is meant.
+    pub fn file(&self, row: &Place) -> Option<&'a str>
+        ensures { option_map (λ text. text.now) result ≡ file_of (text_met self.now row.now.name.now) }
+    {
+        match self.word(row) {
+            Some(STANDARD) => None,
+            path => path,
+        }
+    }
+
+    /// The words that stand at a place, in their order.
+    pub fn words(&self, alloc: Global, row: &Place) -> Result<Vec<String>, AllocError>
+        ensures { IfOk result (λ words. map string_bytes words.items ≡ texts_met self.now row.now.name.now) }
+    {
+        match self.met.get_raw(row.name) {
+            Some(words) => texts(alloc, words),
+            None => Ok(Vec::new(alloc)),
+        }
+    }
+
+    /// Whether a flag is given.
+    pub fn flag(&self, row: &Flag) -> bool
+        ensures { result ≡ is_text (codes "true") (text_met self.now row.now.name.now) }
+    {
+        self.met.get_str(row.name) == Some("true")
+    }
+
+    /// The word that is chosen, or the row's default.
+    pub fn choice(&self, row: &Choice) -> &'a str
+        ensures { result.now ≡ unwrap_or (text_met self.now row.now.name.now) row.now.default.now }
+    {
+        self.met.get_str(row.name).unwrap_or(row.default)
+    }
+
+    /// The number of an option, or the row's default, within the row's bounds.
+    pub fn number(&self, row: &Number) -> u64
+        ensures least { row.now.least ≤ row.now.most → row.now.least ≤ result }
+        ensures most { result ≤ row.now.most }
+        ensures value { IsNumberOf row.now (text_met self.now row.now.name.now) result }
+    {
+        let text = self.met.get_str(row.name).or(row.default).unwrap_or("");
+        within(text, row.least, row.most)
+    }
+
+    /// The same, none where the option has no value.
+    pub fn number_met(&self, row: &Number) -> Option<u64>
+        ensures none { IfNone result (text_met self.now row.now.name.now ≡ None) }
+        ensures least { IfSome result (λ number. row.now.least ≤ row.now.most
+            → row.now.least ≤ number) }
+        ensures most { IfSome result (λ number. number ≤ row.now.most) }
+        ensures value { IfSome result (IsNumberOf row.now (text_met self.now row.now.name.now)) }
+    {
+        let text = self.met.get_str(row.name)?;
+        Some(within(text, row.least, row.most))
+    }
+
+    /// Whether an option is given, so that its value is no default.
+    pub fn is_given(&self, name: &str) -> bool
+        ensures { result ≡ is_given self.now name.now }
+    {
+        matches!(self.met.value_source(name), Some(ValueSource::CommandLine))
+    }
+}
+
+/// The number that a text is, within bounds. The parser has refused any other text, so the bounds change nothing.
+fn within(text: &str, least: u64, most: u64) -> u64
+    ensures least { least ≤ most → least ≤ result }
+    ensures most { result ≤ most }
+    ensures value { (n : ℕ) → IsDecimal text.now n → least ≤ n → n ≤ most → result ≡ n }
+{
+    u64::from_str_radix(text, 10)
+        .unwrap_or(least)
+        .max(least)
+        .min(most)
+}
 
 /// Texts that own their bytes.
 fn texts(alloc: Global, borrowed: &[&str]) -> Result<Vec<String>, AllocError>
@@ -21,122 +119,4 @@ fn texts(alloc: Global, borrowed: &[&str]) -> Result<Vec<String>, AllocError>
         owned.push(String::from_str(alloc, text)?)?;
     }
     Ok(owned)
-}
-
-/// The values of an argument of the command that was met, none where it has none.
-pub(crate) fn values_of(
-    alloc: Global,
-    matches: &ArgMatches,
-    argument: &str,
-) -> Result<Vec<String>, AllocError>
-    ensures { IfOk result (λ values. map string_bytes values.items
-        ≡ values_met argument.now (subcommand_rows_of matches.now)) }
-{
-    let Some((_, met)) = matches.subcommand() else {
-        return Ok(Vec::new(alloc));
-    };
-    match met.get_raw(argument) {
-        Some(values) => texts(alloc, values),
-        None => Ok(Vec::new(alloc)),
-    }
-}
-
-/// The file that the command that was met is to read, none where it is to read standard input.
-pub(crate) fn file_of(alloc: Global, matches: &ArgMatches) -> Result<Option<String>, AllocError>
-    ensures { IfOk result (λ file.
-        option_map string_bytes file ≡ file_met (subcommand_rows_of matches.now)) }
-{
-    match value_if_met(matches, "file") {
-        None | Some(STANDARD) => Ok(None),
-        Some(path) => Ok(Some(String::from_str(alloc, path)?)),
-    }
-}
-
-/// The value of an argument of the command that was met, none where it has none.
-pub(crate) fn value_if_met<'a>(matches: &ArgMatches<'a>, argument: &str) -> Option<&'a str>
-    ensures { option_map (λ text. text.now) result
-        ≡ value_if_met argument.now (subcommand_rows_of matches.now) }
-{
-    match matches.subcommand() {
-        Some((_, met)) => met.get_str(argument),
-        None => None,
-    }
-}
-
-/// The value of an option of the command that was met, or no text where it has none.
-pub(crate) fn value_of<'a>(matches: &ArgMatches<'a>, option: &str) -> &'a str
-    ensures { result.now ≡ value_met option.now (subcommand_rows_of matches.now) }
-{
-    value_if_met(matches, option).unwrap_or("")
-}
-
-/// Whether an option of the command that was met has a value.
-pub(crate) fn is_given(matches: &ArgMatches, option: &str) -> bool
-    ensures { result ≡ is_given option.now (subcommand_rows_of matches.now) }
-{
-    value_of(matches, option) != ""
-}
-
-/// Whether a flag of the command that was met is given.
-pub(crate) fn is_flag_met(matches: &ArgMatches, flag: &str) -> bool
-    ensures { result ≡ is_flag_met flag.now (subcommand_rows_of matches.now) }
-{
-    value_of(matches, flag) == "true"
-}
-
-/// The number that is the value of an option of the command that was met, in its range, or the default where it has none.
-pub(crate) fn number_or(
-    matches: &ArgMatches,
-    option: &str,
-    least: u64,
-    most: u64,
-    default: u64,
-) -> u64
-    requires { least ≤ most }
-    ensures most { default ≤ most → result ≤ most }
-    ensures value { IsReadOr option.now least most default (subcommand_rows_of matches.now) result }
-{
-    if is_given(matches, option) {
-        number_of(matches, option, least, most)
-    } else {
-        default
-    }
-}
-
-/// The number that is the value of an option of the command that was met, in its range. The parser has refused any other
-/// value, so the bounds here change nothing.
-pub(crate) fn number_of(matches: &ArgMatches, option: &str, least: u64, most: u64) -> u64
-    requires { least ≤ most }
-    ensures least { least ≤ result }
-    ensures most { result ≤ most }
-    ensures value { IsReadFrom option.now least most (subcommand_rows_of matches.now) result }
-{
-    u64::from_str_radix(value_of(matches, option), 10)
-        .unwrap_or(least)
-        .max(least)
-        .min(most)
-}
-
-/// The same of a number of 32 bits.
-pub(crate) fn small_number_of(matches: &ArgMatches, option: &str, least: u32, most: u32) -> u32
-    requires { least ≤ most }
-    ensures { IsReadFrom option.now least most (subcommand_rows_of matches.now) result }
-{
-    number_of(matches, option, u64::from(least), u64::from(most)) as u32
-}
-
-/// The same, none where the option has no value.
-pub(crate) fn small_number_if_given(
-    matches: &ArgMatches,
-    option: &str,
-    least: u32,
-    most: u32,
-) -> Option<u32>
-    requires { least ≤ most }
-    ensures { IsReadIfGiven option.now least most (subcommand_rows_of matches.now) result }
-{
-    if !is_given(matches, option) {
-        return None;
-    }
-    Some(small_number_of(matches, option, least, most))
 }

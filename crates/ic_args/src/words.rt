@@ -1,228 +1,24 @@
 //! The words after the program's name.
 
-ghost use Rattle.std.specs.Prelude.{◌≡◌, false, map, None, Ok, IfOk, IfSome, IfNone, codes, [], ◌∷◌, string_bytes};
-ghost use Rattle.clap.specs.Words.{kind_of};
-ghost use Rattle.ic_args.specs.Words.{AnswersWords, GivesHelp, GivesTask, GivesVersion, Names, is_text_word, mistakes_of, text_word};
-ghost use Rattle.ic_args.specs.inner.Asking.{AnswersRefused};
+ghost use Rattle.std.specs.Prelude.{◌≡◌, map, IfOk, Some, string_bytes, true};
+ghost use Rattle.clap.specs.Words.{is_simple};
+ghost use Rattle.ic_args.specs.Words.{IsAsked, command_line, word_of};
+ghost use Rattle.ic_args.specs.declared.table.Word.{Word};
 
-use crate::commands::command;
-use crate::help::help_of;
-use crate::tasks::task_of;
+use crate::parser::command;
+use crate::rows::Entry;
+use crate::table::{KEEP, RESUME, SECONDS, Word};
+use crate::values::Values;
 use clap::error::{Error, ErrorKind};
 use std::alloc::{AllocError, AllocFailed, Global};
 
-/// The version of the program.
-pub(crate) const VERSION: &str = "0.1.0";
-
-/// The most interactions of `reduce`, which it may make where no number is said, and the most places and equations of its
-/// net: 2^62 - 1.
-pub const MAX_STEPS: u64 = 4_611_686_018_427_387_903;
-
-/// What the words after the program's name ask for. A text is read from the file that they name, or from standard input
-/// where they name none.
+/// What the words after the program's name ask for.
 #[derive(Debug, Drop)]
-pub enum Task {
-    /// What a command does that reads a text, and has no option.
-    Text {
-        /// The command.
-        word: TextWord,
-        /// The path of the text.
-        file: Option<String>,
-    },
-    /// Make a file an empty disk.
-    Create {
-        /// The path of the file.
-        disk: String,
-        /// Whether what the file holds is overwritten, whatever it is.
-        overwrite: bool,
-    },
-    /// Serve the lines of standard input over a disk.
-    Serve {
-        /// The path of the disk's file.
-        disk: String,
-        /// How many threads make a round of 4,000 equations or more, from 1 to 64.
-        workers: u32,
-        /// After how many rounds they are kept, from 1 to 1,000,000.
-        every: u32,
-        /// Whether it is told what is wrong with each refused line, be there a terminal or none.
-        explain: bool,
-    },
-    /// Give the commands of scripts to a disk, each script by a client of its own.
-    Attend {
-        /// The path of the disk's file.
-        disk: String,
-        /// How many runners make rounds, from 0 to 64.
-        runners: u32,
-        /// How many rounds each runner may take once all scripts have ended, from 0 to 1,000,000.
-        turns: u32,
-        /// How many threads make a round, from 1 to 64.
-        workers: u32,
-        /// The paths of the scripts, none or several.
-        scripts: Vec<String>,
-    },
-    /// Reduce a system in place until no step is possible.
-    Reduce {
-        /// How many threads reduce it, from 1 to 64; none where no number is said.
-        workers: Option<u32>,
-        /// How many interactions are made at most, from 0 to `MAX_STEPS`, which stands here where no number is said.
-        steps: u64,
-        /// How many places and equations the net has at most, from 0 to 2^62 - 1.
-        nodes: u64,
-        /// Whether the configuration is printed where the net is too large or memory ran out.
-        partial: bool,
-        /// Whether it is told how many interactions were made, and how fast.
-        stats: bool,
-        /// The limits of the text.
-        limits: TextLimits,
-        /// How that is told.
-        format: FiguresFormat,
-        /// Whether nothing is printed on standard output.
-        quiet: bool,
-        /// The path of the text.
-        file: Option<String>,
-    },
-    /// Reduce a system in place until no step is possible, and keep in a file what is reached.
-    ReduceKept {
-        /// The path of the file.
-        disk: String,
-        /// Whether a reduction begins. Else the one that the file has goes on.
-        begins: bool,
-        /// How many seconds are between two keeps, from 1 to 86,400.
-        seconds: u64,
-        /// How many interactions are made at most, in all runs, from 0 to 2^62 - 1.
-        steps: u64,
-        /// How many places and equations the net has at most, from 0 to 2^62 - 1.
-        nodes: u64,
-        /// Whether the configuration is printed where the net is too large or memory ran out.
-        partial: bool,
-        /// Whether it is told how many interactions were made, and how fast.
-        stats: bool,
-        /// How that is told.
-        format: FiguresFormat,
-        /// Whether nothing is printed on standard output.
-        quiet: bool,
-        /// The path of the text.
-        file: Option<String>,
-    },
-    /// Make rounds of a system until no step is possible.
-    ReduceByRounds {
-        /// How many rounds are made at most, from 0 to 2^62.
-        rounds: u64,
-        /// How many threads make a round of 4,000 equations or more, from 1 to 64.
-        workers: u32,
-        /// Whether the configuration before a refused round is printed.
-        partial: bool,
-        /// The path of the text.
-        file: Option<String>,
-    },
-    /// Tell what each of these rounds does.
-    Trace {
-        /// How many rounds are made at most, from 0 to 2^62.
-        rounds: u64,
-        /// How it is told.
-        format: TraceFormat,
-        /// The path of the text.
-        file: Option<String>,
-    },
-    /// Print jobs of a disk as lines that submit them.
-    Dump {
-        /// The path of the disk's file.
-        disk: String,
-        /// The names of the jobs: all jobs, where there are none.
-        names: Vec<String>,
-    },
-    /// Tell what a disk's file holds.
-    Inspect {
-        /// The path of the file.
-        disk: String,
-        /// How it is told.
-        format: ReportFormat,
-    },
-    /// Tell the faults of texts, and what in them is mostly a mistake.
-    Check {
-        /// The paths of the texts, one at least.
-        files: Vec<String>,
-        /// How it is told.
-        format: ReportFormat,
-        /// Whether they are scripts.
-        script: bool,
-    },
-    /// Bring the jobs of a file of lines to their ends.
-    Batch {
-        /// The path of the disk's file, which is made where it is missing.
-        disk: String,
-        /// How many rounds a job makes at most, from 0 to 2^62.
-        rounds: u64,
-        /// After how many rounds they are kept, from 1 to 1,000,000.
-        every: u32,
-        /// How many threads make a round of 4,000 equations or more, from 1 to 64.
-        workers: u32,
-        /// The path of the lines.
-        lines: String,
-    },
-    /// Show this help.
-    Help(String),
-    /// Show this line, which tells the version.
-    Version(String),
-}
-
-/// The commands that read a text, and have no option but its FILE.
-#[derive(Clone, Copy, Debug)]
-pub enum TextWord {
-    /// Settle a configuration.
-    Settle,
-    /// Make one round of a system.
-    Once,
-    /// Draw the net of a configuration.
-    Draw,
-    /// Write a text with comments, long names and generic rules as one without.
-    Expand,
-}
-
-/// All of them.
-pub(crate) const TEXT_WORDS: [TextWord; 4] = [
-    TextWord::Settle,
-    TextWord::Once,
-    TextWord::Draw,
-    TextWord::Expand,
-];
-
-/// The limits with which a text is read.
-#[derive(Clone, Copy, Debug)]
-pub enum TextLimits {
-    /// Those of what is served.
-    Served,
-    /// Much wider ones.
-    Wide,
-}
-
-/// How it is told how many interactions were made, and how fast.
-#[derive(Clone, Copy, Debug)]
-pub enum FiguresFormat {
-    /// As lines.
-    Lines,
-    /// As an object of JSON on a line.
-    Objects,
-}
-
-/// How a trace is told.
-#[derive(Clone, Copy, Debug)]
-pub enum TraceFormat {
-    /// As a table with tabs.
-    Tsv,
-    /// As a picture.
-    Svg,
-    /// As objects of JSON, one a line.
-    Json,
-}
-
-/// How it is told what is found.
-#[derive(Clone, Copy, Debug)]
-pub enum ReportFormat {
-    /// As lines.
-    Text,
-    /// As objects of JSON, one a line.
-    Json,
+pub enum Request<'a> {
+    /// Show this text: a help, or the version.
+    Shown(String),
+    /// Do what a word of the program says, with these values.
+    Word(Word, Values<'a>),
 }
 
 /// Why the words ask for nothing, each with its lasting number.
@@ -258,56 +54,95 @@ impl From<AllocError> for WordsFault {
     }
 }
 
-/// Reads the words after the program's name. Help is asked for by `--help` or `-h`, after a command too, or by `help`,
-/// and the version by `--version` or `-V`. The text of a refusal is clap's, with the usage; that of help is the one of `help`.
-pub fn read_words(alloc: Global, words: &[String]) -> Result<Task, WordsFault>
-    ensures answers { AnswersWords (mistakes_of (map string_bytes words.now)) result }
-    ensures named { IfOk result (Names (map string_bytes words.now)) }
-    ensures alone { (word : TextWord) → map string_bytes words.now ≡ text_word word ∷ []
-        → GivesTask (Task.Text word None) result }
-    ensures help { map string_bytes words.now ≡ codes "--help" ∷ [] → GivesHelp result }
-    ensures version { map string_bytes words.now ≡ codes "--version" ∷ [] → GivesVersion result }
+/// Reads the words after the program's name. Help is asked for by `--help` or `-h`, after a word of the program too, and the
+/// version by `--version` or `-V`. The words of the program are those of the table. Where no word stands, the program's help is the refusal.
+pub fn read_words<'a>(
+    alloc: Global,
+    table: &[Entry],
+    words: &'a [String],
+) -> Result<Request<'a>, WordsFault>
+    requires { is_simple (command_line table.now) ≡ true }
+    ensures { IfOk result (IsAsked table.now (map string_bytes words.now)) }
 {
-    match command(alloc)?.try_get_matches_from(words) {
-        Ok(matches) => task_of(alloc, &matches),
-        Err(error) => refused(alloc, words, &error),
+    match command(alloc, table)?.try_get_matches_from(words) {
+        Ok(mut matches) => match matches.remove_subcommand() {
+            Some((name, met)) => asked(alloc, table, name, Values { met }),
+            None => Err(refusal_of(alloc, "error: no word\n")),
+        },
+        Err(error) => refused(alloc, &error),
     }
 }
 
-/// What is answered where the parser takes no task from words: help or the version that is asked for, or its text.
-fn refused(alloc: Global, words: &[String], error: &Error) -> Result<Task, WordsFault>
-    ensures { AnswersRefused (map string_bytes words.now) (kind_of error.now) result }
+/// What the word of this name asks for, with these values.
+fn asked<'a>(
+    alloc: Global,
+    table: &[Entry],
+    name: &str,
+    values: Values<'a>,
+) -> Result<Request<'a>, WordsFault>
+    ensures { IfOk result (λ request. (word : Word) × (word_of table.now name.now ≡ Some word)
+        × (request ≡ Request.Word word values.entry)) }
+{
+    if values.is_given(SECONDS.name) && !is_kept(&values) {
+        return Err(refusal_of(alloc, NO_KEEP));
+    }
+    match word_named(table, name) {
+        Some(word) => Ok(Request::Word(word, values)),
+        None => Err(refusal_of(alloc, "error: no such word\n")),
+    }
+}
+
+/// Whether a reduction is kept.
+fn is_kept(values: &Values) -> bool {
+    values.text(&KEEP).is_some() || values.text(&RESUME).is_some()
+}
+
+/// What is said where `reduce` is told how often to keep what it reaches, and not where.
+const NO_KEEP: &str = "\
+error: the following required arguments were not provided:
+  --keep <F> or --resume <F>
+
+Usage: icserve reduce --keep <F> --seconds <N> [OPTIONS] [FILE]
+
+For more information, try '--help'.
+";
+
+/// The word of the program with this name, if there is one.
+pub fn word_named(table: &[Entry], name: &str) -> Option<Word>
+    ensures { result ≡ word_of table.now name.now }
+{
+    table
+        .iter()
+        .find(|entry| entry.name == name)
+        .map(|entry| entry.word)
+}
+
+/// What is answered where the parser takes nothing from words: help or the version that is asked for, or its text.
+fn refused<'a>(alloc: Global, error: &Error) -> Result<Request<'a>, WordsFault>
+    ensures { IfOk result (λ request. (text : _) × (request ≡ Request.Shown text)) }
 {
     match error.kind() {
         ErrorKind::OutOfMemory => Err(WordsFault::Memory),
-        ErrorKind::DisplayHelp => Ok(Task::Help(String::from_str(alloc, help_of(words))?)),
-        ErrorKind::DisplayVersion => Ok(Task::Version(format!(in alloc; "icserve {VERSION}\n")?)),
-        _ => Err(WordsFault::Words(error.to_string(alloc)?)),
+        ErrorKind::DisplayHelp | ErrorKind::DisplayVersion => {
+            Ok(Request::Shown(error.to_string(alloc)?))
+        }
+        _ => Err(refusal_of(alloc, error.to_string(alloc)?.as_str())),
     }
 }
 
-/// The command of this name that reads a text and has no option, if it is that of one.
-pub(crate) fn text_word_named(name: &str) -> Option<TextWord>
-    ensures named { IfSome result (λ word. name.now ≡ text_word word) }
-    ensures none { IfNone result (is_text_word name.now ≡ false) }
-{
-    match name {
-        "settle" => Some(TextWord::Settle),
-        "once" => Some(TextWord::Once),
-        "draw" => Some(TextWord::Draw),
-        "expand" => Some(TextWord::Expand),
-        _ => None,
+/// A refusal as it may be shown on a terminal: a byte that is no printable ASCII and no line feed stands there as `?`.
+pub(crate) fn refusal_of(alloc: Global, text: &str) -> WordsFault {
+    match shown(alloc, text) {
+        Ok(text) => WordsFault::Words(text),
+        Err(_) => WordsFault::Memory,
     }
 }
 
-/// The name of a command that reads a text and has no option.
-pub(crate) fn text_name<'a>(word: TextWord) -> &'a str
-    ensures { result.now ≡ text_word word }
-{
-    match word {
-        TextWord::Settle => "settle",
-        TextWord::Once => "once",
-        TextWord::Draw => "draw",
-        TextWord::Expand => "expand",
+fn shown(alloc: Global, text: &str) -> Result<String, AllocError> {
+    let mut shown = String::new(alloc);
+    for byte in text.as_bytes() {
+        let is_shown = *byte == b'\n' || (b' '..=b'~').contains(byte);
+        shown.push(if is_shown { char::from(*byte) } else { '?' })?;
     }
+    Ok(shown)
 }

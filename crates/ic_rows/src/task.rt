@@ -1,8 +1,29 @@
 //! The words after the program's name.
 
-use ic_args::{Task, read_words};
+use ic_args::table::table;
+use ic_args::{Argument, Entry, Request, Values, read_words};
 use ic_notation::Trouble;
 use std::alloc::{AllocError, Global};
+
+/// What words ask for: a word of the program, and after it what is given for each of its rows; or the first line of what is
+/// shown.
+pub fn task(alloc: Global, line: &str) -> Result<Vec<u8>, Trouble> {
+    let words = words_of(alloc, line)?;
+    let table = table();
+    match read_words(alloc, table.as_slice(), words.as_slice()) {
+        Ok(Request::Shown(text)) => Ok(first_line(alloc, text.as_str())?.into_bytes()),
+        Ok(Request::Word(word, values)) => {
+            let mut told = format!(in alloc; "{word:?}")?;
+            for entry in &table {
+                if line.split_whitespace().next() == Some(entry.name) {
+                    tell_all(alloc, &mut told, entry, &values)?;
+                }
+            }
+            Ok(told.into_bytes())
+        }
+        Err(_) => Err(Trouble("the words are refused")),
+    }
+}
 
 /// The words of a line.
 fn words_of(alloc: Global, line: &str) -> Result<Vec<String>, AllocError> {
@@ -13,18 +34,43 @@ fn words_of(alloc: Global, line: &str) -> Result<Vec<String>, AllocError> {
     Ok(words)
 }
 
-/// The task that words ask for.
-fn task_of(alloc: Global, line: &str) -> Result<Task, Trouble> {
-    match read_words(alloc, &words_of(alloc, line)?) {
-        Ok(task) => Ok(task),
-        Err(_) => Err(Trouble("the words are refused")),
-    }
+fn first_line(alloc: Global, text: &str) -> Result<String, AllocError> {
+    String::from_str(alloc, text.lines().next().unwrap_or(""))
 }
 
-/// What words ask for, with all that comes with it; of help no more than that.
-pub fn task(alloc: Global, line: &str) -> Result<Vec<u8>, Trouble> {
-    match task_of(alloc, line)? {
-        Task::Help(_) => Ok(Vec::from_slice(alloc, b"Help")?),
-        task => Ok(format!(in alloc; "{task:?}")?.into_bytes()),
+fn tell_all(
+    alloc: Global,
+    told: &mut String,
+    entry: &Entry,
+    values: &Values,
+) -> Result<(), AllocError> {
+    for row in entry.arguments {
+        tell(alloc, told, row, values)?;
+    }
+    Ok(())
+}
+
+/// Tells the name of a row and its value, if one is given.
+fn tell(
+    alloc: Global,
+    told: &mut String,
+    row: &Argument,
+    values: &Values,
+) -> Result<(), AllocError> {
+    match row {
+        Argument::Flag(row) if values.flag(row) => write!(told, " {}", row.name),
+        Argument::Text(row) if values.is_given(row.name) => {
+            write!(told, " {}={:?}", row.name, values.text(row).unwrap_or(""))
+        }
+        Argument::Number(row) if values.is_given(row.name) => {
+            write!(told, " {}={}", row.name, values.number(row))
+        }
+        Argument::Choice(row) if values.is_given(row.name) => {
+            write!(told, " {}={}", row.name, values.choice(row))
+        }
+        Argument::Place(row) if values.is_given(row.name) => {
+            write!(told, " {}={:?}", row.name, values.words(alloc, row)?)
+        }
+        _ => Ok(()),
     }
 }

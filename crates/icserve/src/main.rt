@@ -6,6 +6,7 @@ ghost use Rattle.std.specs.Prelude.{◌≤◌};
 mod answers;
 mod batching;
 mod checking;
+mod doing;
 mod dumping;
 mod input;
 mod inspecting;
@@ -21,21 +22,18 @@ mod standstill;
 mod texts;
 
 use crate::answers::Answers;
-use crate::input::{Input, open_text, told_of};
-use crate::keeping::KeptIn;
+use crate::doing::{Doing, do_word, path_of};
+use crate::input::told_of;
 use crate::others::{has_second, no_first_at, other_at, other_second};
-use crate::reducing::{Wanted, threads_for};
 use crate::session::Session;
 use crate::standing::stand_ins;
 use crate::standstill::tell_of_jobs;
-use ic_args::{Task, TextLimits, TextWord, WordsFault, read_words};
+use ic_args::table::{FILE, table};
+use ic_args::{Request, WordsFault, read_words};
 use ic_book::{Book, BookFault, OpenCause, OpenFault};
-use ic_by_rounds::Workers;
 use ic_causes::{Cause, NotedFile, NotedFiles, NotedInput, NotedOutput, Notes, Reason, Target};
-use ic_diagnostics::{once_telling, settle_telling};
 use ic_disk::{Disk, DiskFault, FileDisk};
 use ic_exits::{Failure, first_missing, opening_failure};
-use ic_in_place::{Asked, Bounds};
 use ic_jobs::Command;
 use ic_keeping::KeepingFault;
 use ic_pool::Gate;
@@ -44,8 +42,6 @@ use ic_scripts::{ScriptsFault, attend_scripts};
 use ic_serving::{ServeFault, serve_watched};
 use ic_slots::is_unused;
 use ic_streams::StreamFault;
-use ic_text::Limits;
-use ic_workers::Policy;
 use std::alloc::AllocError;
 use std::env;
 use std::io::{self, BufWriter, ErrorKind, IsTerminal, Read, Write};
@@ -79,315 +75,32 @@ fn begin<T: Threads + Wait + Copy + Send + Sync + 'static>(
     notes: &Notes,
     told: &mut Vec<u8>,
 ) -> Result<(), Failure> {
-    let task = task(rt).map_err(Failure::Words)?;
-    if path.push_str(path_of(&task)).is_err() {
-        return Err(Failure::Words(WordsFault::Memory));
-    }
-    let done = answer(rt, threads, &task, notes, told);
-    if let (Err(failure), Some(file)) = (&done, file_of(&task)) {
-        if let Ok(lines) = told_of(rt.alloc(), file, failure, notes, told) {
-            *told = lines;
-        }
-    }
-    done
-}
-
-/// Opens what a task reads, and does it.
-fn answer<T: Threads + Wait + Copy + Send + Sync + 'static>(
-    rt: &HostRuntime,
-    threads: &T,
-    task: &Task,
-    notes: &Notes,
-    told: &mut Vec<u8>,
-) -> Result<(), Failure> {
-    if let Task::Serve {
-        disk,
-        workers,
-        every,
-        explain,
-    } = task
-    {
-        let making = Making {
-            workers: *workers,
-            every: *every,
-        };
-        return serve_session(rt, threads, disk.as_str(), making, *explain, notes);
-    }
-    let mut input = match file_of(task) {
-        Some(path) => Input::File(open_text(rt, path, notes).map_err(Failure::Stream)?),
-        None => {
-            if awaits_text(task) {
-                input::tell_terminal(rt);
-            }
-            Input::Standard(NotedInput::new(rt.reader(), notes))
-        }
-    };
-    run(rt, threads, task, &mut input, notes, told)
-}
-
-/// The path of the file that a task reads a text from, none where it reads standard input or no text.
-fn file_of(task: &Task) -> Option<&str> {
-    match task {
-        Task::Text { file, .. } | Task::Trace { file, .. } => file.as_deref(),
-        Task::Reduce { file, .. } | Task::ReduceByRounds { file, .. } => file.as_deref(),
-        Task::ReduceKept { file, .. } => file.as_deref(),
-        _ => None,
-    }
-}
-
-/// Whether a task reads a text from standard input, where it names no file.
-fn awaits_text(task: &Task) -> bool {
-    match task {
-        Task::Help(_) | Task::Version(_) | Task::Check { .. } | Task::Create { .. } => false,
-        Task::Serve { .. } | Task::Attend { .. } | Task::Batch { .. } => false,
-        Task::Dump { .. } | Task::Inspect { .. } => false,
-        Task::ReduceKept { begins, .. } => *begins,
-        _ => true,
-    }
-}
-
-/// The path of the disk's file that a task names, or no path.
-fn path_of(task: &Task) -> &str {
-    match task {
-        Task::Create { disk, .. } => disk.as_str(),
-        Task::Serve { disk, .. } => disk.as_str(),
-        Task::Attend { disk, .. } => disk.as_str(),
-        Task::Dump { disk, .. } => disk.as_str(),
-        Task::Inspect { disk, .. } => disk.as_str(),
-        Task::Batch { disk, .. } => disk.as_str(),
-        Task::ReduceKept { disk, .. } => disk.as_str(),
-        _ => "",
-    }
-}
-
-/// Does a task other than `serve`. Only the tasks that `on_word` and `on_text` do read this input. The lines that tell the
-/// place of a fault in a text, and those that tell why a text or a script can't be read, are appended to `told`.
-fn run<T: Threads + Wait + Copy + Send + Sync + 'static, R: Read>(
-    rt: &HostRuntime,
-    threads: &T,
-    task: &Task,
-    input: &mut R,
-    notes: &Notes,
-    told: &mut Vec<u8>,
-) -> Result<(), Failure> {
-    let mut output = NotedOutput::new(io::writer(rt), notes);
-    match task {
-        Task::Text { word, .. } => on_word(rt, *word, input, notes, told),
-        Task::Check {
-            files,
-            format,
-            script,
-        } => checking::check(rt, files, *format, *script, notes, told),
-        Task::Help(text) | Task::Version(text) => {
+    let words = words_after(rt).map_err(Failure::Words)?;
+    let table = table();
+    let request = read_words(rt.alloc(), table.as_slice(), words.as_slice());
+    match request.map_err(Failure::Words)? {
+        Request::Shown(text) => {
+            let mut output = NotedOutput::new(io::writer(rt), notes);
             show(&mut output, text.as_str()).map_err(Failure::Stream)
         }
-        Task::Create { .. } | Task::Dump { .. } | Task::Inspect { .. } => on_disk(
-            rt, threads, task, notes, told,
-        ),
-        Task::Attend { .. } | Task::Batch { .. } => on_disk(rt, threads, task, notes, told),
-        _ => on_text(rt, threads, task, input, notes, told),
-    }
-}
-
-/// Settles, makes one round of, draws or expands the text on this input.
-fn on_word<R: Read>(
-    rt: &HostRuntime,
-    word: TextWord,
-    input: &mut R,
-    notes: &Notes,
-    told: &mut Vec<u8>,
-) -> Result<(), Failure> {
-    let mut output = NotedOutput::new(io::writer(rt), notes);
-    match word {
-        TextWord::Settle => {
-            settle_telling(rt.alloc(), input, &mut output, told).map_err(Failure::Stream)
-        }
-        TextWord::Once => {
-            once_telling(rt.alloc(), input, &mut output, told).map_err(Failure::Stream)
-        }
-        TextWord::Draw => looking::draw(rt, input, notes, told),
-        TextWord::Expand => texts::expand(rt, input, notes, told),
-    }
-}
-
-/// Reduces or traces the text on this input.
-fn on_text<T: Threads + Wait + Sync, R: Read>(
-    rt: &HostRuntime,
-    threads: &T,
-    task: &Task,
-    input: &mut R,
-    notes: &Notes,
-    told: &mut Vec<u8>,
-) -> Result<(), Failure> {
-    match task {
-        Task::Reduce { .. } => reduce_in_place(rt, threads, task, input, notes, told),
-        Task::ReduceKept { .. } => reduce_kept(rt, task, input, notes, told),
-        Task::ReduceByRounds {
-            rounds,
-            workers,
-            partial,
-            ..
-        } => {
-            let maker = Workers {
-                rt: threads,
-                count: *workers as usize,
-            };
-            looking::reduce(rt, &maker, *rounds, *partial, input, notes, told)
-        }
-        Task::Trace { rounds, format, .. } => {
-            looking::trace(rt, *rounds, *format, input, notes, told)
-        }
-        _ => Ok(()),
-    }
-}
-
-/// Reduces the text on this input in place, as the task asks for it.
-fn reduce_in_place<T: Threads + Sync, R: Read>(
-    rt: &HostRuntime,
-    threads: &T,
-    task: &Task,
-    input: &mut R,
-    notes: &Notes,
-    told: &mut Vec<u8>,
-) -> Result<(), Failure> {
-    match task {
-        Task::Reduce {
-            workers,
-            steps,
-            nodes,
-            partial,
-            stats,
-            limits,
-            format,
-            quiet,
-            ..
-        } => {
-            let bounds = Bounds {
-                steps: *steps,
-                nodes: *nodes,
-            };
-            let wanted = Wanted {
-                asked: asked_of(*quiet, *partial),
-                figures: if *stats { Some(*format) } else { None },
-                policy: Policy::of(threads_for(threads, *workers, *steps)),
-            };
-            reducing::reduce(
+        Request::Word(word, values) => {
+            if path.push_str(path_of(&values)).is_err() {
+                return Err(Failure::Words(WordsFault::Memory));
+            }
+            let doing = Doing {
                 rt,
                 threads,
-                limits_of(*limits),
-                bounds,
-                wanted,
-                input,
+                values: &values,
                 notes,
-                told,
-            )
+            };
+            let done = do_word(&doing, word, told);
+            if let (Err(failure), Some(file)) = (&done, values.file(&FILE)) {
+                if let Ok(lines) = told_of(rt.alloc(), file, failure, notes, told) {
+                    *told = lines;
+                }
+            }
+            done
         }
-        _ => Ok(()),
-    }
-}
-
-/// Reduces in place, and keeps in files what is reached, as the task asks for it.
-fn reduce_kept<R: Read>(
-    rt: &HostRuntime,
-    task: &Task,
-    input: &mut R,
-    notes: &Notes,
-    told: &mut Vec<u8>,
-) -> Result<(), Failure> {
-    match task {
-        Task::ReduceKept {
-            disk,
-            begins,
-            seconds,
-            steps,
-            nodes,
-            partial,
-            stats,
-            format,
-            quiet,
-            ..
-        } => {
-            let kept = KeptIn {
-                path: disk.as_str(),
-                begins: *begins,
-                seconds: *seconds,
-            };
-            let bounds = Bounds {
-                steps: *steps,
-                nodes: *nodes,
-            };
-            let wanted = Wanted {
-                asked: asked_of(*quiet, *partial),
-                figures: if *stats { Some(*format) } else { None },
-                policy: Policy::of(1),
-            };
-            keeping::reduce(rt, kept, bounds, wanted, input, notes, told)
-        }
-        _ => Ok(()),
-    }
-}
-
-/// What of a reduction in place is printed, by whether nothing is, and whether a part of the way is, too.
-fn asked_of(quiet: bool, partial: bool) -> Asked {
-    match (quiet, partial) {
-        (true, _) => Asked::Nothing,
-        (false, true) => Asked::AlsoPart,
-        (false, false) => Asked::Answer,
-    }
-}
-
-/// The limits of a text that were asked for.
-fn limits_of(limits: TextLimits) -> Limits {
-    match limits {
-        TextLimits::Served => Limits::Served,
-        TextLimits::Wide => Limits::Wide,
-    }
-}
-
-/// Makes the disk that a task names, looks at it, or brings jobs on it on.
-fn on_disk<T: Threads + Wait + Copy + Send + Sync + 'static>(
-    rt: &HostRuntime,
-    threads: &T,
-    task: &Task,
-    notes: &Notes,
-    told: &mut Vec<u8>,
-) -> Result<(), Failure> {
-    match task {
-        Task::Create { disk, overwrite } => create(rt, disk.as_str(), *overwrite, notes),
-        Task::Dump { disk, names } => dumping::dump(rt, disk.as_str(), names, notes),
-        Task::Inspect { disk, format } => inspecting::inspect(rt, disk.as_str(), *format, notes),
-        Task::Attend {
-            disk,
-            runners,
-            turns,
-            workers,
-            scripts,
-        } => {
-            let clients = Clients {
-                runners: *runners,
-                turns: *turns,
-                workers: *workers,
-            };
-            attend(rt, threads, disk.as_str(), scripts, clients, notes, told)
-        }
-        Task::Batch {
-            disk,
-            rounds,
-            every,
-            workers,
-            lines,
-        } => {
-            let making = Making {
-                workers: *workers,
-                every: *every,
-            };
-            let files = batching::Files {
-                disk: disk.as_str(),
-                lines: lines.as_str(),
-            };
-            batching::batch(rt, threads, files, *rounds, making, notes, told)
-        }
-        _ => Ok(()),
     }
 }
 
@@ -418,8 +131,8 @@ fn attend<T: Threads + Wait + Sync>(
     given.map_err(Failure::Attend)
 }
 
-/// What the words after the program's name ask for.
-fn task(rt: &HostRuntime) -> Result<Task, WordsFault> {
+/// The words after the program's name.
+fn words_after(rt: &HostRuntime) -> Result<Vec<String>, WordsFault> {
     let alloc = rt.alloc();
     let mut words = match env::args(rt) {
         Ok(words) => words,
@@ -430,24 +143,7 @@ fn task(rt: &HostRuntime) -> Result<Task, WordsFault> {
         }
     };
     let _program = words.next();
-    let words = words.collect::<Vec<String>>(alloc)?;
-    if words.is_empty() {
-        return no_words(rt);
-    }
-    read_words(alloc, &words)
-}
-
-/// Where no word stands after the program's name, its help is the refusal.
-fn no_words(rt: &HostRuntime) -> Result<Task, WordsFault> {
-    let alloc = rt.alloc();
-    let mut words = Vec::new(alloc);
-    if words.push(format!(in alloc; "--help")?).is_err() {
-        return Err(WordsFault::Memory);
-    }
-    match read_words(alloc, &words)? {
-        Task::Help(text) => Err(WordsFault::Words(text)),
-        task => Ok(task),
-    }
+    Ok(words.collect::<Vec<String>>(alloc)?)
 }
 
 /// Opens the disk in the file of this path, which with `create` is made where it is missing.

@@ -1,10 +1,10 @@
 //! The program's word `reduce` where no rounds are asked for: a net reduced in place.
 
 ghost use Rattle.std.specs.Prelude.{◌≡◌, ◌<◌, ◌≤◌, IfNone, IfSome, max, min};
-ghost use Rattle.ic_args.specs.Words.{most_steps};
 
 use crate::looking::tell_stuck;
-use ic_args::{FiguresFormat, MAX_STEPS};
+use ic_args::FiguresFormat;
+use ic_args::table::MAX_STEPS;
 use ic_causes::{NotedOutput, Notes};
 use ic_exits::{Failure, Reached, idle_line, reduce_ending};
 use ic_in_place::{Asked, Bounds, End, Outcome, Watch, reduce_in_place_stream};
@@ -33,7 +33,7 @@ pub(crate) fn threads_for<T: Threads>(threads: &T, said: Option<u32>, steps: u64
     ensures some { 1 ≤ result }
     ensures few { result ≤ 64 }
     ensures said { IfSome said (λ number. result ≡ min (max number 1) 64) }
-    ensures bounded { IfNone said (steps < most_steps → result ≡ 1) }
+    ensures bounded { IfNone said (steps < MAX_STEPS → result ≡ 1) }
 {
     match said {
         Some(number) => number.max(1).min(64),

@@ -1,37 +1,39 @@
--- What the program's commands are made into.
-use Rattle.std.specs.Prelude.{◌≡◌, List, None, false, true, map, option_map}
-use Rattle.clap.specs.Words.{App, Text, app_of}
-use Rattle.ic_args.specs.Words.{Choice, Entry, Kind, Tail, a_flag, a_number, a_text, an_option, many_words, no_words, one_word}
-use Rattle.ic_args.specs.declared.commands.Value.{Value}
-use Rattle.ic_args.specs.declared.commands.Value.TheVariants as value
-use Rattle.ic_args.specs.declared.commands.Row.{Row}
-use Rattle.ic_args.specs.declared.commands.Row.TheVariants as row
-use Rattle.ic_args.specs.declared.commands.Rest.{Rest}
-use Rattle.ic_args.specs.declared.commands.Rest.TheVariants as rest
+-- What the rows of the table are made into.
+use Rattle.std.specs.Prelude.{◌≡◌, ◌&&◌, Bool, false, List, Option, None, Some, bytes_eq, find, option_map}
+use Rattle.std.specs.List.{list_all}
+use Rattle.clap.specs.Words.{App, Rule, Text, app_of, built, rule_of}
+use Rattle.clap.specs.Walk.{answers_to, idle, subcommand_met}
+use Rattle.clap.specs.Simple.{label_of, names_of}
+use Rattle.ic_args.specs.Words.{command_line}
+use Rattle.ic_args.specs.declared.rows.Entry.{Entry}
+use Rattle.clap.specs.declared.builder.arg.Arg.{Arg}
 use Rattle.clap.specs.declared.builder.command.Command.{Command}
 use Rattle.clap.specs.declared.builder.command.Command.TheViews.{out-Command}
+
+-- the argument has this rule, and is its command's alone
+abbrev pub IsRule : Rule → Arg → Type 0
+IsRule rule arg = (rule_of arg ≡ rule) × (arg.global ≡ false)
 
 -- the command has this shape, and no argument that is its commands', too
 abbrev pub IsMade : App → Command → Type 0
 IsMade app command = (app_of command ≡ app) × ((out-Command command).has_globals ≡ false)
 
--- ---- what the rows of the code say
+-- ---- the command line finds each word by its name, and so do the words below it
 
-abbrev pub kind_of : Value → Kind
-kind_of value.Text = a_text
-kind_of (value.Number least most) = a_number least most
+abbrev pub is_some_text : Text → Option Text → Bool
+is_some_text name None = false
+is_some_text name (Some other) = bytes_eq other name
 
-abbrev pub choice_of : Row → Choice
-choice_of (row.Flag name) = a_flag name.now
-choice_of (row.Valued name shown value default) =
-    an_option name.now (kind_of value) (option_map (λ text. text.now) default) false
-choice_of (row.Needed name shown) = an_option name.now a_text None true
+abbrev pub is_met : App → Text → Bool
+is_met app name = is_some_text name (subcommand_met (names_of (built app)) idle name)
 
-abbrev pub tail_of : Rest → Tail
-tail_of rest.Nothing = no_words
-tail_of (rest.One name shown needed) = one_word name.now needed
-tail_of (rest.Several name shown needed) = many_words name.now needed
+abbrev pub has_shape : App → Text → Bool
+has_shape app name =
+    is_some_text name (option_map (λ s. s.name) (find (λ s. answers_to name (label_of s)) (built app).subs))
 
-abbrev pub entry_of : (name : Text) (rows : List Row) (rest : Rest) → Entry
-entry_of name rows rest =
-    record { name = name; options = map choice_of rows; tail = tail_of rest }
+abbrev pub is_found : App → Text → Bool
+is_found app name = is_met app name && has_shape app name
+
+abbrev pub are_found : List Entry → Bool
+are_found table = (command_line table).top.no_binary_name
+    && list_all (λ entry. is_found (command_line table) entry.name.now) table

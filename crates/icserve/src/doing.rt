@@ -1,0 +1,353 @@
+//! What each word of the program does, with the values that it is given.
+
+use crate::input::{self, Input, open_text};
+use crate::keeping::{self, KeptIn};
+use crate::reducing::{self, Wanted, threads_for};
+use crate::{
+    Clients, Making, attend, batching, checking, create, dumping, inspecting, looking,
+    serve_session, show, texts,
+};
+use ic_args::table::{
+    CHECKED, DISK, EVERY, EXPLAIN, FIGURES, FILE, HELPERS, KEEP, LIMITS, LINES, MAX_ROUNDS,
+    MAX_STEPS, NAMES, NODES, OVERWRITE, PARTIAL, QUIET, REDUCERS, REPORT, RESUME, ROUNDS, RUNNERS,
+    SCRIPT, SCRIPTS, SECONDS, STATS, STEPS, TABLE, TAKEN, TOPIC, TRACED, TURNS, WORKERS, Word,
+    table,
+};
+use ic_args::{
+    FiguresFormat, Place, ReportFormat, TextLimits, TraceFormat, Values, WordsFault, help_of,
+};
+use ic_by_rounds::Workers;
+use ic_causes::{NotedInput, NotedOutput, Notes};
+use ic_diagnostics::{once_telling, settle_telling};
+use ic_exits::Failure;
+use ic_in_place::{Asked, Bounds};
+use ic_text::Limits;
+use ic_workers::Policy;
+use std::io::{self, StdinLock};
+use std::sync::Wait;
+use std::thread::Threads;
+
+/// What a word is done with.
+#[derive_where(Clone, Copy)]
+pub(crate) struct Doing<'a, 'v, T> {
+    pub(crate) rt: &'a HostRuntime,
+    pub(crate) threads: &'a T,
+    pub(crate) values: &'a Values<'v>,
+    pub(crate) notes: &'a Notes,
+}
+
+/// Does what a word says. The lines that tell the place of a fault in a text, and those that tell why a text or a script
+/// can't be read, are appended to `told`.
+pub(crate) fn do_word<T: Threads + Wait + Copy + Send + Sync + 'static>(
+    doing: &Doing<'_, '_, T>,
+    word: Word,
+    told: &mut Vec<u8>,
+) -> Result<(), Failure> {
+    match word {
+        Word::Reduce => reduce(doing, told),
+        Word::Trace => trace(doing, told),
+        Word::Draw => draw(doing, told),
+        Word::Once => once(doing, told),
+        Word::Settle => settle(doing, told),
+        Word::Check => check(doing, told),
+        Word::Expand => expand(doing, told),
+        Word::Create => create_disk(doing),
+        Word::Serve => serve(doing),
+        Word::Attend => attend_disk(doing, told),
+        Word::Batch => batch(doing, told),
+        Word::Dump => dump(doing),
+        Word::Inspect => inspect(doing),
+        Word::Help => help(doing),
+    }
+}
+
+/// The path of the disk's file, or of the file in which a reduction is kept, or no path.
+pub(crate) fn path_of<'v>(values: &Values<'v>) -> &'v str {
+    let kept = values.text(&KEEP).or(values.text(&RESUME));
+    values.text(&DISK).or(kept).unwrap_or("")
+}
+
+/// What a word over a text reads.
+type Text<'a> = Input<'a, StdinLock<'static>>;
+
+/// The file that is named, or standard input, of which a terminal is told that a text is read from it.
+fn open_input<'a, T>(doing: &Doing<'a, '_, T>) -> Result<Text<'a>, Failure> {
+    match doing.values.file(&FILE) {
+        Some(path) => match open_text(doing.rt, path, doing.notes) {
+            Ok(file) => Ok(Input::File(file)),
+            Err(fault) => Err(Failure::Stream(fault)),
+        },
+        None => {
+            input::tell_terminal(doing.rt);
+            Ok(standard(doing))
+        }
+    }
+}
+
+fn standard<'a, T>(doing: &Doing<'a, '_, T>) -> Text<'a> {
+    Input::Standard(NotedInput::new(doing.rt.reader(), doing.notes))
+}
+
+fn settle<T>(doing: &Doing<'_, '_, T>, told: &mut Vec<u8>) -> Result<(), Failure> {
+    let mut input = open_input(doing)?;
+    let mut output = NotedOutput::new(io::writer(doing.rt), doing.notes);
+    settle_telling(doing.rt.alloc(), &mut input, &mut output, told).map_err(Failure::Stream)
+}
+
+fn once<T>(doing: &Doing<'_, '_, T>, told: &mut Vec<u8>) -> Result<(), Failure> {
+    let mut input = open_input(doing)?;
+    let mut output = NotedOutput::new(io::writer(doing.rt), doing.notes);
+    once_telling(doing.rt.alloc(), &mut input, &mut output, told).map_err(Failure::Stream)
+}
+
+fn draw<T>(doing: &Doing<'_, '_, T>, told: &mut Vec<u8>) -> Result<(), Failure> {
+    let mut input = open_input(doing)?;
+    looking::draw(doing.rt, &mut input, doing.notes, told)
+}
+
+fn expand<T>(doing: &Doing<'_, '_, T>, told: &mut Vec<u8>) -> Result<(), Failure> {
+    let mut input = open_input(doing)?;
+    texts::expand(doing.rt, &mut input, doing.notes, told)
+}
+
+fn trace<T>(doing: &Doing<'_, '_, T>, told: &mut Vec<u8>) -> Result<(), Failure> {
+    let rounds = doing.values.number(&TRACED);
+    let format = TraceFormat::of(doing.values.choice(&TABLE));
+    let mut input = open_input(doing)?;
+    looking::trace(doing.rt, rounds, format, &mut input, doing.notes, told)
+}
+
+/// Reduces the text by rounds, in place, or in place with files in which is kept what is reached.
+fn reduce<T: Threads + Wait + Sync>(
+    doing: &Doing<'_, '_, T>,
+    told: &mut Vec<u8>,
+) -> Result<(), Failure> {
+    if let Some(rounds) = doing.values.number_met(&ROUNDS) {
+        return reduce_by_rounds(doing, rounds, told);
+    }
+    if let Some(path) = doing.values.text(&KEEP) {
+        return reduce_kept(doing, path, true, told);
+    }
+    match doing.values.text(&RESUME) {
+        Some(path) => reduce_kept(doing, path, false, told),
+        None => reduce_in_place(doing, told),
+    }
+}
+
+/// By rounds a net is reduced by two threads, where no number is said.
+fn reduce_by_rounds<T: Threads + Wait>(
+    doing: &Doing<'_, '_, T>,
+    rounds: u64,
+    told: &mut Vec<u8>,
+) -> Result<(), Failure> {
+    let maker = Workers {
+        rt: doing.threads,
+        count: doing.values.number_met(&REDUCERS).unwrap_or(2) as usize,
+    };
+    let partial = doing.values.flag(&PARTIAL);
+    let mut input = open_input(doing)?;
+    looking::reduce(
+        doing.rt,
+        &maker,
+        rounds,
+        partial,
+        &mut input,
+        doing.notes,
+        told,
+    )
+}
+
+fn reduce_in_place<T: Threads + Sync>(
+    doing: &Doing<'_, '_, T>,
+    told: &mut Vec<u8>,
+) -> Result<(), Failure> {
+    let bounds = bounds_of(doing.values);
+    let threads = threads_for(doing.threads, said_of(doing.values), bounds.steps);
+    let wanted = wanted_of(doing.values, Policy::of(threads));
+    let limits = match TextLimits::of(doing.values.choice(&LIMITS)) {
+        TextLimits::Served => Limits::Served,
+        TextLimits::Wide => Limits::Wide,
+    };
+    let mut input = open_input(doing)?;
+    reducing::reduce(
+        doing.rt,
+        doing.threads,
+        limits,
+        bounds,
+        wanted,
+        &mut input,
+        doing.notes,
+        told,
+    )
+}
+
+/// One that goes on with what is kept reads no text.
+fn reduce_kept<T>(
+    doing: &Doing<'_, '_, T>,
+    path: &str,
+    begins: bool,
+    told: &mut Vec<u8>,
+) -> Result<(), Failure> {
+    let kept = KeptIn {
+        path,
+        begins,
+        seconds: doing.values.number(&SECONDS),
+    };
+    let wanted = wanted_of(doing.values, Policy::of(1));
+    let mut input = if begins {
+        open_input(doing)?
+    } else {
+        standard(doing)
+    };
+    let bounds = bounds_of(doing.values);
+    keeping::reduce(
+        doing.rt,
+        kept,
+        bounds,
+        wanted,
+        &mut input,
+        doing.notes,
+        told,
+    )
+}
+
+/// How many threads are said to reduce, if it is said.
+fn said_of(values: &Values) -> Option<u32> {
+    match values.number_met(&REDUCERS) {
+        Some(number) => Some(number as u32),
+        None => None,
+    }
+}
+
+/// The bounds of a reduction in place.
+fn bounds_of(values: &Values) -> Bounds {
+    Bounds {
+        steps: values.number_met(&STEPS).unwrap_or(MAX_STEPS),
+        nodes: values.number(&NODES),
+    }
+}
+
+/// What is wanted of a reduction in place.
+fn wanted_of(values: &Values, policy: Policy) -> Wanted {
+    let format = FiguresFormat::of(values.choice(&FIGURES));
+    Wanted {
+        asked: asked_of(values.flag(&QUIET), values.flag(&PARTIAL)),
+        figures: if values.flag(&STATS) {
+            Some(format)
+        } else {
+            None
+        },
+        policy,
+    }
+}
+
+/// What of a reduction in place is printed, by whether nothing is, and whether a part of the way is, too.
+fn asked_of(quiet: bool, partial: bool) -> Asked {
+    match (quiet, partial) {
+        (true, _) => Asked::Nothing,
+        (false, true) => Asked::AlsoPart,
+        (false, false) => Asked::Answer,
+    }
+}
+
+fn check<T>(doing: &Doing<'_, '_, T>, told: &mut Vec<u8>) -> Result<(), Failure> {
+    let files = words_at(doing, &CHECKED)?;
+    let format = ReportFormat::of(doing.values.choice(&REPORT));
+    let is_script = doing.values.flag(&SCRIPTS);
+    checking::check(doing.rt, &files, format, is_script, doing.notes, told)
+}
+
+fn create_disk<T>(doing: &Doing<'_, '_, T>) -> Result<(), Failure> {
+    let overwrite = doing.values.flag(&OVERWRITE);
+    create(doing.rt, path_of(doing.values), overwrite, doing.notes)
+}
+
+fn serve<T: Threads + Wait + Copy + Send + 'static>(
+    doing: &Doing<'_, '_, T>,
+) -> Result<(), Failure> {
+    let path = path_of(doing.values);
+    let explains = doing.values.flag(&EXPLAIN);
+    let making = making_of(doing.values);
+    serve_session(doing.rt, doing.threads, path, making, explains, doing.notes)
+}
+
+fn attend_disk<T: Threads + Wait + Sync>(
+    doing: &Doing<'_, '_, T>,
+    told: &mut Vec<u8>,
+) -> Result<(), Failure> {
+    let clients = Clients {
+        runners: doing.values.number(&RUNNERS) as u32,
+        turns: doing.values.number(&TURNS) as u32,
+        workers: doing.values.number(&HELPERS) as u32,
+    };
+    let scripts = words_at(doing, &SCRIPT)?;
+    let path = path_of(doing.values);
+    attend(
+        doing.rt,
+        doing.threads,
+        path,
+        &scripts,
+        clients,
+        doing.notes,
+        told,
+    )
+}
+
+fn batch<T: Threads + Wait + Copy + Send + 'static>(
+    doing: &Doing<'_, '_, T>,
+    told: &mut Vec<u8>,
+) -> Result<(), Failure> {
+    let files = batching::Files {
+        disk: path_of(doing.values),
+        lines: doing.values.word(&LINES).unwrap_or(""),
+    };
+    let most = doing.values.number_met(&TAKEN).unwrap_or(MAX_ROUNDS);
+    let making = making_of(doing.values);
+    batching::batch(
+        doing.rt,
+        doing.threads,
+        files,
+        most,
+        making,
+        doing.notes,
+        told,
+    )
+}
+
+/// By how many workers a round is made, and after how many rounds they are kept.
+fn making_of(values: &Values) -> Making {
+    Making {
+        workers: values.number(&WORKERS) as u32,
+        every: values.number(&EVERY) as u32,
+    }
+}
+
+fn dump<T>(doing: &Doing<'_, '_, T>) -> Result<(), Failure> {
+    let names = words_at(doing, &NAMES)?;
+    dumping::dump(doing.rt, path_of(doing.values), &names, doing.notes)
+}
+
+fn inspect<T>(doing: &Doing<'_, '_, T>) -> Result<(), Failure> {
+    let format = ReportFormat::of(doing.values.choice(&REPORT));
+    inspecting::inspect(doing.rt, path_of(doing.values), format, doing.notes)
+}
+
+fn help<T>(doing: &Doing<'_, '_, T>) -> Result<(), Failure> {
+    let words = table();
+    let text = help_of(
+        doing.rt.alloc(),
+        words.as_slice(),
+        doing.values.word(&TOPIC),
+    );
+    let text = text.map_err(Failure::Words)?;
+    let mut output = NotedOutput::new(io::writer(doing.rt), doing.notes);
+    show(&mut output, text.as_str()).map_err(Failure::Stream)
+}
+
+/// The words that stand at a place.
+fn words_at<T>(doing: &Doing<'_, '_, T>, place: &Place) -> Result<Vec<String>, Failure> {
+    match doing.values.words(doing.rt.alloc(), place) {
+        Ok(words) => Ok(words),
+        Err(_) => Err(Failure::Words(WordsFault::Memory)),
+    }
+}
