@@ -421,6 +421,23 @@ class Keep(Stops):
             told = (ran.status, ran.out, ran.err, self.contents() == put)
             self.equals(ran.command, f"the end of {content[:40]}", (3, b"", b"icserve: damaged\n", True), told)
 
+    def test_counts_that_are_not_those_of_the_text_are_damage(self):
+        """A count too many, one too few, and one above all interactions."""
+        run("reduce", "--keep", self.file, "--steps", 9, given=ackermann(2))
+        whole = self.contents()
+        newest = max((0, 1), key=lambda it: (whole[it][:1] == b"\1", whole[it][1:9]))
+        number, state = whole[newest][1:9], whole[newest][HEAD:]
+        rules = struct.unpack(">Q", state[32:40])[0]
+        counts, rest = state[56 : 56 + 8 * rules], state[56 + 8 * rules :]
+        for other in (counts + bytes(8), counts[8:], b"", struct.pack(">Q", 10) + counts[8:]):
+            changed = state[:32] + struct.pack(">Q", len(other) // 8) + state[40:56] + other + rest
+            content = b"\1" + number + struct.pack(">Q", len(changed)) + changed
+            self.put([content if it == newest else whole[it] for it in (0, 1)])
+            put = self.contents()
+            ran = run("reduce", "--resume", self.file)
+            told = (ran.status, ran.out, ran.err, self.contents() == put)
+            self.equals(ran.command, f"the end where the counts are {other}", (3, b"", b"icserve: damaged\n", True), told)
+
     def test_kept_files_are_no_disks(self):
         run("reduce", "--keep", self.file, given=ackermann(2))
         before = self.contents()

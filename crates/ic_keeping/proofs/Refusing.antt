@@ -1,7 +1,8 @@
 -- Why a run stops, and what a keep that was refused says.
-use Rattle.std.proofs.Common.{◌≡◌, ◌≢◌, ◌⊎◌, inl, inr, ℕ, Bool, true, false, List, Result, Ok, Err, None, refl, sym, ap, subst, ◌∙◌}
-use Rattle.std.specs.Prelude.{IsTrue}
-use Rattle.std.proofs.lemmas.Bool.{false_from_ne_true}
+use Rattle.std.proofs.Common.{◌≡◌, ◌≢◌, ◌⊎◌, ⊎_elim, inl, inr, ℕ, ◌<◌, ◌≤◌, Bool, true, false, List, Result, Ok, Err, None, refl, sym, ap, subst, ◌∙◌}
+use Rattle.std.specs.Prelude.{◌↔◌, IsTrue}
+use Rattle.std.specs.List.{AllByRecursion}
+use Rattle.std.proofs.lemmas.Bool.{cases_lt, false_from_ne_true}
 use Rattle.ic_frames.specs.declared.faults.KeepFault.{KeepFault}
 use Rattle.ic_frames.specs.declared.faults.KeepFault.TheVariants.{Broken, Worn, Device}
 use Rattle.ic_frames.specs.declared.faults.OpenCause.TheVariants as opening
@@ -9,8 +10,10 @@ use Rattle.ic_kept.specs.declared.keeper.Keeper.{Keeper}
 use Rattle.ic_kept.specs.Keeper.{is_broken, newest_of, number_of, other_of}
 use Rattle.ic_kept.specs.Keeping.{FaultLeaves}
 use Rattle.ic_kept.specs.Opening.{InSomeOrder}
-use Rattle.ic_term.specs.Configuration.{Configuration, configuration_names, restored_if, third_occurrence, unless_third}
+use Rattle.ic_term.specs.Configuration.{Configuration, IsWide, configuration_names, configuration_nodes, occurrences, restored_if, third_occurrence, unless_third, wide_restored}
 use Rattle.ic_term.specs.declared.config.ConfigFault.TheVariants.{Name}
+use Rattle.ic_term.specs.declared.config.ConfigFault.TheVariants as config
+use Rattle.ic_term.specs.declared.limits.TheConstants.{MAX_NEXT, MAX_WIDE_NODES}
 use Rattle.ic_term.specs.Symbol.{Symbol, is_over}
 use Rattle.ic_term.specs.Tree.{Tree, Pair}
 use Rattle.ic_keeping.specs.declared.fault.KeepingFault.{KeepingFault}
@@ -62,6 +65,20 @@ fails_on cause start old new (inr both) fails = fails_after cause start old new 
 pub no_third : (within : Bool) (c : Configuration) (n : ℕ) → third_occurrence (configuration_names c) ≡ None → Err (Name n) ≡ restored_if within c → ⊥
 no_third true c n none is = let e = is ∙ ap (unless_third c) none in cc
 no_third false c n none is = cc
+
+-- where names occur twice at most, each below `next`, a limit is passed
+pub past_wide : ((c : Configuration) → (wide_restored c ≡ Ok c) ↔ IsWide c) → (c : Configuration) → AllByRecursion (λ n. n < c.next) (configuration_names c)
+    → ((n : ℕ) → occurrences n (configuration_names c) ≤ 2) → Err config.Limit ≡ wide_restored c → (MAX_WIDE_NODES < configuration_nodes c) ⊎ (MAX_NEXT < c.next)
+past_wide taken c below twice refused = ⊎_elim
+    (λ many. inl many)
+    (λ few. ⊎_elim
+    (λ high. inr high)
+    (λ low.
+    let wide : wide_restored c ≡ Ok c = (taken c).1 (record { nodes = few; next = low; below = below; twice = twice }) in
+    let e = refused ∙ wide in
+    cc (e))
+    (cases_lt MAX_NEXT c.next))
+    (cases_lt MAX_WIDE_NODES (configuration_nodes c))
 
 -- what is over symbols is told by terms and equations alone
 pub over_parts : (ss : List Symbol) (c d : Configuration) → c.interface ≡ d.interface → c.equations ≡ d.equations → IsTrue (is_over ss d) → IsTrue (is_over ss c)
@@ -122,3 +139,14 @@ pub opening_keeps_none : (fault : KeepingFault) → ((cause : OpenCause) × (fau
 opening_keeps_none fault (inl opened) cause same = let e : Open opened.0 ≡ Keep cause = sym opened.1 ∙ same in cc
 opening_keeps_none fault (inr (inl unsound)) cause same = let e : Unsound ≡ Keep cause = sym unsound ∙ same in cc
 opening_keeps_none fault (inr (inr memory)) cause same = let e : Memory ≡ Keep cause = sym memory ∙ same in cc
+
+-- what refuses a state's text or its counts is no limit
+pub text_not_limit : (fault : KeepingFault) → (fault ≡ Unsound) ⊎ (fault ≡ Memory) → fault ≡ Limit → ⊥
+text_not_limit fault (inl unsound) same = let e : Unsound ≡ Limit = sym unsound ∙ same in cc
+text_not_limit fault (inr memory) same = let e : Memory ≡ Limit = sym memory ∙ same in cc
+
+-- nor is what refuses its files
+pub opening_not_limit : (fault : KeepingFault) → (fault ≡ Open opening.Device) ⊎ (fault ≡ Open opening.Memory) ⊎ (fault ≡ Memory) → fault ≡ Limit → ⊥
+opening_not_limit fault (inl device) same = let e : Open opening.Device ≡ Limit = sym device ∙ same in cc
+opening_not_limit fault (inr (inl memory)) same = let e : Open opening.Memory ≡ Limit = sym memory ∙ same in cc
+opening_not_limit fault (inr (inr memory)) same = let e : Memory ≡ Limit = sym memory ∙ same in cc

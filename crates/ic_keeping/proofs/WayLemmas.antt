@@ -1,23 +1,27 @@
 -- A reduction goes on: what was reached, and what is reached from there.
-use Rattle.std.proofs.Common.{◌≡◌, ℕ, ◌+◌, ◌*◌, ◌<◌, ◌≤◌, ◌==◌, List, [], ◌∷◌, ◌++◌, true, false, Ok, length, max, count_by, refl, sym, ap, subst, ◌∙◌, arith}
-use Rattle.std.proofs.lemmas.List.{ext_get_or, length-append}
-use Rattle.std.proofs.lemmas.List.Sums.{sum_by-append}
-use Rattle.std.specs.Prelude.{◌↔◌, Bool, IsTrue, slice_index_or}
+use Rattle.std.proofs.Common.{◌≡◌, ◌⊎◌, ⊎_elim, inl, inr, ℕ, zero, suc, ◌+◌, ◌*◌, ◌<◌, ◌≤◌, ◌==◌, List, [], ◌∷◌, ◌++◌, true, false, Ok, length, max, count_by, refl, sym, ap, subst, ◌∙◌, arith}
+use Rattle.std.proofs.lemmas.List.{ext_get_or, length-append, length-map}
+use Rattle.std.proofs.lemmas.List.Sums.{count_by-le-length, sum_by-append}
+use Rattle.std.proofs.lemmas.Bool.{and_parts, cases_lt, leb-true}
+use Rattle.std.specs.Prelude.{◌↔◌, ◌^◌, Bool, IsTrue, nat_le, slice_get, slice_index_or}
 use Rattle.std.specs.Cmp.{unsigned_Decides}
-use Rattle.std.specs.List.{AllByRecursion}
+use Rattle.std.specs.List.{AllByRecursion, flat_map, list_all}
 use Rattle.ic_naming.specs.lemmas.Occurring.{occurrences-other}
-use Rattle.ic_term.specs.Configuration.{Configuration, IsWide, configuration_names, occurrences, one_above}
-use Rattle.ic_term.specs.Symbol.{is_over}
+use Rattle.ic_term.specs.Configuration.{Configuration, IsWide, configuration_names, configuration_nodes, occurrences, one_above}
+use Rattle.ic_term.specs.declared.limits.TheConstants.{MAX_ARITY, MAX_SYMBOL_TEXT, MAX_WIDE_NODES, MAX_WIDE_SYMBOLS}
+use Rattle.ic_term.specs.Symbol.{AreSymbols, Symbol, fits_limits, has_arity, is_over, is_symbol_text}
 use Rattle.ic_rules.specs.RuleSet.{Rules, IsRuleSet}
 use Rattle.ic_rules.specs.Rule.{Rule}
 use Rattle.ic_rules.specs.System.{SystemParts}
 use Rattle.ic_flat.specs.declared.word.Word.{Word}
-use Rattle.ic_flat.specs.Flat.{configuration_of}
-use Rattle.ic_flat.specs.Words.{forest, IsWhole}
+use Rattle.ic_flat.specs.declared.word.Word.TheVariants.{Name, Agent}
+use Rattle.ic_flat.specs.Flat.{configuration_of, configuration_words}
+use Rattle.ic_flat.specs.Words.{forest, is_word_over, word_names, IsWhole}
+use Rattle.ic_flat.specs.lemmas.FlatLaws.{nodes-configuration_of, nodes-words}
 use Rattle.ic_round.specs.Naming.{HasNames}
 use Rattle.ic_reaching.specs.OneNet.{OneNet}
 use Rattle.ic_reaching.specs.Reaching.{Reaches}
-use Rattle.ic_naming.specs.Naming.{renumbered}
+use Rattle.ic_naming.specs.Naming.{renamed_word, renumbered, told_name}
 use Rattle.ic_text.specs.declared.limits.TheConstants.{MAX_NAME}
 use Rattle.ic_in_place.specs.declared.running.Bounds.{Bounds}
 use Rattle.ic_in_place.specs.declared.running.End.{End}
@@ -28,8 +32,9 @@ use Rattle.ic_text.specs.SystemText.{ReadsSystemWithin}
 use Rattle.ic_text.specs.declared.limits.Limits.TheVariants.{Wide}
 use Rattle.ic_round.specs.Quiet.{IsQuiet}
 use Rattle.ic_state.specs.State.{Kept}
-use Rattle.ic_keeping.specs.inner.Pieces.{IsWritten}
-use Rattle.ic_keeping.specs.Way.{AreSums, EndsWithin, IsAnswer, IsOnWay, IsReachedFrom, IsSound, IsStateOf}
+use Rattle.ic_state.specs.Words.{IsKeptWord}
+use Rattle.ic_keeping.specs.inner.Pieces.{ComesTogether, IsWritten}
+use Rattle.ic_keeping.specs.Way.{AreSums, ComesPastLimits, EndsWithin, IsAnswer, IsOnWay, IsReachedFrom, IsSound, IsStateOf}
 use Rattle.ic_keeping.proofs.LowNames.{TellingLaws, low_words}
 use Rattle.ic_keeping.proofs.Quiet.{QuietLaws, quiet_too}
 
@@ -72,6 +77,10 @@ counts_add rules fired also some more sums first second adds = record {
       ∙ ap (λ (k : ℕ). count_by (λ j. j == i) fired + k) (second.each i below)
       ∙ sym (count_by-append (λ j. j == i) fired also);
 }
+
+-- no rule fired more often than all did
+pub counts_within : (rules : ℕ) (fired by_rule : List ℕ) → AreCounts rules fired by_rule → (i : ℕ) → i < rules → slice_index_or by_rule i 0 ≤ length fired
+counts_within rules fired by_rule counts i below = subst (λ (n : ℕ). n ≤ length fired) (sym (counts.each i below)) (count_by-le-length (λ j. j == i) fired)
 
 -- where no interaction was made the counts stay
 pub counts_stay : (rules : ℕ) (fired some more sums : List ℕ) → length fired ≡ 0 → AreCounts rules fired more → AreSums some more sums → sums ≡ some
@@ -249,6 +258,145 @@ module _ (naming : NamingLaws) (laws : ReachingLaws) (s t : SystemParts) (sound 
       text = same_text ∙ from.text;
       millis = omega (arith, from.millis, later);
     }
+
+-- ---- what is past a limit
+
+below_all : (ns : List ℕ) (n : ℕ) → AllByRecursion (λ m. m < n) ns → one_above ns ≤ n
+below_all [] n all = omega arith
+below_all (m ∷ ns) n all = omega (arith, all.0, below_all ns n all.1)
+
+-- words are too many, or one of their names is too high: there are too many of them
+pub past_words : (s : SystemParts) (k : Kept) → ((rs : List Rule) (c d : Configuration) (fired : List ℕ) → Reaches rs c d fired → HasNames d) → IsStateOf s k
+    → (MAX_WIDE_NODES < configuration_nodes (configuration_of k.words k.terms 0)) ⊎ (MAX_NAME + 1 < one_above (configuration_names (configuration_of k.words k.terms 0)))
+    → MAX_WIDE_NODES < length k.words
+past_words s k names is past =
+    let there = configuration_of k.words k.terms is.next in
+    let nodes = nodes-configuration_of k.words k.terms is.equations is.next is.counted in
+    let below = (names s.rules.rules s.config there is.way.fired is.way.reached).below in
+    ⊎_elim
+    (λ many. omega (arith, many, nodes))
+    (λ high. ⊎_elim
+    (λ many. many)
+    (λ few. absurd (omega (arith, high, below_all (configuration_names there) is.next below, is.low few)))
+    (cases_lt MAX_WIDE_NODES (length k.words)))
+    past
+
+-- a state that has them, or what a piece has led to
+pub past_state : (s : SystemParts) (first k : Kept) → IsReachedFrom s first first → (k ≡ first) ⊎ ComesTogether s first k → MAX_WIDE_NODES < length k.words → ComesPastLimits s first
+past_state s first k itself (inl same) many = record {
+  is = itself.was;
+  net = configuration_of first.words first.terms itself.is.next;
+  more = itself.more;
+  reached = itself.reached;
+  together = inl (itself.is.next, refl);
+  past = inl (omega (arith, many, ap (λ (x : Kept). length x.words) same, nodes-configuration_of first.words first.terms itself.is.equations itself.is.next itself.is.counted));
+}
+past_state s first k itself (inr comes) many = record {
+  is = comes.is;
+  net = comes.answer;
+  more = comes.more;
+  reached = comes.reached;
+  together = inr comes.together;
+  past = inl (omega (arith, many, comes.nodes));
+}
+
+-- or too many interactions, after so many pieces that have made some
+pub past_count : (s : SystemParts) (first k : Kept) → (k ≡ first) ⊎ ComesTogether s first k → 2 ^ 64 ≤ k.interactions + 1 → first.interactions < k.interactions → ComesPastLimits s first
+past_count s first k (inl same) many later = absurd (omega (arith, later, ap (λ (x : Kept). x.interactions) same))
+past_count s first k (inr comes) many later = record {
+  is = comes.is;
+  net = comes.answer;
+  more = comes.more;
+  reached = comes.reached;
+  together = inr comes.together;
+  past = inr (omega (arith, many, comes.counted));
+}
+
+module _ (s : SystemParts) (first k : Kept) (from : IsReachedFrom s first k) where
+  abbrev there : Configuration
+  there = configuration_of k.words k.terms from.is.next
+
+  -- or what a piece makes of them
+  module _ (naming : NamingLaws) (laws : ReachingLaws) (t : SystemParts) (sound : IsSound s) (rules : t.rules ≡ s.rules)
+      (interface : t.config.interface ≡ (configuration_of k.words k.terms 0).interface) (equations : t.config.equations ≡ (configuration_of k.words k.terms 0).equations) (names : HasNames t.config)
+      (bounds : Bounds) (answer : Configuration) (end : End) (j places left : ℕ) (more : List ℕ) (r : IsReachedBy t bounds answer end j places left more) (together : IsPutTogether answer) where
+    abbrev starts : SystemParts
+    starts = record { rules = s.rules; config = configuration_of first.words first.terms from.was.next }
+
+    starts_sound : IsSound starts
+    starts_sound = record {
+      rules = sound.rules;
+      over = laws.over s.rules s.config starts.config from.was.way.fired sound.rules sound.over sound.names from.was.way.reached;
+      names = laws.names s.rules.rules s.config starts.config from.was.way.fired from.was.way.reached;
+    }
+
+    onto_answer : Reaches s.rules.rules starts.config answer (from.more ++ r.reached.fired)
+    onto_answer = further naming laws starts t starts_sound there from.more from.reached rules interface equations names bounds answer end j places left more r
+
+    as_many : length s.rules.rules ≡ length more
+    as_many = sym (r.counts.all ∙ ap (λ (rs : Rules). length rs.rules) rules)
+
+    one_past : (i : ℕ) → i < length more → 2 ^ 64 ≤ slice_index_or k.by_rule i 0 + slice_index_or more i 0 → 2 ^ 64 ≤ k.interactions + j
+    one_past i inside many =
+        let ours = counts_within (length s.rules.rules) from.is.way.fired k.by_rule from.is.way.counts i (omega (arith, inside, as_many)) in
+        let also = counts_within (length t.rules.rules) r.reached.fired more r.counts i (omega (arith, inside, r.counts.all)) in
+        omega (arith, many, ours, also, from.is.way.counted, r.reached.counted)
+
+    pub past_sums : (2 ^ 64 ≤ k.interactions + j) ⊎ ((i : ℕ) × (i < length more) × (2 ^ 64 ≤ slice_index_or k.by_rule i 0 + slice_index_or more i 0)) → ComesPastLimits s first
+    past_sums past =
+        let many : 2 ^ 64 ≤ k.interactions + j = ⊎_elim (λ all. all) (λ one. one_past one.0 one.1 one.2) past in
+        record {
+          is = from.was;
+          net = answer;
+          more = from.more ++ r.reached.fired;
+          reached = onto_answer;
+          together = inr together;
+          past = inr (omega (arith, many, from.counted, r.reached.counted, length-append from.more r.reached.fired));
+        }
+
+    -- what a piece leads to
+    pub comes : (new : Kept) → new.interactions ≡ k.interactions + j → configuration_nodes answer ≡ length new.words → ComesTogether s first new
+    comes new sum nodes = record {
+      is = from.was;
+      answer = answer;
+      more = from.more ++ r.reached.fired;
+      reached = onto_answer;
+      together = together;
+      counted = omega (arith, sum, from.counted, r.reached.counted, length-append from.more r.reached.fired);
+      nodes = nodes;
+    }
+
+-- ---- words that were numbered anew
+
+-- words that write a net with its names numbered anew are as many as its nodes
+pub as_many_nodes : TellingLaws → (c : Configuration) (words : List Word) (terms n : ℕ) → length (forest words) ≡ terms + 2 * n → configuration_of words terms (MAX_NAME + 1) ≡ renumbered c
+    → configuration_nodes c ≡ length words
+as_many_nodes telling c words terms n counted written =
+    sym (nodes-words c)
+    ∙ sym (length-map (configuration_words c) (renamed_word (told_name (flat_map word_names (configuration_words c)))))
+    ∙ ap (λ (ws : List Word). length ws) (sym (telling.words c))
+    ∙ nodes-words (renumbered c)
+    ∙ ap (λ (d : Configuration). configuration_nodes d) (sym written)
+    ∙ nodes-configuration_of words terms n (MAX_NAME + 1) counted
+
+agent_numbered : (ss : List Symbol) (most n arity : ℕ) → length ss ≤ most → AllByRecursion (λ s. IsTrue (is_symbol_text s.text) × IsTrue (fits_limits s.text s.arity)) ss
+    → has_arity arity (slice_get ss n) ≡ true → (n < most) × (arity ≤ MAX_ARITY)
+agent_numbered [] most n arity few each has = cc (has)
+agent_numbered (s ∷ ss) most zero arity few each has =
+    let fits = and_parts (nat_le (length s.text) MAX_SYMBOL_TEXT) (nat_le s.arity MAX_ARITY) each.0.1 in
+    (omega (arith, few), omega (arith, leb-true s.arity MAX_ARITY fits.1, (unsigned_Decides s.arity arity).0 has))
+agent_numbered (s ∷ ss) most (suc n) arity few each has =
+    let rest = agent_numbered ss (length ss) n arity (omega arith) each.1 has in
+    (omega (arith, few, rest.0), rest.1)
+
+-- words over symbols, with low names, have numbers of their own
+pub words_numbered : (ss : List Symbol) → AreSymbols ss → (ws : List Word) → list_all (is_word_over ss) ws ≡ true → one_above (flat_map word_names ws) ≤ MAX_NAME + 1 → AllByRecursion IsKeptWord ws
+words_numbered ss are [] over low = tt
+words_numbered ss are (Name n ∷ ws) over low = (omega (arith, low), words_numbered ss are ws over (omega (arith, low)))
+words_numbered ss are (Agent s arity ∷ ws) over low =
+    let both = and_parts (has_arity arity (slice_get ss s)) (list_all (is_word_over ss) ws) over in
+    let small = agent_numbered ss MAX_WIDE_SYMBOLS s arity are.few are.each both.0 in
+    ((omega (arith, small.0), omega (arith, small.1)), words_numbered ss are ws both.1 low)
 
 -- a state is reached from itself
 pub itself_reached : ((rs : List Rule) (c : Configuration) → HasNames c → Reaches rs c c []) → ((rs : List Rule) (c d : Configuration) (fired : List ℕ) → Reaches rs c d fired → HasNames d)

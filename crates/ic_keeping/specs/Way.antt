@@ -1,6 +1,6 @@
 -- How far a reduction that is kept has come (this project's choice).
-use Rattle.std.specs.Prelude.{◌≡◌, ◌⊎◌, ℕ, ◌+◌, ◌*◌, ◌<◌, ◌≤◌, Bool, List, true, false, Ok, IsTrue, length, slice_index_or}
-use Rattle.ic_term.specs.Configuration.{Configuration}
+use Rattle.std.specs.Prelude.{◌≡◌, ◌⊎◌, ℕ, ◌+◌, ◌-◌, ◌*◌, ◌^◌, ◌<◌, ◌≤◌, Bool, List, true, false, Ok, IsTrue, length, slice_index_or}
+use Rattle.ic_term.specs.Configuration.{Configuration, configuration_nodes}
 use Rattle.ic_term.specs.Symbol.{is_over}
 use Rattle.ic_term.specs.declared.limits.TheConstants.{MAX_WIDE_NODES}
 use Rattle.ic_rules.specs.Rule.{Rule}
@@ -62,6 +62,17 @@ pub record IsReachedFrom (s : SystemParts) (before after : Kept) : Type 0 where
   pub counted : after.interactions ≡ before.interactions + length more
   pub text : after.text ≡ before.text
   pub millis : before.millis ≤ after.millis
+
+-- From a state of a reduction a net is reached that is past a limit: it has more names and agents than are read, or as many
+-- interactions lead there as can be counted. It is the state's own net, or nothing is left that could be put for a name.
+pub record ComesPastLimits (s : SystemParts) (k : Kept) : Type 0 where
+  pub is : IsStateOf s k
+  pub net : Configuration
+  pub more : List ℕ
+  pub reached : Reaches s.rules.rules (configuration_of k.words k.terms is.next) net more
+  pub together : ((next : ℕ) × (net ≡ configuration_of k.words k.terms next)) ⊎ IsPutTogether net
+  pub past : (MAX_WIDE_NODES < configuration_nodes net)
+      ⊎ (2 ^ 64 - 1 ≤ k.interactions + length more)
 
 -- the state with which the reduction of a system begins: the configuration of the text, and no interactions
 pub record IsBegun (s : SystemParts) (k : Kept) : Type 0 where

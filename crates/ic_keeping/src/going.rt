@@ -1,9 +1,9 @@
 //! A reduction that goes on from a state, and is kept after each piece that has gone further.
 
-ghost use Rattle.std.specs.Prelude.{◌≡◌, ◌≢◌, ◌⊎◌, ◌↔◌, ◌<◌, ◌+◌, ◌*◌, ◌≤◌, List, [], Ok, Err, IfOk, IfErr, IsErr, IsNone, IsTrue, OnOk, OnErr, length, max, true, false, if◌then◌else◌};
+ghost use Rattle.std.specs.Prelude.{◌≡◌, ◌≢◌, ◌⊎◌, ◌↔◌, ◌<◌, ◌+◌, ◌*◌, ◌^◌, ◌≤◌, List, ℕ, [], Ok, Err, IfOk, IfErr, IsErr, IsNone, IsTrue, OnOk, OnErr, length, max, slice_index_or, true, false, if◌then◌else◌};
 ghost use Rattle.std.specs.Arc.{arc_value};
 ghost use Rattle.ic_rules.specs.System.{SystemParts};
-ghost use Rattle.std.specs.List.{list_all};
+ghost use Rattle.std.specs.List.{AllByRecursion, list_all};
 ghost use Rattle.std.specs.Option.{option_map};
 ghost use Rattle.ic_streams.specs.Stuck.{stuck_text};
 ghost use Rattle.ic_flat.specs.Flat.{configuration_of};
@@ -15,14 +15,16 @@ ghost use Rattle.ic_in_place.specs.Reductions.{is_written};
 ghost use Rattle.ic_kept.specs.Course.{IsKeep, Way};
 ghost use Rattle.ic_kept.specs.Keeper.{is_broken, Keeps, KeepsModel};
 ghost use Rattle.ic_state.specs.State.{IsKept, Kept, kept_by, state_bytes};
+ghost use Rattle.ic_state.specs.Words.{IsKeptWord};
 ghost use Rattle.ic_streams.specs.Streams.{line_of};
+ghost use Rattle.ic_term.specs.declared.limits.TheConstants.{MAX_WIDE_NODES};
 ghost use Rattle.ic_text.specs.SystemText.{ReadsSystemWithin};
-ghost use Rattle.ic_keeping.specs.inner.Pieces.{IsWritten};
+ghost use Rattle.ic_keeping.specs.inner.Pieces.{ComesTogether, IsWritten};
 ghost use Rattle.ic_keeping.specs.Life.{IsTold, KeepFails, StopsARun};
-ghost use Rattle.ic_keeping.specs.Way.{AreSums, GoesFurther, IsAnswer, IsAsFar, IsKeptAfter, IsReachedFrom, IsSound, IsStateOf};
+ghost use Rattle.ic_keeping.specs.Way.{AreSums, ComesPastLimits, GoesFurther, IsAnswer, IsAsFar, IsKeptAfter, IsReachedFrom, IsSound, IsStateOf};
 
 use crate::beginning::bytes_of;
-use crate::counts::add_all;
+use crate::counts::{add_all, are_counts};
 use crate::fault::KeepingFault;
 use crate::pace::{Clock, Pace, Timed};
 use crate::systems::{states_are_reached, system_of, systems_are_sound};
@@ -83,6 +85,32 @@ fn rules_of(alloc: Global, text: &[u8]) -> Result<Arc<RuleSet>, KeepingFault>
     }
 }
 
+/// The rules of the text of a state that has a count for each of them.
+fn rules_for(alloc: Global, state: &State) -> Result<Arc<RuleSet>, KeepingFault>
+    ensures rules { (s : SystemParts)
+        → ReadsSystemWithin Limits.Wide state.now.text.items (Ok s)
+        → IfOk result (λ rules. arc_value rules ≡ s.rules) }
+    ensures sound { (s : SystemParts)
+        → ReadsSystemWithin Limits.Wide state.now.text.items (Ok s) → OnOk result (IsSound s) }
+    ensures read { OnOk result ((s : SystemParts)
+        × ReadsSystemWithin Limits.Wide state.now.text.items (Ok s)
+        × (length state.now.by_rule.items ≡ length s.rules.rules)) }
+    ensures refused { (s : SystemParts) → IsStateOf s (kept_by state.now)
+        → IfErr result (λ fault. fault ≡ KeepingFault.Memory) }
+    ensures unkept { IfErr result (λ fault. (cause : KeepFault)
+        → fault ≢ KeepingFault.Keep cause) }
+    ensures unopened { IfErr result (λ fault. (cause : OpenCause)
+        → fault ≢ KeepingFault.Open cause) }
+    ensures only { IfErr result (λ fault. (fault ≡ KeepingFault.Unsound)
+        ⊎ (fault ≡ KeepingFault.Memory)) }
+{
+    let rules = rules_of(alloc, &state.text)?;
+    if !are_counts(&state.by_rule, rules.rules().len(), state.interactions) {
+        return Err(KeepingFault::Unsound);
+    }
+    Ok(rules)
+}
+
 /// Why a text that was kept isn't read.
 fn unread(fault: TextFault) -> KeepingFault
     ensures memory { (result ≡ KeepingFault.Memory) ⊎ (fault ≢ TextFault.Memory) }
@@ -132,6 +160,8 @@ fn run_piece<C: Clock, V: Watch>(
     ensures later { OnOk result (state.old.interactions ≤ state.new.interactions) }
     ensures within { OnOk result
         (state.new.interactions ≤ state.old.interactions + bounds.steps) }
+    ensures steps { IfOk result (λ piece. piece.end ≡ End.Steps
+        → state.old.interactions + bounds.steps ≤ state.new.interactions) }
     ensures millis { OnOk result (state.old.millis ≤ state.new.millis) }
     ensures whole { OnOk result (IsWhole state.new.words.items) }
     ensures over { OnOk result (IsTrue (list_all (is_word_over (arc_value rules.now).symbols)
@@ -141,6 +171,16 @@ fn run_piece<C: Clock, V: Watch>(
     ensures refused { (s : SystemParts) → IsSound s → arc_value rules.now ≡ s.rules
         → IsStateOf s (kept_by state.old)
         → IfErr result (λ fault. (fault ≡ KeepingFault.Memory) ⊎ (fault ≡ KeepingFault.Limit)) }
+    ensures limit { (s : SystemParts) (first : Kept) → IsSound s → arc_value rules.now ≡ s.rules
+        → IsReachedFrom s first (kept_by state.old)
+        → IfErr result (λ fault. fault ≡ KeepingFault.Limit
+        → (MAX_WIDE_NODES < length state.old.words.items) ⊎ ComesPastLimits s first) }
+    ensures together { (s : SystemParts) (first : Kept) → IsSound s → arc_value rules.now ≡ s.rules
+        → IsReachedFrom s first (kept_by state.old)
+        → OnOk result (ComesTogether s first (kept_by state.new)) }
+    // Each word has a number, where there aren't too many.
+    ensures numbered { OnOk result (length state.new.words.items ≤ MAX_WIDE_NODES
+        → AllByRecursion IsKeptWord state.new.words.items) }
     // What a piece has reached is never unsound at the next one.
     ensures written { OnOk result (IsWritten (arc_value rules.now).symbols
         state.new.words.items state.new.terms) }
@@ -194,6 +234,11 @@ fn take_in(
     ensures left { IfOk result (λ piece. piece.left ≡ reduced.left) }
     ensures equations { IfOk result (λ piece. piece.equations ≡ reduced.equations) }
     ensures refused { IfErr result (λ fault. fault ≡ KeepingFault.Limit) }
+    ensures limit { length state.old.by_rule.items ≡ length reduced.by_rule.items
+        → OnErr result ((2 ^ 64 ≤ state.old.interactions + reduced.interactions)
+        ⊎ ((i : ℕ) × (i < length reduced.by_rule.items)
+        × (2 ^ 64 ≤ slice_index_or state.old.by_rule.items i 0
+        + slice_index_or reduced.by_rule.items i 0))) }
 {
     let sum = state.interactions.checked_add(reduced.interactions);
     state.interactions = sum.ok_or(KeepingFault::Limit)?;
@@ -226,7 +271,8 @@ fn is_quiet(end: End) -> bool
 
 /// Whether a run of so many interactions at most ends with a piece that has ended so.
 fn ends_run(end: End, interactions: u64, most: u64) -> bool
-    ensures { result ≡ true → end ≡ End.Steps → most ≤ interactions }
+    ensures ended { result ≡ true → end ≡ End.Steps → most ≤ interactions }
+    ensures goes_on { result ≡ false → (end ≡ End.Steps) × (interactions < most) }
 {
     match end {
         End::Steps => interactions >= most,
@@ -257,6 +303,8 @@ fn keep_further<D: Disk>(
         × IsKeep D.keeps D.image D.clock D.left (state_bytes (kept_by state.now)) (Err fault)
         keeper.old keeper.new)) }
     ensures refused { IfErr result (λ fault. StopsARun fault) }
+    ensures limit { IfErr result (λ fault. fault ≡ KeepingFault.Limit
+        → ¬ AllByRecursion IsKeptWord state.now.words.items) }
     ensures failed { IfErr result (λ fault. (cause : KeepFault)
         → fault ≡ KeepingFault.Keep cause → KeepFails cause keeper.old keeper.new) }
 {
@@ -298,6 +346,8 @@ fn keep_state<D: Disk>(
         × IsKeep D.keeps D.image D.clock D.left (state_bytes (kept_by state.now)) (Err fault)
         keeper.old keeper.new)) }
     ensures refused { IfErr result (λ fault. StopsARun fault) }
+    ensures limit { IfErr result (λ fault. fault ≡ KeepingFault.Limit
+        → ¬ AllByRecursion IsKeptWord state.now.words.items) }
     ensures failed { IfErr result (λ fault. (cause : KeepFault)
         → fault ≡ KeepingFault.Keep cause → KeepFails cause keeper.old keeper.new) }
 {
@@ -442,8 +492,10 @@ pub fn go_on<D: Disk, C: Clock, V: Watch>(
         keeper.old keeper.new }
     // Before anything was kept it may find that the state is none of a reduction, and not after.
     ensures unsound { IfErr result (λ fault. fault ≡ KeepingFault.Unsound → keeper.new ≡ keeper.old) }
-    // A state whose text is read as no system is refused as unsound, or if memory runs out, and nothing is kept.
-    ensures none { ((s : SystemParts) → ¬ ReadsSystemWithin Limits.Wide state.text.items (Ok s))
+    // A state whose text is read as no system with as many rules as it has counts is refused as unsound, or if memory runs out,
+    // and nothing is kept.
+    ensures none { ((s : SystemParts) → ReadsSystemWithin Limits.Wide state.text.items (Ok s)
+        → length state.by_rule.items ≢ length s.rules.rules)
         → IsErr result × (keeper.new ≡ keeper.old)
         × IfErr result (λ fault. (fault ≡ KeepingFault.Unsound)
         ⊎ (fault ≡ KeepingFault.Memory)) }
@@ -453,18 +505,21 @@ pub fn go_on<D: Disk, C: Clock, V: Watch>(
         → IfErr result (λ fault. StopsARun fault) }
     ensures failed { IfErr result (λ fault. (cause : KeepFault)
         → fault ≡ KeepingFault.Keep cause → KeepFails cause keeper.old keeper.new) }
+    // At a limit a net is reached from that state which is past one. So a state that is past none isn't refused as it is.
+    ensures limit { (s : SystemParts) → IsStateOf s (kept_by state)
+        → IfErr result (λ fault. fault ≡ KeepingFault.Limit → ComesPastLimits s (kept_by state)) }
     ensures unopened { IfErr result (λ fault. (cause : OpenCause)
         → fault ≢ KeepingFault.Open cause) }
 {
     states_are_reached();
-    let rules = rules_of(alloc, &state.text)?;
+    let rules = rules_for(alloc, &state)?;
     let mut state = state;
     let mut pace = pace;
     let mut kept_ended = state.ended;
-    for _ in 0..u64::MAX {
+    for pieces in 0..u64::MAX {
         let left = bounds.steps.saturating_sub(state.interactions);
         let piece = Bounds {
-            steps: pace.piece.min(left),
+            steps: pace.piece.max(1).min(left),
             nodes: bounds.nodes,
         };
         let before = state.interactions;

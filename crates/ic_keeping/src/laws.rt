@@ -5,7 +5,7 @@ ghost use Rattle.std.specs.Arc.{arc_value};
 ghost use Rattle.std.specs.Option.{option_map};
 ghost use Rattle.ic_disk.specs.Images.{Within};
 ghost use Rattle.ic_disk.specs.Time.{LeftSince};
-ghost use Rattle.ic_term.specs.Configuration.{Configuration};
+ghost use Rattle.ic_term.specs.Configuration.{Configuration, configuration_nodes};
 ghost use Rattle.ic_term.specs.declared.limits.TheConstants.{MAX_WIDE_NODES};
 ghost use Rattle.ic_round.specs.Quiet.{IsQuiet};
 ghost use Rattle.ic_confluence.specs.Kinds.{Kind, Chain};
@@ -42,7 +42,7 @@ ghost use Rattle.ic_text.specs.declared.limits.TheConstants.{MAX_NAME};
 ghost use Rattle.ic_keeping.specs.declared.fault.KeepingFault.TheVariants as keeping;
 ghost use Rattle.ic_keeping.specs.declared.going.Ended.{Ended};
 ghost use Rattle.ic_keeping.specs.Life.{HasLived, IsLife, IsTold, KeepFails, StopsARun, StopsAnOpening};
-ghost use Rattle.ic_keeping.specs.Way.{AreSums, IsAnswer, IsAsFar, IsBegun, IsFormFrom, IsFormOf, IsKeptAfter, IsOnWay, IsReachedFrom, IsStateOf};
+ghost use Rattle.ic_keeping.specs.Way.{AreSums, ComesPastLimits, IsAnswer, IsAsFar, IsBegun, IsFormFrom, IsFormOf, IsKeptAfter, IsOnWay, IsReachedFrom, IsStateOf};
 
 use ic_disk::Disk;
 use ic_kept::Keeper;
@@ -220,6 +220,17 @@ pub fn what_a_kept_end_says()
         → (length more ≡ length some) × (length all ≡ length some)
         × ((i : ℕ) → i < length some
         → slice_index_or all i 0 ≡ slice_index_or some i 0 + slice_index_or more i 0) }
+{}
+
+/// Where a reduction is refused at a limit, a net is reached from its state that is past one: the state's own, or one in which
+/// nothing is left that could be put for a name.
+pub fn what_is_past_a_limit()
+    ensures { (s : SystemParts) (k : Kept) → ComesPastLimits s k → IsStateOf s k × (start : ℕ)
+        × (net : Configuration) × (more : List ℕ)
+        × Reaches s.rules.rules (configuration_of k.words k.terms start) net more
+        × (((next : ℕ) × (net ≡ configuration_of k.words k.terms next)) ⊎ IsPutTogether net)
+        × ((MAX_WIDE_NODES < configuration_nodes net)
+        ⊎ (2 ^ 64 - 1 ≤ k.interactions + length more)) }
 {}
 
 /// What is told at the end of a life: the rules of the system, the line that is asked for, and at a quiet end the first pair

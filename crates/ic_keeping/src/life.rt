@@ -1,6 +1,6 @@
 //! One life of a reduction that is kept: from the state that two files hold until it ends.
 
-ghost use Rattle.std.specs.Prelude.{◌≡◌, ◌≢◌, ◌⊎◌, ◌↔◌, ◌≤◌, ℕ, List, Ok, IfOk, IfErr, IsErr, IsTrue, max, true};
+ghost use Rattle.std.specs.Prelude.{◌≡◌, ◌≢◌, ◌⊎◌, ◌↔◌, ◌≤◌, ℕ, List, Ok, IfOk, IfErr, IsErr, IsTrue, length, max, true};
 ghost use Rattle.ic_disk.specs.Time.{OneMore};
 ghost use Rattle.ic_frames.specs.declared.faults.KeepFault.{KeepFault};
 ghost use Rattle.ic_frames.specs.declared.faults.OpenCause.{OpenCause};
@@ -14,7 +14,7 @@ ghost use Rattle.ic_text.specs.SystemText.{ReadsSystemWithin};
 ghost use Rattle.ic_text.specs.declared.limits.Limits.TheVariants.{Wide};
 ghost use Rattle.ic_keeping.specs.declared.fault.KeepingFault.{KeepingFault};
 ghost use Rattle.ic_keeping.specs.Life.{IsLife, IsTold, KeepFails, StopsAnOpening, StopsARun};
-ghost use Rattle.ic_keeping.specs.Way.{IsAnswer, IsAsFar, IsFormFrom, IsFormOf, IsReachedFrom};
+ghost use Rattle.ic_keeping.specs.Way.{ComesPastLimits, IsAnswer, IsAsFar, IsFormFrom, IsFormOf, IsReachedFrom};
 
 use crate::beginning::{ResumeFault, resume};
 use crate::going::{Ended, go_on};
@@ -75,6 +75,12 @@ pub fn live<D: Disk, C: Clock, V: Watch>(
         → HoldOne (IsFormOf s) (D.content first) (D.content second)
         → IfErr result (λ fault. (fault.cause ≡ KeepingFault.Open OpenCause.Device)
         ⊎ (fault.cause ≡ KeepingFault.Open OpenCause.Memory) ⊎ StopsARun fault.cause) }
+    // At a limit a net is reached from what they hold which is past one. So a state that is past none isn't refused as it is.
+    ensures limit { (s : SystemParts) → IsTrue (D.keeps first) → IsTrue (D.keeps second)
+        → HoldOne (IsFormOf s) (D.content first) (D.content second)
+        → IfErr result (λ fault. fault.cause ≡ KeepingFault.Limit → (found : Kept)
+        × Hold (state_bytes found) (D.content first) (D.content second)
+        × ComesPastLimits s found) }
     // A keeper that was opened isn't broken before its first keep.
     ensures usable { IfErr result (λ fault. fault.cause ≢ KeepingFault.Keep KeepFault.Broken) }
     // Of any two files: what it says of those in which it finds no state is pinned, and it doesn't write over what it refuses.
@@ -87,10 +93,12 @@ pub fn live<D: Disk, C: Clock, V: Watch>(
         → InSomeOrder (OnlyReads D.keeps D.content D.image D.clock D.left)
         first second fault.first fault.second) }
     // Files from which no reduction goes on are refused and only read: they hold no state, or one whose text is read as no
-    // system. Then it says why they don't open, or that what they hold is unsound, or that memory ran out.
+    // system with as many rules as it has counts. Then it says why they don't open, or that what they hold is unsound, or that
+    // memory ran out.
     ensures none { IsTrue (D.keeps first) → IsTrue (D.keeps second)
         → ((k : Kept) → IsKept k → Hold (state_bytes k) (D.content first) (D.content second)
-        → (s : SystemParts) → ¬ ReadsSystemWithin Wide k.text (Ok s))
+        → (s : SystemParts) → ReadsSystemWithin Wide k.text (Ok s)
+        → length k.by_rule ≢ length s.rules.rules)
         → IsErr result × IfErr result (λ fault. InSomeOrder
         (OnlyReads D.keeps D.content D.image D.clock D.left)
         first second fault.first fault.second

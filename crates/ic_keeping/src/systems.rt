@@ -1,9 +1,9 @@
 //! The systems that a reduction leads through: one set of rules, with a configuration after another.
 
-ghost use Rattle.std.specs.Prelude.{◌≡◌, ◌≢◌, ◌⊎◌, ◌+◌, ◌*◌, ◌≤◌, ℕ, IfOk, IfErr, IfSome, IsNone, IsSome, IsTrue, length};
+ghost use Rattle.std.specs.Prelude.{◌≡◌, ◌≢◌, ◌⊎◌, ◌+◌, ◌*◌, ◌<◌, ◌≤◌, ℕ, IfOk, IfErr, IfSome, IsNone, IsSome, IsTrue, length};
 ghost use Rattle.std.specs.Arc.{arc_value};
-ghost use Rattle.ic_term.specs.Configuration.{configuration_names, occurrences};
-ghost use Rattle.ic_term.specs.Symbol.{is_over};
+ghost use Rattle.ic_term.specs.Configuration.{configuration_names, configuration_nodes, occurrences, one_above};
+ghost use Rattle.ic_term.specs.Symbol.{AreSymbols, is_over};
 ghost use Rattle.ic_flat.specs.Flat.{configuration_of};
 ghost use Rattle.ic_frames.specs.declared.faults.KeepFault.{KeepFault};
 ghost use Rattle.ic_frames.specs.declared.faults.OpenCause.{OpenCause};
@@ -12,6 +12,7 @@ ghost use Rattle.ic_keeping.specs.Way.{IsReachedFrom, IsSound, IsStateOf};
 ghost use Rattle.ic_round.specs.Naming.{HasNames};
 ghost use Rattle.ic_rules.specs.System.{SystemParts};
 ghost use Rattle.ic_state.specs.State.{Kept};
+ghost use Rattle.ic_term.specs.declared.limits.TheConstants.{MAX_NEXT, MAX_WIDE_NODES};
 ghost use Rattle.ic_text.specs.declared.limits.TheConstants.{MAX_NAME};
 
 use crate::fault::KeepingFault;
@@ -42,6 +43,11 @@ pub(crate) fn system_of(
         → ((n : ℕ) → occurrences n (configuration_names (configuration_of words.items terms 0)) ≤ 2)
         → IsTrue (is_over (arc_value rules.now).symbols (configuration_of words.items terms 0))
         → IfErr result (λ fault. (fault ≡ KeepingFault.Memory) ⊎ (fault ≡ KeepingFault.Limit)) }
+    // There are too many of them then, or a name is too high.
+    ensures limit { ((n : ℕ) → occurrences n (configuration_names (configuration_of words.items terms 0)) ≤ 2)
+        → IfErr result (λ fault. fault ≡ KeepingFault.Limit
+        → (MAX_WIDE_NODES < configuration_nodes (configuration_of words.items terms 0))
+        ⊎ (MAX_NAME + 1 < one_above (configuration_names (configuration_of words.items terms 0)))) }
     ensures unkept { IfErr result (λ fault. (cause : KeepFault)
         → fault ≢ KeepingFault.Keep cause) }
     ensures unopened { IfErr result (λ fault. (cause : OpenCause)
@@ -67,11 +73,19 @@ fn config_of(alloc: Global, words: Vec<Word>, terms: u64) -> Result<WideFlat, Ke
         → length (forest words.items) ≡ terms + 2 * equations
         → ((n : ℕ) → occurrences n (configuration_names (configuration_of words.items terms 0)) ≤ 2)
         → IfErr result (λ fault. (fault ≡ KeepingFault.Memory) ⊎ (fault ≡ KeepingFault.Limit)) }
+    ensures next { IfOk result (λ config. config.next
+        ≡ one_above (configuration_names (configuration_of words.items terms 0))) }
+    ensures limit { ((n : ℕ) → occurrences n (configuration_names (configuration_of words.items terms 0)) ≤ 2)
+        → IfErr result (λ fault. fault ≡ KeepingFault.Limit
+        → (MAX_WIDE_NODES < configuration_nodes (configuration_of words.items terms 0))
+        ⊎ (MAX_NEXT < one_above (configuration_names (configuration_of words.items terms 0)))) }
     ensures unkept { IfErr result (λ fault. (cause : KeepFault)
         → fault ≢ KeepingFault.Keep cause) }
     ensures unopened { IfErr result (λ fault. (cause : OpenCause)
         → fault ≢ KeepingFault.Open cause) }
 {
+    ic_term::laws::next_is_one_above_the_greatest_name();
+    ic_term::laws::wide_ones_are_configurations_but_for_their_limits();
     ic_term::laws::third_occurrence_is_the_first();
     let terms = terms as usize;
     match equations_in(&words, terms) {
@@ -109,7 +123,8 @@ pub(crate) fn states_are_reached()
 
 /// Systems keep what their rules and their configurations do.
 pub(crate) fn systems_are_sound(system: &WideSystem)
-    ensures { IsSound system.now }
+    ensures sound { IsSound system.now }
+    ensures symbols { AreSymbols system.now.rules.symbols }
 {
     let nodes = system.config().nodes();
     let symbols = system.rules().symbols().len();

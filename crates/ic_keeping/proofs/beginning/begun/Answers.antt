@@ -29,7 +29,7 @@ returns-clause-read c =
           reads = subst (λ (text : List ℕ). ReadsSystemWithin Wide text (Ok s)) (sym (c.in_ok-kept.ensures.items_if_clones_equal (λ x y e. e))) c.in_ok-system.ensures.read;
           next = s.config.next;
           way = subst (λ (d : Configuration). IsOnWay s d 0 by) (sym config)
-              (begun_on_way s by c.what_is_reached_is_one_net.ensures.itself c.systems_are_sound.ensures.names (c.in_ok-by_rule.ensures.long ∙ ap length rules) c.in_ok-by_rule.ensures.none);
+              (begun_on_way s by c.what_is_reached_is_one_net.ensures.itself c.systems_are_sound.ensures.sound.names (c.in_ok-by_rule.ensures.long ∙ ap length rules) c.in_ok-by_rule.ensures.none);
           low = λ few. low_begun c.args.text.now s c.in_ok-system.ensures.read c.in_ok-system.ensures.spelled;
           quiet = λ ended. cc;
           whole = c.into_parts-words.ensures.flat.whole;

@@ -8,7 +8,7 @@ pub returns-in-Ok-clause-sound : goal.returns-in-Ok-clause-sound
 returns-in-Ok-clause-sound c s reads =
     let one = c.one_system_reading.ensures.answer Wide c.args.text.now (Ok c.in-Ok.system) (Ok s) c.in-Ok.ensures.read reads in
     let same : c.in-Ok.system ≡ s = cc (one) in
-    subst (λ (t : SystemParts). IsSound t) same c.systems_are_sound.ensures
+    subst (λ (t : SystemParts). IsSound t) same c.systems_are_sound.ensures.sound
 
 pub returns-in-Err-clause-refused : goal.returns-in-Err-clause-refused
 returns-in-Err-clause-refused c s reads = ⊎_elim

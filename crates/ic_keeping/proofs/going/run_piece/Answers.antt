@@ -1,22 +1,27 @@
-use Rattle.std.proofs.Common.{◌≡◌, ◌∙◌, ℕ, ◌+◌, ◌*◌, ◌≤◌, List, length, sym, ap, subst, arith}
+use Rattle.std.proofs.Common.{◌≡◌, ◌⊎◌, inl, inr, ◌∙◌, ℕ, ◌+◌, ◌*◌, ◌<◌, ◌≤◌, List, length, sym, ap, subst, arith}
 use Rattle.std.proofs.lemmas.Result.{err_from_is_err_and}
 use Rattle.std.specs.Prelude.{IsTrue}
 use Rattle.std.specs.Arc.{arc_value}
-use Rattle.std.specs.List.{list_all}
+use Rattle.std.specs.List.{AllByRecursion, list_all}
 use Rattle.ic_rules.specs.RuleSet.{Rules}
-use Rattle.ic_term.specs.Configuration.{configuration_names, occurrences}
+use Rattle.ic_term.specs.Configuration.{configuration_names, configuration_nodes, occurrences, one_above}
+use Rattle.ic_term.specs.declared.limits.TheConstants.{MAX_WIDE_NODES}
+use Rattle.ic_text.specs.declared.limits.TheConstants.{MAX_NAME}
 use Rattle.ic_term.specs.Symbol.{is_over}
 use Rattle.ic_flat.specs.declared.word.Word.{Word}
 use Rattle.ic_flat.specs.Flat.{configuration_of}
 use Rattle.ic_flat.specs.Words.{forest, is_word_over, IsWhole}
+use Rattle.ic_flat.specs.lemmas.FlatLaws.{names-configuration_of}
 use Rattle.ic_in_place.specs.declared.running.End.{End}
+use Rattle.ic_in_place.specs.Reducing.{EndsBy}
 use Rattle.ic_state.specs.State.{kept_by}
+use Rattle.ic_state.specs.Words.{IsKeptWord}
 use Rattle.ic_keeping.specs.inner.Pieces.{IsWritten}
 use Rattle.ic_keeping.specs.Way.{IsAnswer}
 use Rattle.ic_keeping.proofs.Refusing.{not_unsound}
-use Rattle.ic_keeping.proofs.LowNames.{TellingLaws}
+use Rattle.ic_keeping.proofs.LowNames.{TellingLaws, low_words}
 use Rattle.ic_keeping.proofs.Quiet.{QuietLaws}
-use Rattle.ic_keeping.proofs.WayLemmas.{NamingLaws, ReachingLaws, answer_of, counts_stay, reached_from, reached_written}
+use Rattle.ic_keeping.proofs.WayLemmas.{NamingLaws, ReachingLaws, answer_of, as_many_nodes, comes, counts_stay, past_sums, past_words, reached_from, reached_written, words_numbered}
 use Rattle.ic_keeping.proofs.going.run_piece.Goals as goal
 
 whole : (words made : List Word) → words ≡ made → IsWhole made → IsWhole words
@@ -142,7 +147,7 @@ returns-clause-written g c =
     let reduced = c.in_ok-reduced.reduced in
     let answer = c.in_ok-reduced.ensures in
     let piece = c.in_ok-piece.ensures in
-    let is = reached_written naming laws c.what_is_reached_is_one_net.ensures.itself t c.systems_are_sound.ensures
+    let is = reached_written naming laws c.what_is_reached_is_one_net.ensures.itself t c.systems_are_sound.ensures.sound
     c.args.bounds answer.0 reduced.end reduced.interactions reduced.places reduced.left reduced.by_rule.items answer.1 c.in_ok-system.ensures.low
     reduced.words.items reduced.terms answer.4.written answer.4.whole reduced.equations answer.4.counted in
     subst (λ (ws : List Word). IsWritten (arc_value c.args.rules.now).symbols ws c.take_in.new.state.terms) (sym piece.words)
@@ -157,3 +162,98 @@ returns-in_err-system-clause-sound g c is =
     let here = subst (λ (ws : List Word). IsWritten (arc_value c.args.rules.now).symbols ws old.terms) (sym words) is in
     rw (e.1, e.2) (not_unsound c.in_err-system.field-0.0
     (c.in_err-system.ensures.refused here.equations here.whole here.counted here.twice here.over))
+
+pub returns-clause-steps : goal.returns-clause-steps
+returns-clause-steps g c same =
+    let r = c.in_ok-reduced.ensures.1.reached in
+    let ended = subst (λ (e : End). EndsBy c.in_ok-system.system.rules.rules c.args.bounds c.in_ok-reduced.ensures.0 c.in_ok-reduced.reduced.interactions e) (sym c.in_ok-piece.ensures.end ∙ same) r.ended in
+    omega (arith, ended.0, c.in_ok-piece.ensures.interactions)
+
+pub returns-in_err-system-clause-limit : goal.returns-in_err-system-clause-limit
+returns-in_err-system-clause-limit g c s first sound rules from =
+    let old = c.args.state.now in
+    let is = from.is in
+    let words : c.replace-words.result.items ≡ old.words.items = ap (λ ws. ws.items) c.replace-words.ensures.value in
+    let there = configuration_of old.words.items old.terms is.next in
+    let names = c.what_is_reached_is_one_net.ensures.names s.rules.rules s.config there is.way.fired is.way.reached in
+    let twice = subst (λ (ws : List Word). (n : ℕ) → occurrences n (configuration_names (configuration_of ws old.terms 0)) ≤ 2) (sym words) names.twice in
+    let e = err_from_is_err_and c.from_residual.result c.from_residual.ensures.1 in
+    rw (e.1, e.2) (λ limit. inl (past_words s (kept_by old) c.what_is_reached_is_one_net.ensures.names is
+    (subst (λ (ws : List Word). (MAX_WIDE_NODES < configuration_nodes (configuration_of ws old.terms 0)) ⊎ (MAX_NAME + 1 < one_above (configuration_names (configuration_of ws old.terms 0)))) words
+    (c.in_err-system.ensures.limit twice limit))))
+
+pub returns-in_err-piece-clause-limit : goal.returns-in_err-piece-clause-limit
+returns-in_err-piece-clause-limit g c s first sound rules from =
+    let naming : NamingLaws = record {
+      next = c.a_name_step_leads_to_one_net.ensures.next;
+      net = c.a_renumbered_net_is_the_same_net.ensures.net;
+    } in
+    let laws : ReachingLaws = record {
+      names = c.what_is_reached_is_one_net.ensures.names;
+      over = c.what_is_reached_is_one_net.ensures.over;
+      net = c.what_is_reached_is_one_net.ensures.net;
+      reached = c.what_is_reached_goes_on.ensures.reached;
+      free = c.free_names_stay.ensures.reached;
+      above = c.next_is_one_above_the_greatest_name.ensures.above;
+    } in
+    let old = c.args.state.now in
+    let t = c.in_ok-system.system in
+    let reduced = c.in_ok-reduced.reduced in
+    let answer = c.in_ok-reduced.ensures in
+    let words : c.replace-words.result.items ≡ old.words.items = ap (λ ws. ws.items) c.replace-words.ensures.value in
+    let interface = c.in_ok-system.ensures.interface ∙ ap (λ (ws : List Word). (configuration_of ws old.terms 0).interface) words in
+    let equations = c.in_ok-system.ensures.equations ∙ ap (λ (ws : List Word). (configuration_of ws old.terms 0).equations) words in
+    let same = c.in_ok-system.ensures.rules ∙ rules in
+    let long : length old.by_rule.items ≡ length reduced.by_rule.items = from.is.way.counts.all ∙ sym (answer.1.counts.all ∙ ap (λ (rs : Rules). length rs.rules) same) in
+    let e = err_from_is_err_and c.from_residual-in_err-piece.result c.from_residual-in_err-piece.ensures.1 in
+    rw (e.1, e.2) (λ limit. inr (past_sums s first (kept_by old) from naming laws t sound same interface equations c.in_ok-system.ensures.names
+    c.args.bounds answer.0 reduced.end reduced.interactions reduced.places reduced.left reduced.by_rule.items answer.1 answer.2 (c.in_err-piece.ensures.limit long)))
+
+pub returns-clause-together : goal.returns-clause-together
+returns-clause-together g c s first sound rules from =
+    let naming : NamingLaws = record {
+      next = c.a_name_step_leads_to_one_net.ensures.next;
+      net = c.a_renumbered_net_is_the_same_net.ensures.net;
+    } in
+    let laws : ReachingLaws = record {
+      names = c.what_is_reached_is_one_net.ensures.names;
+      over = c.what_is_reached_is_one_net.ensures.over;
+      net = c.what_is_reached_is_one_net.ensures.net;
+      reached = c.what_is_reached_goes_on.ensures.reached;
+      free = c.free_names_stay.ensures.reached;
+      above = c.next_is_one_above_the_greatest_name.ensures.above;
+    } in
+    let telling : TellingLaws = record {
+      words = c.renumbered_words_write_the_renumbered_configuration.ensures.words;
+      names = c.renamed_words_write_renamed_terms.ensures.names;
+      low = c.names_are_told_apart.ensures.low;
+    } in
+    let old = c.args.state.now in
+    let t = c.in_ok-system.system in
+    let reduced = c.in_ok-reduced.reduced in
+    let answer = c.in_ok-reduced.ensures in
+    let words : c.replace-words.result.items ≡ old.words.items = ap (λ ws. ws.items) c.replace-words.ensures.value in
+    let interface = c.in_ok-system.ensures.interface ∙ ap (λ (ws : List Word). (configuration_of ws old.terms 0).interface) words in
+    let equations = c.in_ok-system.ensures.equations ∙ ap (λ (ws : List Word). (configuration_of ws old.terms 0).equations) words in
+    let piece = c.in_ok-piece.ensures in
+    comes s first (kept_by old) from naming laws t sound (c.in_ok-system.ensures.rules ∙ rules) interface equations c.in_ok-system.ensures.names
+    c.args.bounds answer.0 reduced.end reduced.interactions reduced.places reduced.left reduced.by_rule.items answer.1 answer.2
+    (kept_by c.take_in.new.state) piece.interactions
+    (as_many_nodes telling answer.0 reduced.words.items reduced.terms reduced.equations answer.4.counted answer.4.written ∙ ap (λ (ws : List Word). length ws) (sym piece.words))
+
+pub returns-clause-numbered : goal.returns-clause-numbered
+returns-clause-numbered g c few =
+    let telling : TellingLaws = record {
+      words = c.renumbered_words_write_the_renumbered_configuration.ensures.words;
+      names = c.renamed_words_write_renamed_terms.ensures.names;
+      low = c.names_are_told_apart.ensures.low;
+    } in
+    let reduced = c.in_ok-reduced.reduced in
+    let answer = c.in_ok-reduced.ensures in
+    let same = c.in_ok-piece.ensures.words in
+    let short = subst (λ (ws : List Word). length ws ≤ MAX_WIDE_NODES) same few in
+    let low = low_words telling answer.0 reduced.words.items reduced.terms reduced.equations answer.4.counted answer.4.written short in
+    let names = names-configuration_of reduced.words.items reduced.terms reduced.equations 0 answer.4.counted in
+    subst (λ (ws : List Word). AllByRecursion IsKeptWord ws) (sym same)
+    (words_numbered c.in_ok-system.system.rules.symbols c.systems_are_sound.ensures.symbols reduced.words.items answer.4.over
+    (subst (λ (ns : List ℕ). one_above ns ≤ MAX_NAME + 1) names low))

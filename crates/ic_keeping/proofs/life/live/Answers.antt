@@ -5,7 +5,7 @@ use Rattle.std.proofs.lemmas.Result.{err_from_is_err_and}
 use Rattle.ic_state.specs.State.{Kept, kept_by, state_bytes}
 use Rattle.ic_keeping.specs.Way.{IsStateOf}
 use Rattle.ic_keeping.proofs.LivesLemmas.{held_is}
-use Rattle.ic_keeping.proofs.Refusing.{as_a_life, as_read, opening_keeps_none, run_not_unsound}
+use Rattle.ic_keeping.proofs.Refusing.{as_a_life, as_read, opening_keeps_none, opening_not_limit, run_not_unsound}
 use Rattle.ic_keeping.proofs.life.live.Goals as goal
 
 pub returns-in-Ok-clause-answer : goal.returns-in-Ok-clause-answer
@@ -155,3 +155,13 @@ returns-in_err-keeper-clause-unsound g c keeps keeps_too =
     rw (e.1, e.2) (λ same.
     let held = c.in_err-keeper.ensures.unsound keeps keeps_too same in
     (held.0, held.1, λ s form. held.2 form.0 form.1 form.3))
+
+pub returns-in-Err-clause-limit : goal.returns-in-Err-clause-limit
+returns-in-Err-clause-limit g c s keeps keeps_too held limit =
+    let found = c.in_ok-keeper.ensures in
+    (kept_by c.in_ok-keeper.state, found.found keeps keeps_too, c.in-Err.ensures.limit s (found.state s keeps keeps_too held) limit)
+
+pub returns-in_err-keeper-clause-limit : goal.returns-in_err-keeper-clause-limit
+returns-in_err-keeper-clause-limit g c s keeps keeps_too held =
+    let e = err_from_is_err_and c.from_residual.result c.from_residual.ensures.1 in
+    rw (e.1, e.2) (λ limit. absurd (opening_not_limit c.in_err-keeper.field-0.0.cause (c.in_err-keeper.ensures.refused s keeps keeps_too held) limit))

@@ -1,4 +1,4 @@
-use Rattle.std.proofs.Common.{sym, subst}
+use Rattle.std.proofs.Common.{⊎_elim, inl, inr, sym, subst, arith}
 use Rattle.std.proofs.lemmas.Result.{err_from_is_err_and}
 use Rattle.std.specs.Prelude.{IsTrue}
 use Rattle.std.specs.Arc.{arc_value}
@@ -26,3 +26,8 @@ returns-in-None-clause-refused c equations whole counted twice over =
     let there = subst (λ (rs : Rules). IsTrue (is_over rs.symbols c.in_ok-config.config)) (sym c.in_ok-clone.ensures.cases) here in
     let e = c.in-None.ensures.over.1 there in
     cc (e)
+
+pub returns-in_err-config-clause-limit : goal.returns-in_err-config-clause-limit
+returns-in_err-config-clause-limit c twice =
+    let e = err_from_is_err_and c.from_residual.result c.from_residual.ensures.1 in
+    rw (e.1, e.2) (λ limit. ⊎_elim (λ many. inl many) (λ high. inr (omega (arith, high))) (c.in_err-config.ensures.limit twice limit))
