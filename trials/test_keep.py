@@ -5,6 +5,7 @@ import contextlib
 import itertools
 import json
 import os
+import resource
 import shutil
 import signal
 import struct
@@ -437,6 +438,49 @@ class Keep(Stops):
             ran = run("reduce", "--resume", self.file)
             told = (ran.status, ran.out, ran.err, self.contents() == put)
             self.equals(ran.command, f"the end where the counts are {other}", (3, b"", b"icserve: damaged\n", True), told)
+
+    def test_a_file_whose_first_bytes_are_no_state_is_not_read_whole(self):
+        """A file of 600 MB, most of which is a hole. What the program has in memory may be limited to 64 MB for it."""
+        size = 600 * 2**20
+        few = {"preexec_fn": lambda: resource.setrlimit(resource.RLIMIT_AS, (2**26, 2**26))}
+        numbers = b"ICKEPT01" + struct.pack(">6Q", 1, 0, 0, 2, size // 8, 0)
+        for state in (b"", b"nothing!", b"ICKEPT02", numbers):
+            for place in (0, 1):
+                self.put(bytes(HEAD) for _ in (0, 1))
+                with open((self.file, self.second)[place], "r+b") as file:
+                    file.write(b"\1" + struct.pack(">2Q", 1, size - HEAD) + state)
+                    file.truncate(size)
+                ran = run("reduce", "--resume", self.file, **few)
+                self.equals(ran.command, "the end", (3, b"icserve: damaged\n"), (ran.status, ran.err))
+                if state == numbers:
+                    lines = run("inspect", "--disk", self.file, **few).out.splitlines()
+                    self.equals(self.file, "what is seen", (True, b"held: damaged"), (lines[place].endswith(b", no state"), lines[2]))
+
+    def test_a_second_file_that_is_the_first_one_is_told_of(self):
+        """By a symbolic link or another name, also where the link leads to a file that isn't there yet. What it holds stays."""
+        told = f"{self.second}: open: not possible with such a file\n"
+        told = f"{told}{self.second}: it is a link to the file {self.file}, and a reduction takes two files: remove the link\n"
+        for link, held in itertools.product((os.symlink, os.link), (None, b"")):
+            if (link, held) == (os.link, None):
+                continue
+            self.clear()
+            if held is not None:
+                self.file.write_bytes(held)
+            link(self.file, self.second)
+            ran = run("reduce", "--keep", self.file, given=ackermann(2))
+            self.equals(ran.command, "the end", (3, b"", b"icserve: device\n"), (ran.status, ran.out, ran.err))
+            self.equals(ran.command, "what is told", told, ran.after.decode())
+            self.equals(ran.command, "what the file holds", b"", self.file.read_bytes())
+        # One that is told so when its removal is done goes on.
+        self.clear()
+        self.agree(run("reduce", "--keep", self.file, *FIGURES, given=ackermann(2)), self.whole(ackermann(2)))
+        before = self.file.read_bytes()
+        for link in (os.symlink, os.link):
+            self.second.unlink()
+            link(self.file, self.second)
+            ran = run("reduce", "--resume", self.file)
+            self.equals(ran.command, "the end", (3, b"", b"icserve: device\n", told), (ran.status, ran.out, ran.err, ran.after.decode()))
+            self.equals(ran.command, "what the file holds", before, self.file.read_bytes())
 
     def test_kept_files_are_no_disks(self):
         run("reduce", "--keep", self.file, given=ackermann(2))

@@ -1,9 +1,9 @@
 //! The program's word `reduce` where what is reached is kept in two files.
 
-use crate::others::{another_of, front_of_as};
+use crate::kept::check_fronts;
 use crate::reducing::{Wanted, tell_end, time_since};
 use crate::{NotedDisk, open_disk, open_disk_as};
-use ic_causes::{Cause, NotedOutput, Notes, Reason, Target, shown_path};
+use ic_causes::{Cause, FileCall, NotedOutput, Notes, Reason, Target, shown_path};
 use ic_diagnostics::{Kind, refused_within};
 use ic_disk::Disk;
 use ic_exits::Failure;
@@ -11,12 +11,13 @@ use ic_in_place::{Asked, Bounds, Outcome};
 use ic_keeping::{Clock, Ended, KeepingFault, Pace, begin, begun, live};
 use ic_kept::Keeper;
 use ic_progress::Watching;
-use ic_slots::OpenCause;
 use ic_state::State;
 use ic_streams::{StreamFault, read_text_within, write_line};
 use ic_text::Limits;
 use std::alloc::AllocError;
+use std::fs::metadata;
 use std::io::{self, ErrorKind, Read};
+use std::os::unix::fs::MetadataExt;
 use std::time::{Duration, Instant};
 
 /// Where a reduction is kept, and how often.
@@ -74,9 +75,9 @@ fn open_kept<'a, R: Read>(
 ) -> Result<(NotedDisk<'a>, NotedDisk<'a>), Failure> {
     if kept.begins {
         let state = read_state(rt, Limits::Wide, input, told).map_err(Failure::Stream)?;
-        return begin_in(rt, kept.path, &state, notes);
+        return begin_in(rt, kept.path, &state, notes, told);
     }
-    open_both(rt, kept.path, notes)
+    open_both(rt, kept.path, notes, told)
 }
 
 /// Tells of a net that is kept in the file of this path and has too many places.
@@ -140,10 +141,12 @@ fn begin_in<'a>(
     path: &str,
     state: &State,
     notes: &'a Notes,
+    told: &mut Vec<u8>,
 ) -> Result<(NotedDisk<'a>, NotedDisk<'a>), Failure> {
     look_at_second(rt, path, notes)?;
     let mut first = open_disk(rt, path, true, notes)?;
     check_empty(&mut first)?;
+    check_apart(rt, path, notes, told)?;
     let mut second = open_second(rt, path, true, notes)?;
     begin(rt.alloc(), state, &mut first, &mut second).map_err(Failure::Kept)?;
     Ok((first, second))
@@ -179,31 +182,58 @@ fn check_empty(disk: &mut NotedDisk<'_>) -> Result<(), Failure> {
     }
 }
 
-/// The disks in the two files of a path, unless one of these is known to be another file: a keep would write over it.
+/// The disks in the two files of a path, unless their first bytes tell that no reduction goes on with them.
 fn open_both<'a>(
     rt: &HostRuntime,
     path: &str,
     notes: &'a Notes,
+    told: &mut Vec<u8>,
 ) -> Result<(NotedDisk<'a>, NotedDisk<'a>), Failure> {
     let first = open_disk(rt, path, false, notes)?;
+    check_apart(rt, path, notes, told)?;
     let second = open_second(rt, path, false, notes)?;
-    check_kept(rt, path, Target::File, notes)?;
-    check_kept(rt, second_of(rt, path)?.as_str(), Target::Second, notes)?;
+    check_fronts(rt, path, second_of(rt, path)?.as_str(), notes).map_err(Failure::Kept)?;
     Ok((first, second))
 }
 
-/// Refuses the file of this path if it is known to be another, or can't be looked at.
-fn check_kept(rt: &HostRuntime, path: &str, target: Target, notes: &Notes) -> Result<(), Failure> {
-    match front_of_as(rt, path, target, notes) {
-        Ok(front) => match another_of(&front) {
-            Some(_) => Err(Failure::Kept(KeepingFault::Open(OpenCause::Damaged))),
-            None => Ok(()),
-        },
-        Err(error) if error.kind() == ErrorKind::OutOfMemory => {
-            Err(Failure::Kept(KeepingFault::Memory))
-        }
-        Err(_) => Err(Failure::Kept(KeepingFault::Device)),
+/// Refuses a second file that is the first one by another name: whoever has the one open has the other locked.
+fn check_apart(
+    rt: &HostRuntime,
+    path: &str,
+    notes: &Notes,
+    told: &mut Vec<u8>,
+) -> Result<(), Failure> {
+    let second = second_of(rt, path)?;
+    if !are_one(rt, path, second.as_str()) {
+        return Ok(());
     }
+    let refused: io::Result<()> = Err(ErrorKind::InvalidInput.into());
+    notes.note(Target::Second, FileCall::Open, &refused);
+    let _ = tell_one(rt, path, second.as_str(), told);
+    Err(Failure::Kept(KeepingFault::Device))
+}
+
+/// Whether these two paths are known to lead to one file.
+fn are_one(rt: &HostRuntime, path: &str, other: &str) -> bool {
+    match (metadata(rt, path), metadata(rt, other)) {
+        (Ok(one), Ok(other)) => one.dev() == other.dev() && one.ino() == other.ino(),
+        _ => false,
+    }
+}
+
+/// Tells that the second file, of this path, is the first one.
+fn tell_one(
+    rt: &HostRuntime,
+    path: &str,
+    second: &str,
+    told: &mut Vec<u8>,
+) -> Result<(), AllocError> {
+    let first = shown_path(rt.alloc(), path.as_bytes())?;
+    let second = shown_path(rt.alloc(), second.as_bytes())?;
+    told.extend_from_slice(&second)?;
+    told.extend_from_slice(b": it is a link to the file ")?;
+    told.extend_from_slice(&first)?;
+    told.extend_from_slice(b", and a reduction takes two files: remove the link\n")
 }
 
 /// The path of the second file of a path.

@@ -3,19 +3,24 @@
 use crate::inspecting::open_to_read_as;
 use crate::others::{Another, another_of, holds_table, is_of_reduction};
 use ic_args::ReportFormat;
-use ic_causes::{Cause, NotedOutput, Notes, Reason, Target};
+use ic_causes::{Cause, NotedFile, NotedOutput, Notes, Reason, Target};
 use ic_disk::DiskFault;
 use ic_exits::Failure;
 use ic_inspect::InspectFault;
+use ic_keeping::KeepingFault;
 use ic_kept::{Front, HEAD, front_of};
 use ic_output::write_flushed;
+use ic_slots::OpenCause;
 use ic_state::{StateFault, StateHead, head_of};
 use std::alloc::AllocError;
 use std::fs::OpenFile;
 use std::io::{self, ErrorKind, Read};
 
+/// How many bytes the first numbers of a state have.
+const NUMBERS: u64 = 56;
+
 /// How many first bytes of a file are looked at: its head, and the first numbers of its state.
-const FRONT: u64 = HEAD + 56;
+const FRONT: u64 = HEAD + NUMBERS;
 
 /// The first bytes of a file, and how many bytes it has.
 #[derive(Drop)]
@@ -109,18 +114,56 @@ fn read_front(
     notes: &Notes,
 ) -> Result<Opening, Failure> {
     let file = open_to_read_as(rt, path, target, notes).map_err(|_| Failure::Disk(DiskFault))?;
-    let mut bytes = Vec::new(rt.alloc());
-    match file.at(0).take(FRONT).read_to_end(&mut bytes) {
-        Ok(_) => {}
-        Err(error) if error.kind() == ErrorKind::OutOfMemory => return Err(memory()),
-        Err(_) => return Err(Failure::Inspect(InspectFault::Read)),
-    }
-    match file.metadata() {
-        Ok(about) => Ok(Opening {
-            bytes,
-            len: about.len(),
-        }),
+    match opening_of(rt, &file) {
+        Ok(opening) => Ok(opening),
+        Err(error) if error.kind() == ErrorKind::OutOfMemory => Err(memory()),
         Err(_) => Err(Failure::Inspect(InspectFault::Read)),
+    }
+}
+
+/// How a file begins, and then its length.
+fn opening_of(rt: &HostRuntime, file: &NotedFile<'_>) -> io::Result<Opening> {
+    let mut bytes = Vec::new(rt.alloc());
+    file.at(0).take(FRONT).read_to_end(&mut bytes)?;
+    let len = file.metadata()?.len();
+    Ok(Opening { bytes, len })
+}
+
+/// Refuses two files of which no other process has one open, if their first bytes tell that no reduction goes on with them: one
+/// is another file, over which a keep would write, or no state stands in the newest. The rest of them isn't read.
+pub(crate) fn check_fronts(
+    rt: &HostRuntime,
+    path: &str,
+    second: &str,
+    notes: &Notes,
+) -> Result<(), KeepingFault> {
+    let first = see_at(rt, path, Target::File, notes)?;
+    let second = see_at(rt, second, Target::Second, notes)?;
+    if is_another(first) || is_another(second) {
+        return Err(KeepingFault::Open(OpenCause::Damaged));
+    }
+    match newest_of(first, second) {
+        Newest::First if has_no_state(first) => Err(KeepingFault::Unsound),
+        Newest::Second if has_no_state(second) => Err(KeepingFault::Unsound),
+        _ => Ok(()),
+    }
+}
+
+/// What is seen of the file of this path.
+fn see_at(
+    rt: &HostRuntime,
+    path: &str,
+    target: Target,
+    notes: &Notes,
+) -> Result<Seen, KeepingFault> {
+    let opening = match open_to_read_as(rt, path, target, notes) {
+        Ok(file) => opening_of(rt, &file),
+        Err(error) => Err(error),
+    };
+    match opening {
+        Ok(opening) => Ok(see(rt, &opening)?),
+        Err(error) if error.kind() == ErrorKind::OutOfMemory => Err(KeepingFault::Memory),
+        Err(_) => Err(KeepingFault::Device),
     }
 }
 
@@ -183,10 +226,16 @@ fn see(rt: &HostRuntime, opening: &Opening) -> Result<Seen, AllocError> {
         return Ok(Seen::CutShort(front));
     }
     match head_of(rt.alloc(), state) {
-        Ok(head) => Ok(Seen::State(front, head)),
-        Err(StateFault::NotAState) => Ok(Seen::NoState(front)),
+        Ok(head) if fits(front, head) => Ok(Seen::State(front, head)),
+        Ok(_) | Err(StateFault::NotAState) => Ok(Seen::NoState(front)),
         Err(StateFault::Memory) => Err(AllocError),
     }
+}
+
+/// Whether there is room for so many counts and words in a state of this length.
+fn fits(front: Front, head: StateHead) -> bool {
+    let numbers = head.rules.saturating_add(head.words).saturating_mul(8);
+    numbers.saturating_add(NUMBERS) <= front.size
 }
 
 /// The line of what is seen of a file.
@@ -286,9 +335,39 @@ fn head_members(rt: &HostRuntime, head: StateHead) -> Result<String, AllocError>
     )
 }
 
-/// Whether a file is shorter than its head, or another one.
-fn is_no_file(seen: Seen) -> bool {
-    matches!(seen, Seen::CutOff | Seen::Another(_))
+/// Whether a file is another one.
+fn is_another(seen: Seen) -> bool {
+    matches!(seen, Seen::Another(_))
+}
+
+/// Whether no state stands in a file that has a head.
+fn has_no_state(seen: Seen) -> bool {
+    matches!(seen, Seen::NoState(_))
+}
+
+/// Whether a file has no head of a file that keeps a reduction.
+fn lacks_head(seen: Seen) -> bool {
+    matches!(seen, Seen::CutOff) || is_another(seen)
+}
+
+/// Which of two files is the newest, by their heads.
+#[derive(Clone, Copy)]
+enum Newest {
+    Neither,
+    Alike,
+    First,
+    Second,
+}
+
+/// The newest of two files.
+fn newest_of(first: Seen, second: Seen) -> Newest {
+    match (open_number(first), open_number(second)) {
+        (None, None) => Newest::Neither,
+        (Some(one), Some(other)) if one == other => Newest::Alike,
+        (Some(_), None) => Newest::First,
+        (Some(one), Some(other)) if one > other => Newest::First,
+        _ => Newest::Second,
+    }
 }
 
 /// The number of a file whose gate is open.
@@ -311,14 +390,13 @@ fn held_in(seen: Seen, name: &'static str) -> &'static str {
 
 /// Which file has the state that is kept, by the heads and the lengths of both.
 fn held_of(first: Seen, second: Seen) -> &'static str {
-    if is_no_file(first) || is_no_file(second) {
+    if lacks_head(first) || lacks_head(second) {
         return "damaged";
     }
-    match (open_number(first), open_number(second)) {
-        (None, None) => "no slot",
-        (Some(one), Some(other)) if one == other => "two alike",
-        (Some(_), None) => held_in(first, "file 1"),
-        (Some(one), Some(other)) if one > other => held_in(first, "file 1"),
-        _ => held_in(second, "file 2"),
+    match newest_of(first, second) {
+        Newest::Neither => "no slot",
+        Newest::Alike => "two alike",
+        Newest::First => held_in(first, "file 1"),
+        Newest::Second => held_in(second, "file 2"),
     }
 }

@@ -431,7 +431,7 @@ fn tell_failure(
     } else {
         None
     };
-    if is_of_both(failure) && other.is_none() {
+    if finds_no_state(failure) && other.is_none() {
         if let Some(line) = other_second(rt, path) {
             tell(rt, &line);
             return Ok(());
@@ -467,7 +467,7 @@ fn is_of_disk(failure: &Failure) -> bool {
 }
 
 /// Whether a failure is that no reduction is found in two files.
-fn is_of_both(failure: &Failure) -> bool {
+fn finds_no_state(failure: &Failure) -> bool {
     matches!(failure, Failure::Kept(KeepingFault::Open(_)))
 }
 
