@@ -6,6 +6,7 @@ import itertools
 import json
 import os
 import resource
+import shlex
 import shutil
 import signal
 import struct
@@ -13,6 +14,8 @@ import subprocess
 import sys
 import time
 
+import draws
+import nets
 from program import PROGRAM, TOP, grows_to, heeds_signals, ran_with, run, said_of
 from shim import noted, recording, shimmed, was_refused
 from stops import Stops
@@ -51,6 +54,14 @@ def seen(place, content):
     _, interactions, ended, rules, words, millis = struct.unpack(">6Q", content[HEAD + 8 : HEAD + 56])
     fields = f"interactions {interactions}, words {words}, rules {rules}, milliseconds {millis}"
     return f"{head}, {'ended' if ended else 'not ended'}, {fields}", number if gate else -1
+
+
+def first_pair(line):
+    """The symbols of the first equation of two agents in a line that was printed, or nothing."""
+    for left, right in nets.phrases_of(line)[1]:
+        if isinstance(left[0], tuple) and isinstance(right[0], tuple):
+            return f"{left[0][0]}><{right[0][0]}"
+    return None
 
 
 def laid(content, at, data):
@@ -153,6 +164,36 @@ class Keep(Stops):
         for words, given in ((["--keep", self.file], text), (["--resume", self.file], b"")):
             self.runs("reduce", *words, given=given, out=whole.out, err=whole.err)
             self.agree(run("reduce", "--resume", self.file, *FIGURES), self.whole(text))
+
+    def test_the_stuck_pair_is_the_first_that_is_printed(self):
+        """By one thread and by several, kept and not, and where nothing is printed. After stops the net, the interactions by rule
+        and this are those of an unbroken run; the order of the equations need not be."""
+        drawn, seen, others = self.draws(), 0, 0
+        while seen < 40:
+            symbols = draws.symbols(drawn, drawn.randint(3, 6), drawn.choice([1, 2, 3]))
+            rules = draws.rules(drawn, symbols, drawn.randint(2, 6))
+            text = draws.system_text(rules, draws.configuration(drawn, rules, drawn.randrange(3), drawn.randint(5, 30), active=1.0))
+            whole = run("reduce", "--workers", 1, "--steps", 2_000, *FIGURES, given=text)
+            if whole.status or not figures(whole)["interactions"] or not figures(whole)["stuck"]:
+                continue
+            seen += 1
+            told = figures(whole)
+            self.clear()
+            words, given = ["--keep", self.file], text
+            for most in sorted(drawn.randrange(told["interactions"] + 1) for _ in range(drawn.randint(1, 3))):
+                run("reduce", *words, "--steps", most, "--quiet-answer", given=given)
+                words, given = ["--resume", self.file], b""
+            kept = run("reduce", *words, *FIGURES, given=given)
+            others += kept.out != whole.out
+            for ran in (whole, run("reduce", "--workers", 3, *FIGURES, given=text), kept, run("reduce", "--resume", self.file, *FIGURES)):
+                self.equals(ran.command, "the pair that is told", first_pair(ran.out), figures(ran)["stuck"])
+                self.equals(ran.command, "the net", nets.form_of(rules, whole.out), nets.form_of(rules, ran.out))
+                for name in ("end", "interactions", "by_rule"):
+                    self.equals(ran.command, name, told[name], figures(ran)[name])
+            for words in (["--workers", 1], ["--resume", self.file]):
+                printed, quiet = (run("reduce", *words, *more, *FIGURES, given=text) for more in ([], ["--quiet-answer"]))
+                self.equals(quiet.command, "the pair that is told without an answer", first_pair(printed.out), figures(quiet)["stuck"])
+        self.equals("answers", f"whether some are printed otherwise after stops: {others} of {seen}", True, others > 0)
 
     def inspected(self):
         """What `inspect` tells, as it is found in the files; each file stays as it is."""
@@ -324,6 +365,38 @@ class Keep(Stops):
             self.refuses("reduce", "--resume", self.file, line="damaged", status=3)
             self.put(whole)
             run("reduce", "--resume", self.file, "--steps", 30)
+
+    def costs(self, *words, text=b""):
+        """The megabytes that a run takes at most, and the seconds of processor."""
+        given = self.room / "given"
+        given.write_bytes(text)
+        with given.open("rb") as file:
+            process = subprocess.Popen([PROGRAM, "reduce", *map(str, words), "--quiet-answer"], stdin=file, stderr=subprocess.DEVNULL)
+            _, status, used = os.wait4(process.pid, 0)
+        process.returncode = os.waitstatus_to_exitcode(status)
+        self.equals(shlex.join(map(str, process.args)), "status", True, process.returncode in (0, 5))
+        return used.ru_maxrss / 1024, used.ru_utime + used.ru_stime
+
+    def costs_of_all(self, text):
+        """Those of a million interactions that aren't kept, that are kept, and of what is kept being read again."""
+        self.clear()
+        plain = self.costs("--workers", 1, "--steps", 10**6, text=text)
+        kept = self.costs("--keep", self.file, "--steps", 10**6, text=text)
+        return plain, kept, self.costs("--resume", self.file, "--steps", 10**6)
+
+    def test_a_million_nodes_are_kept_at_a_bounded_cost(self):
+        """Of a net that grows, and of one that is read. Who is slowed down by others may try again."""
+        rules = "{A(B(x),S(l))><B(A(x,l))}"
+        grows, is_read = (f"{rules} <r|{it}>".encode() for it in ("A(x,r)=B(x)", f"r={'S(' * 10**6}Z{')' * 10**6}"))
+        for text, most in ((grows, 3.0), (is_read, 1.5)):
+            for _ in range(3):
+                plain, kept, resumed = self.costs_of_all(text)
+                is_small = kept[0] <= 1.5 * plain[0] and resumed[0] <= most * plain[0]
+                is_quick = max(kept[1], resumed[1]) <= 3 * plain[1]
+                if not is_small or is_quick:
+                    break
+            told = f"MB and seconds, kept and resumed: {plain}, {kept}, {resumed}"
+            self.equals(text[:50], told, (True, True), (is_small, is_quick))
 
     def test_what_is_not_asked_for_is_not_printed(self):
         self.runs("reduce", "--keep", self.file, "--quiet-answer", given=ackermann(2))
