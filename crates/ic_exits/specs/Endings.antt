@@ -36,8 +36,6 @@ use Rattle.ic_dump.specs.declared.fault.DumpFault.{DumpFault}
 use Rattle.ic_dump.specs.declared.fault.DumpFault.TheVariants as dump
 use Rattle.ic_dump.specs.declared.fault.DiskDumpFault.{DiskDumpFault}
 use Rattle.ic_dump.specs.declared.fault.DiskDumpFault.TheVariants as disk_dump
-use Rattle.ic_check.specs.declared.files.Verdict.{Verdict}
-use Rattle.ic_check.specs.declared.files.Verdict.TheVariants as verdict
 use Rattle.ic_inspect.specs.declared.fault.InspectFault.{InspectFault}
 use Rattle.ic_inspect.specs.declared.fault.InspectFault.TheVariants as inspect
 use Rattle.ic_args.specs.declared.words.WordsFault.TheVariants as words
@@ -307,12 +305,6 @@ opening_failure fault (Some cause) = refused_opening fault cause.reason
 abbrev pub failure_of_dump : DiskDumpFault → Failure
 failure_of_dump (disk_dump.Open cause) = Open cause
 failure_of_dump (disk_dump.Dump fault) = Dump fault
-
--- how the program ends where files were looked over: one that can't be read comes before a fault
-abbrev pub check_ending : Verdict → Result (Unit {0}) Failure
-check_ending verdict.Fine = Ok tt
-check_ending verdict.Faulty = Err Faults
-check_ending verdict.Unread = Err (Stream stream.Read)
 
 -- how the program ends where a net was reduced in place, by why that ended, how far it came and how
 -- many places it may have

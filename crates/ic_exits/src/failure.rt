@@ -2,7 +2,7 @@
 
 ghost use Rattle.std.specs.Prelude.{◌≡◌, ◌++◌, IfOk};
 ghost use Rattle.ic_exits.specs.Endings.{status_of, scripts_status, failure_line, told};
-ghost use Rattle.ic_exits.specs.Endings.{check_ending, stream_word, round_word, create_word, open_word, serve_word, stuck_line, idle_line};
+ghost use Rattle.ic_exits.specs.Endings.{stream_word, round_word, create_word, open_word, serve_word, stuck_line, idle_line};
 ghost use Rattle.ic_exits.specs.Endings.{batch_status, batch_word, cause_text, jobs_status, jobs_word, line_words, opening_failure};
 ghost use Rattle.ic_exits.specs.Endings.{dump_status, dump_word, inspect_status, inspect_word, scripts_word, script_words};
 ghost use Rattle.ic_exits.specs.Endings.{keep_word, kept_status, kept_word, reduce_ending};
@@ -11,7 +11,6 @@ use ic_args::WordsFault;
 use ic_batch::{BatchFault, JobsCause, JobsFault};
 use ic_by_rounds::Refusal;
 use ic_causes::{Cause, Reason};
-use ic_check::Verdict;
 use ic_commands::print_reply;
 use ic_disk::DiskFault;
 use ic_dump::{DiskDumpFault, DumpFault};
@@ -175,17 +174,6 @@ pub fn opening_failure(fault: DiskFault, cause: Option<Cause>) -> Failure
             },
         ) => Failure::Locked,
         _ => Failure::Disk(fault),
-    }
-}
-
-/// How the program ends where files were looked over, by what was found.
-pub fn check_ending(verdict: Verdict) -> Result<(), Failure>
-    ensures { result ≡ check_ending verdict }
-{
-    match verdict {
-        Verdict::Fine => Ok(()),
-        Verdict::Faulty => Err(Failure::Faults),
-        Verdict::Unread => Err(Failure::Stream(StreamFault::Read)),
     }
 }
 

@@ -25,7 +25,6 @@ ghost use Rattle.ic_args.specs.declared.words.WordsFault.TheVariants as words;
 ghost use Rattle.ic_dump.specs.declared.fault.DumpFault.{DumpFault};
 ghost use Rattle.ic_dump.specs.declared.fault.DumpFault.TheVariants as dump;
 ghost use Rattle.ic_dump.specs.declared.fault.DiskDumpFault.TheVariants as disk_dump;
-ghost use Rattle.ic_check.specs.declared.files.Verdict.TheVariants as verdict;
 ghost use Rattle.ic_inspect.specs.declared.fault.InspectFault.TheVariants as inspect;
 ghost use Rattle.ic_lines.specs.declared.script.ScriptFault.{ScriptFault};
 ghost use Rattle.ic_scripts.specs.declared.fault.ScriptsFault.TheVariants as scripts;
@@ -45,7 +44,7 @@ ghost use Rattle.ic_batch.specs.declared.fault.Difference.{Difference};
 ghost use Rattle.ic_batch.specs.declared.fault.Difference.TheVariants as difference;
 ghost use Rattle.ic_causes.specs.declared.cause.FileCall.{FileCall};
 ghost use Rattle.ic_causes.specs.declared.cause.Reason.TheVariants as reason;
-ghost use Rattle.ic_exits.specs.Endings.{status_of, check_ending, failure_line, failure_of_dump, idle_line, opening_failure, reduce_ending, stuck_line};
+ghost use Rattle.ic_exits.specs.Endings.{status_of, failure_line, failure_of_dump, idle_line, opening_failure, reduce_ending, stuck_line};
 ghost use Rattle.ic_exits.specs.After.{is_silent, lines_after, no_first, no_second, shown_of};
 ghost use Rattle.ic_exits.specs.JobLines.{refused_job_line};
 ghost use Rattle.ic_exits.specs.Others.{lines_or_other};
@@ -225,7 +224,6 @@ pub fn openings_end_so()
         → opening_failure fault (Some cause) ≡ Disk fault }
 {}
 
-/// `check` tells a file that can't be read before faults of others, and is fine only where all are.
 /// `dump` of a disk that isn't opened ends as any other opening of it. `reduce` in place is fine only
 /// where no step is possible, and tells what else has ended it, and how far it came.
 pub fn endings_are()
@@ -233,8 +231,6 @@ pub fn endings_are()
         (end.Quiet ∷ end.Steps ∷ end.Nodes ∷ end.Limit ∷ end.Memory ∷ [])
         ≡ Ok tt ∷ Err NotDone ∷ Err (Overgrown reached nodes) ∷ Err (TableFull reached)
         ∷ Err (OutOfMemory reached) ∷ [] }
-    ensures check { map check_ending (verdict.Fine ∷ verdict.Faulty ∷ verdict.Unread ∷ [])
-        ≡ Ok tt ∷ Err Faults ∷ Err (Stream stream.Read) ∷ [] }
     ensures open { (cause : OpenCause) → failure_of_dump (disk_dump.Open cause) ≡ Open cause }
     ensures dump { (fault : DumpFault) → failure_of_dump (disk_dump.Dump fault) ≡ Dump fault }
 {}

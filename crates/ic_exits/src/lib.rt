@@ -11,7 +11,7 @@ mod others;
 
 pub use after::{first_missing, second_missing};
 pub use failure::{
-    Failure, Reached, check_ending, idle_line, opening_failure, reduce_ending, stuck_line,
+    Failure, Reached, idle_line, opening_failure, reduce_ending, stuck_line,
 };
 pub use job_lines::refused_job_line;
 pub use others::Other;

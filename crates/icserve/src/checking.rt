@@ -4,8 +4,8 @@ use crate::inspecting::open_to_read;
 use crate::texts::{read_limited, too_long};
 use ic_args::ReportFormat;
 use ic_causes::{NotedInput, NotedOutput, Notes, cause_line};
-use ic_check::{Given, Layout, Source, check_files};
-use ic_exits::{Failure, check_ending};
+use ic_check::{Given, Layout, Source, Verdict, check_files};
+use ic_exits::Failure;
 use ic_streams::StreamFault;
 use std::alloc::{AllocError, Global};
 use std::io::{self, BufWriter};
@@ -31,7 +31,11 @@ pub(crate) fn check(
         ReportFormat::Json => Layout::Objects,
     };
     let checked = check_files(rt.alloc(), &source, paths, layout, &mut output, told);
-    check_ending(checked.map_err(Failure::Stream)?)
+    match checked.map_err(Failure::Stream)? {
+        Verdict::Fine => Ok(()),
+        Verdict::Faulty => Err(Failure::Faults),
+        Verdict::Unread => Err(Failure::Stream(StreamFault::Read)),
+    }
 }
 
 /// The files of the system, of whose bytes no clause speaks.
