@@ -33,7 +33,7 @@ PATIENCE = float(os.environ.get("PATIENCE") or 120)
 
 class Ran(NamedTuple):
     """A run of the program that has ended. A signal that ended it is a negative status, as of `subprocess`. What stands on
-    standard error after the line of a disk, of a text, of a net or of standard input stands by itself."""
+    standard error after the line of a disk, of a text, of a net or of a standard stream stands by itself."""
 
     command: str
     status: int
@@ -57,7 +57,7 @@ OF_BAD = b"icserve: a line was answered `bad`: serve --explain tells what is wro
 
 
 def ran_with(command, status, out, err):
-    """A run, what it wrote on standard error parted: a line that tells of the disk's file, of standard input, of a net,
+    """A run, what it wrote on standard error parted: a line that tells of the disk's file, of a standard stream, of a net,
     of a round, of a script, of a line of a batch, of a history or of a line with a fault stands by itself, and so do the
     four lines of a place in a text."""
     if OF_BAD in err:
@@ -66,13 +66,14 @@ def ran_with(command, status, out, err):
     line, feed, after = err.partition(b"\n")
     of_disk = (line + feed in OF_DISKS or line.startswith(b"icserve: taken ")) and after.count(b"\n") in (1, 2)
     of_input = line == b"icserve: read" and after.startswith(b"standard input: ") and after.count(b"\n") == 1
+    of_output = line == b"icserve: write" and after.startswith(b"standard output: ") and after.count(b"\n") == 1
     of_text = line.startswith(b"icserve: bad ") and after.startswith(b"line ") and after.count(b"\n") == 4
     of_net = line in OF_NETS and after.startswith(b"interactions ") and after.count(b"\n") in (1, 2)
     of_round = line in OF_ROUNDS and after.startswith(b"round ") and after.count(b"\n") == 1
     of_script = line.startswith(b"icserve: script ") and after.count(b"\n") == 1
     of_job = line.startswith(b"icserve: line ") and after.count(b"\n") == 1
     of_history = line == b"icserve: log full" and after.startswith(b"the history holds ") and after.count(b"\n") == 1
-    if of_disk or of_text or of_input or of_net or of_round or of_script or of_job or of_history:
+    if of_disk or of_text or of_input or of_output or of_net or of_round or of_script or of_job or of_history:
         return Ran(command, status, out, line + feed, after)
     return Ran(command, status, out, err)
 

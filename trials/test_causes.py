@@ -5,10 +5,12 @@ import os
 import shutil
 import socket
 import subprocess
+import time
+from pathlib import Path
 
 from disks import EMPTY, disk_of, slot
-from known import TWO
-from program import PROGRAM, Server, Trial, grows_to, run
+from known import LOOP, TWO
+from program import PATIENCE, PROGRAM, Server, Trial, grows_to, run
 from shim import shimmed, was_refused
 
 NO_DISK = "the file is no disk; `icserve create --disk F` makes a new file F one"
@@ -148,6 +150,98 @@ class Causes(Trial):
             path.write_bytes(disk_of(slot(1, EMPTY), second))
             for word in ("serve", "attend", "dump"):
                 self.tells(run(word, "--disk", path, given="list"), line, f"{path}: {NOT_AS_LEFT}")
+
+    def isnt_kept(self, change):
+        """Fails unless a server whose file is changed so after a keep refuses the next one, and says that the file is gone."""
+        path = self.disk()
+        with Server(path) as server:
+            self.answers(server, f"submit two {TWO.text}", "accepted")
+            self.answers(server, "run 1", "ran 1")
+            change(path)
+            server.send("run 1")
+            ran = server.end()
+        self.equals(ran.command, "status and answers", (4, b"accepted\nran 1\n"), (ran.status, ran.out))
+        self.tells(ran, "device", f"{path}: sync: the file is gone")
+        path.unlink(missing_ok=True)
+
+    def test_a_disk_whose_file_is_gone_is_refused_at_the_next_keep(self):
+        """It is deleted; another file takes its place; it is moved away, and then another one stands there or none does; its
+        folder is moved away. A file that has another name too, or that a link leads to, isn't gone."""
+        other, folder = self.room / "other", self.room / "folder"
+        self.isnt_kept(lambda path: path.unlink())
+
+        def replaced(path):
+            shutil.copy(path, other)
+            os.rename(other, path)
+
+        def moved(path):
+            os.rename(path, other)
+
+        def moved_and_another(path):
+            os.rename(path, other)
+            shutil.copy(other, path)
+
+        for change in (replaced, moved, moved_and_another):
+            self.isnt_kept(change)
+        folder.mkdir()
+        path = self.disk("folder/jobs.disk")
+        os.symlink(path, self.room / "link")
+        os.link(path, self.room / "name")
+        for name in (path, self.room / "link", self.room / "name", f"{self.room}/folder/../folder/jobs.disk"):
+            self.serves(name, ["list", f"submit two {TWO.text}", "cancel two"], ["jobs", "accepted", "ok"])
+        with Server(path) as server:
+            self.answers(server, f"submit two {TWO.text}", "accepted")
+            os.rename(folder, self.room / "elsewhere")
+            self.equals(server.said(), "the answer", None, server.ask("cancel two"))
+            self.tells(server.end(), "device", f"{path}: sync: the file is gone")
+
+    def test_a_kept_reduction_whose_file_is_gone_ends_at_the_next_keep(self):
+        """Either of its two files."""
+        for place in ("", ".2"):
+            path = self.room / f"net{place}.keep"
+            pipes = {"stdin": subprocess.PIPE, "stdout": subprocess.PIPE, "stderr": subprocess.PIPE}
+            with subprocess.Popen([PROGRAM, "reduce", "--keep", path, "--seconds", "1"], **pipes) as started:
+                started.stdin.write(LOOP.text.encode())
+                started.stdin.close()
+                end = time.monotonic() + PATIENCE
+                while not (second := Path(f"{path}.2")).exists() or not second.stat().st_size:
+                    self.assertLess(time.monotonic(), end, "no second file is made")
+                    time.sleep(0.01)
+                os.unlink(f"{path}{place}")
+                told = started.stderr.read().decode()
+            self.equals(started.args, "what is told", f"icserve: device\n{path}{place}: sync: the file is gone\n", told)
+            # By 3 where the first keep hadn't ended.
+            self.equals(started.args, f"status {started.returncode}", True, started.returncode in (3, 4))
+
+    def test_a_file_of_a_reduction_that_is_taken_for_a_disk(self):
+        """It is told what it is, and what goes on with it."""
+        path = self.room / "net.keep"
+        self.runs("reduce", "--keep", path, given="{A><B} <r|r=S(Z),A=B>", out=["<S(Z)|>"])
+        is_it = "it is one of the two files of a reduction, and no disk: `icserve reduce --resume F` goes on with F, without .2"
+        for name in (path, f"{path}.2"):
+            for word in ("serve", "attend", "dump", "create"):
+                ran = run(word, "--disk", name, given="list")
+                self.equals(ran.command, "status and what is told", (3, f"{name}: {is_it}\n"), (ran.status, ran.after.decode()))
+
+    def test_two_files_that_keep_no_reduction(self):
+        """After the line of either refusal it is told what to do."""
+        path = self.room / "net.keep"
+        second = f"{path}.2"
+        for name in (path, second):
+            Path(name).write_bytes(bytes(17))
+        none = f"{path}: no reduction is kept in it and in its second file, {second}: bring back a copy of both; "
+        none += "after a stop in the first keep, remove both, and begin again"
+        self.tells(run("reduce", "--resume", path), "no slot", none)
+        Path(path).unlink()
+        Path(second).unlink()
+        self.runs("reduce", "--keep", path, given="{A><B} <r|r=S(Z),A=B>", out=["<S(Z)|>"])
+        for name in (path, second):
+            held = Path(name).read_bytes()
+            Path(name).write_bytes(held[:-1])
+        changed = f"{path}: something else has changed it or its second file, {second}, or they were copied in part; "
+        changed += "copy both, then write `head -c 17 /dev/zero` over the one that `inspect` doesn't show whole, else over the one that it "
+        changed += "shows as held, and resume again; after a stop in the first keep, remove both, and begin again"
+        self.tells(run("reduce", "--resume", path), "damaged", changed)
 
     def test_nothing_is_told_after_other_lines(self):
         path = self.disk()

@@ -92,7 +92,7 @@ class Standing(Trial):
         self.runs("serve", "--disk", path, given=["list"], out=["jobs"], **opens_few(4))
         ran = run("create", "--disk", new, **opens_few(4))
         told = (ran.status, ran.err.decode(), ran.after.decode(), new.exists())
-        wanted = (3, "icserve: device\n", f"{new}: open: error 24 of the system\n", False)
+        wanted = (3, "icserve: device\n", f"{new}: open: too many files are open in this process\n", False)
         self.equals(ran.command, "how it ends", wanted, told)
 
     def test_the_first_file_that_is_opened_is_the_disks(self):

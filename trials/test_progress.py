@@ -155,6 +155,12 @@ class Progress(Trial):
         lines = self.lines_of(shown.removesuffix(told), took, OF_A_NET)
         self.equals(self.command, f"a line of a later piece: {lines}", True, lines[-1][0] > 4_194_304)
 
+    def test_a_terminal_is_told_that_no_rule_was_used(self):
+        idle = b"icserve: no two agents met, so no rule was used; `icserve check` warns where none can\n"
+        for given, told in (("{A><B} <r|r=S(Z)>", idle), ("{} <r|r=S(Z)>", b""), ("{A><B} <r|r=S(Z),A=B>", b"")):
+            status, _, _, shown, _ = self.shows(["reduce"], given, out=False)
+            self.equals(self.command, "status and what is told", (0, told), (status, shown.replace(WIPED, b"")))
+
     def test_short_work_shows_no_line(self):
         _, out, _, shown, took = self.shows(["reduce", "--steps", 10], LOOP.text, out=False)
         if took < 0.1:

@@ -9,7 +9,7 @@ from known import TEXT_WORDS
 from program import PROGRAM, Server, Trial, grows_to, run
 
 NOT_EMPTY = "the file holds something; `--overwrite` makes it an empty disk all the same"
-IS_TEXT = "the file is a text, and no disk; `icserve create --disk F` makes a new file F one"
+IS_TEXT = "the file is a text, and no disk; `--overwrite` makes it an empty disk all the same"
 
 ADD = "{Add(x,x)><Z;Add(S(x),y)><S(Add(x,y))}"
 TWO = f"submit two {ADD} <r|Add(r,S(Z))=S(Z)>"
@@ -210,11 +210,12 @@ class Disks(Trial):
         cases += [slot(1, EMPTY, 0) + b"x", disk_of(slot(3, b"x")), disk_of(slot(1, EMPTY), slot(1, EMPTY))]
         cases += [disk_of(slot(1, table)), disk_of(slot(1, EMPTY), slot(2, table)), disk_of(slot(1, table, 0))]
         cases += [disk_of(slot(1, old_form(table))), slot(1, b"ICT3\0", 0), slot(2, EMPTY, 0)]
+        cases += [b"\xf3" * (SECOND + HEAD), b"\xc3\xa9" * SECOND]
         for i, data in enumerate(cases):
             with self.subTest(case=i):
                 path = self.file("disk", data)
                 ran = self.refuses("create", "--disk", path, line="not empty", status=3)
-                words = IS_TEXT if i < 2 else NOT_EMPTY
+                words = IS_TEXT if i in (0, 1, len(cases) - 1) else NOT_EMPTY
                 self.agrees(ran.command, "what is told after it", f"{path}: {words}\n", ran.after)
                 self.holds(path, data)
                 self.runs("create", "--disk", path, "--overwrite")
@@ -315,7 +316,7 @@ class Servings(Trial):
         for words in (["serve", "--disk", disk], *([word] for word in TEXT_WORDS)):
             self.isnt_read(run(*words, stdin=folder), "is a folder")
             shell = ["-c", 'exec "$0" "$@" <&-', PROGRAM, *words]
-            self.isnt_read(run(*shell, program="/bin/sh"), "error 9 of the system")
+            self.isnt_read(run(*shell, program="/bin/sh"), "is closed")
 
     def test_read_where_standard_input_is_set_not_to_wait(self):
         """What came before is answered."""
@@ -333,14 +334,27 @@ class Servings(Trial):
         self.serves(disk, "list", ["jobs"])
 
     def test_write_where_standard_output_cant_be_written(self):
-        disk = self.disk()
+        """Why, is told after it."""
+        disk, jobs, script = self.disk(), self.room / "jobs", self.room / "script"
+        jobs.write_text(f"{TWO}\n")
+        script.write_text("list\n")
+        of_disks = [["attend", "--disk", disk, script], ["dump", "--disk", disk], ["inspect", "--disk", disk], ["batch", "--disk", disk, jobs]]
         with open("/dev/full", "r+b", buffering=0) as full:
-            self.refuses("settle", given="<|>", line="write", status=4, stdout=full)
-            self.refuses("once", given="{} <|>", line="write", status=4, stdout=full)
-            self.refuses("serve", "--disk", disk, given=[TWO], line="write", status=4, stdout=full)
-            self.refuses("--help", line="write", status=4, stdout=full)
+            for words, given in (
+                (["settle"], "<|>"),
+                (["once"], "{} <|>"),
+                (["reduce"], "{} <|>"),
+                (["check", "-"], "<"),
+                (["serve", "--disk", disk], f"{TWO}\n"),
+                *((it, "") for it in of_disks),
+                (["--help"], ""),
+            ):
+                ran = self.refuses(*words, given=given, line="write", status=4, stdout=full)
+                self.equals(ran.command, "what is told after it", b"standard output: write: no room left on the device\n", ran.after)
             self.runs("serve", "--disk", disk, given="\n \n", stdout=full)
-        self.serves(disk, "list", ["jobs two:running:0"])
+        ran = run("-c", 'exec "$0" --help >&-', PROGRAM, program="/bin/sh")
+        self.equals(ran.command, "what is told", (b"icserve: write\n", b"standard output: write: is closed\n"), (ran.err, ran.after))
+        self.serves(disk, "list", ["jobs two:done:2"])
 
     def test_write_where_the_reader_of_the_answers_has_gone(self):
         disk = self.disk()

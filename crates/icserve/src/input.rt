@@ -1,6 +1,7 @@
 //! What the words over a text read: standard input, or a file.
 
-use ic_causes::{NotedFile, NotedFiles, NotedInput, Notes, Target, cause_line, shown_path};
+use crate::HostFile;
+use ic_causes::{NotedFiles, NotedInput, Notes, Target, cause_line, shown_path};
 use ic_exits::Failure;
 use ic_streams::StreamFault;
 use std::alloc::{AllocError, Global};
@@ -11,7 +12,7 @@ use std::io::{self, ErrorKind, IsTerminal, Read, Write};
 #[derive(Drop)]
 pub(crate) enum Input<'n, R> {
     Standard(NotedInput<'n, R>),
-    File(NotedFile<'n>),
+    File(HostFile<'n>),
 }
 
 impl<R: Read> Read for Input<'_, R> {
@@ -39,9 +40,10 @@ pub(crate) fn open_file<'n>(
     rt: &HostRuntime,
     path: &str,
     notes: &'n Notes,
-) -> io::Result<NotedFile<'n>> {
+) -> io::Result<HostFile<'n>> {
     let files = NotedFiles {
         rt,
+        alloc: rt.alloc(),
         path,
         target: Target::File,
         notes,
@@ -56,7 +58,7 @@ pub(crate) fn open_text<'n>(
     rt: &HostRuntime,
     path: &str,
     notes: &'n Notes,
-) -> Result<NotedFile<'n>, StreamFault> {
+) -> Result<HostFile<'n>, StreamFault> {
     match open_file(rt, path, notes) {
         Ok(file) => Ok(file),
         Err(error) if error.kind() == ErrorKind::OutOfMemory => Err(StreamFault::Memory),

@@ -1,10 +1,10 @@
 //! The program's word `inspect`: what a disk's file holds, or two files in which a reduction is kept, on standard output.
 
-use crate::kept;
 use crate::others::{is_second, other_at};
 use crate::standing::stand_ins;
+use crate::{HostFile, kept};
 use ic_args::ReportFormat;
-use ic_causes::{NotedFile, NotedFiles, NotedOutput, Notes, Target};
+use ic_causes::{NotedFiles, NotedOutput, Notes, Target};
 use ic_disk::{DiskFault, open_plain};
 use ic_exits::{Failure, Other, second_missing};
 use ic_frames::{HEAD, SECOND_AT};
@@ -118,7 +118,7 @@ pub(crate) fn open_to_read<'a>(
     rt: &HostRuntime,
     path: &str,
     notes: &'a Notes,
-) -> io::Result<NotedFile<'a>> {
+) -> io::Result<HostFile<'a>> {
     open_to_read_as(rt, path, Target::File, notes)
 }
 
@@ -128,10 +128,11 @@ pub(crate) fn open_to_read_as<'a>(
     path: &str,
     target: Target,
     notes: &'a Notes,
-) -> io::Result<NotedFile<'a>> {
+) -> io::Result<HostFile<'a>> {
     let _stand_ins = stand_ins(rt, notes)?;
     let files = NotedFiles {
         rt,
+        alloc: rt.alloc(),
         path,
         target,
         notes,

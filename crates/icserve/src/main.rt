@@ -53,7 +53,10 @@ use std::thread::Threads;
 const ANSWERS: usize = 65_536;
 
 /// A disk in a file, of which each call that fails is noted.
-pub(crate) type NotedDisk<'a> = FileDisk<NotedFile<'a>>;
+pub(crate) type NotedDisk<'a> = FileDisk<HostFile<'a>>;
+
+/// A file of the system, of which each call that fails is noted.
+pub(crate) type HostFile<'a> = NotedFile<'a, HostRuntime>;
 
 fn main(rt: HostRuntime) -> ExitCode {
     let notes = Notes::new();
@@ -167,6 +170,7 @@ pub(crate) fn open_disk_as<'a>(
     let _stand_ins = stand_ins(rt, notes).map_err(|_| Failure::Disk(DiskFault))?;
     let files = NotedFiles {
         rt,
+        alloc: rt.alloc(),
         path,
         target,
         notes,

@@ -53,7 +53,7 @@ pub(crate) fn other_at(rt: &HostRuntime, path: &str) -> Option<Other> {
     let front = front_of(rt, path)?;
     if is_of_reduction(&front) {
         Some(Other::Reduction)
-    } else if !front.is_empty() && front.iter().all(|byte| is_of_texts(*byte)) {
+    } else if is_of_text(&front) {
         Some(Other::Text)
     } else {
         None
@@ -166,7 +166,19 @@ pub(crate) fn other_second(rt: &HostRuntime, path: &str) -> Option<Vec<u8>> {
     Some(line)
 }
 
-/// Whether a byte stands in texts: a blank, or one that is printed.
+/// Whether a file that begins with these bytes is a text: its characters are blanks, or printed. The last of them may be cut.
+fn is_of_text(front: &[u8]) -> bool {
+    !front.is_empty()
+        && front.iter().all(|byte| is_of_texts(*byte))
+        && (0..4).any(|cut| is_utf8(&front[..front.len().saturating_sub(cut)]))
+}
+
+/// Whether bytes are some characters of UTF-8.
+fn is_utf8(bytes: &[u8]) -> bool {
+    !bytes.is_empty() && str::from_utf8(bytes).is_ok()
+}
+
+/// Whether a byte stands in texts: a blank, one that is printed, or one of several of a character.
 fn is_of_texts(byte: u8) -> bool {
     byte == b'\t' || byte == b'\n' || byte == b'\r' || byte >= b' ' && byte != 127
 }
