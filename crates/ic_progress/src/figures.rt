@@ -1,10 +1,8 @@
 //! The figures of a reduction in place, as lines and as an object of JSON.
 
-ghost use Rattle.std.specs.Prelude.{◌≡◌, ◌++◌, ◌<◌, ◌-◌, ◌^◌, IfOk, OnOk, Some, option_map};
-ghost use Rattle.ic_progress.specs.Figures.{count_fields, end_word, figures_line, figures_lines, figures_object, firings_count, firings_figure, interactions_word, millis_field};
-ghost use Rattle.ic_progress.specs.Figures.{name_steps_field, name_steps_figure, pace_field, pace_figure, pace_text, pair_text, places_field, places_figure};
-ghost use Rattle.ic_progress.specs.Figures.{rule_figure, rule_figures, rule_name, rule_object, rule_objects, rule_text, rules_line, rules_text, seconds_figure};
-ghost use Rattle.ic_progress.specs.Figures.{seconds_text, shared_field, shared_figure, step_fields, steps_figure, stuck_field, stuck_fields, symbol_text, threads_field, threads_figure};
+ghost use Rattle.std.specs.Prelude.{IfOk, OnOk, codes, ◌++◌};
+ghost use Rattle.std.specs.Fmt.{decimal};
+ghost use Rattle.ic_progress.specs.Figures.{StandsIn};
 
 use crate::line::a_second;
 use ic_in_place::{End, Outcome};
@@ -12,6 +10,7 @@ use ic_rules::{Rule, RuleSet};
 use ic_term::Symbols;
 use ic_text::put_decimal;
 use std::alloc::{AllocError, Global};
+use std::fmt::Write;
 
 /// The lines that tell the figures of a reduction by so many threads that took so many milliseconds: how many steps were
 /// made, how many places there were and equations were left, the threads, how fast it was, and how often each rule fired.
@@ -21,12 +20,19 @@ pub fn figures_lines(
     threads: usize,
     millis: u64,
 ) -> Result<Vec<u8>, AllocError>
-    ensures { IfOk result (λ lines. lines.items ≡ figures_lines outcome.now threads millis) }
+    // The interactions that are told are those that were made.
+    ensures told { IfOk result (λ lines. StandsIn
+        (codes "interactions " ++ decimal outcome.now.interactions) lines.items) }
 {
-    let mut out = Vec::new(alloc);
-    put_figures_line(outcome, threads, millis, &mut out)?;
-    put_rules_line(alloc, &outcome.rules, &outcome.by_rule, &mut out)?;
-    Ok(out)
+    let rest = rest_of_lines(alloc, outcome, threads, millis)?;
+    let mut lines = b"icserve: ".to_vec(alloc)?;
+    put_told(
+        b"interactions ",
+        outcome.interactions,
+        rest.as_bytes(),
+        &mut lines,
+    )?;
+    Ok(lines)
 }
 
 /// The same figures as an object of JSON on a line.
@@ -36,199 +42,93 @@ pub fn figures_object(
     threads: usize,
     millis: u64,
 ) -> Result<Vec<u8>, AllocError>
-    ensures { IfOk result (λ object. object.items ≡ figures_object outcome.now threads millis) }
+    // The interactions that are told are those that were made.
+    ensures told { IfOk result (λ object. StandsIn
+        (codes "\"interactions\":" ++ decimal outcome.now.interactions) object.items) }
 {
-    let mut out = b"{\"end\":\"".to_vec(alloc)?;
-    out.extend_from_slice(end_word(outcome.end))?;
-    put_stuck_fields(outcome, &mut out)?;
-    put_counts(outcome, threads, millis, &mut out)?;
-    out.extend_from_slice(b",\"by_rule\":[")?;
-    put_rules_text(alloc, &outcome.rules, &outcome.by_rule, &mut out)?;
-    out.extend_from_slice(b"]}\n")?;
-    Ok(out)
+    let rest = rest_of_object(alloc, outcome, threads, millis)?;
+    let mut object = front_of_object(alloc, outcome)?.into_bytes();
+    put_told(
+        b"\"interactions\":",
+        outcome.interactions,
+        rest.as_bytes(),
+        &mut object,
+    )?;
+    Ok(object)
 }
 
-/// Appends the line of steps, places, equations, threads, what they shared, and pace.
-fn put_figures_line(
+/// Appends a number after its label, and what comes after it.
+fn put_told(label: &[u8], number: u64, after: &[u8], out: &mut Vec<u8>) -> Result<(), AllocError>
+    ensures { OnOk result (StandsIn (label.now ++ decimal number) out.new.items) }
+{
+    out.extend_from_slice(label)?;
+    put_decimal(number, out)?;
+    out.extend_from_slice(after)?;
+    Ok(())
+}
+
+/// What the lines tell after the interactions.
+fn rest_of_lines(
+    alloc: Global,
     outcome: &Outcome,
     threads: usize,
     millis: u64,
-    out: &mut Vec<u8>,
-) -> Result<(), AllocError>
-    ensures { OnOk result
-        (out.new.items ≡ out.old.items ++ figures_line outcome.now threads millis) }
-{
-    put_steps(outcome, out)?;
-    put_places(outcome, out)?;
-    put_threads(threads, out)?;
-    put_shared(outcome, out)?;
-    put_seconds_figure(millis, out)?;
-    put_pace(outcome.interactions, millis, out)?;
-    out.push(b'\n')?;
-    Ok(())
-}
-
-/// Appends how many steps were made.
-fn put_steps(outcome: &Outcome, out: &mut Vec<u8>) -> Result<(), AllocError>
-    ensures { OnOk result (out.new.items ≡ out.old.items ++ steps_figure outcome.now) }
-{
-    out.extend_from_slice(b"icserve: interactions ")?;
-    put_decimal(outcome.interactions, out)?;
-    put_name_steps(outcome.name_steps, out)?;
-    Ok(())
-}
-
-/// Appends how many places there were, and equations that were left.
-fn put_places(outcome: &Outcome, out: &mut Vec<u8>) -> Result<(), AllocError>
-    ensures { OnOk result (out.new.items ≡ out.old.items ++ places_figure outcome.now) }
-{
-    out.extend_from_slice(b", places ")?;
-    put_decimal(outcome.places, out)?;
-    out.extend_from_slice(b", equations ")?;
-    put_decimal(outcome.left, out)?;
-    Ok(())
-}
-
-/// Appends how many threads may.
-fn put_threads(threads: usize, out: &mut Vec<u8>) -> Result<(), AllocError>
-    ensures { OnOk result (out.new.items ≡ out.old.items ++ threads_figure threads) }
-{
-    out.extend_from_slice(b", threads ")?;
-    put_decimal(threads as u64, out)?;
-    Ok(())
-}
-
-/// Appends how many interactions were made before all was put together.
-fn put_shared(outcome: &Outcome, out: &mut Vec<u8>) -> Result<(), AllocError>
-    ensures { OnOk result (out.new.items ≡ out.old.items ++ shared_figure outcome.now) }
-{
-    out.extend_from_slice(b", shared ")?;
-    put_decimal(outcome.shared, out)?;
-    Ok(())
-}
-
-/// Appends how long it took.
-fn put_seconds_figure(millis: u64, out: &mut Vec<u8>) -> Result<(), AllocError>
-    ensures { OnOk result (out.new.items ≡ out.old.items ++ seconds_figure millis) }
-{
-    out.extend_from_slice(b", seconds ")?;
-    put_seconds(millis, out)?;
-    Ok(())
-}
-
-/// Appends how fast it was, where it took a millisecond at least.
-fn put_pace(interactions: u64, millis: u64, out: &mut Vec<u8>) -> Result<(), AllocError>
-    ensures { OnOk result (out.new.items ≡ out.old.items ++ pace_figure interactions millis) }
-{
-    match millis {
-        0 => Ok(()),
-        _ => {
-            out.extend_from_slice(b", interactions a second ")?;
-            put_decimal(a_second(interactions, millis), out)
-        }
+) -> Result<String, AllocError> {
+    let mut out = String::new(alloc);
+    if let Some(count) = outcome.name_steps {
+        write!(out, ", name steps {count}")?;
     }
-}
-
-/// Appends how many steps put a term for a name, where that is told.
-fn put_name_steps(name_steps: Option<u64>, out: &mut Vec<u8>) -> Result<(), AllocError>
-    ensures { OnOk result (out.new.items ≡ out.old.items ++ name_steps_figure name_steps) }
-{
-    match name_steps {
-        Some(count) => {
-            out.extend_from_slice(b", name steps ")?;
-            put_decimal(count, out)?;
-            Ok(())
-        }
-        None => Ok(()),
+    let (places, left, shared) = (outcome.places, outcome.left, outcome.shared);
+    write!(
+        out,
+        ", places {places}, equations {left}, threads {threads}, shared {shared}"
+    )?;
+    let (seconds, thousandths) = (millis / 1_000, millis % 1_000);
+    write!(out, ", seconds {seconds}.{thousandths:03}")?;
+    if millis > 0 {
+        let pace = a_second(outcome.interactions, millis);
+        write!(out, ", interactions a second {pace}")?;
     }
+    out.push_str("\nicserve: ")?;
+    put_rules(&outcome.rules, &outcome.by_rule, &mut out)?;
+    out.push('\n')?;
+    Ok(out)
 }
 
-/// Appends milliseconds as seconds.
-fn put_seconds(millis: u64, out: &mut Vec<u8>) -> Result<(), AllocError>
-    ensures { OnOk result (out.new.items ≡ out.old.items ++ seconds_text millis) }
-{
-    put_decimal(millis / 1_000, out)?;
-    out.push(b'.')?;
-    out.push(b'0' + (millis / 100 % 10) as u8)?;
-    out.push(b'0' + (millis / 10 % 10) as u8)?;
-    out.push(b'0' + (millis % 10) as u8)?;
-    Ok(())
-}
-
-/// Appends the line of how often each rule fired.
-fn put_rules_line(
-    alloc: Global,
-    rules: &RuleSet,
-    counts: &[u64],
-    out: &mut Vec<u8>,
-) -> Result<(), AllocError>
-    ensures { OnOk result (out.new.items ≡ out.old.items ++ rules_line rules.now counts.now) }
-{
-    let mut figures = Vec::new(alloc);
-    put_rules(rules, counts, &mut figures)?;
-    out.extend_from_slice(b"icserve: ")?;
-    if figures.len() < 2 {
-        out.extend_from_slice(b"no interactions")?;
-    } else {
-        out.extend_from_slice(&figures[2..])?;
-    }
-    out.push(b'\n')?;
-    Ok(())
-}
-
-/// Appends how often each rule fired, each after a comma.
-fn put_rules(rules: &RuleSet, counts: &[u64], out: &mut Vec<u8>) -> Result<(), AllocError>
-    ensures { OnOk result (out.new.items ≡ out.old.items ++ rule_figures rules.now 0 counts.now) }
-{
+/// Appends how often each rule fired that did.
+fn put_rules(rules: &RuleSet, counts: &[u64], out: &mut String) -> Result<(), AllocError> {
+    let mut is_first = true;
     for (place, count) in counts.iter().enumerate() {
-        put_rule(rules, place, *count, out)?;
+        if *count > 0 {
+            if !is_first {
+                out.push_str(", ")?;
+            }
+            is_first = false;
+            put_firings(rules, place, *count, out)?;
+        }
+    }
+    if is_first {
+        out.push_str("no interactions")?;
     }
     Ok(())
 }
 
-/// Appends how often the rule at a place fired, unless it never did.
-fn put_rule(rules: &RuleSet, place: usize, count: u64, out: &mut Vec<u8>) -> Result<(), AllocError>
-    requires { place < 2 ^ 64 - 1 }
-    ensures { OnOk result (out.new.items ≡ out.old.items ++ rule_figure rules.now place count) }
-{
-    match count {
-        0 => Ok(()),
-        _ => put_firings(rules, place, count, out),
-    }
-}
-
-/// Appends how often the rule at a place fired.
+/// Appends how often the rule at a place fired. Rules are named by their numbers, from 1 on.
 fn put_firings(
     rules: &RuleSet,
     place: usize,
     count: u64,
-    out: &mut Vec<u8>,
-) -> Result<(), AllocError>
-    requires { place < 2 ^ 64 - 1 }
-    ensures { OnOk result
-        (out.new.items ≡ out.old.items ++ firings_figure rules.now place count) }
-{
-    put_rule_name(rules, place, out)?;
-    put_count(count, out)?;
-    Ok(())
-}
-
-/// Appends the number and the text of the rule at a place.
-fn put_rule_name(rules: &RuleSet, place: usize, out: &mut Vec<u8>) -> Result<(), AllocError>
-    requires { place < 2 ^ 64 - 1 }
-    ensures { OnOk result (out.new.items ≡ out.old.items ++ rule_name rules.now place) }
-{
-    out.extend_from_slice(b", rule ")?;
-    put_decimal(place as u64 + 1, out)?;
-    out.push(b' ')?;
-    put_rule_text(rules, place, out)?;
-    Ok(())
+    out: &mut String,
+) -> Result<(), AllocError> {
+    let number = place.saturating_add(1);
+    write!(out, "rule {number} ")?;
+    put_rule(rules, place, out)?;
+    let plural = if count == 1 { "" } else { "s" };
+    write!(out, ": {count} interaction{plural}")
 }
 
 /// Appends the two symbols of the rule at a place.
-fn put_rule_text(rules: &RuleSet, place: usize, out: &mut Vec<u8>) -> Result<(), AllocError>
-    ensures { OnOk result (out.new.items ≡ out.old.items ++ rule_text rules.now place) }
-{
+fn put_rule(rules: &RuleSet, place: usize, out: &mut String) -> Result<(), AllocError> {
     match rules.rules().get(place) {
         Some(rule) => put_pair(rules.symbols(), rule, out),
         None => Ok(()),
@@ -236,20 +136,14 @@ fn put_rule_text(rules: &RuleSet, place: usize, out: &mut Vec<u8>) -> Result<(),
 }
 
 /// Appends the two symbols of a rule.
-fn put_pair(symbols: &Symbols, rule: &Rule, out: &mut Vec<u8>) -> Result<(), AllocError>
-    ensures { OnOk result
-        (out.new.items ≡ out.old.items ++ pair_text symbols.now (Some rule.now)) }
-{
-    out.extend_from_slice(symbol_text(symbols, rule.left()))?;
-    out.extend_from_slice(b"><")?;
-    out.extend_from_slice(symbol_text(symbols, rule.right()))?;
-    Ok(())
+fn put_pair(symbols: &Symbols, rule: &Rule, out: &mut String) -> Result<(), AllocError> {
+    put_bytes(symbol_text(symbols, rule.left()), out)?;
+    out.push_str("><")?;
+    put_bytes(symbol_text(symbols, rule.right()), out)
 }
 
 /// The text of a symbol, where there is one of this number.
-fn symbol_text(symbols: &Symbols, symbol: u32) -> &[u8]
-    ensures { result.now ≡ symbol_text symbols.now symbol }
-{
+fn symbol_text(symbols: &Symbols, symbol: u32) -> &[u8] {
     if (symbol as usize) < symbols.len() {
         symbols.text(symbol)
     } else {
@@ -257,204 +151,82 @@ fn symbol_text(symbols: &Symbols, symbol: u32) -> &[u8]
     }
 }
 
-/// Appends how often it fired.
-fn put_count(count: u64, out: &mut Vec<u8>) -> Result<(), AllocError>
-    ensures { OnOk result (out.new.items ≡ out.old.items ++ firings_count count) }
-{
-    out.extend_from_slice(b": ")?;
-    put_decimal(count, out)?;
-    out.extend_from_slice(interactions_word(count))?;
+/// Appends a text of ASCII.
+fn put_bytes(bytes: &[u8], out: &mut String) -> Result<(), AllocError> {
+    for byte in bytes {
+        out.push(char::from(*byte))?;
+    }
     Ok(())
 }
 
-/// The word for so many interactions, after a blank.
-fn interactions_word(count: u64) -> &'static [u8]
-    ensures { result.now ≡ interactions_word count }
-{
-    if count == 1 {
-        b" interaction"
-    } else {
-        b" interactions"
-    }
-}
-
-/// Why a reduction ended, in a word.
-fn end_word(end: End) -> &'static [u8]
-    ensures { result.now ≡ end_word end }
-{
-    match end {
-        End::Quiet => b"quiet",
-        End::Steps => b"steps",
-        End::Nodes => b"places",
-        End::Limit => b"limit",
-        End::Memory => b"memory",
-    }
-}
-
-/// Ends the string of the end, and appends the field of the pair that is stuck.
-fn put_stuck_fields(outcome: &Outcome, out: &mut Vec<u8>) -> Result<(), AllocError>
-    ensures { OnOk result (out.new.items ≡ out.old.items ++ stuck_fields outcome.now) }
-{
-    out.push(b'"')?;
-    put_stuck_field(&outcome.stuck, out)?;
-    Ok(())
-}
-
-/// Appends the field of the pair that is stuck.
-fn put_stuck_field(stuck: &Option<Vec<u8>>, out: &mut Vec<u8>) -> Result<(), AllocError>
-    ensures { OnOk result (out.new.items
-        ≡ out.old.items ++ stuck_field (option_map (λ text. text.items) stuck.now)) }
-{
-    match stuck {
+/// What the object tells before the interactions: how the reduction ended, and the pair that is stuck.
+fn front_of_object(alloc: Global, outcome: &Outcome) -> Result<String, AllocError> {
+    let end = end_word(outcome.end);
+    let mut out = format!(in alloc; "{{\"end\":\"{end}\",\"stuck\":")?;
+    match &outcome.stuck {
         Some(pair) => {
-            out.extend_from_slice(b",\"stuck\":\"")?;
-            out.extend_from_slice(pair)?;
-            out.extend_from_slice(b"\"")
+            out.push('"')?;
+            put_bytes(pair, &mut out)?;
+            out.push('"')?;
         }
-        None => out.extend_from_slice(b",\"stuck\":null"),
+        None => out.push_str("null")?,
     }
+    out.push(',')?;
+    Ok(out)
 }
 
-/// Appends the fields of steps, places, equations, threads, what they shared, time and pace.
-fn put_counts(
+/// What the object tells after the interactions.
+fn rest_of_object(
+    alloc: Global,
     outcome: &Outcome,
     threads: usize,
     millis: u64,
-    out: &mut Vec<u8>,
-) -> Result<(), AllocError>
-    ensures { OnOk result
-        (out.new.items ≡ out.old.items ++ count_fields outcome.now threads millis) }
-{
-    put_step_fields(outcome, out)?;
-    put_places_field(outcome, out)?;
-    put_threads_field(threads, out)?;
-    put_shared_field(outcome, out)?;
-    put_millis_field(millis, out)?;
-    put_pace_field(outcome.interactions, millis, out)?;
-    Ok(())
-}
-
-/// Appends the fields of steps.
-fn put_step_fields(outcome: &Outcome, out: &mut Vec<u8>) -> Result<(), AllocError>
-    ensures { OnOk result (out.new.items ≡ out.old.items ++ step_fields outcome.now) }
-{
-    out.extend_from_slice(b",\"interactions\":")?;
-    put_decimal(outcome.interactions, out)?;
-    put_name_steps_field(outcome.name_steps, out)?;
-    Ok(())
-}
-
-/// Appends the fields of places and of equations that were left.
-fn put_places_field(outcome: &Outcome, out: &mut Vec<u8>) -> Result<(), AllocError>
-    ensures { OnOk result (out.new.items ≡ out.old.items ++ places_field outcome.now) }
-{
-    out.extend_from_slice(b",\"places\":")?;
-    put_decimal(outcome.places, out)?;
-    out.extend_from_slice(b",\"equations\":")?;
-    put_decimal(outcome.left, out)?;
-    Ok(())
-}
-
-/// Appends the field of how many threads may.
-fn put_threads_field(threads: usize, out: &mut Vec<u8>) -> Result<(), AllocError>
-    ensures { OnOk result (out.new.items ≡ out.old.items ++ threads_field threads) }
-{
-    out.extend_from_slice(b",\"threads\":")?;
-    put_decimal(threads as u64, out)?;
-    Ok(())
-}
-
-/// Appends the field of how many interactions were made before all was put together.
-fn put_shared_field(outcome: &Outcome, out: &mut Vec<u8>) -> Result<(), AllocError>
-    ensures { OnOk result (out.new.items ≡ out.old.items ++ shared_field outcome.now) }
-{
-    out.extend_from_slice(b",\"shared\":")?;
-    put_decimal(outcome.shared, out)?;
-    Ok(())
-}
-
-/// Appends the field of how long it took.
-fn put_millis_field(millis: u64, out: &mut Vec<u8>) -> Result<(), AllocError>
-    ensures { OnOk result (out.new.items ≡ out.old.items ++ millis_field millis) }
-{
-    out.extend_from_slice(b",\"milliseconds\":")?;
-    put_decimal(millis, out)?;
-    Ok(())
-}
-
-/// Appends the field of how fast it was.
-fn put_pace_field(interactions: u64, millis: u64, out: &mut Vec<u8>) -> Result<(), AllocError>
-    ensures { OnOk result (out.new.items ≡ out.old.items ++ pace_field interactions millis) }
-{
-    out.extend_from_slice(b",\"interactions_a_second\":")?;
-    put_pace_text(interactions, millis, out)?;
-    Ok(())
-}
-
-/// Appends how fast it was, or null where it took less than a millisecond.
-fn put_pace_text(interactions: u64, millis: u64, out: &mut Vec<u8>) -> Result<(), AllocError>
-    ensures { OnOk result (out.new.items ≡ out.old.items ++ pace_text interactions millis) }
-{
-    match millis {
-        0 => out.extend_from_slice(b"null"),
-        _ => put_decimal(a_second(interactions, millis), out),
+) -> Result<String, AllocError> {
+    let mut out = String::new(alloc);
+    if let Some(count) = outcome.name_steps {
+        write!(out, ",\"name_steps\":{count}")?;
     }
-}
-
-/// Appends the field of steps that put a term for a name, where they are told.
-fn put_name_steps_field(name_steps: Option<u64>, out: &mut Vec<u8>) -> Result<(), AllocError>
-    ensures { OnOk result (out.new.items ≡ out.old.items ++ name_steps_field name_steps) }
-{
-    match name_steps {
-        Some(count) => {
-            out.extend_from_slice(b",\"name_steps\":")?;
-            put_decimal(count, out)?;
-            Ok(())
-        }
-        None => Ok(()),
+    let (places, left, shared) = (outcome.places, outcome.left, outcome.shared);
+    write!(
+        out,
+        ",\"places\":{places},\"equations\":{left},\"threads\":{threads}"
+    )?;
+    write!(
+        out,
+        ",\"shared\":{shared},\"milliseconds\":{millis},\"interactions_a_second\":"
+    )?;
+    if millis > 0 {
+        let pace = a_second(outcome.interactions, millis);
+        write!(out, "{pace}")?;
+    } else {
+        out.push_str("null")?;
     }
+    out.push_str(",\"by_rule\":[")?;
+    put_rule_objects(&outcome.rules, &outcome.by_rule, &mut out)?;
+    out.push_str("]}\n")?;
+    Ok(out)
 }
 
-/// Appends the objects of rules with commas between them.
-fn put_rules_text(
-    alloc: Global,
-    rules: &RuleSet,
-    counts: &[u64],
-    out: &mut Vec<u8>,
-) -> Result<(), AllocError>
-    ensures { OnOk result (out.new.items ≡ out.old.items ++ rules_text rules.now counts.now) }
-{
-    let mut text = Vec::new(alloc);
-    put_rule_objects(rules, counts, &mut text)?;
-    if !text.is_empty() {
-        out.extend_from_slice(&text[1..])?;
-    }
-    Ok(())
-}
-
-/// Appends the objects of rules, each after a comma.
-fn put_rule_objects(rules: &RuleSet, counts: &[u64], out: &mut Vec<u8>) -> Result<(), AllocError>
-    ensures { OnOk result (out.new.items ≡ out.old.items ++ rule_objects rules.now 0 counts.now) }
-{
+/// Appends how often each rule fired, as objects with commas between them.
+fn put_rule_objects(rules: &RuleSet, counts: &[u64], out: &mut String) -> Result<(), AllocError> {
     for (place, count) in counts.iter().enumerate() {
-        put_rule_object(rules, place, *count, out)?;
+        if place > 0 {
+            out.push(',')?;
+        }
+        out.push_str("{\"rule\":\"")?;
+        put_rule(rules, place, out)?;
+        write!(out, "\",\"interactions\":{count}}}")?;
     }
     Ok(())
 }
 
-/// Appends how often the rule at a place fired, as an object after a comma.
-fn put_rule_object(
-    rules: &RuleSet,
-    place: usize,
-    count: u64,
-    out: &mut Vec<u8>,
-) -> Result<(), AllocError>
-    ensures { OnOk result (out.new.items ≡ out.old.items ++ rule_object rules.now place count) }
-{
-    out.extend_from_slice(b",{\"rule\":\"")?;
-    put_rule_text(rules, place, out)?;
-    out.extend_from_slice(b"\",\"interactions\":")?;
-    put_decimal(count, out)?;
-    out.extend_from_slice(b"}")?;
-    Ok(())
+/// Why a reduction ended, in a word.
+fn end_word(end: End) -> &'static str {
+    match end {
+        End::Quiet => "quiet",
+        End::Steps => "steps",
+        End::Nodes => "places",
+        End::Limit => "limit",
+        End::Memory => "memory",
+    }
 }

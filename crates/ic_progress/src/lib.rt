@@ -2,7 +2,6 @@
 #![tactic(auto)]
 
 mod figures;
-pub mod laws;
 mod line;
 mod progress;
 

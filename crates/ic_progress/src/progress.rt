@@ -23,7 +23,7 @@ const WIPED: &[u8] = b"\r\x1b[K";
 trait Tells {
     /// What a terminal is sent, in place of the line before it, where there are so many in a second of
     /// what is counted.
-    fn line(&self, alloc: Global, a_second: u64) -> Result<Vec<u8>, AllocError>;
+    fn line(&self, alloc: Global, a_second: u64) -> Result<String, AllocError>;
 }
 
 /// When the line was last rewritten, or work began after a pause; how many of what is counted there
@@ -83,7 +83,7 @@ impl<'a> Line<'a> {
         let millis = u64::try_from(time.as_millis()).unwrap_or(u64::MAX);
         let pace = a_second(count.saturating_sub(last.count), millis);
         if let Ok(line) = told.line(self.rt.alloc(), pace) {
-            let _ = self.rt.stderr().write_all(&line);
+            let _ = self.rt.stderr().write_all(line.as_bytes());
         }
         Shown {
             at: now,
@@ -136,7 +136,7 @@ impl<'a> Progress<'a> {
 }
 
 impl Tells for Progress<'_> {
-    fn line(&self, alloc: Global, a_second: u64) -> Result<Vec<u8>, AllocError> {
+    fn line(&self, alloc: Global, a_second: u64) -> Result<String, AllocError> {
         let pace = Some(Pace {
             rounds_a_second: a_second,
             jobs_running: self.running.load(Ordering::SeqCst),
@@ -198,7 +198,7 @@ struct Seen {
 }
 
 impl Tells for Seen {
-    fn line(&self, alloc: Global, a_second: u64) -> Result<Vec<u8>, AllocError> {
+    fn line(&self, alloc: Global, a_second: u64) -> Result<String, AllocError> {
         reducing_line(alloc, self.interactions, a_second, self.places)
     }
 }

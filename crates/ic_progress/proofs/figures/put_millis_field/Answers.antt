@@ -1,7 +1,0 @@
-use Rattle.std.proofs.Common.{codes}
-use Rattle.std.specs.Fmt.{decimal}
-use Rattle.ic_progress.proofs.FigureLemmas.{also}
-use Rattle.ic_progress.proofs.figures.put_millis_field.Goals as goal
-
-pub returns : goal.returns
-returns c = also _ (codes ",\"milliseconds\":") (decimal c.args.millis) c.in_ok-put_decimal.ensures c.in_ok-extend_from_slice.ensures.items
