@@ -1,9 +1,10 @@
 //! What `inspect` tells of two files in which a reduction is kept.
 
+use crate::HostFile;
 use crate::inspecting::open_to_read_as;
 use crate::others::{Another, another_of, holds_table, is_of_reduction};
 use ic_args::ReportFormat;
-use ic_causes::{Cause, NotedFile, NotedOutput, Notes, Reason, Target};
+use ic_causes::{Cause, NotedOutput, Notes, Reason, Target};
 use ic_disk::DiskFault;
 use ic_exits::Failure;
 use ic_inspect::InspectFault;
@@ -122,7 +123,7 @@ fn read_front(
 }
 
 /// How a file begins, and then its length.
-fn opening_of(rt: &HostRuntime, file: &NotedFile<'_>) -> io::Result<Opening> {
+fn opening_of(rt: &HostRuntime, file: &HostFile<'_>) -> io::Result<Opening> {
     let mut bytes = Vec::new(rt.alloc());
     file.at(0).take(FRONT).read_to_end(&mut bytes)?;
     let len = file.metadata()?.len();
