@@ -16,29 +16,28 @@ use std::rt::Files;
 #[derive(Drop)]
 pub struct NotedFiles<'a, 'n, R> {
     pub rt: &'a R,
-    pub alloc: Global,
+    /// With what the path is kept, where a sync of the file is to fail once it is gone.
+    pub alloc: Option<Global>,
     pub path: &'a str,
     pub target: Target,
     pub notes: &'n Notes,
 }
 
-/// A file whose calls answer as the file's do, and are noted where they fail. A sync of its bytes also fails where the file is
-/// gone: nobody could open what was written.
+/// A file whose calls answer as the file's do, and are noted where they fail. Where its place is known, a sync of its bytes also
+/// fails if the file is gone: nobody could open what was written.
 #[derive(Drop)]
 pub struct NotedFile<'n, R> {
     file: File,
-    place: Place<R>,
+    place: Option<Place<R>>,
     target: Target,
     notes: &'n Notes,
 }
 
-/// Where a file was opened.
+/// A path that led to a file once it was open. Some file systems don't tell that, and then it isn't asked again.
 #[derive(Drop)]
 struct Place<R> {
     rt: R,
     path: String,
-    // Whether the path led to the file once it was open. Some file systems don't tell that, and then it isn't asked again.
-    is_told: bool,
 }
 
 /// Whether this path leads to the file that this is told of, as far as the system tells.
@@ -126,12 +125,15 @@ impl<R> Seek for NotedFile<'_, R> {
 impl<R: Files + Copy> NotedFile<'_, R> {
     /// Refuses a file that is gone: no name leads to it any more, or its path leads to no file or to another one.
     fn refuse_gone(&self) -> io::Result<()> {
+        let Some(place) = &self.place else {
+            return Ok(());
+        };
         let about = self.noted(FileCall::Length, self.file.metadata())?;
-        if self.place.is_told && !leads_to(&self.place.rt, self.place.path.as_str(), &about) {
-            let gone = Err(ErrorKind::StaleNetworkFileHandle.into());
-            return self.noted(FileCall::Sync, gone);
+        if leads_to(&place.rt, place.path.as_str(), &about) {
+            return Ok(());
         }
-        Ok(())
+        let gone = Err(ErrorKind::StaleNetworkFileHandle.into());
+        self.noted(FileCall::Sync, gone)
     }
 }
 
@@ -165,19 +167,29 @@ impl<R: Files + Copy> DiskFile for NotedFile<'_, R> {
 impl<'n, R: Files<File = File> + Copy> NotedFiles<'_, 'n, R> {
     /// Opens a file, and looks where it stands.
     fn open(&self, how: &OpenOptions, path: &str, target: Target) -> io::Result<NotedFile<'n, R>> {
-        let kept = format!(in self.alloc; "{path}")?;
+        let kept = match self.alloc {
+            Some(alloc) if path == self.path => Some(format!(in alloc; "{path}")?),
+            _ => None,
+        };
         let file = self.rt.open_file(how, path)?;
-        let is_told = leads_to(self.rt, path, &file.metadata()?);
+        let place = self.place_of(kept, &file)?;
         Ok(NotedFile {
             file,
-            place: Place {
-                rt: *self.rt,
-                path: kept,
-                is_told,
-            },
+            place,
             target,
             notes: self.notes,
         })
+    }
+
+    /// This path, if it leads to the file that was opened.
+    fn place_of(&self, path: Option<String>, file: &File) -> io::Result<Option<Place<R>>> {
+        let Some(path) = path else {
+            return Ok(None);
+        };
+        if leads_to(self.rt, path.as_str(), &file.metadata()?) {
+            return Ok(Some(Place { rt: *self.rt, path }));
+        }
+        Ok(None)
     }
 }
 

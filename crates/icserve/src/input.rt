@@ -43,7 +43,7 @@ pub(crate) fn open_file<'n>(
 ) -> io::Result<HostFile<'n>> {
     let files = NotedFiles {
         rt,
-        alloc: rt.alloc(),
+        alloc: None,
         path,
         target: Target::File,
         notes,
