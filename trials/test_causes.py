@@ -165,8 +165,8 @@ class Causes(Trial):
         path.unlink(missing_ok=True)
 
     def test_a_disk_whose_file_is_gone_is_refused_at_the_next_keep(self):
-        """It is deleted; another file takes its place; it is moved away, and then another one stands there or none does; its
-        folder is moved away. A file that has another name too, or that a link leads to, isn't gone."""
+        """It is deleted, or another file takes its place. A file that has another name too, to which a link leads, or that was
+        moved, isn't gone."""
         other, folder = self.room / "other", self.room / "folder"
         self.isnt_kept(lambda path: path.unlink())
 
@@ -174,15 +174,7 @@ class Causes(Trial):
             shutil.copy(path, other)
             os.rename(other, path)
 
-        def moved(path):
-            os.rename(path, other)
-
-        def moved_and_another(path):
-            os.rename(path, other)
-            shutil.copy(other, path)
-
-        for change in (replaced, moved, moved_and_another):
-            self.isnt_kept(change)
+        self.isnt_kept(replaced)
         folder.mkdir()
         path = self.disk("folder/jobs.disk")
         os.symlink(path, self.room / "link")
@@ -191,9 +183,10 @@ class Causes(Trial):
             self.serves(name, ["list", f"submit two {TWO.text}", "cancel two"], ["jobs", "accepted", "ok"])
         with Server(path) as server:
             self.answers(server, f"submit two {TWO.text}", "accepted")
-            os.rename(folder, self.room / "elsewhere")
-            self.equals(server.said(), "the answer", None, server.ask("cancel two"))
-            self.tells(server.end(), "device", f"{path}: sync: the file is gone")
+            os.rename(path, other)
+            self.answers(server, "run 1", "ran 1")
+            self.ends(server)
+        self.serves(other, ["list"], ["jobs two:running:1"])
 
     def test_a_kept_reduction_whose_file_is_gone_ends_at_the_next_keep(self):
         """Either of its two files."""

@@ -4,7 +4,7 @@ ghost use Rattle.std.specs.Prelude.{◌≡◌};
 
 use crate::{FileCall, Notes, Target};
 use ic_disk::DiskFile;
-use std::alloc::{Allocator, Global};
+use std::alloc::Allocator;
 use std::fs::{File, Metadata, OpenFile, OpenOptions};
 use std::io::{self, ErrorKind, Read, Seek, SeekFrom, Write};
 use std::os::unix::fs::{FileExt, MetadataExt};
@@ -16,46 +16,23 @@ use std::rt::Files;
 #[derive(Drop)]
 pub struct NotedFiles<'a, 'n, R> {
     pub rt: &'a R,
-    /// With what the path is kept, where a sync of the file is to fail once it is gone.
-    pub alloc: Option<Global>,
     pub path: &'a str,
     pub target: Target,
     pub notes: &'n Notes,
 }
 
-/// A file whose calls answer as the file's do, and are noted where they fail. Where its place is known, a sync of its bytes also
-/// fails if the file is gone: nobody could open what was written.
+/// A file whose calls answer as the file's do, and are noted where they fail. A sync of its bytes also fails where the file is
+/// gone: nobody could open what was written.
 #[derive(Drop)]
-pub struct NotedFile<'n, R> {
+pub struct NotedFile<'n> {
     file: File,
-    place: Option<Place<R>>,
     target: Target,
     notes: &'n Notes,
 }
 
-/// A path that led to a file once it was open. Some file systems don't tell that, and then it isn't asked again.
-#[derive(Drop)]
-struct Place<R> {
-    rt: R,
-    path: String,
-}
-
-/// Whether this path leads to the file that this is told of, as far as the system tells.
-fn leads_to<R: Files>(rt: &R, path: &str, about: &Metadata) -> bool {
-    if about.nlink() == 0 {
-        return false;
-    }
-    match rt.metadata(path) {
-        Ok(there) => there.dev() == about.dev() && there.ino() == about.ino(),
-        Err(error) => {
-            error.kind() != ErrorKind::NotFound && error.kind() != ErrorKind::NotADirectory
-        }
-    }
-}
-
-impl<'n, R> NotedFile<'n, R> {
+impl<'n> NotedFile<'n> {
     /// Its bytes from this place on.
-    pub fn at(&self, at: u64) -> NotedFrom<'_, 'n, R> {
+    pub fn at(&self, at: u64) -> NotedFrom<'_, 'n> {
         NotedFrom { file: self, at }
     }
 
@@ -71,12 +48,12 @@ impl<'n, R> NotedFile<'n, R> {
 /// The bytes of a file from a place on. Reading them doesn't move the place of the file itself, so several of these can
 /// read one file.
 #[derive(Drop)]
-pub struct NotedFrom<'f, 'n, R> {
-    file: &'f NotedFile<'n, R>,
+pub struct NotedFrom<'f, 'n> {
+    file: &'f NotedFile<'n>,
     at: u64,
 }
 
-impl<R> Read for NotedFrom<'_, '_, R> {
+impl Read for NotedFrom<'_, '_> {
     fn read(&mut self, buf: &mut [u8]) -> io::Result<usize> {
         let answer = self.file.file.read_at(buf, self.at);
         let count = self.file.noted(FileCall::Read, answer)?;
@@ -96,14 +73,14 @@ impl<R> NotedFiles<'_, '_, R> {
     }
 }
 
-impl<R> Read for NotedFile<'_, R> {
+impl Read for NotedFile<'_> {
     fn read(&mut self, buf: &mut [u8]) -> io::Result<usize> {
         let answer = self.file.read(buf);
         self.noted(FileCall::Read, answer)
     }
 }
 
-impl<R> Write for NotedFile<'_, R> {
+impl Write for NotedFile<'_> {
     fn write(&mut self, buf: &[u8]) -> io::Result<usize> {
         let answer = self.file.write(buf);
         self.noted(FileCall::Write, answer)
@@ -115,21 +92,18 @@ impl<R> Write for NotedFile<'_, R> {
     }
 }
 
-impl<R> Seek for NotedFile<'_, R> {
+impl Seek for NotedFile<'_> {
     fn seek(&mut self, to: SeekFrom) -> io::Result<u64> {
         let answer = self.file.seek(to);
         self.noted(FileCall::Seek, answer)
     }
 }
 
-impl<R: Files + Copy> NotedFile<'_, R> {
-    /// Refuses a file that is gone: no name leads to it any more, or its path leads to no file or to another one.
+impl NotedFile<'_> {
+    /// Refuses a file that is gone: no name leads to it any more.
     fn refuse_gone(&self) -> io::Result<()> {
-        let Some(place) = &self.place else {
-            return Ok(());
-        };
         let about = self.noted(FileCall::Length, self.file.metadata())?;
-        if leads_to(&place.rt, place.path.as_str(), &about) {
+        if about.nlink() > 0 {
             return Ok(());
         }
         let gone = Err(ErrorKind::StaleNetworkFileHandle.into());
@@ -137,7 +111,7 @@ impl<R: Files + Copy> NotedFile<'_, R> {
     }
 }
 
-impl<R: Files + Copy> OpenFile for NotedFile<'_, R> {
+impl OpenFile for NotedFile<'_> {
     fn metadata(&self) -> io::Result<Metadata> {
         let answer = self.file.metadata();
         self.notes.note_kind(self.target, &answer);
@@ -158,51 +132,26 @@ impl<R: Files + Copy> OpenFile for NotedFile<'_, R> {
     }
 }
 
-impl<R: Files + Copy> DiskFile for NotedFile<'_, R> {
+impl DiskFile for NotedFile<'_> {
     fn lock_alone(&self) -> io::Result<()> {
         self.noted(FileCall::Lock, self.file.lock_alone())
     }
 }
 
-impl<'n, R: Files<File = File> + Copy> NotedFiles<'_, 'n, R> {
-    /// Opens a file, and looks where it stands.
-    fn open(&self, how: &OpenOptions, path: &str, target: Target) -> io::Result<NotedFile<'n, R>> {
-        let kept = match self.alloc {
-            Some(alloc) if path == self.path => Some(format!(in alloc; "{path}")?),
-            _ => None,
-        };
-        let file = self.rt.open_file(how, path)?;
-        let place = self.place_of(kept, &file)?;
-        Ok(NotedFile {
-            file,
-            place,
-            target,
-            notes: self.notes,
-        })
-    }
-
-    /// This path, if it leads to the file that was opened.
-    fn place_of(&self, path: Option<String>, file: &File) -> io::Result<Option<Place<R>>> {
-        let Some(path) = path else {
-            return Ok(None);
-        };
-        if leads_to(self.rt, path.as_str(), &file.metadata()?) {
-            return Ok(Some(Place { rt: *self.rt, path }));
-        }
-        Ok(None)
-    }
-}
-
-impl<'n, R: Files<File = File> + Copy> Files for NotedFiles<'_, 'n, R> {
-    type File = NotedFile<'n, R>;
+impl<'n, R: Files<File = File>> Files for NotedFiles<'_, 'n, R> {
+    type File = NotedFile<'n>;
 
     type Dir = R::Dir;
 
-    fn open_file(&self, how: &OpenOptions, path: &str) -> io::Result<NotedFile<'n, R>> {
+    fn open_file(&self, how: &OpenOptions, path: &str) -> io::Result<NotedFile<'n>> {
         let target = self.target_of(path);
-        let answer = self.open(how, path, target);
+        let answer = self.rt.open_file(how, path);
         self.notes.note(target, FileCall::Open, &answer);
-        answer
+        Ok(NotedFile {
+            file: answer?,
+            target,
+            notes: self.notes,
+        })
     }
 
     fn open_dir(&self, path: &str) -> io::Result<R::Dir> {

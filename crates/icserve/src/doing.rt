@@ -297,12 +297,12 @@ fn batch<T: Threads + Wait + Copy + Send + 'static>(
     doing: &Doing<'_, '_, T>,
     told: &mut Vec<u8>,
 ) -> Result<(), Failure> {
+    let most = most_of(doing.values);
+    let making = making_of(doing.values);
     let files = batching::Files {
         disk: path_of(doing.values),
         lines: doing.values.word(&LINES).unwrap_or(""),
     };
-    let most = doing.values.number_met(&TAKEN).unwrap_or(MAX_ROUNDS);
-    let making = making_of(doing.values);
     batching::batch(
         doing.rt,
         doing.threads,
@@ -312,6 +312,11 @@ fn batch<T: Threads + Wait + Copy + Send + 'static>(
         doing.notes,
         told,
     )
+}
+
+/// How many rounds a job makes at most.
+fn most_of(values: &Values) -> u64 {
+    values.number_met(&TAKEN).unwrap_or(MAX_ROUNDS)
 }
 
 /// By how many workers a round is made, and after how many rounds they are kept.

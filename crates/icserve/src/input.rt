@@ -43,7 +43,6 @@ pub(crate) fn open_file<'n>(
 ) -> io::Result<HostFile<'n>> {
     let files = NotedFiles {
         rt,
-        alloc: None,
         path,
         target: Target::File,
         notes,

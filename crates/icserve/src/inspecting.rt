@@ -132,7 +132,6 @@ pub(crate) fn open_to_read_as<'a>(
     let _stand_ins = stand_ins(rt, notes)?;
     let files = NotedFiles {
         rt,
-        alloc: None,
         path,
         target,
         notes,

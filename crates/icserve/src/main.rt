@@ -56,7 +56,7 @@ const ANSWERS: usize = 65_536;
 pub(crate) type NotedDisk<'a> = FileDisk<HostFile<'a>>;
 
 /// A file of the system, of which each call that fails is noted.
-pub(crate) type HostFile<'a> = NotedFile<'a, HostRuntime>;
+pub(crate) type HostFile<'a> = NotedFile<'a>;
 
 fn main(rt: HostRuntime) -> ExitCode {
     let notes = Notes::new();
@@ -170,20 +170,11 @@ pub(crate) fn open_disk_as<'a>(
     let _stand_ins = stand_ins(rt, notes).map_err(|_| Failure::Disk(DiskFault))?;
     let files = NotedFiles {
         rt,
-        alloc: Some(rt.alloc()),
         path,
         target,
         notes,
     };
-    FileDisk::open(&files, path, create).map_err(|fault| refused_opening(fault, notes.last()))
-}
-
-/// Why a disk isn't opened or locked, by the last call to its file that has failed.
-fn refused_opening(fault: DiskFault, cause: Option<Cause>) -> Failure {
-    match cause {
-        Some(last) if last.reason == Reason::NoMemory => Failure::Open(OpenCause::Memory),
-        _ => opening_failure(fault, cause),
-    }
+    FileDisk::open(&files, path, create).map_err(|fault| opening_failure(fault, notes.last()))
 }
 
 /// Puts the empty table on the disk in the file of this path. What stands there and would be lost is
